@@ -1,0 +1,4 @@
+mod PutLemmas
+mod TextLemmas
+mod PieceLemmas
+mod ReaderLemmas

@@ -1,0 +1,8 @@
+use Rattle.std.proofs.Common.{◌∙◌}
+use Rattle.dimacs_lines.proofs.ReaderLemmas.{answers_left}
+use Rattle.dimacs_lines.proofs.reader.Lines.next_line.Goals as goal
+
+pub returns-in-Ok-clause-answer : goal.returns-in-Ok-clause-answer
+returns-in-Ok-clause-answer g c = λ is_open.
+    let found = c.in-Ok.ensures in
+    answers_left c.give_line.result c.args.self.now c.find_end.new.self c.give_line.new.self _ _ found.given (found.progress ∙ is_open) found.left found.enough c.give_line.ensures.given

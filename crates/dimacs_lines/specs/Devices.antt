@@ -1,0 +1,31 @@
+-- What sources still have to give, what sinks have accepted, and how their faults are counted.
+use Rattle.std.specs.Prelude.{ℕ, ◌+◌, ◌%◌, ◌^◌, ◌++◌, ◌≡◌, ◌==◌, ◌&&◌, nat_lt, if◌then◌else◌, List, Option, None, Some, Result, Ok, Err, length}
+
+-- The bytes to come before a piece was given, by those after it. A source that tells nothing goes on telling nothing.
+abbrev pub before_piece : List ℕ → Option (List ℕ) → Option (List ℕ)
+before_piece piece None = None
+before_piece piece (Some rest) = Some (piece ++ rest)
+
+-- The bytes accepted once a piece was. A sink that tells nothing goes on telling nothing.
+abbrev pub after_piece : Option (List ℕ) → List ℕ → Option (List ℕ)
+after_piece None piece = None
+after_piece (Some held) piece = Some (held ++ piece)
+
+-- one fault more, in a count that wraps at 64 bits
+abbrev pub one_more : ℕ → ℕ
+one_more faults = (faults + 1) % 2 ^ 64
+
+-- a call that fails adds one fault, and any other none
+abbrev pub CountsFault : {V E : Type 0} → Result V E → ℕ → ℕ → Type 0
+CountsFault (Ok value) old new = new ≡ old
+CountsFault (Err error) old new = new ≡ one_more old
+
+-- so does a put, and one that accepts nothing of a piece that isn't empty adds one too
+abbrev pub CountsPut : {E : Type 0} → Result ℕ E → List ℕ → ℕ → ℕ → Type 0
+CountsPut (Ok count) bytes old new = new ≡ (if count == 0 && nat_lt 0 (length bytes) then one_more old else old)
+CountsPut (Err error) bytes old new = new ≡ one_more old
+
+-- a device in memory: the bytes that it has to give or has accepted, and its faults
+pub record InMemory : Type 0 where
+  pub bytes : List ℕ
+  pub faults : ℕ

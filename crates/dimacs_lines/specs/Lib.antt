@@ -1,0 +1,5 @@
+pub mod Devices
+pub mod Puts
+pub mod Lines
+pub mod Reader
+pub mod Buffer

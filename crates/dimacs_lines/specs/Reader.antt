@@ -1,0 +1,63 @@
+-- What a reader of lines stands for, and what its next line is.
+use Rattle.std.specs.Prelude.{ℕ, ◌+◌, ◌≡◌, ◌≢◌, ◌≤◌, ◌<◌, List, [], ◌∷◌, length, Option, Some, None, Result, Ok, Err}
+use Rattle.dimacs_lines.specs.declared.reader.LinesError.{LinesError}
+use Rattle.dimacs_lines.specs.declared.reader.LinesError.TheVariants.{TooMany, TooLong, Device, Memory}
+use Rattle.dimacs_lines.specs.declared.reader.Progress.{Progress}
+use Rattle.dimacs_lines.specs.declared.reader.Progress.TheVariants.{Open, Ended, Failed}
+use Rattle.dimacs_lines.specs.declared.reader.TheConstants.{MAX_LINE, MAX_LINES}
+use Rattle.dimacs_lines.specs.Devices.{before_piece, one_more}
+use Rattle.dimacs_lines.specs.Lines.{lines}
+
+pub record State : Type 0 where
+  -- the bytes pulled and not yet given out
+  pub held : List ℕ
+  -- how many lines were given
+  pub given : ℕ
+  -- the line that was given last
+  pub line : List ℕ
+  pub progress : Progress
+
+-- the text that is left: what is held, and what the source has to come
+abbrev pub text_left : State → Option (List ℕ) → Option (List ℕ)
+text_left reader coming = before_piece reader.held coming
+
+-- a line within the limits was given, with the next number: the first of the text that was left
+pub record GivesLine (old new : State) (left later : Option (List ℕ)) (number : ℕ) : Type 0 where
+  pub next : number ≡ old.given + 1
+  pub counted : new.given ≡ number
+  pub open_still : new.progress ≡ Open
+  pub few : number ≤ MAX_LINES
+  pub short : length new.line ≤ MAX_LINE
+  pub first : (text : List ℕ) → left ≡ Some text → (rest : List ℕ) × (later ≡ Some rest) × (lines text ≡ new.line ∷ lines rest)
+
+-- no line was left
+pub record AtEnd (new : State) (left : Option (List ℕ)) : Type 0 where
+  pub ended : new.progress ≡ Ended
+  pub no_line : new.line ≡ []
+  pub none : (text : List ℕ) → left ≡ Some text → lines text ≡ []
+
+-- when an error comes first; too many lines are told before too long a one
+abbrev pub ComesAt : State → Option (List ℕ) → LinesError → Type 0
+ComesAt old left (TooMany number) = (number ≡ old.given + 1) × (MAX_LINES < number) × ((text : List ℕ) → left ≡ Some text → lines text ≢ [])
+ComesAt old left (TooLong number) = (number ≡ old.given + 1) × (number ≤ MAX_LINES) × ((text : List ℕ) → left ≡ Some text → (line : List ℕ) (rest : List (List ℕ)) → lines text ≡ line ∷ rest → MAX_LINE < length line)
+ComesAt old left Device = Unit {0}
+ComesAt old left Memory = Unit {0}
+
+pub record Stops (old new : State) (left : Option (List ℕ)) (error : LinesError) : Type 0 where
+  pub comes : ComesAt old left error
+  pub failed : new.progress ≡ Failed error
+  pub no_line : new.line ≡ []
+
+-- what a call answers before any end or error, of the text that was left, leaving the later text
+abbrev pub NextLine : State → State → Option (List ℕ) → Option (List ℕ) → Result (Option ℕ) LinesError → Type 0
+NextLine old new left later (Ok (Some number)) = GivesLine old new left later number
+NextLine old new left later (Ok None) = AtEnd new left
+NextLine old new left later (Err error) = Stops old new left error
+
+-- the count of faults after a call: one more where it told of a device, else the same
+abbrev pub CountsDevice : {V : Type 0} → Result V LinesError → ℕ → ℕ → Type 0
+CountsDevice (Ok value) old new = new ≡ old
+CountsDevice (Err (TooMany number)) old new = new ≡ old
+CountsDevice (Err (TooLong number)) old new = new ≡ old
+CountsDevice (Err Device) old new = new ≡ one_more old
+CountsDevice (Err Memory) old new = new ≡ old

@@ -1,0 +1,78 @@
+//! Where bytes come from and where they go, piece by piece.
+
+ghost use Rattle.std.specs.Prelude.{◌≡◌, ◌<◌, ◌≤◌, [], ℕ, List, Option, take, length, IfOk, IfSome, OnErr, Ok};
+ghost use Rattle.dimacs_lines.specs.Devices.{before_piece, after_piece, CountsFault, CountsPut};
+ghost use Rattle.dimacs_lines.specs.Puts.{Puts};
+
+use std::alloc::{AllocError, AllocFailed};
+
+/// A device failed: a read or a write that the system refused.
+#[derive(Clone, Copy, Debug, PartialEq, Eq)]
+pub struct DeviceFault;
+
+/// A growth that was refused memory.
+#[derive(Clone, Copy, Debug, PartialEq, Eq)]
+pub struct Memory;
+
+impl From<AllocError> for Memory {
+    fn from(_: AllocError) -> Memory {
+        Memory
+    }
+}
+
+impl<T: Drop> From<AllocFailed<T>> for Memory {
+    fn from(_: AllocFailed<T>) -> Memory {
+        Memory
+    }
+}
+
+/// What gives the bytes of a text, piece by piece.
+pub trait Source {
+    /// The bytes still to come, where the source tells them.
+    ghost coming: { Self → Option (List ℕ) };
+
+    /// How often it has failed: a `u64` that wraps.
+    ghost faults: { Self → ℕ };
+
+    /// Fills the front of `into` with the next bytes, and answers how many they are. With room, `Ok(0)` comes only
+    /// at the end. An error takes no bytes.
+    fn pull(&mut self, into: &mut [u8]) -> Result<usize, DeviceFault>
+        ensures room { IfOk result (λ k. k ≤ length into.old) }
+        ensures given { IfOk result (λ k. coming self.old ≡ before_piece (take k into.new) (coming self.new)) }
+        ensures end { 0 < length into.old → result ≡ Ok 0 → IfSome (coming self.old) (λ bytes. bytes ≡ []) }
+        ensures unchanged { OnErr result (coming self.new ≡ coming self.old) }
+        ensures fault { CountsFault result (faults self.old) (faults self.new) };
+}
+
+/// What takes the bytes of a text, piece by piece.
+pub trait Sink {
+    /// The bytes accepted so far, where the sink tells them.
+    ghost accepted: { Self → Option (List ℕ) };
+
+    /// How often it has failed: a `u64` that wraps.
+    ghost faults: { Self → ℕ };
+
+    /// Accepts a beginning of the bytes, and answers how many they are. An error accepts none. `Ok(0)` for a piece
+    /// that is not empty is a fault too, since it would never end.
+    fn put(&mut self, bytes: &[u8]) -> Result<usize, DeviceFault>
+        ensures room { IfOk result (λ k. k ≤ length bytes.now) }
+        ensures taken { IfOk result (λ k. accepted self.new ≡ after_piece (accepted self.old) (take k bytes.now)) }
+        ensures unchanged { OnErr result (accepted self.new ≡ accepted self.old) }
+        ensures fault { CountsPut result bytes.now (faults self.old) (faults self.new) };
+}
+
+/// Puts all of the bytes. After an error the sink has accepted a beginning of them.
+pub fn put_all<S: Sink>(sink: &mut S, bytes: &[u8]) -> Result<(), DeviceFault>
+    ensures puts { Puts result (S.accepted sink.old) bytes.now (S.accepted sink.new) }
+    ensures fault { CountsFault result (S.faults sink.old) (S.faults sink.new) }
+{
+    let mut done = 0;
+    while done < bytes.len() {
+        let count = sink.put(&bytes[done..])?;
+        if count == 0 {
+            return Err(DeviceFault);
+        }
+        done += count;
+    }
+    Ok(())
+}

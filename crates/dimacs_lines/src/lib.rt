@@ -1,0 +1,18 @@
+//! Bytes in and out: sources and sinks that may fail, the lines of a text, the fields of a line, the numbers that
+//! fields spell, and output in large pieces.
+//!
+//! The rest of `dimacs` reads and writes through this crate alone. Its promise: a text's lines come in order with
+//! their numbers, however the source cuts the text into pieces; each field and each number is what the bytes spell.
+#![tactic(auto)]
+
+mod device;
+mod files;
+mod reader;
+mod sinks;
+mod sources;
+
+pub use device::{DeviceFault, Memory, Sink, Source, put_all};
+pub use files::{FileSink, FileSource, StdoutSink};
+pub use reader::{Lines, LinesError, MAX_HELD, MAX_LINE, MAX_LINES, Progress};
+pub use sinks::{FlakySink, MemorySink};
+pub use sources::{CutSource, FlakySource, MemorySource};

@@ -1,0 +1,280 @@
+//! The lines of a text that comes in pieces, over one bounded buffer.
+
+ghost use Rattle.std.specs.Prelude.{◌≡◌, ◌≢◌, ◌↔◌, ◌≤◌, ◌<◌, ◌+◌, ◌++◌, ℕ, List, [], Some, None, Ok, Err, IfOk, IfErr, OnOk, OnErr, IfSome, length, take, drop, slice_range, ◌-◌};
+ghost use Rattle.std.specs.List.{position_or_len};
+ghost use Rattle.dimacs_lines.specs.Devices.{before_piece, CountsFault};
+ghost use Rattle.dimacs_lines.specs.Lines.{is_end};
+ghost use Rattle.dimacs_lines.specs.Reader.{text_left, NextLine, CountsDevice};
+ghost use Rattle.dimacs_lines.specs.Buffer.{PullsMore, IsEnough, IsInterruption, GivesHeld};
+ghost use Rattle.dimacs_lines.specs.declared.reader.LinesError.{LinesError};
+ghost use Rattle.dimacs_lines.specs.declared.reader.Progress.TheVariants.{Open, Ended, Failed};
+
+use crate::device::{DeviceFault, Memory, Source};
+use memchr::memchr;
+use std::alloc::Global;
+use std::marker::Model;
+
+/// The most bytes of a line, its end not counted.
+pub const MAX_LINE: usize = 1_048_576;
+
+/// The most lines of a text.
+pub const MAX_LINES: u64 = 1_000_000_000_000;
+
+/// The most bytes that a reader of lines holds: a whole line and one piece.
+pub const MAX_HELD: usize = 1_114_112;
+
+/// The most bytes that are pulled at once.
+const PIECE: usize = 65_536;
+
+/// Why no line can be given. A number is that of the line where it comes.
+#[derive(Clone, Copy, Debug, PartialEq, Eq)]
+pub enum LinesError {
+    /// A line behind the `MAX_LINES`th.
+    TooMany(u64),
+    /// A line of more than `MAX_LINE` bytes.
+    TooLong(u64),
+    /// A pull failed.
+    Device,
+    /// The buffer could not grow.
+    Memory,
+}
+
+/// How far a reader of lines has come.
+#[derive(Clone, Copy, Debug, PartialEq, Eq)]
+pub enum Progress {
+    Open,
+    Ended,
+    Failed(LinesError),
+}
+
+/// Gives the lines of a text in order. What it holds of the text lies in one buffer, which each line is given out of.
+#[derive(Drop)]
+pub struct Lines {
+    buffer: Vec<u8>,
+    line_start: usize,
+    line_end: usize,
+    next: usize,
+    end: usize,
+    given: u64,
+    progress: Progress,
+}
+
+impl Model for Lines {
+    ghost use Rattle.std.specs.Prelude.{slice_range, length};
+    ghost use Rattle.dimacs_lines.specs.Reader.{State};
+    ghost use Rattle.dimacs_lines.specs.Buffer.{IsLaidOut};
+
+    ghost Value = { State };
+
+    ghost view = { λ s. record { held = slice_range s.buffer.items s.next s.end; given = s.given; line = slice_range s.buffer.items s.line_start s.line_end; progress = s.progress } };
+
+    ghost invariant = { λ s. IsLaidOut s.line_start s.line_end s.next s.end s.given (length s.buffer.items) };
+}
+
+impl Lines {
+    pub fn new(alloc: Global) -> Result<Lines, Memory>
+        ensures { IfOk result (λ lines. lines ≡ record { held = []; given = 0; line = []; progress = Open }) }
+    {
+        Ok(Lines {
+            buffer: Vec::from_elem(alloc, 0u8, 2 * PIECE)?,
+            line_start: 0,
+            line_end: 0,
+            next: 0,
+            end: 0,
+            given: 0,
+            progress: Progress::Open,
+        })
+    }
+
+    /// The line that was given last, without its end. Empty before the first line, after the end and after an error.
+    pub fn line(&self) -> &[u8]
+        ensures { result.now ≡ self.now.line }
+    {
+        &self.buffer[self.line_start..self.line_end]
+    }
+
+    /// How many bytes were pulled and not yet given out.
+    pub fn held(&self) -> usize
+        ensures value { result ≡ length self.now.held }
+        ensures bounded { result ≤ MAX_HELD }
+    {
+        self.end - self.next
+    }
+
+    /// Gives the next line: answers its number, counted from 1, and `line` then has its bytes.
+    pub fn next_line<S: Source>(&mut self, source: &mut S) -> Result<Option<u64>, LinesError>
+        ensures answer { self.old.progress ≡ Open → NextLine self.old self.new
+            (text_left self.old (S.coming source.old)) (text_left self.new (S.coming source.new)) result }
+        ensures device { self.old.progress ≡ Open → CountsDevice result (S.faults source.old) (S.faults source.new) }
+
+        // After the end there is no line for ever, and after an error the same error. Nothing is pulled.
+        ensures ended { self.old.progress ≡ Ended → (result ≡ Ok None) × (self.new ≡ self.old) }
+        ensures failed { (error : LinesError) → self.old.progress ≡ Failed error → (result ≡ Err error) × (self.new ≡ self.old) }
+        ensures idle { self.old.progress ≢ Open → (S.coming source.new ≡ S.coming source.old) × (S.faults source.new ≡ S.faults source.old) }
+    {
+        match self.progress {
+            Progress::Failed(error) => return Err(error),
+            Progress::Ended => return Ok(None),
+            Progress::Open => {}
+        }
+        match self.find_end(source) {
+            Ok(length) => self.give_line(length),
+            Err(error) => Err(self.fail(error)),
+        }
+    }
+
+    /// Pulls until the first line is whole, too long or the last, and answers its length.
+    fn find_end<S: Source>(&mut self, source: &mut S) -> Result<usize, LinesError>
+        ensures length { IfOk result (λ length. length ≡ position_or_len is_end self.new.held) }
+        ensures left { OnOk result (text_left self.old (S.coming source.old) ≡ text_left self.new (S.coming source.new)) }
+        ensures enough { OnOk result (IsEnough self.new.held (S.coming source.new)) }
+        ensures given { self.new.given ≡ self.old.given }
+        ensures progress { self.new.progress ≡ self.old.progress }
+        ensures interruption { IfErr result IsInterruption }
+        ensures device { CountsDevice result (S.faults source.old) (S.faults source.new) }
+    {
+        let mut length = self.last_length(self.held());
+        loop {
+            if length < self.held() || length > MAX_LINE {
+                return Ok(length);
+            }
+            let count = self.pull_more(source)?;
+            if count == 0 {
+                return Ok(length);
+            }
+            length += self.last_length(count);
+        }
+    }
+
+    /// How long the first line is of the last `count` bytes held.
+    fn last_length(&self, count: usize) -> usize
+        requires { count ≤ length self.now.held }
+        ensures length { result ≡ position_or_len is_end (drop (length self.now.held - count) self.now.held) }
+        ensures within { result ≤ count }
+    {
+        line_length(&self.buffer[self.end - count..self.end])
+    }
+
+    /// Pulls a piece behind what is held, and answers its size.
+    fn pull_more<S: Source>(&mut self, source: &mut S) -> Result<usize, LinesError>
+        requires { length self.old.held ≤ MAX_LINE }
+        ensures more { IfOk result (λ count. PullsMore self.old self.new (S.coming source.old) (S.coming source.new) count) }
+        ensures end { result ≡ Ok 0 → IfSome (S.coming source.old) (λ bytes. bytes ≡ []) }
+        ensures bounded { OnOk result (length self.new.held ≤ MAX_HELD) }
+        ensures given { self.new.given ≡ self.old.given }
+        ensures progress { self.new.progress ≡ self.old.progress }
+        ensures interruption { IfErr result IsInterruption }
+        ensures device { CountsDevice result (S.faults source.old) (S.faults source.new) }
+    {
+        let held = self.end - self.next;
+        move_to_front(&mut self.buffer, self.next, self.end);
+        self.line_start = 0;
+        self.line_end = 0;
+        self.next = 0;
+        self.end = held;
+        if grow(&mut self.buffer, held).is_err() {
+            return Err(LinesError::Memory);
+        }
+        match pull_behind(&mut self.buffer, held, source) {
+            Ok(count) => {
+                self.end += count;
+                Ok(count)
+            }
+            Err(DeviceFault) => Err(LinesError::Device),
+        }
+    }
+
+    /// Gives the first line of what is held, of this length.
+    fn give_line(&mut self, length: usize) -> Result<Option<u64>, LinesError>
+        requires { length ≡ position_or_len is_end self.old.held }
+        ensures given { GivesHeld self.old self.new result }
+    {
+        if self.next == self.end {
+            self.close(Progress::Ended);
+            return Ok(None);
+        }
+        let number = self.given + 1;
+        if number > MAX_LINES {
+            return Err(self.fail(LinesError::TooMany(number)));
+        }
+        if length > MAX_LINE {
+            return Err(self.fail(LinesError::TooLong(number)));
+        }
+        self.line_start = self.next;
+        self.line_end = self.next + length;
+        self.next = self.end.min(self.line_end + 1);
+        self.given = number;
+        Ok(Some(number))
+    }
+
+    /// Answers the error from now on.
+    fn fail(&mut self, error: LinesError) -> LinesError
+        ensures error { result ≡ error }
+        ensures closed { self.new ≡ record self.old { line = []; progress = Failed error } }
+    {
+        self.close(Progress::Failed(error));
+        error
+    }
+
+    fn close(&mut self, progress: Progress)
+        ensures { self.new ≡ record self.old { line = []; progress = progress } }
+    {
+        self.line_start = 0;
+        self.line_end = 0;
+        self.progress = progress;
+    }
+}
+
+/// How long the first line is: what stands before the first end, or all.
+fn line_length(bytes: &[u8]) -> usize
+    ensures length { result ≡ position_or_len is_end bytes.now }
+    ensures within { result ≤ length bytes.now }
+{
+    memchr(b'\n', bytes).unwrap_or(bytes.len())
+}
+
+/// Moves a part of the buffer to its front.
+fn move_to_front(buffer: &mut Vec<u8>, start: usize, end: usize)
+    requires ordered { start ≤ end }
+    requires within { end ≤ length buffer.old.items }
+    ensures moved { take (end - start) buffer.new.items ≡ slice_range buffer.old.items start end }
+    ensures length { length buffer.new.items ≡ length buffer.old.items }
+{
+    if start > 0 {
+        buffer.copy_within(start..end, 0);
+    }
+}
+
+/// Makes room for a piece behind what is held.
+fn grow(buffer: &mut Vec<u8>, held: usize) -> Result<(), Memory>
+    requires short { held ≤ MAX_LINE }
+    requires held { held ≤ length buffer.old.items }
+    requires bounded { length buffer.old.items ≤ MAX_HELD }
+    ensures room { OnOk result (held < length buffer.new.items) }
+    ensures kept { take held buffer.new.items ≡ take held buffer.old.items }
+    ensures no_shorter { length buffer.old.items ≤ length buffer.new.items }
+    ensures bounded { length buffer.new.items ≤ MAX_HELD }
+{
+    if held < buffer.len() {
+        return Ok(());
+    }
+    buffer.resize(MAX_HELD.min(2 * held + PIECE), 0)?;
+    Ok(())
+}
+
+/// Pulls a piece behind what is held.
+fn pull_behind<S: Source>(
+    buffer: &mut [u8],
+    held: usize,
+    source: &mut S,
+) -> Result<usize, DeviceFault>
+    requires { held < length buffer.old }
+    ensures within { IfOk result (λ count. held + count ≤ length buffer.new) }
+    ensures given { IfOk result (λ count. S.coming source.old ≡ before_piece (take count (drop held buffer.new)) (S.coming source.new)) }
+    ensures end { result ≡ Ok 0 → IfSome (S.coming source.old) (λ bytes. bytes ≡ []) }
+    ensures kept { take held buffer.new ≡ take held buffer.old }
+    ensures device { CountsFault result (S.faults source.old) (S.faults source.new) }
+{
+    let room = buffer.len().min(held + PIECE);
+    source.pull(&mut buffer[held..room])
+}

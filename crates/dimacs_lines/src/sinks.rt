@@ -1,0 +1,112 @@
+//! Sinks over memory: one that keeps all that it accepts, and one for tests, which cuts what is put and fails.
+
+ghost use Rattle.std.specs.Prelude.{◌≡◌, [], List, ℕ, Some};
+ghost use Rattle.dimacs_lines.specs.Devices.{InMemory};
+
+use crate::device::{DeviceFault, Sink};
+use std::alloc::Global;
+use std::marker::Model;
+
+/// Keeps what it accepts. A growth that is refused memory is a fault.
+#[derive(Drop)]
+pub struct MemorySink {
+    bytes: Vec<u8>,
+    faults: u64,
+}
+
+impl Model for MemorySink {
+    ghost Value = { InMemory };
+
+    ghost view = { λ s. record { bytes = s.bytes.items; faults = s.faults } };
+}
+
+impl MemorySink {
+    pub fn new(alloc: Global) -> MemorySink
+        ensures { result ≡ record { bytes = []; faults = 0 } }
+    {
+        MemorySink {
+            bytes: Vec::new(alloc),
+            faults: 0,
+        }
+    }
+
+    /// What it accepted so far.
+    pub fn bytes(&self) -> &[u8]
+        ensures { result.now ≡ self.now.bytes }
+    {
+        self.bytes.as_slice()
+    }
+}
+
+impl Sink for MemorySink {
+    ghost accepted = { λ s. Some s.bytes };
+
+    ghost faults = { λ s. s.faults };
+
+    fn put(&mut self, bytes: &[u8]) -> Result<usize, DeviceFault> {
+        match self.bytes.extend_from_slice(bytes) {
+            Ok(()) => Ok(bytes.len()),
+            Err(_) => {
+                self.faults = self.faults.wrapping_add(1);
+                Err(DeviceFault)
+            }
+        }
+    }
+}
+
+/// A `MemorySink` that at each put accepts at most the next listed number of bytes, a 0 counting as 1, and after the
+/// list the whole piece. Its listed puts, counted from 1, fail: such a put uses up no size, and the sink goes on after
+/// it.
+#[derive(Drop)]
+pub struct FlakySink<'a> {
+    kept: MemorySink,
+    sizes: &'a [usize],
+    fails: &'a [u64],
+    puts: u64,
+}
+
+impl<'a> Model for FlakySink<'a> {
+    ghost Value = { InMemory };
+
+    ghost view = { λ s. s.kept };
+}
+
+impl<'a> FlakySink<'a> {
+    pub fn new(alloc: Global, sizes: &'a [usize], fails: &'a [u64]) -> FlakySink<'a>
+        ensures { result ≡ record { bytes = []; faults = 0 } }
+    {
+        FlakySink {
+            kept: MemorySink::new(alloc),
+            sizes,
+            fails,
+            puts: 0,
+        }
+    }
+
+    /// What it accepted so far.
+    pub fn bytes(&self) -> &[u8]
+        ensures { result.now ≡ self.now.bytes }
+    {
+        self.kept.bytes()
+    }
+}
+
+impl<'a> Sink for FlakySink<'a> {
+    ghost accepted = { λ s. Some s.bytes };
+
+    ghost faults = { λ s. s.faults };
+
+    fn put(&mut self, bytes: &[u8]) -> Result<usize, DeviceFault> {
+        self.puts = self.puts.saturating_add(1);
+        if self.fails.contains(&self.puts) {
+            self.kept.faults = self.kept.faults.wrapping_add(1);
+            return Err(DeviceFault);
+        }
+        let mut count = bytes.len();
+        if let Some((size, sizes)) = self.sizes.split_first() {
+            self.sizes = sizes;
+            count = count.min((*size).max(1));
+        }
+        self.kept.put(&bytes[..count])
+    }
+}

@@ -1,0 +1,125 @@
+//! Sources over memory: one that gives all there is room for, and two for tests, which cut the text and fail.
+
+ghost use Rattle.std.specs.Prelude.{◌≡◌, List, ℕ, Some};
+ghost use Rattle.dimacs_lines.specs.Devices.{InMemory};
+
+use crate::device::{DeviceFault, Source};
+use std::marker::Model;
+
+/// Bytes in memory, given as far as there is room.
+#[derive(Drop)]
+pub struct MemorySource<'a> {
+    rest: &'a [u8],
+}
+
+impl<'a> Model for MemorySource<'a> {
+    ghost Value = { List ℕ };
+
+    ghost view = { λ s. s.rest.now };
+}
+
+impl<'a> MemorySource<'a> {
+    pub fn new(bytes: &'a [u8]) -> MemorySource<'a>
+        ensures { result ≡ bytes.now }
+    {
+        MemorySource { rest: bytes }
+    }
+}
+
+impl<'a> Source for MemorySource<'a> {
+    ghost coming = { λ s. Some s };
+
+    ghost faults = { λ s. 0 };
+
+    fn pull(&mut self, into: &mut [u8]) -> Result<usize, DeviceFault> {
+        let count = into.len().min(self.rest.len());
+        let (front, back) = self.rest.split_at(count);
+        into[..count].copy_from_slice(front);
+        self.rest = back;
+        Ok(count)
+    }
+}
+
+/// Bytes in memory, of which each pull gives at most the next listed number, a 0 counting as 1. After the list each
+/// pull gives as much as there is room for.
+#[derive(Drop)]
+pub struct CutSource<'a> {
+    rest: &'a [u8],
+    sizes: &'a [usize],
+}
+
+impl<'a> Model for CutSource<'a> {
+    ghost Value = { List ℕ };
+
+    ghost view = { λ s. s.rest.now };
+}
+
+impl<'a> CutSource<'a> {
+    pub fn new(bytes: &'a [u8], sizes: &'a [usize]) -> CutSource<'a>
+        ensures { result ≡ bytes.now }
+    {
+        CutSource { rest: bytes, sizes }
+    }
+}
+
+impl<'a> Source for CutSource<'a> {
+    ghost coming = { λ s. Some s };
+
+    ghost faults = { λ s. 0 };
+
+    fn pull(&mut self, into: &mut [u8]) -> Result<usize, DeviceFault> {
+        let mut count = into.len().min(self.rest.len());
+        if let Some((size, sizes)) = self.sizes.split_first() {
+            self.sizes = sizes;
+            count = count.min((*size).max(1));
+        }
+        let (front, back) = self.rest.split_at(count);
+        into[..count].copy_from_slice(front);
+        self.rest = back;
+        Ok(count)
+    }
+}
+
+/// A `CutSource` whose listed pulls, counted from 1, fail. A pull that fails uses up no size, and the source goes on
+/// after it.
+#[derive(Drop)]
+pub struct FlakySource<'a> {
+    text: CutSource<'a>,
+    fails: &'a [u64],
+    pulls: u64,
+    faults: u64,
+}
+
+impl<'a> Model for FlakySource<'a> {
+    ghost Value = { InMemory };
+
+    ghost view = { λ s. record { bytes = s.text; faults = s.faults } };
+}
+
+impl<'a> FlakySource<'a> {
+    pub fn new(bytes: &'a [u8], sizes: &'a [usize], fails: &'a [u64]) -> FlakySource<'a>
+        ensures { result ≡ record { bytes = bytes.now; faults = 0 } }
+    {
+        FlakySource {
+            text: CutSource::new(bytes, sizes),
+            fails,
+            pulls: 0,
+            faults: 0,
+        }
+    }
+}
+
+impl<'a> Source for FlakySource<'a> {
+    ghost coming = { λ s. Some s.bytes };
+
+    ghost faults = { λ s. s.faults };
+
+    fn pull(&mut self, into: &mut [u8]) -> Result<usize, DeviceFault> {
+        self.pulls = self.pulls.saturating_add(1);
+        if self.fails.contains(&self.pulls) {
+            self.faults = self.faults.wrapping_add(1);
+            return Err(DeviceFault);
+        }
+        self.text.pull(into)
+    }
+}
