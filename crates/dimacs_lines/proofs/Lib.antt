@@ -1,4 +1,12 @@
-mod PutLemmas
+pub mod PutLemmas
 mod TextLemmas
 mod PieceLemmas
 mod ReaderLemmas
+mod NumberLemmas
+mod FieldLemmas
+mod DigitLemmas
+mod FieldLaw
+mod Lanes
+mod Marks
+mod Pairs
+mod PlaceSums

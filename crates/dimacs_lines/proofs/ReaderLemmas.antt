@@ -41,9 +41,9 @@ length_goes_on held piece now so_far more count place none size is last =
 position_or_len-append-le : (xs ys : List ℕ) → position_or_len is_end xs ≤ position_or_len is_end (xs ++ ys)
 position_or_len-append-le xs ys = by_test (position_or_len is_end xs == length xs) refl
   where
-  by_test : (b : Bool) → (position_or_len is_end xs == length xs) ≡ b → position_or_len is_end xs ≤ position_or_len is_end (xs ++ ys)
-  by_test true h = let place : position_or_len is_end xs ≡ length xs = eqb-true _ _ h in omega (arith, place, position_or_len-behind xs ys place)
-  by_test false h = let same : position_or_len is_end (xs ++ ys) ≡ position_or_len is_end xs = prefix_len-append (λ b. not (is_end b)) xs ys ∙ rw h refl in omega (arith, same)
+    by_test : (b : Bool) → (position_or_len is_end xs == length xs) ≡ b → position_or_len is_end xs ≤ position_or_len is_end (xs ++ ys)
+    by_test true h = let place : position_or_len is_end xs ≡ length xs = eqb-true _ _ h in omega (arith, place, position_or_len-behind xs ys place)
+    by_test false h = let same : position_or_len is_end (xs ++ ys) ≡ position_or_len is_end xs = prefix_len-append (λ b. not (is_end b)) xs ys ∙ rw h refl in omega (arith, same)
 
 -- what is left where the source tells it
 record Told (held : List ℕ) (coming : Option (List ℕ)) (text : List ℕ) : Type 0 where
@@ -81,21 +81,21 @@ nothing_left held more coming is (inr (inr long)) none = absurd (omega (arith, a
 comes_left : (error : LinesError) (old mid : State) (coming left : Option (List ℕ)) → mid.given ≡ old.given → left ≡ before_piece mid.held coming → RefusesFirst mid error → ComesAt old left error
 comes_left (TooMany number) old mid coming left given is refused = (omega (arith, refused.0, given), refused.1, some)
   where
-  some : (text : List ℕ) → left ≡ Some text → lines text ≢ []
-  some text e none =
-      let t = told mid.held coming left text is e in
-      let step : lines text ≡ before_first is_end text ∷ lines (after_first is_end text) = lines_step text (λ empty. not_empty mid.held t.more refused.2 (sym t.text_is ∙ empty)) in
-      absurd (cc)
+    some : (text : List ℕ) → left ≡ Some text → lines text ≢ []
+    some text e none =
+        let t = told mid.held coming left text is e in
+        let step : lines text ≡ before_first is_end text ∷ lines (after_first is_end text) = lines_step text (λ empty. not_empty mid.held t.more refused.2 (sym t.text_is ∙ empty)) in
+        absurd (cc)
 comes_left (TooLong number) old mid coming left given is refused = (omega (arith, refused.0, given), refused.1, long)
   where
-  long : (text : List ℕ) → left ≡ Some text → (line : List ℕ) (rest : List (List ℕ)) → lines text ≡ line ∷ rest → MAX_LINE < length line
-  long text e line rest all =
-      let t = told mid.held coming left text is e in
-      let behind : position_or_len is_end mid.held ≤ position_or_len is_end text = rw t.text_is (position_or_len-append-le mid.held t.more) in
-      let within = prefix_len-le-length (λ b. not (is_end b)) text in
-      let step : lines text ≡ before_first is_end text ∷ lines (after_first is_end text) = lines_step text (λ empty. omega (arith, ap length empty, behind, within, refused.2)) in
-      let first : before_first is_end text ≡ line = cc in
-      rw (← first) (omega (arith, length-take (position_or_len is_end text) text, behind, within, refused.2))
+    long : (text : List ℕ) → left ≡ Some text → (line : List ℕ) (rest : List (List ℕ)) → lines text ≡ line ∷ rest → MAX_LINE < length line
+    long text e line rest all =
+        let t = told mid.held coming left text is e in
+        let behind : position_or_len is_end mid.held ≤ position_or_len is_end text = rw t.text_is (position_or_len-append-le mid.held t.more) in
+        let within = prefix_len-le-length (λ b. not (is_end b)) text in
+        let step : lines text ≡ before_first is_end text ∷ lines (after_first is_end text) = lines_step text (λ empty. omega (arith, ap length empty, behind, within, refused.2)) in
+        let first : before_first is_end text ≡ line = cc in
+        rw (← first) (omega (arith, length-take (position_or_len is_end text) text, behind, within, refused.2))
 comes_left Device old mid coming left given is refused = absurd refused
 comes_left Memory old mid coming left given is refused = absurd refused
 
@@ -110,10 +110,10 @@ answers_left (Ok (Some number)) old mid new coming left given open_still is enou
   first = first;
 }
   where
-  first : (text : List ℕ) → left ≡ Some text → (rest : List ℕ) × (before_piece new.held coming ≡ Some rest) × (lines text ≡ new.line ∷ lines rest)
-  first text e =
-      let t = told mid.held coming left text is e in
-      (new.held ++ t.more, ap (before_piece new.held) t.coming_is, ap lines t.text_is ∙ rw (g.line, g.rest) (first_left mid.held t.more coming t.coming_is enough g.some g.short))
+    first : (text : List ℕ) → left ≡ Some text → (rest : List ℕ) × (before_piece new.held coming ≡ Some rest) × (lines text ≡ new.line ∷ lines rest)
+    first text e =
+        let t = told mid.held coming left text is e in
+        (new.held ++ t.more, ap (before_piece new.held) t.coming_is, ap lines t.text_is ∙ rw (g.line, g.rest) (first_left mid.held t.more coming t.coming_is enough g.some g.short))
 answers_left (Ok None) old mid new coming left given open_still is enough g = record {
   ended = ap (λ (s : State). s.progress) g.1;
   no_line = ap (λ (s : State). s.line) g.1;

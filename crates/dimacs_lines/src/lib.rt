@@ -6,13 +6,22 @@
 #![tactic(auto)]
 
 mod device;
+mod digits;
 mod files;
+mod numbers;
+mod page;
 mod reader;
+mod scan;
 mod sinks;
 mod sources;
+mod split;
 
 pub use device::{DeviceFault, Memory, Sink, Source, put_all};
 pub use files::{FileSink, FileSource, StdoutSink};
+pub use numbers::{NumberFault, WIDE, number, wide};
+pub use page::Page;
 pub use reader::{Lines, LinesError, MAX_HELD, MAX_LINE, MAX_LINES, Progress};
+pub use scan::{Field, Scan, Token, fields};
 pub use sinks::{FlakySink, MemorySink};
 pub use sources::{CutSource, FlakySource, MemorySource};
+pub use split::Fields;

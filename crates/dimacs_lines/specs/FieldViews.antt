@@ -1,0 +1,6 @@
+-- What a field says of its line.
+use Rattle.dimacs_lines.specs.declared.scan.Field.{Field}
+use Rattle.dimacs_lines.specs.Fields.{Run}
+
+abbrev pub view_field : Field → Run
+view_field field = record { text = field.text.now; start = field.start }

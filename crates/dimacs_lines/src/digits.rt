@@ -1,0 +1,153 @@
+//! Eight digits at a time, in one 64-bit word.
+
+ghost use Rattle.std.specs.Prelude.{◌≡◌, ◌%◌, ◌-◌, ◌≤◌, ◌<◌, ◌++◌, length, map, replicate, take, drop};
+ghost use Rattle.std.specs.Char.{is_ascii_digit};
+ghost use Rattle.std.specs.Int.{w64, to_le_bytes};
+ghost use Rattle.std.specs.Int.Digits.{AllBelowBase, number_from_digits};
+ghost use Rattle.std.specs.List.{prefix_len};
+ghost use Rattle.dimacs_lines.specs.Number.{place_sum};
+
+/// How many digits stand at `at`, up to eight, and the number that they say.
+#[inline(always)]
+pub fn digits_at(line: &[u8], at: usize) -> (usize, u32)
+    requires { at ≤ length line.now }
+    ensures count { result.0 ≡ prefix_len is_ascii_digit (take 8 (drop at line.now)) }
+    ensures value { result.1 ≡ place_sum (take result.0 (drop at line.now)) }
+{
+    let word = word_at(line, at);
+    let count = digit_count(word);
+    let value = eight_digits(digits_on_top(word, count));
+    (count as usize, value)
+}
+
+/// The eight bytes from `at` on, the first one lowest, with zeros behind the line's end.
+#[inline(always)]
+fn word_at(line: &[u8], at: usize) -> u64
+    requires { at ≤ length line.now }
+    ensures { to_le_bytes w64 result ≡ take 8 (drop at line.now ++ replicate 8 0) }
+{
+    if line.len() - at >= 8 {
+        load(&line[at..])
+    } else if line.len() >= 8 {
+        // Both shifts together may be by all 64 bits.
+        let back = line.len() - 8;
+        let half = 4 * (at - back) as u32;
+        (load(&line[back..]) >> half) >> half
+    } else {
+        short_word(&line[at..])
+    }
+}
+
+/// The first eight bytes, the first one lowest.
+#[inline(always)]
+fn load(bytes: &[u8]) -> u64
+    requires { 8 ≤ length bytes.now }
+    ensures { to_le_bytes w64 result ≡ take 8 bytes.now }
+{
+    match bytes {
+        [a, b, c, d, e, f, g, h, ..] => u64::from_le_bytes([*a, *b, *c, *d, *e, *f, *g, *h]),
+        _ => 0,
+    }
+}
+
+/// Fewer than eight bytes, the first one lowest, with zeros behind them.
+#[inline(never)]
+fn short_word(bytes: &[u8]) -> u64
+    requires { length bytes.now < 8 }
+    ensures { to_le_bytes w64 result ≡ take 8 (bytes.now ++ replicate 8 0) }
+{
+    let mut padded = [0; 8];
+    padded[..bytes.len()].copy_from_slice(bytes);
+    u64::from_le_bytes(padded)
+}
+
+/// How many of the word's bytes are digits, from the lowest on.
+#[inline(always)]
+fn digit_count(word: u64) -> u32
+    ensures { result ≡ prefix_len is_ascii_digit (to_le_bytes w64 word) }
+{
+    // A digit's byte becomes its value, below ten. In any other the top bit is set, or 118 more sets it.
+    let values = word ^ 0x3030303030303030;
+    let sums = (values & 0x7f7f7f7f7f7f7f7f) + 0x7676767676767676;
+    let others = (sums | values) & 0x8080808080808080;
+    others.trailing_zeros() / 8
+}
+
+/// The low halves of the `count` lowest bytes, moved to the top, with zeros below.
+#[inline(always)]
+fn digits_on_top(word: u64, count: u32) -> u64
+    requires { count ≤ 8 }
+    ensures { to_le_bytes w64 result
+        ≡ replicate (8 - count) 0 ++ map (λ b. b % 16) (take count (to_le_bytes w64 word)) }
+{
+    if count == 0 {
+        return 0;
+    }
+    (word & 0x0f0f0f0f0f0f0f0f) << (64 - 8 * count)
+}
+
+/// The number that eight digits say, the first one lowest.
+#[inline(always)]
+fn eight_digits(word: u64) -> u32
+    requires { AllBelowBase 10 (to_le_bytes w64 word) }
+    ensures { result ≡ number_from_digits 10 (to_le_bytes w64 word) }
+{
+    // Each product adds to a lane ten, a hundred or ten thousand times the lane before it.
+    let twos = (word.wrapping_mul(2561) >> 8) & 0x00ff00ff00ff00ff;
+    let fours = (twos.wrapping_mul(6553601) >> 16) & 0x0000ffff0000ffff;
+    (fours.wrapping_mul(42949672960001) >> 32) as u32
+}
+
+#[cfg(test)]
+mod tests {
+    use super::*;
+
+    #[test]
+    fn reads_short_and_long_texts(rt: HostRuntime) {
+        for (text, at, want) in [
+            ("", 0, (0, 0)),
+            ("7", 0, (1, 7)),
+            ("12345678", 0, (8, 12345678)),
+            ("123456789", 0, (8, 12345678)),
+            ("12a", 0, (2, 12)),
+            ("a1", 0, (0, 0)),
+            ("007 ", 0, (3, 7)),
+            ("1 2", 2, (1, 2)),
+        ] {
+            assert!(rt; at <= text.len());
+            assert_eq!(rt; digits_at(text.as_bytes(), at), want, "in {text} at {at}");
+        }
+    }
+
+    #[test]
+    fn reads_at_each_place_of_a_line(rt: HostRuntime) {
+        let line = b"20 bytes: 0123456789";
+        let wanted = [
+            (2, 20),
+            (1, 0),
+            (0, 0),
+            (0, 0),
+            (0, 0),
+            (0, 0),
+            (0, 0),
+            (0, 0),
+            (0, 0),
+            (0, 0),
+            (8, 1234567),
+            (8, 12345678),
+            (8, 23456789),
+            (7, 3456789),
+            (6, 456789),
+            (5, 56789),
+            (4, 6789),
+            (3, 789),
+            (2, 89),
+            (1, 9),
+            (0, 0),
+        ];
+        for (at, want) in wanted.iter().enumerate() {
+            assert!(rt; at <= line.len());
+            assert_eq!(rt; digits_at(line, at), *want, "at {at}");
+        }
+    }
+}

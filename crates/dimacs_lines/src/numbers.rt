@@ -1,0 +1,111 @@
+//! The numbers that fields spell: an optional sign and digits, as many as come.
+
+ghost use Rattle.std.specs.Prelude.{◌≡◌, ◌≤◌, ◌^◌, ◌-◌, ◌↔◌, ℤ, pos, neg_ℤ, ◌≤ℤ◌, min, length, IsTrue, ◌<◌};
+ghost use Rattle.std.specs.List.{All};
+ghost use Rattle.std.specs.Char.{IsAsciiDigit};
+ghost use Rattle.dimacs_lines.specs.Number.{ReadsNumber, is_negative, digits_of, place_sum};
+
+/// Why a field is no number of its range.
+#[derive(Clone, Copy, Debug, PartialEq, Eq)]
+pub enum NumberFault {
+    /// It is not an optional sign and one or more digits.
+    BadNumber,
+    /// It spells a number outside of the range.
+    NumberRange,
+}
+
+/// The size of the greatest wide number: 10^30.
+pub const WIDE: i128 = 1_000_000_000_000_000_000_000_000_000_000;
+
+/// One more than the greatest wide number.
+const PAST_WIDE: u128 = 1_000_000_000_000_000_000_000_000_000_001;
+
+/// The number that a field spells, from -2^63 to 2^63 - 1.
+pub fn number(text: &[u8]) -> Result<i64, NumberFault>
+    ensures { ReadsNumber (neg_ℤ (pos (2 ^ 63))) (pos (2 ^ 63 - 1)) text.now result }
+{
+    match within(text, i128::from(i64::MIN), i128::from(i64::MAX)) {
+        Ok(n) => Ok(n as i64),
+        Err(fault) => Err(fault),
+    }
+}
+
+/// The number that a field spells, from -10^30 to 10^30.
+pub fn wide(text: &[u8]) -> Result<i128, NumberFault>
+    ensures { ReadsNumber (neg_ℤ (pos (10 ^ 30))) (pos (10 ^ 30)) text.now result }
+{
+    within(text, -WIDE, WIDE)
+}
+
+/// The number that a field spells, from low to high, which lie in the wide range.
+fn within(text: &[u8], low: i128, high: i128) -> Result<i128, NumberFault>
+    requires low { neg_ℤ (pos (10 ^ 30)) ≤ℤ low }
+    requires high { high ≤ℤ pos (10 ^ 30) }
+    ensures { ReadsNumber low high text.now result }
+{
+    let (negative, digits) = signed(text);
+    if !is_digits(digits) {
+        return Err(NumberFault::BadNumber);
+    }
+    let size = size(digits) as i128;
+    let n = if negative { -size } else { size };
+    if n < low || high < n {
+        return Err(NumberFault::NumberRange);
+    }
+    Ok(n)
+}
+
+/// Whether a minus stands in front, and what stands behind the sign.
+fn signed(text: &[u8]) -> (bool, &[u8])
+    ensures negative { result.0 ≡ is_negative text.now }
+    ensures digits { result.1.now ≡ digits_of text.now }
+{
+    match text.split_first() {
+        Some((first, rest)) if *first == b'-' => (true, rest),
+        Some((first, rest)) if *first == b'+' => (false, rest),
+        _ => (false, text),
+    }
+}
+
+fn is_digits(text: &[u8]) -> bool
+    ensures { IsTrue result ↔ (0 < length text.now) × All IsAsciiDigit text.now }
+{
+    !text.is_empty() && text.iter().all(|b| b.is_ascii_digit())
+}
+
+/// What the digits say, up to one more than the greatest wide number.
+fn size(digits: &[u8]) -> u128
+    requires { All IsAsciiDigit digits.now }
+    ensures { result ≡ min (place_sum digits.now) 1000000000000000000000000000001 }
+{
+    if digits.len() < 20 {
+        u128::from(short_size(digits))
+    } else {
+        long_size(digits)
+    }
+}
+
+/// What up to 19 digits say.
+fn short_size(digits: &[u8]) -> u64
+    requires digits { All IsAsciiDigit digits.now }
+    requires short { length digits.now < 20 }
+    ensures { result ≡ place_sum digits.now }
+{
+    let mut total = 0u64;
+    for b in digits {
+        total = total * 10 + u64::from(*b - b'0');
+    }
+    total
+}
+
+/// What digits say, up to one more than the greatest wide number.
+fn long_size(digits: &[u8]) -> u128
+    requires { All IsAsciiDigit digits.now }
+    ensures { result ≡ min (place_sum digits.now) 1000000000000000000000000000001 }
+{
+    let mut total = 0u128;
+    for b in digits {
+        total = PAST_WIDE.min(total * 10 + u128::from(*b - b'0'));
+    }
+    total
+}
