@@ -10,3 +10,4 @@ mod Lanes
 mod Marks
 mod Pairs
 mod PlaceSums
+pub mod PageLemmas

@@ -6,3 +6,4 @@ pub mod Buffer
 pub mod Number
 pub mod Fields
 pub mod FieldViews
+pub mod Pages

@@ -1,9 +1,10 @@
 //! Output in large pieces.
 
-ghost use Rattle.std.specs.Prelude.{◌≡◌, ◌+◌, ◌≤◌, [], ◌++◌, length, OnOk};
+ghost use Rattle.std.specs.Prelude.{◌≡◌, ◌+◌, ◌≤◌, [], ◌++◌, ℕ, List, Option, true, false, length};
 ghost use Rattle.std.specs.Fmt.{signed_decimal};
+ghost use Rattle.dimacs_lines.specs.Puts.{Puts};
 ghost use Rattle.dimacs_lines.specs.Devices.{CountsFault};
-ghost use Rattle.dimacs_lines.specs.Puts.{Puts, PutsOrKeeps};
+ghost use Rattle.dimacs_lines.specs.Pages.{IsWritten, IsPut, FaultsAre};
 
 use crate::device::{DeviceFault, Sink, put_all};
 use itoa::Buffer;
@@ -13,9 +14,12 @@ use std::marker::Model;
 const PAGE: usize = 16_384;
 
 /// The end of what was written, until enough of it has come together to be put at once.
+///
+/// After a fault of the sink nothing more is put, and `finish` tells the fault.
 pub struct Page {
     bytes: [u8; 16_384],
     length: usize,
+    failed: bool,
 }
 
 impl Drop for Page {
@@ -23,94 +27,116 @@ impl Drop for Page {
         let Page {
             bytes: _,
             length: _,
+            failed: _,
         } = self;
     }
 }
 
 impl Model for Page {
-    ghost use Rattle.std.specs.Prelude.{◌≤◌, List, ℕ, take};
+    ghost use Rattle.std.specs.Prelude.{◌≤◌, take};
+    ghost use Rattle.dimacs_lines.specs.Pages.{PageState};
 
-    ghost Value = { List ℕ };
+    ghost Value = { PageState };
 
-    ghost view = { λ page. take page.length page.bytes };
+    ghost view = { λ page. record { kept = take page.length page.bytes; failed = page.failed } };
 
     ghost invariant = { λ page. page.length ≤ 16384 };
 }
 
 impl Page {
     pub fn new() -> Page
-        ensures { result ≡ [] }
+        ensures empty { result.kept ≡ [] }
+        ensures sound { result.failed ≡ false }
     {
         Page {
             bytes: [0; 16_384],
             length: 0,
+            failed: false,
         }
     }
 
-    /// Writes the bytes behind what the page holds.
+    /// Writes the bytes behind what was written before.
     #[inline(always)]
-    pub fn write<S: Sink>(&mut self, sink: &mut S, bytes: &[u8]) -> Result<(), DeviceFault>
-        ensures written { PutsOrKeeps result (S.accepted sink.old) (self.old ++ bytes.now) (S.accepted sink.new) self.new }
-        ensures fault { CountsFault result (S.faults sink.old) (S.faults sink.new) }
+    pub fn write<S: Sink>(&mut self, sink: &mut S, bytes: &[u8])
+        ensures written { (start : Option (List ℕ)) (text : List ℕ) → IsWritten start text (S.accepted sink.old) self.old → IsWritten start (text ++ bytes.now) (S.accepted sink.new) self.new }
+        ensures faults { (start : ℕ) → FaultsAre start (S.faults sink.old) self.old → FaultsAre start (S.faults sink.new) self.new }
     {
         if PAGE - self.length < bytes.len() {
-            return self.turn(sink, bytes);
+            self.turn(sink, bytes);
+        } else {
+            self.append(bytes);
         }
-        self.append(bytes);
-        Ok(())
     }
 
     /// Writes a number in decimal.
     #[inline(always)]
-    pub fn number<S: Sink>(&mut self, sink: &mut S, n: i64) -> Result<(), DeviceFault>
-        ensures written { PutsOrKeeps result (S.accepted sink.old) (self.old ++ signed_decimal n) (S.accepted sink.new) self.new }
-        ensures fault { CountsFault result (S.faults sink.old) (S.faults sink.new) }
+    pub fn number<S: Sink>(&mut self, sink: &mut S, n: i64)
+        ensures written { (start : Option (List ℕ)) (text : List ℕ) → IsWritten start text (S.accepted sink.old) self.old → IsWritten start (text ++ signed_decimal n) (S.accepted sink.new) self.new }
+        ensures faults { (start : ℕ) → FaultsAre start (S.faults sink.old) self.old → FaultsAre start (S.faults sink.new) self.new }
     {
         let mut digits = Buffer::new();
-        self.write(sink, digits.format(n).as_bytes())
+        self.write(sink, digits.format(n).as_bytes());
     }
 
     /// Writes a wide number in decimal.
-    pub fn wide<S: Sink>(&mut self, sink: &mut S, n: i128) -> Result<(), DeviceFault>
-        ensures written { PutsOrKeeps result (S.accepted sink.old) (self.old ++ signed_decimal n) (S.accepted sink.new) self.new }
-        ensures fault { CountsFault result (S.faults sink.old) (S.faults sink.new) }
+    pub fn wide<S: Sink>(&mut self, sink: &mut S, n: i128)
+        ensures written { (start : Option (List ℕ)) (text : List ℕ) → IsWritten start text (S.accepted sink.old) self.old → IsWritten start (text ++ signed_decimal n) (S.accepted sink.new) self.new }
+        ensures faults { (start : ℕ) → FaultsAre start (S.faults sink.old) self.old → FaultsAre start (S.faults sink.new) self.new }
     {
         let mut digits = Buffer::new();
-        self.write(sink, digits.format(n).as_bytes())
+        self.write(sink, digits.format(n).as_bytes());
     }
 
-    /// Puts what the page holds.
-    pub fn flush<S: Sink>(&mut self, sink: &mut S) -> Result<(), DeviceFault>
-        ensures puts { Puts result (S.accepted sink.old) self.old (S.accepted sink.new) }
-        ensures empty { OnOk result (self.new ≡ []) }
-        ensures fault { CountsFault result (S.faults sink.old) (S.faults sink.new) }
+    /// Puts what is left of the text, and tells whether the sink failed.
+    pub fn finish<S: Sink>(mut self, sink: &mut S) -> Result<(), DeviceFault>
+        ensures puts { (start : Option (List ℕ)) (text : List ℕ) → IsWritten start text (S.accepted sink.old) self → Puts result start text (S.accepted sink.new) }
+        ensures fault { (start : ℕ) → FaultsAre start (S.faults sink.old) self → CountsFault result start (S.faults sink.new) }
     {
-        put_all(sink, &self.bytes[..self.length])?;
-        self.length = 0;
+        self.flush(sink);
+        if self.failed {
+            return Err(DeviceFault);
+        }
         Ok(())
     }
 
     /// Writes the bytes where the page has no room for them.
     #[inline(never)]
-    fn turn<S: Sink>(&mut self, sink: &mut S, bytes: &[u8]) -> Result<(), DeviceFault>
-        ensures written { PutsOrKeeps result (S.accepted sink.old) (self.old ++ bytes.now) (S.accepted sink.new) self.new }
-        ensures fault { CountsFault result (S.faults sink.old) (S.faults sink.new) }
+    fn turn<S: Sink>(&mut self, sink: &mut S, bytes: &[u8])
+        ensures written { (start : Option (List ℕ)) (text : List ℕ) → IsWritten start text (S.accepted sink.old) self.old → IsWritten start (text ++ bytes.now) (S.accepted sink.new) self.new }
+        ensures faults { (start : ℕ) → FaultsAre start (S.faults sink.old) self.old → FaultsAre start (S.faults sink.new) self.new }
     {
-        self.flush(sink)?;
+        self.flush(sink);
         if PAGE < bytes.len() {
-            return put_all(sink, bytes);
+            self.failed = put_unless(self.failed, sink, bytes);
+        } else {
+            self.append(bytes);
         }
-        self.append(bytes);
-        Ok(())
+    }
+
+    fn flush<S: Sink>(&mut self, sink: &mut S)
+        ensures written { (start : Option (List ℕ)) (text : List ℕ) → IsWritten start text (S.accepted sink.old) self.old → IsWritten start text (S.accepted sink.new) self.new }
+        ensures faults { (start : ℕ) → FaultsAre start (S.faults sink.old) self.old → FaultsAre start (S.faults sink.new) self.new }
+        ensures empty { self.new.kept ≡ [] }
+    {
+        self.failed = put_unless(self.failed, sink, &self.bytes[..self.length]);
+        self.length = 0;
     }
 
     #[inline(always)]
     fn append(&mut self, bytes: &[u8])
-        requires { length self.old + length bytes.now ≤ 16384 }
-        ensures { self.new ≡ self.old ++ bytes.now }
+        requires { length self.old.kept + length bytes.now ≤ 16384 }
+        ensures kept { self.new.kept ≡ self.old.kept ++ bytes.now }
+        ensures failed { self.new.failed ≡ self.old.failed }
     {
         let end = self.length + bytes.len();
         self.bytes[self.length..end].copy_from_slice(bytes);
         self.length = end;
     }
+}
+
+/// Puts the bytes, unless the sink has failed before; and whether it has failed by now.
+fn put_unless<S: Sink>(failed: bool, sink: &mut S, bytes: &[u8]) -> bool
+    ensures { IsPut failed (S.accepted sink.old) (S.faults sink.old) bytes.now result (S.accepted sink.new) (S.faults sink.new) }
+{
+    failed || put_all(sink, bytes).is_err()
 }

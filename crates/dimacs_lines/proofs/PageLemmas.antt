@@ -1,0 +1,27 @@
+-- Writing through a page.
+use Rattle.std.proofs.Common.{◌≡◌, ◌++◌, ℕ, List, [], Bool, true, false, Option, None, Some, refl, ap, sym, ◌∙◌, subst, append_assoc}
+use Rattle.std.proofs.lemmas.List.{append-nil}
+use Rattle.dimacs_lines.specs.Devices.{after_piece}
+use Rattle.dimacs_lines.specs.Puts.{AcceptsFront}
+use Rattle.dimacs_lines.specs.Pages.{PageState, IsWrittenBy, IsWritten, IsPut}
+use Rattle.dimacs_lines.proofs.PutLemmas.{after_piece-after_piece, AcceptsFront-behind, AcceptsFront-longer}
+
+-- before the first write
+pub IsWritten-nothing : (old : Option (List ℕ)) (page : PageState) → page.kept ≡ [] → page.failed ≡ false → IsWritten old [] old page
+IsWritten-nothing None page empty sound = rw (sound, empty) (record { front = []; whole = refl; accepted = refl })
+IsWritten-nothing (Some held) page empty sound = rw (sound, empty) (record { front = []; whole = refl; accepted = ap (λ x. Some x) (sym (append-nil held)) })
+
+-- more is kept, or nothing after a fault
+pub IsWritten-kept : (failed : Bool) (old new : Option (List ℕ)) (text kept more : List ℕ) → IsWrittenBy failed old text new kept → IsWrittenBy failed old (text ++ more) new (kept ++ more)
+IsWritten-kept false old new text kept more h = record { front = h.front; whole = ap (λ x. x ++ more) h.whole ∙ append_assoc h.front kept more; accepted = h.accepted }
+IsWritten-kept true old new text kept more h = AcceptsFront-longer old new text more h
+
+-- what was kept is put
+pub IsWritten-put : (failed after : Bool) (start old new : Option (List ℕ)) (faults counted : ℕ) (text kept : List ℕ) → IsPut failed old faults kept after new counted → IsWrittenBy failed start text old kept → IsWrittenBy after start text new []
+IsWritten-put true after start old new faults counted text kept put h = rw (put.0, put.1) h
+IsWritten-put false true start old new faults counted text kept put h = subst (λ x. AcceptsFront start x new) (sym h.whole) (AcceptsFront-behind start old new h.front kept h.accepted put.0)
+IsWritten-put false false start old new faults counted text kept put h = record {
+  front = text;
+  whole = sym (append-nil text);
+  accepted = put.0 ∙ (ap (λ o. after_piece o kept) h.accepted ∙ (after_piece-after_piece start h.front kept ∙ ap (after_piece start) (sym h.whole)));
+}

@@ -1,0 +1,33 @@
+-- What was written to a sink through a page.
+use Rattle.std.specs.Prelude.{ℕ, ◌≡◌, ◌++◌, List, Bool, true, false, Option, if◌then◌else◌}
+use Rattle.dimacs_lines.specs.Devices.{after_piece, one_more}
+use Rattle.dimacs_lines.specs.Puts.{AcceptsFront}
+
+-- what a page keeps of a text, and whether the sink has failed
+pub record PageState : Type 0 where
+  pub kept : List ℕ
+  pub failed : Bool
+
+-- all but an end of the text was accepted, and that end is kept
+pub record Keeps (old : Option (List ℕ)) (text : List ℕ) (new : Option (List ℕ)) (kept : List ℕ) : Type 0 where
+  pub front : List ℕ
+  pub whole : text ≡ front ++ kept
+  pub accepted : new ≡ after_piece old front
+
+abbrev pub IsWrittenBy : Bool → Option (List ℕ) → List ℕ → Option (List ℕ) → List ℕ → Type 0
+IsWrittenBy false old text new kept = Keeps old text new kept
+IsWrittenBy true old text new kept = AcceptsFront old text new
+
+-- the text was accepted or is kept; after a fault, a beginning of it was accepted
+abbrev pub IsWritten : Option (List ℕ) → List ℕ → Option (List ℕ) → PageState → Type 0
+IsWritten old text new page = IsWrittenBy page.failed old text new page.kept
+
+-- one fault more where the sink has failed
+abbrev pub FaultsAre : ℕ → ℕ → PageState → Type 0
+FaultsAre start now page = now ≡ (if page.failed then one_more start else start)
+
+-- the bytes were put, unless the sink had failed before; and whether it has failed by now
+abbrev pub IsPut : Bool → Option (List ℕ) → ℕ → List ℕ → Bool → Option (List ℕ) → ℕ → Type 0
+IsPut true old faults bytes failed new counted = (failed ≡ true) × (new ≡ old) × (counted ≡ faults)
+IsPut false old faults bytes true new counted = AcceptsFront old bytes new × (counted ≡ one_more faults)
+IsPut false old faults bytes false new counted = (new ≡ after_piece old bytes) × (counted ≡ faults)
