@@ -1,15 +1,10 @@
 -- Writing through a page.
-use Rattle.std.proofs.Common.{◌≡◌, ◌++◌, ℕ, List, [], Bool, true, false, Option, None, Some, refl, ap, sym, ◌∙◌, subst, append_assoc}
+use Rattle.std.proofs.Common.{◌++◌, ℕ, List, [], Bool, true, false, Option, ap, sym, ◌∙◌, subst, append_assoc}
 use Rattle.std.proofs.lemmas.List.{append-nil}
 use Rattle.dimacs_lines.specs.Devices.{after_piece}
 use Rattle.dimacs_lines.specs.Puts.{AcceptsFront}
-use Rattle.dimacs_lines.specs.Pages.{PageState, IsWrittenBy, IsWritten, IsPut}
+use Rattle.dimacs_lines.specs.Pages.{IsWrittenBy, IsPut}
 use Rattle.dimacs_lines.proofs.PutLemmas.{after_piece-after_piece, AcceptsFront-behind, AcceptsFront-longer}
-
--- before the first write
-pub IsWritten-nothing : (old : Option (List ℕ)) (page : PageState) → page.kept ≡ [] → page.failed ≡ false → IsWritten old [] old page
-IsWritten-nothing None page empty sound = rw (sound, empty) (record { front = []; whole = refl; accepted = refl })
-IsWritten-nothing (Some held) page empty sound = rw (sound, empty) (record { front = []; whole = refl; accepted = ap (λ x. Some x) (sym (append-nil held)) })
 
 -- more is kept, or nothing after a fault
 pub IsWritten-kept : (failed : Bool) (old new : Option (List ℕ)) (text kept more : List ℕ) → IsWrittenBy failed old text new kept → IsWrittenBy failed old (text ++ more) new (kept ++ more)

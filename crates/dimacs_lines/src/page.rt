@@ -45,8 +45,9 @@ impl Model for Page {
 
 impl Page {
     pub fn new() -> Page
-        ensures empty { result.kept ≡ [] }
-        ensures sound { result.failed ≡ false }
+        ensures empty { result ≡ record { kept = []; failed = false } }
+        ensures written { (start : Option (List ℕ)) → IsWritten start [] start result }
+        ensures faults { (start : ℕ) → FaultsAre start start result }
     {
         Page {
             bytes: [0; 16_384],

@@ -1,0 +1,95 @@
+-- What a field says, and why it is refused.
+use Rattle.std.proofs.Common.{◌≡◌, ℕ, ◌∷◌, [], List, Bool, true, false, Option, Some, None, length, refl, arith}
+use Rattle.std.proofs.Common.{SFits, w64, ◌^◌, ◌-◌}
+use Rattle.std.specs.Prelude.{ℤ, pos, neg_ℤ, ◌≤ℤ◌, int_lt, ◌&&◌, ◌||◌, nat_lt}
+use Rattle.std.specs.List.{list_all}
+use Rattle.std.specs.Char.{IsAsciiDigit, is_ascii_digit}
+use Rattle.std.specs.Str.{bytes_eq}
+use Rattle.std.proofs.lemmas.Bool.{ltb-true, lt-ltb, and_from, or_from, eq-eqb}
+use Rattle.std.proofs.lemmas.Bool.Decides.{nat_tests}
+use Rattle.std.proofs.lemmas.List.Sums.{AllPass-from_list_all, list_all-from_AllPass}
+use Rattle.std.proofs.lemmas.List.Elements.{All-weaker}
+use Rattle.std.proofs.lemmas.Int.{ints}
+use Rattle.dimacs_lines.specs.Number.{digits_of, IsNumber, number_in, IsWithin, Spells}
+use Rattle.dimacs_records.specs.declared.reasons.Reason.TheVariants.{BadNumber, NumberRange}
+use Rattle.dimacs_records.specs.Forms.{FieldType, Word, Number}
+use Rattle.dimacs_records.specs.Spelling.{Part, Text, Amount, Says}
+use Rattle.dimacs_records.specs.Shapes.{is_number}
+use Rattle.dimacs_records.specs.FieldReader.{field_reason}
+use Rattle.dimacs_records.specs.Earlier.{or_else}
+
+and_parts : (a b : Bool) → (a && b) ≡ true → (a ≡ true) × (b ≡ true)
+and_parts true b h = (refl, h)
+and_parts false b h = absurd (cc)
+
+digit_from : (b : ℕ) → is_ascii_digit b ≡ true → IsAsciiDigit b
+digit_from b h = (grind (arith, nat_tests), grind (arith, nat_tests))
+
+digit_to : (b : ℕ) → IsAsciiDigit b → is_ascii_digit b ≡ true
+digit_to b h = grind (arith, nat_tests, h.0, h.1)
+
+number_from : (text : List ℕ) → is_number text ≡ true → IsNumber text
+number_from text h =
+    let p = and_parts (nat_lt 0 (length (digits_of text))) (list_all is_ascii_digit (digits_of text)) h in
+    (ltb-true 0 (length (digits_of text)) p.0, All-weaker (λ b. is_ascii_digit b ≡ true) IsAsciiDigit digit_from (digits_of text) (AllPass-from_list_all is_ascii_digit (digits_of text) p.1))
+
+number_to : (text : List ℕ) → IsNumber text → is_number text ≡ true
+number_to text h = and_from (nat_lt 0 (length (digits_of text))) (list_all is_ascii_digit (digits_of text)) (lt-ltb 0 (length (digits_of text)) h.0)
+    (list_all-from_AllPass is_ascii_digit (digits_of text) (All-weaker IsAsciiDigit (λ b. is_ascii_digit b ≡ true) digit_to (digits_of text) h.1))
+
+no_number : (text : List ℕ) → ¬ IsNumber text → is_number text ≡ false
+no_number text h = by_test (is_number text) refl
+  where
+    by_test : (t : Bool) → is_number text ≡ t → t ≡ false
+    by_test true e = absurd (h (number_from text e))
+    by_test false e = refl
+
+not_below : (a b : ℤ) → a ≤ℤ b → int_lt b a ≡ false
+not_below a b h = by_test (int_lt b a) refl
+  where
+    by_test : (t : Bool) → int_lt b a ≡ t → t ≡ false
+    by_test true e = absurd (omega (arith, ints, h))
+    by_test false e = refl
+
+inside : (low high n : ℤ) → IsWithin low high n → (int_lt n low || int_lt high n) ≡ false
+inside low high n h = or_from (int_lt n low) (int_lt high n) (not_below low n h.0) (not_below n high h.1)
+
+outside : (low high n : ℤ) → ¬ IsWithin low high n → (int_lt n low || int_lt high n) ≡ true
+outside low high n h = by_tests (int_lt n low) (int_lt high n) refl refl
+  where
+    by_tests : (s t : Bool) → int_lt n low ≡ s → int_lt high n ≡ t → (s || t) ≡ true
+    by_tests true t d e = refl
+    by_tests false true d e = refl
+    by_tests false false d e = absurd (h (omega (arith, ints, d), omega (arith, ints, e)))
+
+same_bytes : (w : List ℕ) → bytes_eq w w ≡ true
+same_bytes [] = refl
+same_bytes (b ∷ bs) = rw (eq-eqb b b refl) (same_bytes bs)
+
+-- a field that says what it should has no reason to be refused
+pub field_reason-said : (type : FieldType) (text : List ℕ) (part : Part) → Says type text part → field_reason type text ≡ None
+field_reason-said (Word w) text (Text said) h = rw (h.0, same_bytes w) refl
+field_reason-said (Number low high) text (Amount n) h = rw (number_to text h.0.0, ← h.0.1, inside low high n h.1) refl
+field_reason-said (Word w) text (Amount n) h = absurd h
+field_reason-said (Number low high) text (Text said) h = absurd h
+
+pub field_reason-no_number : (low high : ℤ) (text : List ℕ) → ¬ IsNumber text → field_reason (Number low high) text ≡ Some BadNumber
+field_reason-no_number low high text h = rw (no_number text h) refl
+
+pub field_reason-outside : (low high : ℤ) (text : List ℕ) → IsNumber text → ¬ IsWithin low high (number_in text) → field_reason (Number low high) text ≡ Some NumberRange
+field_reason-outside low high text h out = rw (number_to text h, outside low high (number_in text) out) refl
+
+-- a field that spells a number below or above the range
+pub field_reason-low : (low high n : ℤ) (text : List ℕ) → Spells text n → int_lt n low ≡ true → field_reason (Number low high) text ≡ Some NumberRange
+field_reason-low low high n text h below = rw (number_to text h.0, ← h.1, below) refl
+
+pub field_reason-high : (low high n : ℤ) (text : List ℕ) → Spells text n → int_lt n low ≡ false → int_lt high n ≡ true → field_reason (Number low high) text ≡ Some NumberRange
+field_reason-high low high n text h not_below above = rw (number_to text h.0, ← h.1, not_below, above) refl
+
+-- a range of i64 lies within that of i64
+pub not_within : (low high : ℤ) (text : List ℕ) → SFits w64 low → SFits w64 high → ¬ IsWithin (neg_ℤ (pos (2 ^ 63))) (pos (2 ^ 63 - 1)) (number_in text) → ¬ IsWithin low high (number_in text)
+not_within low high text f g out h = out (omega (arith, ints, h.0, f.sfits), omega (arith, ints, h.1, g.sfits))
+
+pub or_else-none : {X : Type 0} → (o : Option X) → or_else o None ≡ o
+or_else-none None = refl
+or_else-none (Some x) = refl

@@ -1,0 +1,64 @@
+-- The first of a list, found by a search.
+use Rattle.std.proofs.Common.{◌≡◌, ◌++◌, ◌∷◌, [], List, Bool, true, false, Option, Some, None, refl, ap, sym, ◌∙◌, subst}
+use Rattle.std.specs.Prelude.{IsTrue, if◌then◌else◌}
+use Rattle.std.specs.List.{All}
+use Rattle.std.proofs.lemmas.List.Elements.{All-nil, All-cons, All-head, All-tail}
+use Rattle.dimacs_records.specs.Order.{First}
+
+-- the first of a list that passes a test
+abbrev pub first_by : {X : Type 0} → (X → Bool) → List X → Option X
+first_by test [] = None
+first_by test (x ∷ xs) = if test x then Some x else first_by test xs
+
+-- at most one is the first
+unique : {X : Type 0} (P : X → Type 0) (before before' after after' : List X) (x y : X) → before ++ x ∷ after ≡ before' ++ y ∷ after' → All (λ z. ¬ P z) before → All (λ z. ¬ P z) before' → P x → P y → x ≡ y
+unique P [] [] after after' x y e n n' p q = cc
+unique P [] (b ∷ bs) after after' x y e n n' p q = let same : x ≡ b = cc in absurd (All-head (λ z. ¬ P z) b bs n' (subst P same p))
+unique P (b ∷ bs) [] after after' x y e n n' p q = let same : b ≡ y = cc in absurd (All-head (λ z. ¬ P z) b bs n (subst P (sym same) q))
+unique P (b ∷ bs) (c ∷ cs) after after' x y e n n' p q = unique P bs cs after after' x y (cc) (All-tail (λ z. ¬ P z) b bs n) (All-tail (λ z. ¬ P z) c cs n') p q
+
+pub first_unique : {X : Type 0} (P : X → Type 0) (all : List X) (x y : X) → First P all x → First P all y → x ≡ y
+first_unique P all x y f g = unique P f.before g.before f.after g.after x y (sym f.all_is ∙ g.all_is) f.none_before g.none_before f.holds g.holds
+
+ne_true : (b : Bool) → ¬ (b ≡ true) → b ≡ false
+ne_true true h = absurd (h refl)
+ne_true false h = refl
+
+ne_false : (b : Bool) → b ≡ false → ¬ (b ≡ true)
+ne_false true h = absurd (cc)
+ne_false false h = λ e. absurd (cc)
+
+-- the computed first is the first
+found_at : {X : Type 0} (test : X → Bool) (before after : List X) (x : X) → All (λ z. ¬ IsTrue (test z)) before → IsTrue (test x) → first_by test (before ++ x ∷ after) ≡ Some x
+found_at test [] after x n h = rw h refl
+found_at test (b ∷ bs) after x n h = rw (ne_true (test b) (All-head (λ z. ¬ IsTrue (test z)) b bs n)) (found_at test bs after x (All-tail (λ z. ¬ IsTrue (test z)) b bs n) h)
+
+pub first_is : {X : Type 0} (test : X → Bool) (all : List X) (x : X) → First (λ z. IsTrue (test z)) all x → first_by test all ≡ Some x
+first_is test all x f = ap (first_by test) f.all_is ∙ found_at test f.before f.after x f.none_before f.holds
+
+is_first_at : {X : Type 0} (test : X → Bool) (y : X) (all : List X) (x : X) (b : Bool) → test y ≡ b → first_by test (y ∷ all) ≡ Some x → (first_by test all ≡ Some x → First (λ z. IsTrue (test z)) all x) → First (λ z. IsTrue (test z)) (y ∷ all) x
+is_first_at test y all x true h e more =
+    let found : first_by test (y ∷ all) ≡ Some y = rw h refl in
+    let same : y ≡ x = cc in
+    record { before = []; after = all; all_is = ap (λ z. z ∷ all) same; none_before = All-nil (λ z. ¬ IsTrue (test z)); holds = subst (λ z. IsTrue (test z)) same h }
+is_first_at test y all x false h e more =
+    let past : first_by test (y ∷ all) ≡ first_by test all = rw h refl in
+    let f = more (sym past ∙ e) in
+    record { before = y ∷ f.before; after = f.after; all_is = ap (λ t. y ∷ t) f.all_is; none_before = All-cons (λ z. ¬ IsTrue (test z)) y f.before (ne_false (test y) h) f.none_before; holds = f.holds }
+
+pub is_first : {X : Type 0} (test : X → Bool) (all : List X) (x : X) → first_by test all ≡ Some x → First (λ z. IsTrue (test z)) all x
+is_first test [] x e = absurd (cc)
+is_first test (y ∷ all) x e = is_first_at test y all x (test y) refl e (is_first test all x)
+
+none_at : {X : Type 0} (test : X → Bool) (y : X) (all : List X) (b : Bool) → test y ≡ b → first_by test (y ∷ all) ≡ None → (test y ≡ false) × (first_by test all ≡ None)
+none_at test y all true h e = let found : first_by test (y ∷ all) ≡ Some y = rw h refl in absurd (cc)
+none_at test y all false h e = let past : first_by test (y ∷ all) ≡ first_by test all = rw h refl in (h, sym past ∙ e)
+
+-- nothing is found where nothing passes
+pub none_is : {X : Type 0} (test : X → Bool) (all : List X) → first_by test all ≡ None → All (λ z. ¬ IsTrue (test z)) all
+none_is test [] e = All-nil (λ z. ¬ IsTrue (test z))
+none_is test (y ∷ all) e = let p = none_at test y all (test y) refl e in All-cons (λ z. ¬ IsTrue (test z)) y all (ne_false (test y) p.0) (none_is test all p.1)
+
+pub is_none_first : {X : Type 0} (test : X → Bool) (all : List X) → All (λ z. ¬ IsTrue (test z)) all → first_by test all ≡ None
+is_none_first test [] n = refl
+is_none_first test (y ∷ all) n = rw (ne_true (test y) (All-head (λ z. ¬ IsTrue (test z)) y all n)) (is_none_first test all (All-tail (λ z. ¬ IsTrue (test z)) y all n))

@@ -1,0 +1,5 @@
+mod FieldLemmas
+mod FormLemmas
+mod FirstLemmas
+mod PlaceLemmas
+mod LineLemmas

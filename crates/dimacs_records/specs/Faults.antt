@@ -1,0 +1,64 @@
+-- The fault of a text: the first line at which a condition holds, and the first condition there.
+use Rattle.std.specs.Prelude.{ℕ, ◌+◌, ◌≡◌, ◌⊎◌, true, false, List, [], ◌∷◌, ◌++◌, length, Option, Some, None, IsTrue}
+use Rattle.dimacs_records.specs.declared.kinds.TextKind.{TextKind}
+use Rattle.dimacs_records.specs.declared.records.Record.{Record}
+use Rattle.dimacs_records.specs.declared.reasons.Reason.{Reason}
+use Rattle.dimacs_records.specs.Spelling.{SpellsRecord, texts_in, is_skip}
+use Rattle.dimacs_records.specs.Shapes.{shape_condition}
+use Rattle.dimacs_records.specs.Conditions.{limit_condition, condition, end_condition}
+use Rattle.dimacs_records.specs.Order.{Place, at, places, end_reasons, First}
+
+-- at a place of a line, behind the earlier records, the condition of its reason holds
+pub data Condition (kind : TextKind) (earlier : List Record) (number : ℕ) (line : List ℕ) (p : Place) : Type 0 where
+  of_limit : IsTrue (limit_condition number line p.field p.reason) → Condition kind earlier number line p
+  of_shape : is_skip (texts_in line) ≡ false → IsTrue (shape_condition kind (texts_in line) p.field p.reason) → Condition kind earlier number line p
+  of_record : (r : Record) → is_skip (texts_in line) ≡ false → SpellsRecord kind (texts_in line) r → IsTrue (condition earlier r p.field p.reason) → Condition kind earlier number line p
+
+-- each line is skipped, or spells the record beside it
+abbrev pub Spell : TextKind → List (List ℕ) → List (Option Record) → Type 0
+Spell kind [] [] = Unit {0}
+Spell kind (line ∷ lines) (None ∷ more) = (is_skip (texts_in line) ≡ true) × Spell kind lines more
+Spell kind (line ∷ lines) (Some r ∷ more) = (is_skip (texts_in line) ≡ false) × SpellsRecord kind (texts_in line) r × Spell kind lines more
+Spell kind lines said = ⊥
+
+-- the records among what lines say
+abbrev pub records_in : List (Option Record) → List Record
+records_in [] = []
+records_in (None ∷ more) = records_in more
+records_in (Some r ∷ more) = r ∷ records_in more
+
+-- the lines say this, and no condition holds at any of them
+pub record IsClean (kind : TextKind) (lines : List (List ℕ)) (said : List (Option Record)) : Type 0 where
+  pub spell : Spell kind lines said
+  pub none : (before after : List (List ℕ)) (line : List ℕ) (earlier : List (Option Record)) (p : Place) → lines ≡ before ++ line ∷ after → Spell kind before earlier → ¬ Condition kind (records_in earlier) (length before + 1) line p
+
+-- clean lines, and then one at which this condition comes first
+pub record FaultyLine (kind : TextKind) (lines : List (List ℕ)) (l f : ℕ) (r : Reason) : Type 0 where
+  pub before : List (List ℕ)
+  pub line : List ℕ
+  pub after : List (List ℕ)
+  pub said : List (Option Record)
+  pub lines_are : lines ≡ before ++ line ∷ after
+  pub number : l ≡ length before + 1
+  pub clean : IsClean kind before said
+  pub first : First (Condition kind (records_in said) l line) places (at f r)
+
+-- at the end of a text of these records this condition comes first
+abbrev pub FirstAtEnd : TextKind → List Record → Reason → Type 0
+FirstAtEnd kind all reason = First (λ other. IsTrue (end_condition kind all other)) end_reasons reason
+
+-- clean lines, and at their end this condition
+pub record FaultyEnd (kind : TextKind) (lines : List (List ℕ)) (l f : ℕ) (r : Reason) : Type 0 where
+  pub said : List (Option Record)
+  pub number : l ≡ length lines + 1
+  pub field : f ≡ 0
+  pub clean : IsClean kind lines said
+  pub first : FirstAtEnd kind (records_in said) r
+
+abbrev pub Fault : TextKind → List (List ℕ) → ℕ → ℕ → Reason → Type 0
+Fault kind lines l f r = FaultyLine kind lines l f r ⊎ FaultyEnd kind lines l f r
+
+-- no condition holds at any line, nor at the end
+pub record IsFaultless (kind : TextKind) (lines : List (List ℕ)) (said : List (Option Record)) : Type 0 where
+  pub clean : IsClean kind lines said
+  pub none_at_end : (reason : Reason) → ¬ IsTrue (end_condition kind (records_in said) reason)

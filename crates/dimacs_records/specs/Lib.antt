@@ -1,0 +1,12 @@
+pub mod Canonical
+pub mod Conditions
+pub mod Earlier
+pub mod Faults
+pub mod FieldReader
+pub mod Forms
+pub mod LineReader
+pub mod Names
+pub mod Order
+pub mod Shapes
+pub mod Spelling
+pub mod WrittenParts

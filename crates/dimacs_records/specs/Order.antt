@@ -1,0 +1,47 @@
+-- The order of the conditions at a line, and what comes first in an order.
+use Rattle.std.specs.Prelude.{ℕ, ◌≡◌, List, [], ◌∷◌, ◌++◌}
+use Rattle.std.specs.List.{All}
+use Rattle.dimacs_records.specs.declared.reasons.Reason.{Reason}
+use Rattle.dimacs_records.specs.declared.reasons.Reason.TheVariants.{LineTooLong, UnknownLine, FieldCount, BadNumber, NumberRange, BadWord, ProblemMissing, ProblemTwice, RecordOrder, NodeRange, NodeTwice, EndTwice, EndMissing, BoundOrder, ParallelArc, TooMany, TooFew, SolutionMissing, SolutionTwice, PredUnknown, LineLimit}
+
+-- a field, 0 being the whole line, and a reason
+pub record Place : Type 0 where
+  pub field : ℕ
+  pub reason : Reason
+
+abbrev pub at : ℕ → Reason → Place
+at field reason = record { field = field; reason = reason }
+
+abbrev pub limit_places : List Place
+limit_places = at 0 LineLimit ∷ at 0 LineTooLong ∷ []
+
+abbrev pub field_places : ℕ → List Place
+field_places f = at f BadNumber ∷ at f NumberRange ∷ at f BadWord ∷ []
+
+-- the shape, and then the fields from left to right
+abbrev pub shape_places : List Place
+shape_places = at 1 UnknownLine ∷ at 0 FieldCount ∷ (field_places 2 ++ (field_places 3 ++ (field_places 4 ++ (field_places 5 ++ (field_places 6 ++ [])))))
+
+-- what the earlier records decide; where one reason fits several fields, the leftmost comes first
+abbrev pub record_places : List Place
+record_places = at 0 ProblemMissing ∷ at 0 ProblemTwice ∷ at 0 RecordOrder
+    ∷ at 2 NodeRange ∷ at 3 NodeRange ∷ at 4 NodeRange
+    ∷ at 2 NodeTwice ∷ at 3 EndTwice ∷ at 0 EndMissing
+    ∷ at 4 BoundOrder ∷ at 5 BoundOrder
+    ∷ at 0 ParallelArc ∷ at 0 TooMany ∷ at 0 TooFew ∷ at 0 SolutionTwice ∷ at 0 PredUnknown ∷ []
+
+-- the order at a line
+abbrev pub places : List Place
+places = limit_places ++ (shape_places ++ record_places)
+
+-- the order at the end of a text
+abbrev pub end_reasons : List Reason
+end_reasons = ProblemMissing ∷ EndMissing ∷ TooFew ∷ SolutionMissing ∷ []
+
+-- the first of a list with a property: none before it has the property
+pub record First {X : Type 0} (P : X → Type 0) (all : List X) (x : X) : Type 0 where
+  pub before : List X
+  pub after : List X
+  pub all_is : all ≡ before ++ x ∷ after
+  pub none_before : All (λ y. ¬ P y) before
+  pub holds : P x

@@ -1,0 +1,42 @@
+-- Why the fields of a line spell no record, reason by reason.
+use Rattle.std.specs.Prelude.{ℕ, suc, ◌==◌, Bool, false, ◌&&◌, ◌||◌, not, List, [], ◌∷◌, length, Option, Some, None, nat_lt, int_lt, if◌then◌else◌}
+use Rattle.std.specs.List.{list_all}
+use Rattle.std.specs.Char.{is_ascii_digit}
+use Rattle.std.specs.Str.{bytes_eq}
+use Rattle.dimacs_lines.specs.Number.{digits_of, number_in}
+use Rattle.dimacs_records.specs.declared.kinds.TextKind.{TextKind}
+use Rattle.dimacs_records.specs.declared.reasons.Reason.{Reason}
+use Rattle.dimacs_records.specs.declared.reasons.Reason.TheVariants.{UnknownLine, FieldCount, BadNumber, NumberRange, BadWord}
+use Rattle.dimacs_records.specs.Forms.{FieldType, Word, Number, Form, forms}
+
+-- an optional sign and one or more digits
+abbrev pub is_number : List ℕ → Bool
+is_number text = nat_lt 0 (length (digits_of text)) && list_all is_ascii_digit (digits_of text)
+
+-- in a field of this type the condition of a reason holds
+abbrev pub field_condition : FieldType → List ℕ → Reason → Bool
+field_condition (Number low high) text BadNumber = not (is_number text)
+field_condition (Number low high) text NumberRange = is_number text && (int_lt (number_in text) low || int_lt high (number_in text))
+field_condition (Word w) text BadWord = not (bytes_eq w text)
+field_condition type text reason = false
+
+-- at field f, where the first of these is field n
+abbrev pub fields_condition : ℕ → List FieldType → List (List ℕ) → ℕ → Reason → Bool
+fields_condition n (type ∷ types) (text ∷ texts) f reason = if f == n then field_condition type text reason else fields_condition (suc n) types texts f reason
+fields_condition n types texts f reason = false
+
+-- the types of the fields behind a letter
+abbrev pub types_in : List Form → List ℕ → Option (List FieldType)
+types_in [] letter = None
+types_in (form ∷ more) letter = if bytes_eq form.letter letter then Some form.types else types_in more letter
+
+-- at field f of a line that begins with this letter the condition of a reason holds
+abbrev pub letter_condition : Option (List FieldType) → List (List ℕ) → ℕ → Reason → Bool
+letter_condition None behind f UnknownLine = f == 1
+letter_condition None behind f reason = false
+letter_condition (Some types) behind f FieldCount = (f == 0) && not (length types == length behind)
+letter_condition (Some types) behind f reason = fields_condition 2 types behind f reason
+
+abbrev pub shape_condition : TextKind → List (List ℕ) → ℕ → Reason → Bool
+shape_condition kind [] f reason = false
+shape_condition kind (letter ∷ behind) f reason = letter_condition (types_in (forms kind) letter) behind f reason

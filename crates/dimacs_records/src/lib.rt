@@ -1,0 +1,21 @@
+//! The records that lines spell, and the driver that reads a whole text into a value.
+//!
+//! A kind of text is a table of line forms, and a table of the reasons for which it is refused. `record` reads a line
+//! by the first table; a `Reading` keeps what the earlier records said, and refuses by the second. `read_text` gives
+//! the reading the records of a text one by one, and its promise is stated for every reading.
+#![tactic(auto)]
+
+mod canonical;
+mod faults;
+mod kinds;
+mod lines;
+mod reasons;
+mod records;
+mod typed;
+
+pub use canonical::{put_record, write_record};
+pub use faults::{At, LineFault, ReadError, TakeError};
+pub use kinds::TextKind;
+pub use lines::record;
+pub use reasons::Reason;
+pub use records::Record;

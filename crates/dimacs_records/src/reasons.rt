@@ -1,0 +1,102 @@
+//! Why a text or a claim is refused.
+
+ghost use Rattle.std.specs.Prelude.{◌≡◌};
+ghost use Rattle.dimacs_records.specs.Names.{name_of};
+
+/// The reasons. Those of texts come first, in the order in which they are tested at one line but for the two limits,
+/// which come before all; then those of the judges.
+#[derive(Clone, Copy, Debug, PartialEq, Eq)]
+pub enum Reason {
+    LineTooLong,
+    UnknownLine,
+    FieldCount,
+    BadNumber,
+    NumberRange,
+    BadWord,
+    ProblemMissing,
+    ProblemTwice,
+    RecordOrder,
+    NodeRange,
+    NodeTwice,
+    EndTwice,
+    EndMissing,
+    BoundOrder,
+    ParallelArc,
+    TooMany,
+    TooFew,
+    SolutionMissing,
+    SolutionTwice,
+    PredUnknown,
+    LineLimit,
+    UnknownArc,
+    ArcTwice,
+    BelowLow,
+    AboveCap,
+    Balance,
+    CostRange,
+    ValueDiffers,
+    NodesDiffer,
+    SourceOutside,
+    SinkInside,
+    NotSaturated,
+    BackFlow,
+    NotTight,
+    NotViolated,
+    QueryNode,
+    BlockMissing,
+    NoTightArc,
+    Escapes,
+    NotShortest,
+    NegativeWeight,
+}
+
+impl Reason {
+    /// The name under which a refusal is printed.
+    pub fn name(&self) -> &str
+        ensures { result.now ≡ name_of self.now }
+    {
+        match self {
+            Reason::LineTooLong => "LineTooLong",
+            Reason::UnknownLine => "UnknownLine",
+            Reason::FieldCount => "FieldCount",
+            Reason::BadNumber => "BadNumber",
+            Reason::NumberRange => "NumberRange",
+            Reason::BadWord => "BadWord",
+            Reason::ProblemMissing => "ProblemMissing",
+            Reason::ProblemTwice => "ProblemTwice",
+            Reason::RecordOrder => "RecordOrder",
+            Reason::NodeRange => "NodeRange",
+            Reason::NodeTwice => "NodeTwice",
+            Reason::EndTwice => "EndTwice",
+            Reason::EndMissing => "EndMissing",
+            Reason::BoundOrder => "BoundOrder",
+            Reason::ParallelArc => "ParallelArc",
+            Reason::TooMany => "TooMany",
+            Reason::TooFew => "TooFew",
+            Reason::SolutionMissing => "SolutionMissing",
+            Reason::SolutionTwice => "SolutionTwice",
+            Reason::PredUnknown => "PredUnknown",
+            Reason::LineLimit => "LineLimit",
+            Reason::UnknownArc => "UnknownArc",
+            Reason::ArcTwice => "ArcTwice",
+            Reason::BelowLow => "BelowLow",
+            Reason::AboveCap => "AboveCap",
+            Reason::Balance => "Balance",
+            Reason::CostRange => "CostRange",
+            Reason::ValueDiffers => "ValueDiffers",
+            Reason::NodesDiffer => "NodesDiffer",
+            Reason::SourceOutside => "SourceOutside",
+            Reason::SinkInside => "SinkInside",
+            Reason::NotSaturated => "NotSaturated",
+            Reason::BackFlow => "BackFlow",
+            Reason::NotTight => "NotTight",
+            Reason::NotViolated => "NotViolated",
+            Reason::QueryNode => "QueryNode",
+            Reason::BlockMissing => "BlockMissing",
+            Reason::NoTightArc => "NoTightArc",
+            Reason::Escapes => "Escapes",
+            Reason::NotShortest => "NotShortest",
+            Reason::NegativeWeight => "NegativeWeight",
+        }
+    }
+}

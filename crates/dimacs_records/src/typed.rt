@@ -1,0 +1,145 @@
+//! Typed fields, taken from a line one after another.
+//!
+//! A fault is kept until the line is finished, since a wrong number of fields comes before it.
+
+ghost use Rattle.std.specs.Prelude.{◌≡◌, ◌≤ℤ◌, ◌≤◌, pos, neg_ℤ, ◌^◌};
+ghost use Rattle.dimacs_lines.specs.Number.{IsWithin};
+ghost use Rattle.dimacs_records.specs.Earlier.{or_else};
+ghost use Rattle.dimacs_records.specs.Forms.{Nodes, Count, Id, Whole, Word, Number};
+ghost use Rattle.dimacs_records.specs.Spelling.{Text, Amount};
+ghost use Rattle.dimacs_records.specs.FieldReader.{Takes, ReadsAmount, IsFresh, finished, fault_at};
+
+use crate::faults::LineFault;
+use crate::reasons::Reason;
+use crate::records::Record;
+use dimacs_lines::{NumberFault, Scan, Token};
+
+/// The greatest NODES, and so the greatest ID.
+pub const MAX_NODES: u32 = 134_217_728;
+
+/// The greatest count of lines that a problem line may declare.
+pub const MAX_COUNT: u32 = 268_435_456;
+
+/// The fields of a line that are not taken yet, and the first fault among those that were.
+#[derive(Drop)]
+pub(crate) struct FieldReader<'a> {
+    scan: Scan<'a>,
+    missing: bool,
+    fault: Option<LineFault>,
+}
+
+impl<'a> FieldReader<'a> {
+    /// The fields behind a letter.
+    #[inline(always)]
+    pub(crate) fn new(scan: Scan<'a>) -> FieldReader<'a>
+        ensures fresh { IsFresh result }
+        ensures fields { result.scan ≡ scan.entry }
+    {
+        FieldReader {
+            scan,
+            missing: false,
+            fault: None,
+        }
+    }
+
+    #[inline(always)]
+    pub(crate) fn word(&mut self, field: u32, word: &[u8])
+        ensures { Takes field (Word word.now) self.old (Text word.now) self.new }
+    {
+        match self.scan.next_token() {
+            None => self.missing = true,
+            Some(token) if token.field.text == word => (),
+            Some(_) => self.refuse(field, Reason::BadWord),
+        }
+    }
+
+    #[inline(always)]
+    pub(crate) fn nodes(&mut self, field: u32) -> u32
+        ensures { Takes field Nodes self.old (Amount (pos result)) self.new }
+    {
+        self.range(field, 0, i64::from(MAX_NODES)) as u32
+    }
+
+    #[inline(always)]
+    pub(crate) fn count(&mut self, field: u32) -> u32
+        ensures { Takes field Count self.old (Amount (pos result)) self.new }
+    {
+        self.range(field, 0, i64::from(MAX_COUNT)) as u32
+    }
+
+    #[inline(always)]
+    pub(crate) fn id(&mut self, field: u32) -> u32
+        ensures { Takes field Id self.old (Amount (pos result)) self.new }
+    {
+        self.range(field, 1, i64::from(MAX_NODES)) as u32
+    }
+
+    #[inline(always)]
+    pub(crate) fn whole(&mut self, field: u32) -> i64
+        ensures { Takes field Whole self.old (Amount result) self.new }
+    {
+        self.range(field, i64::MIN, i64::MAX)
+    }
+
+    /// The record, where each field was there and has no fault, and no other one is left.
+    #[inline(always)]
+    pub(crate) fn finish(mut self, spelled: Record) -> Result<Option<Record>, LineFault>
+        ensures { result ≡ finished self.entry spelled }
+    {
+        if self.missing || self.scan.next_token().is_some() {
+            return Err(LineFault {
+                field: 0,
+                reason: Reason::FieldCount,
+            });
+        }
+        match self.fault {
+            None => Ok(Some(spelled)),
+            Some(fault) => Err(fault),
+        }
+    }
+
+    /// A number from `low` to `high`; after a fault, `low`.
+    #[inline(always)]
+    fn range(&mut self, field: u32, low: i64, high: i64) -> i64
+        requires { low ≤ℤ high }
+        ensures takes { Takes field (Number low high) self.old (Amount result) self.new }
+        ensures within { IsWithin low high result }
+    {
+        let Some(token) = self.scan.next_token() else {
+            self.missing = true;
+            return low;
+        };
+        match amount(&token, low, high) {
+            Ok(n) => n,
+            Err(reason) => {
+                self.refuse(field, reason);
+                low
+            }
+        }
+    }
+
+    /// Keeps the fault where it is the first.
+    fn refuse(&mut self, field: u32, reason: Reason)
+        ensures fields { self.new.scan ≡ self.old.scan }
+        ensures missing { self.new.missing ≡ self.old.missing }
+        ensures fault { self.new.fault ≡ or_else self.old.fault (Some (fault_at field reason)) }
+    {
+        if self.fault.is_none() {
+            self.fault = Some(LineFault { field, reason });
+        }
+    }
+}
+
+/// The number from `low` to `high` that a field spells.
+#[inline(always)]
+fn amount(token: &Token<'_>, low: i64, high: i64) -> Result<i64, Reason>
+    ensures { ReadsAmount low high token.now.field.text.now result }
+{
+    match token.number() {
+        Ok(n) if n < low => Err(Reason::NumberRange),
+        Ok(n) if high < n => Err(Reason::NumberRange),
+        Ok(n) => Ok(n),
+        Err(NumberFault::NumberRange) => Err(Reason::NumberRange),
+        Err(NumberFault::BadNumber) => Err(Reason::BadNumber),
+    }
+}
