@@ -88,14 +88,13 @@ comes_left (TooMany number) old mid coming left given is refused = (omega (arith
         absurd (cc)
 comes_left (TooLong number) old mid coming left given is refused = (omega (arith, refused.0, given), refused.1, long)
   where
-    long : (text : List ℕ) → left ≡ Some text → (line : List ℕ) (rest : List (List ℕ)) → lines text ≡ line ∷ rest → MAX_LINE < length line
-    long text e line rest all =
+    long : (text : List ℕ) → left ≡ Some text → (line : List ℕ) × (rest : List (List ℕ)) × (lines text ≡ line ∷ rest) × (MAX_LINE < length line)
+    long text e =
         let t = told mid.held coming left text is e in
         let behind : position_or_len is_end mid.held ≤ position_or_len is_end text = rw t.text_is (position_or_len-append-le mid.held t.more) in
         let within = prefix_len-le-length (λ b. not (is_end b)) text in
         let step : lines text ≡ before_first is_end text ∷ lines (after_first is_end text) = lines_step text (λ empty. omega (arith, ap length empty, behind, within, refused.2)) in
-        let first : before_first is_end text ≡ line = cc in
-        rw (← first) (omega (arith, length-take (position_or_len is_end text) text, behind, within, refused.2))
+        (before_first is_end text, lines (after_first is_end text), step, omega (arith, length-take (position_or_len is_end text) text, behind, within, refused.2))
 comes_left Device old mid coming left given is refused = absurd refused
 comes_left Memory old mid coming left given is refused = absurd refused
 

@@ -39,7 +39,7 @@ pub record AtEnd (new : State) (left : Option (List ℕ)) : Type 0 where
 -- when an error comes first; too many lines are told before too long a one
 abbrev pub ComesAt : State → Option (List ℕ) → LinesError → Type 0
 ComesAt old left (TooMany number) = (number ≡ old.given + 1) × (MAX_LINES < number) × ((text : List ℕ) → left ≡ Some text → lines text ≢ [])
-ComesAt old left (TooLong number) = (number ≡ old.given + 1) × (number ≤ MAX_LINES) × ((text : List ℕ) → left ≡ Some text → (line : List ℕ) (rest : List (List ℕ)) → lines text ≡ line ∷ rest → MAX_LINE < length line)
+ComesAt old left (TooLong number) = (number ≡ old.given + 1) × (number ≤ MAX_LINES) × ((text : List ℕ) → left ≡ Some text → (line : List ℕ) × (rest : List (List ℕ)) × (lines text ≡ line ∷ rest) × (MAX_LINE < length line))
 ComesAt old left Device = Unit {0}
 ComesAt old left Memory = Unit {0}
 

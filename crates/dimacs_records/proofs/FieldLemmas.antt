@@ -62,7 +62,7 @@ outside low high n h = by_tests (int_lt n low) (int_lt high n) refl refl
     by_tests false true d e = refl
     by_tests false false d e = absurd (h (omega (arith, ints, d), omega (arith, ints, e)))
 
-same_bytes : (w : List ℕ) → bytes_eq w w ≡ true
+pub same_bytes : (w : List ℕ) → bytes_eq w w ≡ true
 same_bytes [] = refl
 same_bytes (b ∷ bs) = rw (eq-eqb b b refl) (same_bytes bs)
 

@@ -1,5 +1,13 @@
 mod FieldLemmas
 mod FormLemmas
-mod FirstLemmas
+pub mod FirstLemmas
 mod PlaceLemmas
 mod LineLemmas
+mod DriverLemmas
+pub mod ConditionLemmas
+mod SpellLaws
+mod ShapeLaws
+mod SplitLemmas
+mod FaultLaws
+mod FirstLaws
+mod CleanLines

@@ -1,9 +1,12 @@
 -- The line that spells a record in the canonical form.
-use Rattle.std.specs.Prelude.{ℕ, List, [], ◌∷◌, ◌++◌}
-use Rattle.std.specs.List.{flat_map}
+use Rattle.std.specs.Prelude.{ℕ, ◌≡◌, List, [], ◌∷◌, ◌++◌}
+use Rattle.std.specs.List.{flat_map, Contains}
 use Rattle.std.specs.Fmt.{signed_decimal}
+use Rattle.dimacs_lines.specs.Number.{IsWithin}
+use Rattle.dimacs_records.specs.declared.kinds.TextKind.{TextKind}
 use Rattle.dimacs_records.specs.declared.records.Record.{Record}
-use Rattle.dimacs_records.specs.Spelling.{Part, Text, Amount, letter_of, parts_of}
+use Rattle.dimacs_records.specs.Forms.{FieldType, Word, Number, Form, forms}
+use Rattle.dimacs_records.specs.Spelling.{Part, Text, Amount, kind_of, letter_of, parts_of}
 
 abbrev pub text_of : Part → List ℕ
 text_of (Text word) = word
@@ -16,3 +19,26 @@ behind_blank part = 32 ∷ text_of part
 -- the letter and the fields with one blank between them, and byte 10
 abbrev pub canonical_line : Record → List ℕ
 canonical_line r = letter_of r ++ (flat_map behind_blank (parts_of r) ++ 10 ∷ [])
+
+-- the lines of these records
+abbrev pub canonical_text : List Record → List ℕ
+canonical_text rs = flat_map canonical_line rs
+
+-- a field of this type can say this
+abbrev pub Fits : FieldType → Part → Type 0
+Fits (Word w) (Text said) = said ≡ w
+Fits (Number low high) (Amount n) = IsWithin low high n
+Fits type part = ⊥
+
+abbrev pub FitAll : List FieldType → List Part → Type 0
+FitAll [] [] = Unit {0}
+FitAll (type ∷ types) (part ∷ parts) = Fits type part × FitAll types parts
+FitAll types parts = ⊥
+
+-- some line of the kind can spell the record: its numbers lie within their ranges
+pub record CanBeSpelled (kind : TextKind) (r : Record) : Type 0 where
+  pub form : Form
+  pub of_kind : Contains (forms kind) form
+  pub for_kind : kind_of r ≡ kind
+  pub letter : letter_of r ≡ form.letter
+  pub fit : FitAll form.types (parts_of r)

@@ -1,12 +1,16 @@
 pub mod Canonical
 pub mod Conditions
+pub mod Driver
 pub mod Earlier
+pub mod FaultLaws
 pub mod Faults
 pub mod FieldReader
 pub mod Forms
 pub mod LineReader
 pub mod Names
 pub mod Order
+pub mod Readings
 pub mod Shapes
 pub mod Spelling
+pub mod Texts
 pub mod WrittenParts

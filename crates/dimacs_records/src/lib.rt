@@ -6,16 +6,22 @@
 #![tactic(auto)]
 
 mod canonical;
+mod driver;
 mod faults;
 mod kinds;
+mod laws;
 mod lines;
+mod reading;
 mod reasons;
 mod records;
 mod typed;
 
 pub use canonical::{put_record, write_record};
+pub use driver::read_text;
 pub use faults::{At, LineFault, ReadError, TakeError};
 pub use kinds::TextKind;
+pub use laws::{no_fault, one_fault};
 pub use lines::record;
+pub use reading::Reading;
 pub use reasons::Reason;
 pub use records::Record;

@@ -3,8 +3,7 @@
 ghost use Rattle.std.specs.Prelude.{◌≡◌};
 ghost use Rattle.dimacs_records.specs.Names.{name_of};
 
-/// The reasons. Those of texts come first, in the order in which they are tested at one line but for the two limits,
-/// which come before all; then those of the judges.
+/// The reasons: first those of texts, and then those of the judges and producers.
 #[derive(Clone, Copy, Debug, PartialEq, Eq)]
 pub enum Reason {
     LineTooLong,

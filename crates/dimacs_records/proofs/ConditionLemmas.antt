@@ -1,0 +1,84 @@
+-- The first condition of a record behind others, found by a search.
+use Rattle.std.proofs.Common.{◌≡◌, ℕ, ◌∷◌, [], List, Bool, true, false, Option, Some, None, refl, ap, sym, subst, arith, get_or, inl, inr, ◌⊎◌}
+use Rattle.std.specs.Prelude.{IsTrue, if◌then◌else◌, ◌&&◌, ◌==◌}
+use Rattle.std.specs.List.{Contains}
+use Rattle.std.proofs.lemmas.Bool.{eqb-true}
+use Rattle.dimacs_records.specs.declared.kinds.TextKind.{TextKind}
+use Rattle.dimacs_records.specs.declared.records.Record.{Record}
+use Rattle.dimacs_records.specs.declared.records.Record.TheVariants.{GraphArc}
+use Rattle.dimacs_records.specs.declared.reasons.Reason.{Reason}
+use Rattle.dimacs_records.specs.declared.reasons.Reason.TheVariants.{ProblemMissing, ProblemTwice, NodeRange, TooMany, TooFew}
+use Rattle.dimacs_records.specs.declared.faults.LineFault.{LineFault}
+use Rattle.dimacs_records.specs.Earlier.{Problem, problem_in}
+use Rattle.dimacs_records.specs.Conditions.{condition, end_condition, is_above_at, bounded_ids}
+use Rattle.dimacs_records.specs.Order.{Place, at, record_places, end_reasons}
+use Rattle.dimacs_records.specs.Faults.{FirstAtEnd}
+use Rattle.dimacs_records.specs.Readings.{IsAllowed, IsFirstCondition, IsComplete}
+use Rattle.dimacs_records.proofs.FirstLemmas.{first_by, is_first, none_is}
+
+-- the place of the first condition
+abbrev pub first_place : List Record → Record → Option Place
+first_place earlier r = first_by (λ (p : Place). condition earlier r p.field p.reason) record_places
+
+abbrev pub first_reason_at_end : TextKind → List Record → Option Reason
+first_reason_at_end kind all = first_by (end_condition kind all) end_reasons
+
+at_place : (f g : ℕ) (b : Bool) → ((f == g) && b) ≡ true → f ≡ g
+at_place f g b h = eqb-true f g (left (f == g) b h)
+  where
+    left : (x y : Bool) → (x && y) ≡ true → x ≡ true
+    left true y e = refl
+    left false y e = e
+
+chosen : (f g : ℕ) (b a : Bool) → (if f == g then a else b) ≡ true → (f ≡ g) ⊎ (b ≡ true)
+chosen f g b a h = by_test (f == g) refl h
+  where
+    by_test : (c : Bool) → (f == g) ≡ c → (if c then a else b) ≡ true → (f ≡ g) ⊎ (b ≡ true)
+    by_test true e h = inl (eqb-true f g e)
+    by_test false e h = inr h
+
+above_one : (f g i : ℕ) (p : Option Problem) → is_above_at f p ((g, i) ∷ []) ≡ true → f ≡ g
+above_one f g i p h = elim (chosen f g false _ h) [ inl e ↦ e | inr e ↦ absurd (cc) ]
+
+above_two : (f g i k j : ℕ) (p : Option Problem) → is_above_at f p ((g, i) ∷ (k, j) ∷ []) ≡ true → (f ≡ g) ⊎ (f ≡ k)
+above_two f g i k j p h = elim (chosen f g _ _ h) [ inl e ↦ inl e | inr e ↦ inr (above_one f k j p e) ]
+
+above_fields : (f : ℕ) (p : Option Problem) (r : Record) → is_above_at f p (bounded_ids r) ≡ true → (f ≡ 2) ⊎ ((f ≡ 3) ⊎ (f ≡ 4))
+above_fields f p (GraphArc t k w) h = elim (above_two f 2 t 3 k p h) [ inl e ↦ inl e | inr e ↦ inr (inl e) ]
+above_fields f p r h = absurd (cc)
+
+-- where a condition holds is in the order
+listed : (earlier : List Record) (r : Record) (f : ℕ) (reason : Reason) → IsTrue (condition earlier r f reason) → Contains record_places (at f reason)
+listed earlier r f ProblemMissing h = (0, omega arith, ap (λ g. at g ProblemMissing) (sym (at_place f 0 _ h)))
+listed earlier r f ProblemTwice h = (1, omega arith, ap (λ g. at g ProblemTwice) (sym (at_place f 0 _ h)))
+listed earlier r f NodeRange h = elim (above_fields f (problem_in earlier) r h) [
+  | inl e ↦ (3, omega arith, ap (λ g. at g NodeRange) (sym e))
+  | inr (inl e) ↦ (4, omega arith, ap (λ g. at g NodeRange) (sym e))
+  | inr (inr e) ↦ (5, omega arith, ap (λ g. at g NodeRange) (sym e))
+]
+listed earlier r f TooMany h = (12, omega arith, ap (λ g. at g TooMany) (sym (at_place f 0 _ h)))
+listed earlier r f reason h = absurd (cc)
+
+listed_at_end : (kind : TextKind) (all : List Record) (reason : Reason) → IsTrue (end_condition kind all reason) → Contains end_reasons reason
+listed_at_end kind all ProblemMissing h = (0, omega arith, refl)
+listed_at_end kind all TooFew h = (2, omega arith, refl)
+listed_at_end kind all reason h = absurd (cc)
+
+pub is_first_condition : (earlier : List Record) (r : Record) (fault : LineFault) → first_place earlier r ≡ Some (at fault.field fault.reason) → IsFirstCondition earlier r fault
+is_first_condition earlier r fault = is_first (λ (p : Place). condition earlier r p.field p.reason) record_places (at fault.field fault.reason)
+
+pub is_allowed : (earlier : List Record) (r : Record) → first_place earlier r ≡ None → IsAllowed earlier r
+is_allowed earlier r e f reason h =
+    let c = listed earlier r f reason h in
+    let test : Place → Bool = λ p. condition earlier r p.field p.reason in
+    let none : ¬ IsTrue (test (get_or record_places c.0 (at f reason))) = none_is test record_places e c.0 (at f reason) c.1 in
+    none (subst (λ (p : Place). IsTrue (test p)) (sym c.2) h)
+
+pub is_first_at_end : (kind : TextKind) (all : List Record) (reason : Reason) → first_reason_at_end kind all ≡ Some reason → FirstAtEnd kind all reason
+is_first_at_end kind all = is_first (end_condition kind all) end_reasons
+
+pub is_complete : (kind : TextKind) (all : List Record) → first_reason_at_end kind all ≡ None → IsComplete kind all
+is_complete kind all e reason h =
+    let c = listed_at_end kind all reason h in
+    let none : ¬ IsTrue (end_condition kind all (get_or end_reasons c.0 reason)) = none_is (end_condition kind all) end_reasons e c.0 reason c.1 in
+    none (subst (λ (s : Reason). IsTrue (end_condition kind all s)) (sym c.2) h)

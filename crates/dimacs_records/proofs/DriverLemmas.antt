@@ -1,0 +1,233 @@
+-- Reading line by line.
+use Rattle.std.proofs.Common.{◌≡◌, ◌≢◌, ℕ, suc, ◌<◌, ◌≤◌, ◌+◌, ◌++◌, ◌∷◌, [], List, true, false, Option, Some, None, Result, Ok, Err, length, refl, ap, sym, ◌∙◌, subst, arith, append_assoc, inl, inr}
+use Rattle.std.specs.Prelude.{nat_lt, ◌==◌, IfErr, OnOk}
+use Rattle.std.proofs.lemmas.Bool.{true≢false, and_right, le-ltb, lt-ltb}
+use Rattle.std.proofs.lemmas.List.Elements.{All-nil, All-cons}
+use Rattle.std.proofs.lemmas.List.{append-nil, length-append}
+use Rattle.dimacs_lines.specs.Lines.{lines}
+use Rattle.dimacs_lines.specs.Reader.{State, text_left, GivesLine, AtEnd, Stops}
+use Rattle.dimacs_lines.specs.declared.reader.LinesError.{LinesError}
+use Rattle.dimacs_lines.specs.declared.reader.LinesError.TheVariants as line_errors
+use Rattle.dimacs_lines.specs.declared.reader.TheConstants.{MAX_LINE, MAX_LINES}
+use Rattle.dimacs_records.specs.declared.kinds.TextKind.{TextKind}
+use Rattle.dimacs_records.specs.declared.records.Record.{Record}
+use Rattle.dimacs_records.specs.declared.faults.TakeError.{TakeError}
+use Rattle.dimacs_records.specs.declared.faults.TakeError.TheVariants as take_errors
+use Rattle.dimacs_records.specs.declared.faults.ReadError.{ReadError}
+use Rattle.dimacs_records.specs.declared.faults.ReadError.TheVariants as read_errors
+use Rattle.dimacs_records.specs.Readings.{LineRecord, on_line, numbered, records_of, AreBefore, IsAllowed, IsFirstCondition, RefusesRecord, GiveValue, ReadsLines, RefusesEnd, IsComplete}
+use Rattle.dimacs_records.specs.declared.reasons.Reason.TheVariants.{LineLimit, LineTooLong}
+use Rattle.dimacs_records.specs.declared.faults.LineFault.{LineFault}
+use Rattle.dimacs_records.specs.Spelling.{SpellsRecord, texts_in, is_skip}
+use Rattle.dimacs_records.specs.Conditions.{limit_condition}
+use Rattle.dimacs_records.specs.LineReader.{ReadsLine}
+use Rattle.dimacs_records.specs.Order.{at, limit_places, places, First}
+use Rattle.dimacs_records.specs.Faults.{Condition, Spell, IsClean, records_in}
+use Rattle.dimacs_records.specs.Driver.{IsReadSoFar, IsReadWhole, ReadsOne, TakesLine, IsBehind, read_error, lines_error}
+use Rattle.dimacs_records.proofs.FirstLemmas.{is_first}
+use Rattle.dimacs_records.proofs.PlaceLemmas.{test_at}
+use Rattle.dimacs_records.proofs.CleanLines.{NoneHolds, clean_nothing, clean_skip, clean_record, first_limit, first_shape, first_record}
+
+records_of-numbered : (n : ℕ) (said : List (Option Record)) → records_of (numbered n said) ≡ records_in said
+records_of-numbered n [] = refl
+records_of-numbered n (None ∷ more) = records_of-numbered (suc n) more
+records_of-numbered n (Some r ∷ more) = ap (λ rs. r ∷ rs) (records_of-numbered (suc n) more)
+
+line_number : (number : ℕ) → number ≤ MAX_LINES → nat_lt 1000000000000 number ≡ false
+line_number number few = le-ltb 1000000000000 number few
+
+-- a line within the limits
+within : (number : ℕ) (line : List ℕ) → number ≤ MAX_LINES → length line ≤ MAX_LINE → NoneHolds (limit_condition number line)
+within number line few short f LineLimit h = true≢false (sym h ∙ and_right (f == 0) (nat_lt 1000000000000 number) (line_number number few))
+within number line few short f LineTooLong h = true≢false (sym h ∙ and_right (f == 0) (nat_lt 1048576 (length line)) (le-ltb 1048576 (length line) short))
+within number line few short f reason h = true≢false (sym h)
+
+-- a line behind the last that may be
+too_many : (kind : TextKind) (earlier : List Record) (number : ℕ) (line : List ℕ) → MAX_LINES < number → First (Condition kind earlier number line) places (at 0 LineLimit)
+too_many kind earlier number line above =
+    first_limit kind earlier number line 0 LineLimit (is_first (test_at (limit_condition number line)) limit_places (at 0 LineLimit) (rw (lt-ltb 1000000000000 number above) refl))
+
+too_long : (kind : TextKind) (earlier : List Record) (number : ℕ) (line : List ℕ) → number ≤ MAX_LINES → MAX_LINE < length line → First (Condition kind earlier number line) places (at 0 LineTooLong)
+too_long kind earlier number line few long =
+    first_limit kind earlier number line 0 LineTooLong (is_first (test_at (limit_condition number line)) limit_places (at 0 LineTooLong) (rw (line_number number few, lt-ltb 1048576 (length line) long) refl))
+
+numbered-append : (n : ℕ) (said more : List (Option Record)) → numbered n (said ++ more) ≡ numbered n said ++ numbered (n + length said) more
+numbered-append n [] more = ap (λ k. numbered k more) (omega arith)
+numbered-append n (None ∷ said) more = numbered-append (suc n) said more ∙ ap (λ k. numbered (suc n) said ++ numbered k more) (omega arith)
+numbered-append n (Some r ∷ said) more = ap (λ rs. on_line n r ∷ rs) (numbered-append (suc n) said more ∙ ap (λ k. numbered (suc n) said ++ numbered k more) (omega arith))
+
+said_each : (kind : TextKind) (before : List (List ℕ)) (said : List (Option Record)) → Spell kind before said → length said ≡ length before
+said_each kind [] [] h = refl
+said_each kind (line ∷ lines) (None ∷ said) h = ap suc (said_each kind lines said h.1)
+said_each kind (line ∷ lines) (Some r ∷ said) h = ap suc (said_each kind lines said h.2)
+said_each kind lines said h = absurd h
+
+-- the records of n lines stand before the next one
+all_before : (n : ℕ) (said : List (Option Record)) (line : ℕ) → n + length said ≤ line → AreBefore line (numbered n said)
+all_before n [] line h = All-nil _
+all_before n (None ∷ said) line h = all_before (suc n) said line (omega (arith, h))
+all_before n (Some r ∷ said) line h = All-cons (λ (r : LineRecord). r.line < line) (on_line n r) (numbered (suc n) said) (omega (arith, h)) (all_before (suc n) said line (omega (arith, h)))
+
+-- a skipped line adds no record
+pub take_skip : (kind : TextKind) (before : List (List ℕ)) (said : List (Option Record)) (number : ℕ) (line : List ℕ) (stands_for : List LineRecord → Type 0) (done : Unit)
+    → IsBehind kind before said number line → stands_for (numbered 1 said) → is_skip (texts_in line) ≡ true → TakesLine kind before said line stands_for (Ok done)
+take_skip kind before said number line stands_for done h stands skip = (
+  said ++ None ∷ [],
+  clean_skip kind before said line h.clean skip (within (length before + 1) line (omega (arith, h.next, h.few)) h.short),
+  subst stands_for (sym (numbered-append 1 said (None ∷ []) ∙ append-nil (numbered 1 said))) stands,
+)
+
+-- a record that was taken, or is refused
+pub take_record : (kind : TextKind) (before : List (List ℕ)) (said : List (Option Record)) (number : ℕ) (line : List ℕ) (r : Record) (old new : List LineRecord → Type 0) (result : Result Unit TakeError)
+    → IsBehind kind before said number line → old (numbered 1 said) → is_skip (texts_in line) ≡ false → SpellsRecord kind (texts_in line) r
+    → OnOk result ((rs : List LineRecord) → old rs → IsAllowed (records_of rs) r)
+    → OnOk result ((rs : List LineRecord) → old rs → AreBefore number rs → new (rs ++ on_line number r ∷ []))
+    → IfErr result (λ error. (rs : List LineRecord) → old rs → RefusesRecord (records_of rs) r error)
+    → TakesLine kind before said line new result
+take_record kind before said number line r old new (Ok done) h stands solid spells allowed taken refused =
+    let few = within (length before + 1) line (omega (arith, h.next, h.few)) h.short in
+    let fits : IsAllowed (records_in said) r = rw (← records_of-numbered 1 said) (allowed (numbered 1 said) stands) in
+    let each = said_each kind before said h.clean.spell in
+    let here : number ≡ 1 + length said = omega (arith, h.next, each) in
+    let stands_now = taken (numbered 1 said) stands (all_before 1 said number (omega (arith, here))) in (
+      said ++ Some r ∷ [],
+      clean_record kind before said line r h.clean solid spells few fits,
+      subst new (sym (numbered-append 1 said (Some r ∷ []) ∙ ap (λ k. numbered 1 said ++ on_line k r ∷ []) (sym here))) stands_now,
+    )
+take_record kind before said number line r old new (Err (take_errors.Refused fault)) h stands solid spells allowed taken refused =
+    let few = within (length before + 1) line (omega (arith, h.next, h.few)) h.short in
+    let first : IsFirstCondition (records_in said) r fault = rw (← records_of-numbered 1 said) (refused (numbered 1 said) stands) in
+    first_record kind (records_in said) (length before + 1) line r fault.field fault.reason few solid spells first
+take_record kind before said number line r old new (Err take_errors.Memory) h stands solid spells allowed taken refused = tt
+
+-- a line of another shape
+pub take_fault : (kind : TextKind) (before : List (List ℕ)) (said : List (Option Record)) (number : ℕ) (line : List ℕ) (fault : LineFault) (stands_for : List LineRecord → Type 0)
+    → IsBehind kind before said number line → ReadsLine kind (texts_in line) (Err fault) → TakesLine kind before said line stands_for (Err (take_errors.Refused fault))
+take_fault kind before said number line fault stands_for h reads =
+    first_shape kind (records_in said) (length before + 1) line fault.field fault.reason (within (length before + 1) line (omega (arith, h.next, h.few)) h.short) reads.0 reads.1
+
+-- at the end no line is left
+pub read_end : (kind : TextKind) (all : List (List ℕ)) (count : ℕ) (new : State) (left : Option (List ℕ)) (stands_for : List LineRecord → Type 0) → AtEnd new left → IsReadSoFar kind all count left stands_for → IsReadWhole kind all count stands_for
+read_end kind all count new left stands_for end h =
+    let all_is : all ≡ h.before = h.all_is ∙ (ap (λ ls. h.before ++ ls) (end.none h.rest h.left_is) ∙ append-nil h.before) in
+    record { said = h.said; counted = h.counted ∙ ap length (sym all_is); clean = subst (λ ls. IsClean kind ls h.said) (sym all_is) h.clean; stands = h.stands }
+
+-- the line that was given stands behind those that were read
+pub behind : (kind : TextKind) (all : List (List ℕ)) (old new : State) (left later : Option (List ℕ)) (number : ℕ) (stands_for : List LineRecord → Type 0) → GivesLine old new left later number
+    → (h : IsReadSoFar kind all old.given left stands_for) → IsBehind kind h.before h.said number new.line
+behind kind all old new left later number stands_for given h = record { clean = h.clean; next = given.next ∙ ap (λ n. n + 1) h.counted; few = given.few; short = given.short }
+
+abbrev pub at_number : ℕ → Result Unit TakeError → Result (Option ℕ) ReadError
+at_number number (Ok done) = Ok (Some number)
+at_number number (Err error) = Err (read_error number error)
+
+-- the line that was given was taken, or it is where the text has its fault
+pub read_one : (kind : TextKind) (all : List (List ℕ)) (old new : State) (left later : Option (List ℕ)) (number : ℕ) (before_stands stands_for : List LineRecord → Type 0) (result : Result Unit TakeError)
+    → GivesLine old new left later number → (h : IsReadSoFar kind all old.given left before_stands) → TakesLine kind h.before h.said new.line stands_for result → ReadsOne kind all old.given later stands_for (at_number number result)
+read_one kind all old new left later number before_stands stands_for (Ok done) given h takes =
+    let more = given.first h.rest h.left_is in
+    record {
+      before = h.before ++ new.line ∷ [];
+      said = takes.0;
+      rest = more.0;
+      left_is = more.1;
+      all_is = h.all_is ∙ (ap (λ ls. h.before ++ ls) more.2 ∙ sym (append_assoc h.before (new.line ∷ []) (lines more.0)));
+      counted = omega (arith, given.next, h.counted, length-append h.before (new.line ∷ []));
+      clean = takes.1;
+      stands = takes.2;
+    }
+read_one kind all old new left later number before_stands stands_for (Err (take_errors.Refused fault)) given h takes =
+    let more = given.first h.rest h.left_is in
+    let next : number ≡ length h.before + 1 = given.next ∙ ap (λ n. n + 1) h.counted in
+    record {
+      before = h.before;
+      line = new.line;
+      after = lines more.0;
+      said = h.said;
+      lines_are = h.all_is ∙ ap (λ ls. h.before ++ ls) more.2;
+      number = next;
+      clean = h.clean;
+      first = rw next takes;
+    }
+read_one kind all old new left later number before_stands stands_for (Err take_errors.Memory) given h takes = tt
+
+abbrev some_line : List (List ℕ) → Type 0
+some_line ls = (line : List ℕ) × (rest : List (List ℕ)) × (ls ≡ line ∷ rest)
+
+line_of : (ls : List (List ℕ)) → ls ≢ [] → some_line ls
+line_of [] h = absurd (h refl)
+line_of (line ∷ rest) h = (line, rest, refl)
+
+-- where a limit is passed, the text has its fault
+pub stopped : (kind : TextKind) (all : List (List ℕ)) (old new : State) (left later : Option (List ℕ)) (before_stands stands_for : List LineRecord → Type 0) (error : LinesError)
+    → Stops old new left error → IsReadSoFar kind all old.given left before_stands → ReadsOne kind all old.given later stands_for (Err (lines_error error))
+stopped kind all old new left later before_stands stands_for (line_errors.TooMany number) stops h =
+    let next : number ≡ length h.before + 1 = stops.comes.0 ∙ ap (λ n. n + 1) h.counted in
+    let more = line_of (lines h.rest) (stops.comes.2 h.rest h.left_is) in
+    record {
+      before = h.before;
+      line = more.0;
+      after = more.1;
+      said = h.said;
+      lines_are = h.all_is ∙ ap (λ ls. h.before ++ ls) more.2;
+      number = next;
+      clean = h.clean;
+      first = too_many kind (records_in h.said) number more.0 stops.comes.1;
+    }
+stopped kind all old new left later before_stands stands_for (line_errors.TooLong number) stops h =
+    let next : number ≡ length h.before + 1 = stops.comes.0 ∙ ap (λ n. n + 1) h.counted in
+    let more = stops.comes.2 h.rest h.left_is in
+    record {
+      before = h.before;
+      line = more.0;
+      after = more.1;
+      said = h.said;
+      lines_are = h.all_is ∙ ap (λ ls. h.before ++ ls) more.2;
+      number = next;
+      clean = h.clean;
+      first = too_long kind (records_in h.said) number more.0 stops.comes.1 more.3;
+    }
+stopped kind all old new left later before_stands stands_for line_errors.Device stops h = tt
+stopped kind all old new left later before_stands stands_for line_errors.Memory stops h = tt
+
+-- before the first line
+pub read_nothing : (kind : TextKind) (lines_new : State) (text : List ℕ) (coming : Option (List ℕ)) (stands_for : List LineRecord → Type 0) → lines_new.held ≡ [] → coming ≡ Some text → stands_for [] → IsReadSoFar kind (lines text) 0 (text_left lines_new coming) stands_for
+read_nothing kind lines_new text coming stands_for empty h stands = record {
+  before = [];
+  said = [];
+  rest = text;
+  left_is = rw (empty, h) refl;
+  all_is = refl;
+  counted = refl;
+  clean = clean_nothing kind;
+  stands = stands;
+}
+
+-- all lines were read, and their records give a value
+pub read_value : {V : Type 0} (kind : TextKind) (gives : List LineRecord → V → Type 0) (all : List (List ℕ)) (count : ℕ) (stands_for : List LineRecord → Type 0) (v : V) → IsReadWhole kind all count stands_for
+    → ((rs : List LineRecord) → stands_for rs → gives rs v) → ((rs : List LineRecord) → stands_for rs → IsComplete kind (records_of rs)) → GiveValue kind gives all v
+read_value kind gives all count stands_for v h given complete = record {
+  said = h.said;
+  faultless = record { clean = h.clean; none_at_end = rw (← records_of-numbered 1 h.said) (complete (numbered 1 h.said) h.stands) };
+  given = given (numbered 1 h.said) h.stands;
+}
+
+-- or the text has its fault at its end
+pub read_end_fault : {V : Type 0} (kind : TextKind) (gives : List LineRecord → V → Type 0) (all : List (List ℕ)) (count : ℕ) (stands_for : List LineRecord → Type 0) (error : TakeError) → IsReadWhole kind all count stands_for
+    → ((rs : List LineRecord) → stands_for rs → RefusesEnd kind (records_of rs) error) → ReadsLines kind gives all (Err (read_error (count + 1) error))
+read_end_fault kind gives all count stands_for (take_errors.Refused fault) h refused =
+    let end = refused (numbered 1 h.said) h.stands in
+    inr (record {
+      said = h.said;
+      number = ap (λ n. n + 1) h.counted;
+      field = end.0;
+      clean = h.clean;
+      first = rw (← records_of-numbered 1 h.said) end.1;
+    })
+read_end_fault kind gives all count stands_for take_errors.Memory h refused = tt
+
+-- a fault of a line is one of the text
+pub read_line_fault : {V : Type 0} (kind : TextKind) (gives : List LineRecord → V → Type 0) (all : List (List ℕ)) (count : ℕ) (left : Option (List ℕ)) (stands_for : List LineRecord → Type 0) (error : ReadError) → ReadsOne kind all count left stands_for (Err error) → ReadsLines {V = V} kind gives all (Err error)
+read_line_fault kind gives all count left stands_for (read_errors.Refused place reason) h = inl h
+read_line_fault kind gives all count left stands_for read_errors.Device h = tt
+read_line_fault kind gives all count left stands_for read_errors.Memory h = tt

@@ -1,0 +1,28 @@
+-- What comes first in a part of a list comes first in the whole.
+use Rattle.std.proofs.Common.{◌∷◌, ◌++◌, List, get_or, ap, sym, ◌∙◌, append_assoc}
+use Rattle.std.specs.List.{All, Contains}
+use Rattle.std.proofs.lemmas.List.Elements.{All-append, Contains-append_left, Contains-get_or}
+use Rattle.dimacs_records.specs.Order.{First}
+
+-- behind others that lack the property
+pub first_behind : {X : Type 0} (P : X → Type 0) (front all : List X) (x : X) → All (λ y. ¬ P y) front → First P all x → First P (front ++ all) x
+first_behind P front all x none h = record {
+  before = front ++ h.before;
+  after = h.after;
+  all_is = ap (λ t. front ++ t) h.all_is ∙ sym (append_assoc front h.before (x ∷ h.after));
+  none_before = All-append (λ y. ¬ P y) front h.before none h.none_before;
+  holds = h.holds;
+}
+
+-- before any others, and of another property that is no wider within the list, and that x has too
+pub first_before : {X : Type 0} (P Q : X → Type 0) (all back : List X) (x : X)
+    → ((y : X) → Contains all y → Q y → P y) → (P x → Q x) → First P all x → First Q (all ++ back) x
+first_before P Q all back x narrow holds h = record {
+  before = h.before;
+  after = h.after ++ back;
+  all_is = ap (λ t. t ++ back) h.all_is ∙ append_assoc h.before (x ∷ h.after) back;
+  none_before = λ k d below q.
+      let y = get_or h.before k d in
+      h.none_before k d below (narrow y (rw h.all_is (Contains-append_left h.before (x ∷ h.after) y (Contains-get_or h.before k d below))) q);
+  holds = holds h.holds;
+}

@@ -1,0 +1,5 @@
+use Rattle.dimacs_records.proofs.FaultLaws as laws
+use Rattle.dimacs_records.proofs.laws.no_fault.Goals as goal
+
+pub returns : goal.returns
+returns c = laws.no_fault

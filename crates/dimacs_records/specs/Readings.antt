@@ -1,0 +1,83 @@
+-- What a reading stands for, and what it answers.
+use Rattle.std.specs.Prelude.{ℕ, suc, ◌≡◌, ◌<◌, List, [], ◌∷◌, map, Option, Some, None, Result, Ok, Err, IsTrue}
+use Rattle.std.specs.List.{All}
+use Rattle.dimacs_lines.specs.Devices.{one_more}
+use Rattle.dimacs_records.specs.declared.kinds.TextKind.{TextKind}
+use Rattle.dimacs_records.specs.declared.records.Record.{Record}
+use Rattle.dimacs_records.specs.declared.reasons.Reason.{Reason}
+use Rattle.dimacs_records.specs.declared.faults.LineFault.{LineFault}
+use Rattle.dimacs_records.specs.declared.faults.TakeError.{TakeError}
+use Rattle.dimacs_records.specs.declared.faults.TakeError.TheVariants as take_errors
+use Rattle.dimacs_records.specs.declared.faults.ReadError.{ReadError}
+use Rattle.dimacs_records.specs.declared.faults.ReadError.TheVariants as read_errors
+use Rattle.dimacs_records.specs.Spelling.{SpellsRecord}
+use Rattle.dimacs_records.specs.Conditions.{condition, end_condition}
+use Rattle.dimacs_records.specs.Order.{Place, at, record_places, First}
+use Rattle.dimacs_records.specs.Faults.{IsFaultless, FirstAtEnd, Fault}
+
+-- a record of a text, and the number of its line
+pub record LineRecord : Type 0 where
+  pub line : ℕ
+  pub says : Record
+
+abbrev pub on_line : ℕ → Record → LineRecord
+on_line line r = record { line = line; says = r }
+
+abbrev pub records_of : List LineRecord → List Record
+records_of rs = map (λ (r : LineRecord). r.says) rs
+
+-- the records among what lines say, where the first line has number n
+abbrev pub numbered : ℕ → List (Option Record) → List LineRecord
+numbered n [] = []
+numbered n (None ∷ more) = numbered (suc n) more
+numbered n (Some r ∷ more) = on_line n r ∷ numbered (suc n) more
+
+-- the records stand before this line
+abbrev pub AreBefore : ℕ → List LineRecord → Type 0
+AreBefore line rs = All (λ (r : LineRecord). r.line < line) rs
+
+-- a record that some line of the kind spells
+pub record IsOfKind (kind : TextKind) (r : Record) : Type 0 where
+  pub texts : List (List ℕ)
+  pub spelled : SpellsRecord kind texts r
+
+-- no condition holds of a record behind the earlier ones
+abbrev pub IsAllowed : List Record → Record → Type 0
+IsAllowed earlier r = (field : ℕ) (reason : Reason) → ¬ IsTrue (condition earlier r field reason)
+
+abbrev pub IsFirstCondition : List Record → Record → LineFault → Type 0
+IsFirstCondition earlier r fault = First (λ (p : Place). IsTrue (condition earlier r p.field p.reason)) record_places (at fault.field fault.reason)
+
+-- why a record is not taken behind the earlier ones
+abbrev pub RefusesRecord : List Record → Record → TakeError → Type 0
+RefusesRecord earlier r (take_errors.Refused fault) = IsFirstCondition earlier r fault
+RefusesRecord earlier r take_errors.Memory = Unit {0}
+
+-- no condition holds at the end of a text of these records
+abbrev pub IsComplete : TextKind → List Record → Type 0
+IsComplete kind all = (reason : Reason) → ¬ IsTrue (end_condition kind all reason)
+
+-- why these records give no value
+abbrev pub RefusesEnd : TextKind → List Record → TakeError → Type 0
+RefusesEnd kind all (take_errors.Refused fault) = (fault.field ≡ 0) × FirstAtEnd kind all fault.reason
+RefusesEnd kind all take_errors.Memory = Unit {0}
+
+-- the lines have no fault, and their records give this value
+pub record GiveValue {V : Type 0} (kind : TextKind) (gives : List LineRecord → V → Type 0) (all : List (List ℕ)) (v : V) : Type 0 where
+  pub said : List (Option Record)
+  pub faultless : IsFaultless kind all said
+  pub given : gives (numbered 1 said) v
+
+-- a value of lines without a fault, or their fault
+abbrev pub ReadsLines : {V : Type 0} → TextKind → (List LineRecord → V → Type 0) → List (List ℕ) → Result V ReadError → Type 0
+ReadsLines kind gives all (Ok v) = GiveValue kind gives all v
+ReadsLines kind gives all (Err (read_errors.Refused place reason)) = Fault kind all place.line place.field reason
+ReadsLines kind gives all (Err read_errors.Device) = Unit {0}
+ReadsLines kind gives all (Err read_errors.Memory) = Unit {0}
+
+-- the count of faults after a reading: one more where it told of a device, else the same
+abbrev pub CountsRead : {V : Type 0} → Result V ReadError → ℕ → ℕ → Type 0
+CountsRead (Ok v) old new = new ≡ old
+CountsRead (Err (read_errors.Refused place reason)) old new = new ≡ old
+CountsRead (Err read_errors.Device) old new = new ≡ one_more old
+CountsRead (Err read_errors.Memory) old new = new ≡ old

@@ -1,0 +1,35 @@
+-- What a text spells, with no word of faults; and what a reader answers.
+use Rattle.std.specs.Prelude.{ℕ, ◌≡◌, ◌≤◌, List, ◌∷◌, ◌++◌, length, Option, Result, Ok, Err}
+use Rattle.std.specs.List.{All}
+use Rattle.dimacs_lines.specs.declared.reader.TheConstants.{MAX_LINE, MAX_LINES}
+use Rattle.dimacs_records.specs.declared.kinds.TextKind.{TextKind}
+use Rattle.dimacs_records.specs.declared.records.Record.{Record}
+use Rattle.dimacs_records.specs.declared.reasons.Reason.{Reason}
+use Rattle.dimacs_records.specs.declared.faults.ReadError.{ReadError}
+use Rattle.dimacs_records.specs.declared.faults.ReadError.TheVariants as read_errors
+use Rattle.dimacs_records.specs.Faults.{Spell}
+use Rattle.dimacs_records.specs.Readings.{LineRecord, numbered, IsAllowed, IsComplete}
+
+-- the lines lie within the limits, and each is skipped or spells the record beside it
+pub record AreSpelled (kind : TextKind) (all : List (List ℕ)) (said : List (Option Record)) : Type 0 where
+  pub few : length all ≤ MAX_LINES
+  pub short : All (λ (line : List ℕ). length line ≤ MAX_LINE) all
+  pub spell : Spell kind all said
+
+-- the lines are spelled, and their records give this value
+pub record SpellsValue {V : Type 0} (kind : TextKind) (gives : List LineRecord → V → Type 0) (all : List (List ℕ)) (v : V) : Type 0 where
+  pub said : List (Option Record)
+  pub spelled : AreSpelled kind all said
+  pub given : gives (numbered 1 said) v
+
+-- no condition holds at any record, nor at the end
+pub record AreFaultless (kind : TextKind) (all : List Record) : Type 0 where
+  pub allowed : (before after : List Record) (r : Record) → all ≡ before ++ r ∷ after → IsAllowed before r
+  pub complete : IsComplete kind all
+
+-- the one value that is spelled, where there is no fault; or the one fault, where no value is spelled
+abbrev pub Reads : {V : Type 0} → (V → Type 0) → (ℕ → ℕ → Reason → Type 0) → Result V ReadError → Type 0
+Reads spells fault (Ok v) = spells v × ((other : _) → spells other → other ≡ v) × ((l f : ℕ) (r : Reason) → ¬ fault l f r)
+Reads spells fault (Err (read_errors.Refused place reason)) = fault place.line place.field reason × ((l f : ℕ) (r : Reason) → fault l f r → (l ≡ place.line) × (f ≡ place.field) × (r ≡ reason)) × ((v : _) → ¬ spells v)
+Reads spells fault (Err read_errors.Device) = Unit {0}
+Reads spells fault (Err read_errors.Memory) = Unit {0}

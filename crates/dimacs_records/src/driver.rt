@@ -1,0 +1,117 @@
+//! Reading a whole text.
+
+ghost use Rattle.std.specs.Prelude.{◌≡◌, ◌+◌, ◌≤◌, ◌++◌, ◌∷◌, [], ℕ, List, Option, Some, IfOk, IfErr, IfSome, OnOk};
+ghost use Rattle.dimacs_lines.specs.Lines.{lines};
+ghost use Rattle.dimacs_lines.specs.Reader.{text_left};
+ghost use Rattle.dimacs_lines.specs.declared.reader.Progress.TheVariants.{Open};
+ghost use Rattle.dimacs_lines.specs.declared.reader.TheConstants.{MAX_LINES};
+ghost use Rattle.dimacs_records.specs.declared.records.Record.{Record};
+ghost use Rattle.dimacs_records.specs.Readings.{ReadsLines, CountsRead, numbered};
+ghost use Rattle.dimacs_records.specs.Driver.{IsReadSoFar, IsBehind, ReadsOne, TakesLine, read_error, lines_error};
+
+use crate::faults::{At, ReadError, TakeError};
+use crate::kinds::TextKind;
+use crate::lines::record;
+use crate::reading::Reading;
+use crate::reasons::Reason;
+use dimacs_lines::{Lines, LinesError, Source};
+use std::alloc::Global;
+
+/// Reads a text of this kind: the value that its records give, or its first fault.
+///
+/// Nothing is pulled once there is an error. How far past a refused line the source was pulled is open.
+pub fn read_text<R: Reading, S: Source>(
+    alloc: Global,
+    kind: TextKind,
+    reading: R,
+    source: &mut S,
+) -> Result<R::Value, ReadError>
+    requires kind { R.kind reading ≡ kind }
+    requires new { R.stands_for reading [] }
+    ensures reads { (text : List ℕ) → S.coming source.old ≡ Some text → ReadsLines kind R.gives (lines text) result }
+    ensures device { CountsRead result (S.faults source.old) (S.faults source.new) }
+{
+    let mut reading = reading;
+    let Ok(mut lines) = Lines::new(alloc) else {
+        return Err(ReadError::Memory);
+    };
+    let mut count = 0;
+    while let Some(number) = read_line(kind, &mut lines, &mut reading, source)? {
+        count = number;
+    }
+    match reading.finish() {
+        Ok(value) => Ok(value),
+        Err(error) => Err(at_line(count + 1, error)),
+    }
+}
+
+/// Reads the next line, and answers its number.
+#[inline(always)]
+fn read_line<R: Reading, S: Source>(
+    kind: TextKind,
+    lines: &mut Lines,
+    reading: &mut R,
+    source: &mut S,
+) -> Result<Option<u64>, ReadError>
+    requires kind { R.kind reading.old ≡ kind }
+    requires open { lines.old.progress ≡ Open }
+    ensures kind { R.kind reading.new ≡ kind }
+    ensures next { IfOk result (λ answer. IfSome answer (λ number. (lines.new.progress ≡ Open) × (lines.new.given ≡ number) × (number ≡ lines.old.given + 1) × (number ≤ MAX_LINES))) }
+    ensures reads { (all : List (List ℕ)) → IsReadSoFar kind all lines.old.given (text_left lines.old (S.coming source.old)) (R.stands_for reading.old)
+        → ReadsOne kind all lines.old.given (text_left lines.new (S.coming source.new)) (R.stands_for reading.new) result }
+    ensures device { CountsRead result (S.faults source.old) (S.faults source.new) }
+{
+    match lines.next_line(source) {
+        Ok(None) => Ok(None),
+        Ok(Some(number)) => match take_line(kind, number, lines.line(), reading) {
+            Ok(()) => Ok(Some(number)),
+            Err(error) => Err(at_line(number, error)),
+        },
+        Err(error) => Err(of_lines(error)),
+    }
+}
+
+/// Gives the reading what a line says.
+#[inline(always)]
+fn take_line<R: Reading>(
+    kind: TextKind,
+    number: u64,
+    line: &[u8],
+    reading: &mut R,
+) -> Result<(), TakeError>
+    requires { R.kind reading.old ≡ kind }
+    ensures kind { R.kind reading.new ≡ kind }
+    ensures takes { (before : List (List ℕ)) (said : List (Option Record)) → IsBehind kind before said number line.now → R.stands_for reading.old (numbered 1 said)
+        → TakesLine kind before said line.now (R.stands_for reading.new) result }
+{
+    match record(kind, line) {
+        Ok(None) => Ok(()),
+        Ok(Some(said)) => reading.take(number, said),
+        Err(fault) => Err(TakeError::Refused(fault)),
+    }
+}
+
+/// How a refusal at a line is told.
+fn at_line(line: u64, error: TakeError) -> ReadError
+    ensures { result ≡ read_error line error }
+{
+    match error {
+        TakeError::Refused(fault) => {
+            let field = fault.field;
+            ReadError::Refused(At { line, field }, fault.reason)
+        }
+        TakeError::Memory => ReadError::Memory,
+    }
+}
+
+/// How an error of the lines is told.
+fn of_lines(error: LinesError) -> ReadError
+    ensures { result ≡ lines_error error }
+{
+    match error {
+        LinesError::TooMany(line) => ReadError::Refused(At { line, field: 0 }, Reason::LineLimit),
+        LinesError::TooLong(line) => ReadError::Refused(At { line, field: 0 }, Reason::LineTooLong),
+        LinesError::Device => ReadError::Device,
+        LinesError::Memory => ReadError::Memory,
+    }
+}
