@@ -30,7 +30,7 @@ NoneHolds test = (f : ℕ) (reason : Reason) → ¬ IsTrue (test f reason)
 abbrev pub Holds : (ℕ → Reason → Bool) → Place → Type 0
 Holds test p = IsTrue (test_at test p)
 
-records_in-append : (said more : List (Option Record)) → records_in (said ++ more) ≡ records_in said ++ records_in more
+pub records_in-append : (said more : List (Option Record)) → records_in (said ++ more) ≡ records_in said ++ records_in more
 records_in-append [] more = refl
 records_in-append (None ∷ said) more = records_in-append said more
 records_in-append (Some r ∷ said) more = ap (λ t. r ∷ t) (records_in-append said more)

@@ -28,28 +28,28 @@ use Rattle.dimacs_records.proofs.FirstLemmas.{is_first}
 use Rattle.dimacs_records.proofs.PlaceLemmas.{test_at}
 use Rattle.dimacs_records.proofs.CleanLines.{NoneHolds, clean_nothing, clean_skip, clean_record, first_limit, first_shape, first_record}
 
-records_of-numbered : (n : ℕ) (said : List (Option Record)) → records_of (numbered n said) ≡ records_in said
+pub records_of-numbered : (n : ℕ) (said : List (Option Record)) → records_of (numbered n said) ≡ records_in said
 records_of-numbered n [] = refl
 records_of-numbered n (None ∷ more) = records_of-numbered (suc n) more
 records_of-numbered n (Some r ∷ more) = ap (λ rs. r ∷ rs) (records_of-numbered (suc n) more)
 
-line_number : (number : ℕ) → number ≤ MAX_LINES → nat_lt 1000000000000 number ≡ false
-line_number number few = le-ltb 1000000000000 number few
+line_number : (number : ℕ) → number ≤ MAX_LINES → nat_lt MAX_LINES number ≡ false
+line_number number few = le-ltb MAX_LINES number few
 
 -- a line within the limits
-within : (number : ℕ) (line : List ℕ) → number ≤ MAX_LINES → length line ≤ MAX_LINE → NoneHolds (limit_condition number line)
-within number line few short f LineLimit h = true≢false (sym h ∙ and_right (f == 0) (nat_lt 1000000000000 number) (line_number number few))
-within number line few short f LineTooLong h = true≢false (sym h ∙ and_right (f == 0) (nat_lt 1048576 (length line)) (le-ltb 1048576 (length line) short))
+pub within : (number : ℕ) (line : List ℕ) → number ≤ MAX_LINES → length line ≤ MAX_LINE → NoneHolds (limit_condition number line)
+within number line few short f LineLimit h = true≢false (sym h ∙ and_right (f == 0) (nat_lt MAX_LINES number) (line_number number few))
+within number line few short f LineTooLong h = true≢false (sym h ∙ and_right (f == 0) (nat_lt MAX_LINE (length line)) (le-ltb MAX_LINE (length line) short))
 within number line few short f reason h = true≢false (sym h)
 
 -- a line behind the last that may be
 too_many : (kind : TextKind) (earlier : List Record) (number : ℕ) (line : List ℕ) → MAX_LINES < number → First (Condition kind earlier number line) places (at 0 LineLimit)
 too_many kind earlier number line above =
-    first_limit kind earlier number line 0 LineLimit (is_first (test_at (limit_condition number line)) limit_places (at 0 LineLimit) (rw (lt-ltb 1000000000000 number above) refl))
+    first_limit kind earlier number line 0 LineLimit (is_first (test_at (limit_condition number line)) limit_places (at 0 LineLimit) (rw (lt-ltb MAX_LINES number above) refl))
 
 too_long : (kind : TextKind) (earlier : List Record) (number : ℕ) (line : List ℕ) → number ≤ MAX_LINES → MAX_LINE < length line → First (Condition kind earlier number line) places (at 0 LineTooLong)
 too_long kind earlier number line few long =
-    first_limit kind earlier number line 0 LineTooLong (is_first (test_at (limit_condition number line)) limit_places (at 0 LineTooLong) (rw (line_number number few, lt-ltb 1048576 (length line) long) refl))
+    first_limit kind earlier number line 0 LineTooLong (is_first (test_at (limit_condition number line)) limit_places (at 0 LineTooLong) (rw (line_number number few, lt-ltb MAX_LINE (length line) long) refl))
 
 numbered-append : (n : ℕ) (said more : List (Option Record)) → numbered n (said ++ more) ≡ numbered n said ++ numbered (n + length said) more
 numbered-append n [] more = ap (λ k. numbered k more) (omega arith)

@@ -7,7 +7,14 @@ mod DriverLemmas
 pub mod ConditionLemmas
 mod SpellLaws
 mod ShapeLaws
-mod SplitLemmas
+pub mod SplitLemmas
 mod FaultLaws
 mod FirstLaws
 mod CleanLines
+mod PlainLines
+mod DecimalLemmas
+mod PlainForms
+pub mod CanonicalLaws
+pub mod ReadLaws
+pub mod FitLaws
+pub mod WrittenLemmas

@@ -1,5 +1,5 @@
--- Two places of one list.
-use Rattle.std.proofs.Common.{◌≡◌, ◌∷◌, ◌++◌, [], List, refl}
+-- Places of a list.
+use Rattle.std.proofs.Common.{◌≡◌, ◌∙◌, ◌∷◌, ◌++◌, [], List, length, map, refl, ap, arith, length-append}
 
 -- how two elements of one list lie, each behind others: they are the same one, or one of them comes sooner
 pub data TwoPlaces {X : Type 0} (before before' : List X) (x x' : X) : Type 0 where
@@ -18,3 +18,20 @@ two_places (b ∷ bs) (c ∷ cs) after after' x x' e =
       | sooner rest longer ↦ sooner rest (cc)
       | later rest longer ↦ later rest (cc)
     ]
+
+-- a list of images, cut at one of them
+pub record ImageAt {A B : Type 0} (f : A → B) (xs : List A) (before : List B) (y : B) : Type 0 where
+  pub front : List A
+  pub x : A
+  pub back : List A
+  pub xs_are : xs ≡ front ++ x ∷ back
+  pub before_is : before ≡ map f front
+  pub y_is : y ≡ f x
+
+pub image_at : {A B : Type 0} (f : A → B) (xs : List A) (before after : List B) (y : B) → map f xs ≡ before ++ y ∷ after → ImageAt f xs before y
+image_at f [] before after y e = absurd (omega (arith, ap length e, length-append before (y ∷ after)))
+image_at f (x ∷ xs) [] after y e = record { front = []; x = x; back = xs; xs_are = refl; before_is = refl; y_is = cc }
+image_at f (x ∷ xs) (b ∷ bs) after y e =
+    let rest = image_at f xs bs after y (cc) in
+    let first : b ≡ f x = cc in
+    record { front = x ∷ rest.front; x = rest.x; back = rest.back; xs_are = ap (λ t. x ∷ t) rest.xs_are; before_is = ap (λ t. t ∷ bs) first ∙ ap (λ ts. f x ∷ ts) rest.before_is; y_is = rest.y_is }

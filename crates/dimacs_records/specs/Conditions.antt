@@ -1,5 +1,6 @@
 -- Why a record is refused behind the earlier ones, reason by reason.
 use Rattle.std.specs.Prelude.{ℕ, ◌==◌, Bool, false, ◌&&◌, not, List, [], ◌∷◌, Option, is_some, is_none, if◌then◌else◌, nat_lt, length}
+use Rattle.dimacs_lines.specs.declared.reader.TheConstants.{MAX_LINE, MAX_LINES}
 use Rattle.dimacs_records.specs.declared.kinds.TextKind.{TextKind}
 use Rattle.dimacs_records.specs.declared.records.Record.{Record}
 use Rattle.dimacs_records.specs.declared.records.Record.TheVariants.{GraphArc}
@@ -9,8 +10,8 @@ use Rattle.dimacs_records.specs.Earlier.{Problem, problem_in, is_problem, is_abo
 
 -- at field f of a line with this number the condition of a limit holds
 abbrev pub limit_condition : ℕ → List ℕ → ℕ → Reason → Bool
-limit_condition number line f LineLimit = (f == 0) && nat_lt 1000000000000 number
-limit_condition number line f LineTooLong = (f == 0) && nat_lt 1048576 (length line)
+limit_condition number line f LineLimit = (f == 0) && nat_lt MAX_LINES number
+limit_condition number line f LineTooLong = (f == 0) && nat_lt MAX_LINE (length line)
 limit_condition number line f reason = false
 
 -- the IDs of a line that NODES bounds, each with its field

@@ -1,4 +1,5 @@
 pub mod Canonical
+pub mod CanonicalLaw
 pub mod Conditions
 pub mod Driver
 pub mod Earlier

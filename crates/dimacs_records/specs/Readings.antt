@@ -1,5 +1,5 @@
 -- What a reading stands for, and what it answers.
-use Rattle.std.specs.Prelude.{ℕ, suc, ◌≡◌, ◌<◌, List, [], ◌∷◌, map, Option, Some, None, Result, Ok, Err, IsTrue}
+use Rattle.std.specs.Prelude.{ℕ, suc, ◌≡◌, ◌<◌, List, [], ◌∷◌, ◌++◌, map, Option, Some, None, Result, Ok, Err, IsTrue}
 use Rattle.std.specs.List.{All}
 use Rattle.dimacs_lines.specs.Devices.{one_more}
 use Rattle.dimacs_records.specs.declared.kinds.TextKind.{TextKind}
@@ -52,6 +52,11 @@ IsFirstCondition earlier r fault = First (λ (p : Place). IsTrue (condition earl
 abbrev pub RefusesRecord : List Record → Record → TakeError → Type 0
 RefusesRecord earlier r (take_errors.Refused fault) = IsFirstCondition earlier r fault
 RefusesRecord earlier r take_errors.Memory = Unit {0}
+
+-- what becomes of the records of a reading that is told one more
+abbrev pub TakesRecord : List Record → Record → Result Unit TakeError → List Record → Type 0
+TakesRecord before r (Ok done) after = IsAllowed before r × (after ≡ before ++ r ∷ [])
+TakesRecord before r (Err error) after = RefusesRecord before r error × (after ≡ before)
 
 -- no condition holds at the end of a text of these records
 abbrev pub IsComplete : TextKind → List Record → Type 0

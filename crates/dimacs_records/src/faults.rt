@@ -1,5 +1,8 @@
 //! Where a text is refused, and what else may stop a reading.
 
+ghost use Rattle.std.specs.Prelude.{◌≡◌};
+ghost use Rattle.dimacs_records.specs.declared.faults.TakeError.TheVariants.{Refused};
+
 use crate::reasons::Reason;
 
 /// A fault at a line: the field, counted from 1, or 0 for the whole line; and the reason.
@@ -21,6 +24,14 @@ pub struct At {
 pub enum TakeError {
     Refused(LineFault),
     Memory,
+}
+
+impl TakeError {
+    pub fn refused(field: u32, reason: Reason) -> TakeError
+        ensures { result ≡ Refused (record { field = field; reason = reason }) }
+    {
+        TakeError::Refused(LineFault { field, reason })
+    }
 }
 
 /// Why a text is not read.

@@ -20,7 +20,7 @@ pub use canonical::{put_record, write_record};
 pub use driver::read_text;
 pub use faults::{At, LineFault, ReadError, TakeError};
 pub use kinds::TextKind;
-pub use laws::{no_fault, one_fault};
+pub use laws::{canonical_texts, no_fault, one_fault};
 pub use lines::record;
 pub use reading::Reading;
 pub use reasons::Reason;

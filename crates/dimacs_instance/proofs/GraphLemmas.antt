@@ -1,0 +1,173 @@
+-- Records behind those of a graph that was begun.
+use Rattle.std.proofs.Common.{◌≡◌, ℕ, suc, ◌<◌, ◌≤◌, ◌∷◌, ◌++◌, [], List, true, false, Option, Some, None, length, map, take, ◌+◌, refl, ap, ap₂, sym, ◌∙◌, arith}
+use Rattle.std.specs.Prelude.{ℤ, pos, codes, slice_get, is_some, nat_lt, nat_le}
+use Rattle.std.specs.List.{All}
+use Rattle.std.proofs.lemmas.List.{map-append, take_more}
+use Rattle.std.proofs.lemmas.Option.{slice_get_within, get_or_from_slice_get}
+use Rattle.std.proofs.lemmas.Bool.{lt-ltb, le-ltb, le-leb}
+use Rattle.std.proofs.lemmas.Int.{ints}
+use Rattle.std.proofs.lemmas.List.{length-append, length-map}
+use Rattle.std.proofs.lemmas.List.Elements.{All-nil, All-cons, All-head, All-tail, All-contains, Contains-append_right}
+use Rattle.std.proofs.lemmas.Bool.Decides.{nat_tests}
+use Rattle.dimacs_records.specs.declared.kinds.TextKind.TheVariants.{Graph}
+use Rattle.dimacs_records.specs.declared.records.Record.{Record}
+use Rattle.dimacs_records.specs.declared.records.Record.TheVariants.{GraphProblem, GraphArc}
+use Rattle.dimacs_records.specs.declared.reasons.Reason.TheVariants.{ProblemMissing, ProblemTwice, NodeRange, TooMany, TooFew}
+use Rattle.dimacs_records.specs.Earlier.{counted_in}
+use Rattle.dimacs_records.specs.Readings.{IsAllowed, IsFirstCondition, IsComplete}
+use Rattle.dimacs_records.specs.Faults.{FirstAtEnd}
+use Rattle.dimacs_records.specs.FieldReader.{fault_at}
+use Rattle.dimacs_records.proofs.ConditionLemmas.{is_first_condition, is_allowed, is_first_at_end, is_complete}
+use Rattle.dimacs_instance.specs.declared.network.ArcView.{ArcView}
+use Rattle.dimacs_instance.specs.Arcs.{weight_arc}
+use Rattle.dimacs_records.specs.Forms.{form, Word, Nodes, Count, Id, Whole}
+use Rattle.dimacs_records.specs.Canonical.{CanBeSpelled}
+use Rattle.dimacs_records.specs.Readings.{LineRecord, records_of}
+use Rattle.dimacs_records.specs.Texts.{AreFaultless}
+use Rattle.dimacs_records.proofs.SplitLemmas.{image_at}
+use Rattle.dimacs_records.proofs.CanonicalLaws.{canonical_spelled, numbered_all}
+use Rattle.dimacs_instance.specs.Arcs.{JoinsNodes}
+use Rattle.dimacs_instance.specs.Graph.{GraphValue, IsGraph, HasWeightAlone, GivesGraph, SpellsGraph, canonical_graph, graph_records, graph_arc}
+use Rattle.dimacs_instance.specs.GraphReading.{GraphBegun, graph_records_so_far}
+
+counted_in-arcs : (arcs : List ArcView) → counted_in (map graph_arc arcs) ≡ length arcs
+counted_in-arcs [] = refl
+counted_in-arcs (a ∷ arcs) = ap suc (counted_in-arcs arcs)
+
+-- behind the problem line and these arcs
+module _ (nodes declared : ℕ) (arcs : List ArcView) where
+  abbrev earlier : List Record
+  earlier = GraphProblem nodes declared ∷ map graph_arc arcs
+
+  pub second_problem : (n m : ℕ) → IsFirstCondition earlier (GraphProblem n m) (fault_at 0 ProblemTwice)
+  second_problem n m = is_first_condition earlier (GraphProblem n m) (fault_at 0 ProblemTwice) refl
+
+  pub tail_above : (t h : ℕ) (w : ℤ) → nodes < t → IsFirstCondition earlier (GraphArc t h w) (fault_at 2 NodeRange)
+  tail_above t h w above = is_first_condition earlier (GraphArc t h w) (fault_at 2 NodeRange) (rw (lt-ltb nodes t above) refl)
+
+  pub head_above : (t h : ℕ) (w : ℤ) → t ≤ nodes → nodes < h → IsFirstCondition earlier (GraphArc t h w) (fault_at 3 NodeRange)
+  head_above t h w within above = is_first_condition earlier (GraphArc t h w) (fault_at 3 NodeRange) (rw (le-ltb nodes t within, lt-ltb nodes h above) refl)
+
+  pub one_too_many : (t h : ℕ) (w : ℤ) → t ≤ nodes → h ≤ nodes → length arcs ≡ declared → IsFirstCondition earlier (GraphArc t h w) (fault_at 0 TooMany)
+  one_too_many t h w tail head full =
+      let counted : nat_le declared (counted_in earlier) ≡ true = rw (counted_in-arcs arcs) (le-leb declared (length arcs) (omega (arith, full))) in
+      is_first_condition earlier (GraphArc t h w) (fault_at 0 TooMany) (rw (le-ltb nodes t tail, le-ltb nodes h head, counted) refl)
+
+  pub one_more_arc : (t h : ℕ) (w : ℤ) → t ≤ nodes → h ≤ nodes → length arcs < declared → IsAllowed earlier (GraphArc t h w)
+  one_more_arc t h w tail head room =
+      let counted : nat_le declared (counted_in earlier) ≡ false = rw (counted_in-arcs arcs) (grind (arith, nat_tests, room)) in
+      is_allowed earlier (GraphArc t h w) (rw (le-ltb nodes t tail, le-ltb nodes h head, counted) refl)
+
+  pub too_few_arcs : length arcs < declared → FirstAtEnd Graph earlier TooFew
+  too_few_arcs room =
+      let counted : nat_lt (counted_in earlier) declared ≡ true = rw (counted_in-arcs arcs) (lt-ltb (length arcs) declared room) in
+      is_first_at_end Graph earlier TooFew (rw counted refl)
+
+  pub all_arcs : declared ≤ length arcs → IsComplete Graph earlier
+  all_arcs full =
+      let counted : nat_lt (counted_in earlier) declared ≡ false = rw (counted_in-arcs arcs) (le-ltb (length arcs) declared full) in
+      is_complete Graph earlier (rw counted refl)
+
+take_next : (arcs : List ArcView) (i : ℕ) (a : ArcView) → slice_get arcs i ≡ Some a → take (i + 1) arcs ≡ take i arcs ++ a ∷ []
+take_next arcs i a got = take_more arcs i a (slice_get_within arcs i a got) ∙ ap (λ x. take i arcs ++ x ∷ []) (get_or_from_slice_get arcs i a a got)
+
+pub pushed_records : (nodes declared : ℕ) (arcs : List ArcView) (t h : ℕ) (w : ℤ)
+    → GraphProblem nodes declared ∷ map graph_arc (arcs ++ weight_arc t h w ∷ []) ≡ (GraphProblem nodes declared ∷ map graph_arc arcs) ++ GraphArc t h w ∷ []
+pushed_records nodes declared arcs t h w = ap (λ rs. GraphProblem nodes declared ∷ rs) (map-append graph_arc arcs (weight_arc t h w ∷ []))
+
+pub no_problem : (t h : ℕ) (w : ℤ) → IsFirstCondition [] (GraphArc t h w) (fault_at 0 ProblemMissing)
+no_problem t h w = is_first_condition [] (GraphArc t h w) (fault_at 0 ProblemMissing) refl
+
+pub first_problem : (n m : ℕ) → IsAllowed [] (GraphProblem n m)
+first_problem n m = is_allowed [] (GraphProblem n m) refl
+
+pub nothing_read : FirstAtEnd Graph [] ProblemMissing
+nothing_read = is_first_at_end Graph [] ProblemMissing refl
+
+pub begun_twice : (begun : Option GraphBegun) (n m : ℕ) → is_some begun ≡ true → IsFirstCondition (graph_records_so_far begun) (GraphProblem n m) (fault_at 0 ProblemTwice)
+begun_twice (Some begun) n m h = second_problem begun.nodes begun.declared begun.arcs n m
+begun_twice None n m h = absurd (cc)
+
+All-at : {A : Type 0} (P : A → Type 0) (xs front back : List A) (x : A) → xs ≡ front ++ x ∷ back → All P xs → P x
+All-at P xs front back x e all = All-contains P xs x all (rw e (Contains-append_right front (x ∷ back) x (0, omega arith, refl)))
+
+arc_allowed : (nodes declared : ℕ) (arcs : List ArcView) (a : ArcView) (before : List Record) (r : Record) → before ≡ GraphProblem nodes declared ∷ map graph_arc arcs → r ≡ graph_arc a
+    → JoinsNodes nodes a → length arcs < declared → IsAllowed before r
+arc_allowed nodes declared arcs a before r before_is r_is joins room = rw (before_is, r_is) (one_more_arc nodes declared arcs a.tail a.head a.cost joins.0.1 joins.1.1 room)
+
+-- the records of a graph are refused for nothing
+graph_allowed : (g : GraphValue) → IsGraph g → (before after : List Record) (r : Record) → graph_records g ≡ before ++ r ∷ after → IsAllowed before r
+graph_allowed g is [] after r e = let first : r ≡ GraphProblem g.nodes (length g.arcs) = cc in rw first (first_problem g.nodes (length g.arcs))
+graph_allowed g is (b ∷ bs) after r e =
+    let first : b ≡ GraphProblem g.nodes (length g.arcs) = cc in
+    let at = image_at graph_arc g.arcs bs after r (cc) in
+    let joins = All-at (JoinsNodes g.nodes) g.arcs at.front at.back at.x at.xs_are is.joined in
+    let room : length at.front < length g.arcs = omega (arith, ap length at.xs_are, length-append at.front (at.x ∷ at.back)) in
+    arc_allowed g.nodes (length g.arcs) at.front at.x (b ∷ bs) r (ap (λ t. t ∷ bs) first ∙ ap (λ ts. GraphProblem g.nodes (length g.arcs) ∷ ts) at.before_is) at.y_is joins room
+
+pub graph_faultless : (rs : List LineRecord) (g : GraphValue) → GivesGraph rs g → AreFaultless Graph (records_of rs)
+graph_faultless rs g h = rw h.0 (record { allowed = graph_allowed g h.1; complete = all_arcs g.nodes (length g.arcs) g.arcs (omega arith) })
+
+-- the arc that a record names, and the graph of a problem line and arcs
+arc_of : Record → ArcView
+arc_of (GraphArc t h w) = weight_arc t h w
+arc_of r = weight_arc 0 0 (pos 0)
+
+graph_of : List Record → GraphValue
+graph_of (GraphProblem n m ∷ rs) = record { nodes = n; arcs = map arc_of rs }
+graph_of rs = record { nodes = 0; arcs = [] }
+
+arc_of-graph_arc : (a : ArcView) → HasWeightAlone a → arc_of (graph_arc a) ≡ a
+unfolding arc_of
+arc_of-graph_arc a alone = sym (ap₂ (λ l c. record { tail = a.tail; head = a.head; low = l; cap = c; cost = a.cost }) alone.0 alone.1)
+
+arcs_of-graph_arcs : (arcs : List ArcView) → All HasWeightAlone arcs → map arc_of (map graph_arc arcs) ≡ arcs
+arcs_of-graph_arcs [] alone = refl
+arcs_of-graph_arcs (a ∷ arcs) alone = ap₂ (λ x xs. x ∷ xs) (arc_of-graph_arc a (All-head HasWeightAlone a arcs alone)) (arcs_of-graph_arcs arcs (All-tail HasWeightAlone a arcs alone))
+
+graph_of-graph_records : (g : GraphValue) → IsGraph g → graph_of (graph_records g) ≡ g
+unfolding graph_of
+graph_of-graph_records g is = ap (λ arcs. record { nodes = g.nodes; arcs = arcs }) (arcs_of-graph_arcs g.arcs is.weights)
+
+-- the records of a graph are those of no other
+pub one_graph : (rs : List LineRecord) (g h : GraphValue) → GivesGraph rs g → GivesGraph rs h → g ≡ h
+one_graph rs g h a b = sym (graph_of-graph_records g a.1) ∙ (ap graph_of (sym a.0 ∙ b.0) ∙ graph_of-graph_records h b.1)
+
+problem_fits : (g : GraphValue) → IsGraph g → CanBeSpelled Graph (GraphProblem g.nodes (length g.arcs))
+problem_fits g is = record {
+  form = form (codes "p") (Word (codes "sp") ∷ Nodes ∷ Count ∷ []);
+  of_kind = (0, omega arith, refl);
+  for_kind = refl;
+  letter = refl;
+  fit = (refl, ((omega (arith, ints), omega (arith, ints, is.nodes_few)), ((omega (arith, ints), omega (arith, ints, is.arcs_few)), tt)));
+}
+
+arc_fits : (nodes : ℕ) (a : ArcView) → nodes ≤ 134217728 → JoinsNodes nodes a → HasWeightAlone a → CanBeSpelled Graph (graph_arc a)
+arc_fits nodes a few joins alone = record {
+  form = form (codes "a") (Id ∷ Id ∷ Whole ∷ []);
+  of_kind = (1, omega arith, refl);
+  for_kind = refl;
+  letter = refl;
+  fit = ((omega (arith, ints, joins.0.0), omega (arith, ints, joins.0.1, few)), ((omega (arith, ints, joins.1.0), omega (arith, ints, joins.1.1, few)), (alone.2, tt)));
+}
+
+arcs_fit : (nodes : ℕ) (arcs : List ArcView) → nodes ≤ 134217728 → All (JoinsNodes nodes) arcs → All HasWeightAlone arcs → All (CanBeSpelled Graph) (map graph_arc arcs)
+arcs_fit nodes [] few joined alone = All-nil (CanBeSpelled Graph)
+arcs_fit nodes (a ∷ arcs) few joined alone =
+    All-cons (CanBeSpelled Graph) (graph_arc a) (map graph_arc arcs) (arc_fits nodes a few (All-head (JoinsNodes nodes) a arcs joined) (All-head HasWeightAlone a arcs alone))
+    (arcs_fit nodes arcs few (All-tail (JoinsNodes nodes) a arcs joined) (All-tail HasWeightAlone a arcs alone))
+
+-- the canonical text of a graph spells it
+pub graph_round_trip : (g : GraphValue) → IsGraph g → SpellsGraph (canonical_graph g) g
+graph_round_trip g is =
+    let fit : All (CanBeSpelled Graph) (graph_records g) = All-cons (CanBeSpelled Graph) (GraphProblem g.nodes (length g.arcs)) (map graph_arc g.arcs) (problem_fits g is) (arcs_fit g.nodes g.arcs is.nodes_few is.joined is.weights) in
+    record {
+      said = map (λ (r : Record). Some r) (graph_records g);
+      spelled = canonical_spelled Graph (graph_records g) fit (omega (arith, length-map g.arcs graph_arc, is.arcs_few));
+      given = (numbered_all (graph_records g), is);
+    }
+
+-- one arc more of the records
+pub next_records : (nodes : ℕ) (arcs : List ArcView) (i : ℕ) (a : ArcView) → slice_get arcs i ≡ Some a
+    → GraphProblem nodes (length arcs) ∷ map graph_arc (take (i + 1) arcs) ≡ (GraphProblem nodes (length arcs) ∷ map graph_arc (take i arcs)) ++ graph_arc a ∷ []
+next_records nodes arcs i a got = ap (λ some. GraphProblem nodes (length arcs) ∷ map graph_arc some) (take_next arcs i a got) ∙ ap (λ rs. GraphProblem nodes (length arcs) ∷ rs) (map-append graph_arc (take i arcs) (a ∷ []))

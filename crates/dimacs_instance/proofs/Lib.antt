@@ -1,0 +1,2 @@
+mod ArcLemmas
+mod GraphLemmas

@@ -1,0 +1,45 @@
+-- Graphs for shortest paths, and the texts that spell them.
+use Rattle.std.specs.Prelude.{ℕ, ◌≡◌, ◌≤◌, List, ◌∷◌, map, length, pos, neg_ℤ, ◌^◌, ◌-◌}
+use Rattle.std.specs.List.{All}
+use Rattle.dimacs_lines.specs.Lines.{lines}
+use Rattle.dimacs_lines.specs.Number.{IsWithin}
+use Rattle.dimacs_records.specs.declared.kinds.TextKind.TheVariants.{Graph}
+use Rattle.dimacs_records.specs.declared.records.Record.{Record}
+use Rattle.dimacs_records.specs.declared.records.Record.TheVariants.{GraphProblem, GraphArc}
+use Rattle.dimacs_records.specs.Canonical.{canonical_text}
+use Rattle.dimacs_records.specs.Readings.{LineRecord, records_of}
+use Rattle.dimacs_records.specs.Texts.{SpellsValue}
+use Rattle.dimacs_instance.specs.declared.network.ArcView.{ArcView}
+use Rattle.dimacs_instance.specs.Arcs.{JoinsNodes}
+
+pub record GraphValue : Type 0 where
+  pub nodes : ℕ
+  pub arcs : List ArcView
+
+-- an arc with a weight alone
+abbrev pub HasWeightAlone : ArcView → Type 0
+HasWeightAlone a = (a.low ≡ pos 0) × (a.cap ≡ pos 0) × IsWithin (neg_ℤ (pos (2 ^ 63))) (pos (2 ^ 63 - 1)) a.cost
+
+-- the counts lie within their limits, and each arc joins nodes of the graph
+pub record IsGraph (g : GraphValue) : Type 0 where
+  pub nodes_few : g.nodes ≤ 134217728
+  pub arcs_few : length g.arcs ≤ 268435456
+  pub joined : All (JoinsNodes g.nodes) g.arcs
+  pub weights : All HasWeightAlone g.arcs
+
+abbrev pub graph_arc : ArcView → Record
+graph_arc a = GraphArc a.tail a.head a.cost
+
+-- the problem line, and then the arcs
+abbrev pub graph_records : GraphValue → List Record
+graph_records g = GraphProblem g.nodes (length g.arcs) ∷ map graph_arc g.arcs
+
+abbrev pub GivesGraph : List LineRecord → GraphValue → Type 0
+GivesGraph rs g = (records_of rs ≡ graph_records g) × IsGraph g
+
+-- the text spells this graph
+abbrev pub SpellsGraph : List ℕ → GraphValue → Type 0
+SpellsGraph text g = SpellsValue Graph GivesGraph (lines text) g
+
+abbrev pub canonical_graph : GraphValue → List ℕ
+canonical_graph g = canonical_text (graph_records g)

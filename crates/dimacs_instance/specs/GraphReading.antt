@@ -1,0 +1,34 @@
+-- How far a graph has been read.
+use Rattle.std.specs.Prelude.{ℕ, ◌≡◌, ◌≤◌, List, [], ◌∷◌, map, length, Option, None, Some}
+use Rattle.std.specs.List.{All}
+use Rattle.dimacs_records.specs.declared.records.Record.{Record}
+use Rattle.dimacs_records.specs.declared.records.Record.TheVariants.{GraphProblem}
+use Rattle.dimacs_records.specs.Readings.{LineRecord, records_of}
+use Rattle.dimacs_instance.specs.declared.network.ArcView.{ArcView}
+use Rattle.dimacs_instance.specs.Arcs.{JoinsNodes}
+use Rattle.dimacs_instance.specs.Graph.{HasWeightAlone, graph_arc}
+
+-- what the problem line declares, and the arcs behind it
+pub record GraphBegun : Type 0 where
+  pub nodes : ℕ
+  pub declared : ℕ
+  pub arcs : List ArcView
+
+-- a beginning of a graph's arcs
+pub record IsBegun (begun : GraphBegun) : Type 0 where
+  pub nodes_few : begun.nodes ≤ 134217728
+  pub arcs_few : begun.declared ≤ 268435456
+  pub no_more : length begun.arcs ≤ begun.declared
+  pub joined : All (JoinsNodes begun.nodes) begun.arcs
+  pub weights : All HasWeightAlone begun.arcs
+
+-- the records that were taken
+abbrev pub begun_records : GraphBegun → List Record
+begun_records begun = GraphProblem begun.nodes begun.declared ∷ map graph_arc begun.arcs
+
+abbrev pub graph_records_so_far : Option GraphBegun → List Record
+graph_records_so_far None = []
+graph_records_so_far (Some begun) = begun_records begun
+
+abbrev pub StandsForGraph : Option GraphBegun → List LineRecord → Type 0
+StandsForGraph begun rs = records_of rs ≡ graph_records_so_far begun

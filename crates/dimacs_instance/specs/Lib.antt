@@ -1,0 +1,4 @@
+pub mod Arcs
+pub mod Graph
+pub mod Plain
+pub mod GraphReading

@@ -1,0 +1,186 @@
+//! Graphs for shortest paths.
+
+ghost use Rattle.std.specs.Prelude.{◌≡◌, ◌≤◌, ◌<◌, [], ℕ, List, Option, length, IfOk, Some};
+ghost use Rattle.dimacs_lines.specs.Devices.{CountsFault};
+ghost use Rattle.dimacs_lines.specs.Puts.{Puts};
+ghost use Rattle.dimacs_records.specs.declared.kinds.TextKind.TheVariants as kinds;
+ghost use Rattle.dimacs_records.specs.declared.records.Record.TheVariants.{GraphProblem, GraphArc};
+ghost use Rattle.dimacs_records.specs.Readings.{CountsRead, TakesRecord};
+ghost use Rattle.dimacs_records.specs.Faults.{Fault};
+ghost use Rattle.dimacs_records.specs.Texts.{Reads};
+ghost use Rattle.dimacs_lines.specs.Lines.{lines};
+ghost use Rattle.dimacs_instance.specs.Graph.{GraphValue, IsGraph, GivesGraph, SpellsGraph, canonical_graph, graph_arc};
+ghost use Rattle.dimacs_instance.specs.GraphReading.{begun_records, graph_records_so_far, StandsForGraph};
+
+use crate::network::{ArcView, Network};
+use crate::plain::PlainArcs;
+use dimacs_lines::{DeviceFault, Page, Sink, Source};
+use dimacs_records::{
+    ReadError, Reading, Reason, Record, TakeError, TextKind, read_text, write_record,
+};
+use std::alloc::Global;
+use std::marker::Model;
+
+/// A graph for shortest paths: each arc's `cost` is its weight.
+pub struct Graph<N: Network> {
+    network: N,
+}
+
+impl<N: Network> Model for Graph<N> {
+    ghost use Rattle.dimacs_instance.specs.Graph.{GraphValue, IsGraph};
+
+    ghost Value = { GraphValue };
+
+    ghost view = { λ g. record { nodes = N.node_count g.network; arcs = N.list g.network } };
+
+    ghost invariant = { λ g. IsGraph (record { nodes = N.node_count g.network; arcs = N.list g.network }) };
+}
+
+impl<N: Network> Graph<N> {
+    pub fn network(&self) -> &N
+        ensures nodes { N.node_count result.now ≡ self.now.nodes }
+        ensures arcs { N.list result.now ≡ self.now.arcs }
+        ensures lawful { IsGraph self.now }
+    {
+        &self.network
+    }
+}
+
+/// Makes a graph of the records of a text.
+#[derive(Drop)]
+pub struct GraphReading {
+    alloc: Global,
+    begun: Option<BegunGraph>,
+}
+
+/// The arcs that came behind the problem line.
+#[derive(Drop)]
+pub(crate) struct BegunGraph {
+    declared: u32,
+    network: PlainArcs,
+}
+
+impl Model for BegunGraph {
+    ghost use Rattle.dimacs_instance.specs.GraphReading.{GraphBegun, IsBegun};
+
+    ghost Value = { GraphBegun };
+
+    ghost view = { λ b. record { nodes = b.network.nodes; declared = b.declared; arcs = b.network.arcs } };
+
+    ghost invariant = { λ b. IsBegun (record { nodes = b.network.nodes; declared = b.declared; arcs = b.network.arcs }) };
+}
+
+impl BegunGraph {
+    fn add(&mut self, tail: u32, head: u32, weight: i64) -> Result<(), TakeError>
+        requires tail { 1 ≤ tail }
+        requires head { 1 ≤ head }
+        ensures { TakesRecord (begun_records self.old) (GraphArc tail head weight) result (begun_records self.new) }
+    {
+        if tail > self.network.nodes() {
+            return Err(TakeError::refused(2, Reason::NodeRange));
+        }
+        if head > self.network.nodes() {
+            return Err(TakeError::refused(3, Reason::NodeRange));
+        }
+        if self.network.arcs() == self.declared {
+            return Err(TakeError::refused(0, Reason::TooMany));
+        }
+        let Ok(()) = self.network.push_weight(tail, head, weight) else {
+            return Err(TakeError::Memory);
+        };
+        Ok(())
+    }
+}
+
+impl GraphReading {
+    pub fn new(alloc: Global) -> GraphReading
+        ensures { StandsForGraph result.begun [] }
+    {
+        GraphReading { alloc, begun: None }
+    }
+
+    fn start(&mut self, nodes: u32, declared: u32) -> Result<(), TakeError>
+        requires nodes { nodes ≤ 134217728 }
+        requires declared { declared ≤ 268435456 }
+        ensures { TakesRecord (graph_records_so_far self.old.begun) (GraphProblem nodes declared) result (graph_records_so_far self.new.begun) }
+    {
+        if self.begun.is_some() {
+            return Err(TakeError::refused(0, Reason::ProblemTwice));
+        }
+        self.begun = Some(BegunGraph {
+            declared,
+            network: PlainArcs::new(self.alloc, nodes),
+        });
+        Ok(())
+    }
+}
+
+impl Reading for GraphReading {
+    type Value = Graph<PlainArcs>;
+
+    ghost kind = { λ reading. kinds.Graph };
+
+    ghost stands_for = { λ reading rs. StandsForGraph reading.begun rs };
+
+    ghost gives = { λ rs g. GivesGraph rs g };
+
+    #[inline(always)]
+    fn take(&mut self, _line: u64, said: Record) -> Result<(), TakeError> {
+        match said {
+            Record::GraphProblem { nodes, arcs } => self.start(nodes, arcs),
+            Record::GraphArc { tail, head, weight } => match &mut self.begun {
+                None => Err(TakeError::refused(0, Reason::ProblemMissing)),
+                Some(begun) => begun.add(tail, head, weight),
+            },
+        }
+    }
+
+    fn finish(self) -> Result<Graph<PlainArcs>, TakeError> {
+        let Some(begun) = self.begun else {
+            return Err(TakeError::refused(0, Reason::ProblemMissing));
+        };
+        if begun.network.arcs() < begun.declared {
+            return Err(TakeError::refused(0, Reason::TooFew));
+        }
+        Ok(Graph {
+            network: begun.network,
+        })
+    }
+}
+
+/// Reads a graph text.
+pub fn read_graph<S: Source>(alloc: Global, source: &mut S) -> Result<Graph<PlainArcs>, ReadError>
+    ensures reads { (text : List ℕ) → S.coming source.old ≡ Some text → Reads (SpellsGraph text) (Fault kinds.Graph (lines text)) result }
+    ensures device { CountsRead result (S.faults source.old) (S.faults source.new) }
+{
+    read_text(alloc, TextKind::Graph, GraphReading::new(alloc), source)
+}
+
+/// Writes the canonical text of a graph.
+pub fn write_graph<N: Network, S: Sink>(graph: &Graph<N>, sink: &mut S) -> Result<(), DeviceFault>
+    ensures puts { Puts result (S.accepted sink.old) (canonical_graph graph.now) (S.accepted sink.new) }
+    ensures fault { CountsFault result (S.faults sink.old) (S.faults sink.new) }
+    ensures round_trip { SpellsGraph (canonical_graph graph.now) graph.now }
+{
+    let network = graph.network();
+    let nodes = network.nodes();
+    let arcs = network.arcs();
+    let mut page = Page::new();
+    write_record(&mut page, sink, &Record::GraphProblem { nodes, arcs });
+    for i in 0..arcs {
+        write_record(&mut page, sink, &arc_record(network.arc(i)));
+    }
+    page.finish(sink)
+}
+
+/// The line of an arc.
+#[inline(always)]
+fn arc_record(arc: ArcView) -> Record
+    ensures { result ≡ graph_arc arc }
+{
+    Record::GraphArc {
+        tail: arc.tail,
+        head: arc.head,
+        weight: arc.cost,
+    }
+}

@@ -1,0 +1,33 @@
+-- What a spelled record's fields satisfy.
+use Rattle.std.proofs.Common.{◌≡◌, ℕ, ◌∷◌, [], List, Some}
+use Rattle.dimacs_records.specs.declared.kinds.TextKind.{TextKind}
+use Rattle.dimacs_records.specs.declared.records.Record.{Record}
+use Rattle.dimacs_records.specs.Forms.{FieldType, Word, Number, forms}
+use Rattle.dimacs_records.specs.Spelling.{Part, Text, Amount, Says, SayAll, letter_of, parts_of}
+use Rattle.dimacs_records.specs.Shapes.{types_in}
+use Rattle.dimacs_records.specs.Canonical.{Fits, FitAll, CanBeSpelled}
+use Rattle.dimacs_records.specs.Readings.{IsOfKind}
+use Rattle.dimacs_records.proofs.SpellLaws.{form_types}
+
+fits_said : (type : FieldType) (text : List ℕ) (part : Part) → Says type text part → Fits type part
+fits_said (Word w) text (Text said) h = h.1
+fits_said (Number low high) text (Amount n) h = h.1
+fits_said type text part h = absurd h
+
+fit_all_said : (types : List FieldType) (texts : List (List ℕ)) (parts : List Part) → SayAll types texts parts → FitAll types parts
+fit_all_said [] [] [] h = tt
+fit_all_said (type ∷ types) (text ∷ texts) (part ∷ parts) h = (fits_said type text part h.0, fit_all_said types texts parts h.1)
+fit_all_said types texts parts h = absurd h
+
+-- the fields of a record of the kind fit the types that the kind has behind its letter
+pub fits_of : (kind : TextKind) (r : Record) (types : List FieldType) → IsOfKind kind r → types_in (forms kind) (letter_of r) ≡ Some types → FitAll types (parts_of r)
+fits_of kind r types h found =
+    let s = h.spelled in
+    let known : types_in (forms kind) (letter_of r) ≡ Some s.form.types = rw s.letter (form_types kind s.form s.of_kind) in
+    let same : types ≡ s.form.types = cc in
+    rw same (fit_all_said s.form.types s.behind (parts_of r) s.says)
+
+pub can_be_spelled : (kind : TextKind) (r : Record) → IsOfKind kind r → CanBeSpelled kind r
+can_be_spelled kind r h =
+    let s = h.spelled in
+    record { form = s.form; of_kind = s.of_kind; for_kind = s.for_kind; letter = s.letter; fit = fit_all_said s.form.types s.behind (parts_of r) s.says }

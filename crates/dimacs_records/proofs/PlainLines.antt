@@ -1,0 +1,115 @@
+-- Plain texts, and the line that they make with one blank between them.
+use Rattle.std.proofs.Common.{◌≡◌, ◌+◌, ◌*◌, ◌<◌, ◌≤◌, ◌++◌, ◌∷◌, [], ℕ, suc, List, true, false, length, map, refl, ap, ◌∙◌, arith, length-append}
+use Rattle.std.specs.Prelude.{◌==◌}
+use Rattle.std.specs.List.{All, flat_map}
+use Rattle.std.specs.Char.{is_ascii_graphic}
+use Rattle.std.proofs.lemmas.Bool.{cond_both, eq-eqb, ne_eqb}
+use Rattle.std.proofs.lemmas.Bool.Decides.{nat_tests}
+use Rattle.std.proofs.lemmas.List.Elements.{All-nil, All-cons, All-head, All-tail, All-append, All-weaker}
+use Rattle.dimacs_lines.specs.Lines.{is_end, lines}
+use Rattle.dimacs_lines.specs.Fields.{is_blank, Run, onto_runs, runs_from}
+use Rattle.dimacs_records.specs.Spelling.{Part, texts_in}
+use Rattle.dimacs_records.specs.FieldReader.{text_of_run}
+use Rattle.dimacs_records.specs.Canonical.{text_of, behind_blank}
+
+-- a printed ASCII character, of which none is a blank or a line end
+abbrev pub IsVisible : ℕ → Type 0
+IsVisible b = is_ascii_graphic b ≡ true
+
+-- one to forty visible bytes
+pub record IsPlain (text : List ℕ) : Type 0 where
+  pub some : 0 < length text
+  pub visible : All IsVisible text
+  pub short : length text ≤ 40
+
+abbrev pub ArePlain : List Part → Type 0
+ArePlain [] = Unit {0}
+ArePlain (part ∷ parts) = IsPlain (text_of part) × ArePlain parts
+
+no_blank : (b : ℕ) → IsVisible b → is_blank b ≡ false
+no_blank b h = grind (arith, nat_tests)
+
+abbrev IsNoEnd : ℕ → Type 0
+IsNoEnd b = is_end b ≡ false
+
+no_end : (b : ℕ) → IsVisible b → IsNoEnd b
+no_end b h = grind (arith, nat_tests)
+
+-- the first run starts at place i or behind it
+abbrev StartsFrom : ℕ → List Run → Type 0
+StartsFrom i [] = Unit {0}
+StartsFrom i (run ∷ runs) = i ≤ run.start
+
+starts_later : (i : ℕ) (runs : List Run) → StartsFrom (suc i) runs → StartsFrom i runs
+starts_later i [] starts = tt
+starts_later i (run ∷ runs) starts = omega arith
+
+onto_starts : (b i : ℕ) (runs : List Run) → StartsFrom i (onto_runs b i runs)
+onto_starts b i [] = omega arith
+onto_starts b i (run ∷ runs) = cond_both (run.start == suc i) _ _ (StartsFrom i) (λ e. omega arith) (λ e. omega arith)
+
+runs_start : (i : ℕ) (bytes : List ℕ) → StartsFrom i (runs_from i bytes)
+runs_start i [] = tt
+runs_start i (b ∷ bs) =
+    let later = runs_from (suc i) bs in
+    cond_both (is_blank b) _ _ (StartsFrom i) (λ e. starts_later i later (runs_start (suc i) bs)) (λ e. onto_starts b i later)
+
+-- nothing stands here, or a blank stands first
+abbrev BeginsBlank : List ℕ → Type 0
+BeginsBlank [] = Unit {0}
+BeginsBlank (b ∷ bs) = is_blank b ≡ true
+
+past_blank : (i : ℕ) (rest : List ℕ) → BeginsBlank rest → StartsFrom (suc i) (runs_from i rest)
+past_blank i [] blank = tt
+past_blank i (b ∷ bs) blank = rw blank (runs_start (suc i) bs)
+
+-- a byte is a run alone where the next run does not start right behind it
+alone : (b i : ℕ) (runs : List Run) → StartsFrom (suc (suc i)) runs → onto_runs b i runs ≡ record { text = b ∷ []; start = i } ∷ runs
+alone b i [] starts = refl
+alone b i (run ∷ runs) starts = let apart : (run.start == suc i) ≡ false = ne_eqb run.start (suc i) (λ e. omega arith) in rw apart refl
+
+-- visible bytes up to a blank are the first run
+first_run : (i j b : ℕ) (bs rest : List ℕ) → All IsVisible (b ∷ bs) → BeginsBlank rest → j ≡ i + length (b ∷ bs)
+    → runs_from i ((b ∷ bs) ++ rest) ≡ record { text = b ∷ bs; start = i } ∷ runs_from j rest
+first_run i j b [] rest visible blank is =
+    let next : j ≡ suc i = omega arith in
+    rw (no_blank b (visible 0 b (omega arith)), next) (alone b i (runs_from (suc i) rest) (past_blank (suc i) rest blank))
+first_run i j b (c ∷ cs) rest visible blank is =
+    let behind = first_run (suc i) j c cs rest (All-tail IsVisible b (c ∷ cs) visible) blank (omega arith) in
+    rw (no_blank b (visible 0 b (omega arith)), behind, eq-eqb (suc i) (suc i) refl) refl
+
+texts_from : (i : ℕ) (text : List ℕ) (parts : List Part) → IsPlain text → ArePlain parts → map text_of_run (runs_from i (text ++ flat_map behind_blank parts)) ≡ text ∷ map text_of parts
+texts_from i [] parts plain more = absurd (omega (arith, plain.some))
+texts_from i (b ∷ bs) [] plain more = ap (map text_of_run) (first_run i (i + length (b ∷ bs)) b bs [] plain.visible tt refl)
+texts_from i (b ∷ bs) (part ∷ parts) plain more =
+    let next = i + length (b ∷ bs) in
+    ap (map text_of_run) (first_run i next b bs (flat_map behind_blank (part ∷ parts)) plain.visible refl refl)
+    ∙ ap (λ texts. (b ∷ bs) ∷ texts) (texts_from (suc next) (text_of part) parts more.0 more.1)
+
+-- the fields of a line with one blank between plain texts
+pub texts_in-spaced : (text : List ℕ) (parts : List Part) → IsPlain text → ArePlain parts → texts_in (text ++ flat_map behind_blank parts) ≡ text ∷ map text_of parts
+texts_in-spaced = texts_from 0
+
+plain_ends : (text : List ℕ) → IsPlain text → All IsNoEnd text
+plain_ends text plain = All-weaker IsVisible IsNoEnd no_end text plain.visible
+
+behind_ends : (parts : List Part) → ArePlain parts → All IsNoEnd (flat_map behind_blank parts)
+behind_ends [] plain = All-nil IsNoEnd
+behind_ends (part ∷ parts) plain =
+    All-cons IsNoEnd 32 _ refl (All-append IsNoEnd (text_of part) (flat_map behind_blank parts) (plain_ends (text_of part) plain.0) (behind_ends parts plain.1))
+
+lines_first : (line rest : List ℕ) → All IsNoEnd line → lines (line ++ 10 ∷ rest) ≡ line ∷ lines rest
+lines_first [] rest no_ends = refl
+lines_first (b ∷ bs) rest no_ends = rw (All-head IsNoEnd b bs no_ends, lines_first bs rest (All-tail IsNoEnd b bs no_ends)) refl
+
+pub lines-spaced : (text : List ℕ) (parts : List Part) (rest : List ℕ) → IsPlain text → ArePlain parts
+    → lines ((text ++ flat_map behind_blank parts) ++ 10 ∷ rest) ≡ (text ++ flat_map behind_blank parts) ∷ lines rest
+lines-spaced text parts rest plain more =
+    lines_first (text ++ flat_map behind_blank parts) rest (All-append IsNoEnd text (flat_map behind_blank parts) (plain_ends text plain) (behind_ends parts more))
+
+length-behind : (parts : List Part) → ArePlain parts → length (flat_map behind_blank parts) ≤ 41 * length parts
+length-behind [] plain = omega arith
+length-behind (part ∷ parts) plain = omega (arith, length-append (text_of part) (flat_map behind_blank parts), plain.0.short, length-behind parts plain.1)
+
+pub length-spaced : (text : List ℕ) (parts : List Part) → IsPlain text → ArePlain parts → length (text ++ flat_map behind_blank parts) ≤ 40 + 41 * length parts
+length-spaced text parts plain more = omega (arith, length-append text (flat_map behind_blank parts), plain.short, length-behind parts more)

@@ -1,0 +1,123 @@
+-- A text has no fault exactly where its lines are spelled and nothing refuses their records; so what a reader answers is exact.
+use Rattle.std.proofs.Common.{◌≡◌, ℕ, suc, ◌<◌, ◌≤◌, ◌+◌, ◌∷◌, ◌++◌, [], List, Option, Some, None, Result, Ok, Err, length, get_or, take, drop, refl, ap, sym, ◌∙◌, arith, inl, inr, length-take, length-append}
+use Rattle.std.proofs.Math.Seq.{split_at, get_or-append_seam}
+use Rattle.std.proofs.lemmas.Bool.{true≢false, ltb-false, false_from_ne_true, cases_lt}
+use Rattle.dimacs_lines.specs.declared.reader.TheConstants.{MAX_LINE, MAX_LINES}
+use Rattle.dimacs_records.specs.declared.kinds.TextKind.{TextKind}
+use Rattle.dimacs_records.specs.declared.records.Record.{Record}
+use Rattle.dimacs_records.specs.declared.reasons.Reason.TheVariants.{LineTooLong, LineLimit}
+use Rattle.dimacs_records.specs.declared.faults.ReadError.{ReadError}
+use Rattle.dimacs_records.specs.declared.faults.ReadError.TheVariants as read_errors
+use Rattle.dimacs_records.specs.Spelling.{texts_in}
+use Rattle.dimacs_records.specs.Conditions.{limit_condition}
+use Rattle.dimacs_records.specs.Order.{Place, at}
+use Rattle.dimacs_records.specs.Faults.{Condition, of_limit, of_shape, of_record, Spell, records_in, IsClean, IsFaultless, Fault}
+use Rattle.dimacs_records.specs.Readings.{LineRecord, records_of, numbered, IsAllowed, ReadsLines}
+use Rattle.dimacs_records.specs.Texts.{AreSpelled, SpellsValue, AreFaultless, Reads}
+use Rattle.dimacs_records.proofs.SpellLaws.{spells_one}
+use Rattle.dimacs_records.proofs.ShapeLaws.{spelled_shape}
+use Rattle.dimacs_records.proofs.FaultLaws.{say_same, one_fault, no_fault}
+use Rattle.dimacs_records.proofs.CleanLines.{NoneHolds, records_in-append}
+use Rattle.dimacs_records.proofs.DriverLemmas.{within, records_of-numbered}
+
+-- what the lines before a line say, what it says, and the rest of what all of them say
+record SaidAt (kind : TextKind) (before : List (List ℕ)) (line : List ℕ) (said : List (Option Record)) : Type 0 where
+  earlier : List (Option Record)
+  here : Option Record
+  more : List (Option Record)
+  said_is : said ≡ earlier ++ here ∷ more
+  spell : Spell kind before earlier
+  spell_here : Spell kind (line ∷ []) (here ∷ [])
+
+said_at : (kind : TextKind) (before after : List (List ℕ)) (line : List ℕ) (said : List (Option Record)) → Spell kind (before ++ line ∷ after) said → SaidAt kind before line said
+said_at kind [] after line (None ∷ more) h = record { earlier = []; here = None; more = more; said_is = refl; spell = tt; spell_here = (h.0, tt) }
+said_at kind [] after line (Some r ∷ more) h = record { earlier = []; here = Some r; more = more; said_is = refl; spell = tt; spell_here = (h.0, h.1, tt) }
+said_at kind (first ∷ before) after line (None ∷ said) h =
+    let rest = said_at kind before after line said h.1 in
+    record { earlier = None ∷ rest.earlier; here = rest.here; more = rest.more; said_is = ap (λ t. None ∷ t) rest.said_is; spell = (h.0, rest.spell); spell_here = rest.spell_here }
+said_at kind (first ∷ before) after line (Some r ∷ said) h =
+    let rest = said_at kind before after line said h.2 in
+    record { earlier = Some r ∷ rest.earlier; here = rest.here; more = rest.more; said_is = ap (λ t. Some r ∷ t) rest.said_is; spell = (h.0, h.1, rest.spell); spell_here = rest.spell_here }
+said_at kind before after line said h = absurd h
+
+-- at no line of a clean text the condition of a limit holds
+no_limit : (kind : TextKind) (all before after : List (List ℕ)) (line : List ℕ) (said : List (Option Record)) → IsClean kind all said → all ≡ before ++ line ∷ after
+    → NoneHolds (limit_condition (length before + 1) line)
+no_limit kind all before after line said clean e f reason h =
+    let s = said_at kind before after line said (rw e at clean.spell) in
+    clean.none before after line s.earlier (at f reason) e s.spell (of_limit h)
+
+-- a line at which neither limit's condition holds
+limits_of : (number : ℕ) (line : List ℕ) → NoneHolds (limit_condition number line) → (number ≤ MAX_LINES) × (length line ≤ MAX_LINE)
+limits_of number line none = (ltb-false MAX_LINES number (false_from_ne_true _ (none 0 LineLimit)), ltb-false MAX_LINE (length line) (false_from_ne_true _ (none 0 LineTooLong)))
+
+-- each line of a clean text lies within the limits
+clean_limits : (kind : TextKind) (all : List (List ℕ)) (said : List (Option Record)) (k : ℕ) (d : List ℕ) → IsClean kind all said → k < length all
+    → (k < MAX_LINES) × (length (get_or all k d) ≤ MAX_LINE)
+clean_limits kind all said k d clean below =
+    let limits = limits_of _ _ (no_limit kind all (take k all) (drop (suc k) all) (get_or all k d) said clean (split_at all k d below)) in
+    (omega (arith, limits.0, length-take k all), limits.1)
+
+-- no limit's condition at any line gives the two limits
+pub spelled_of_faultless : (kind : TextKind) (all : List (List ℕ)) (said : List (Option Record)) → IsFaultless kind all said → AreSpelled kind all said
+spelled_of_faultless kind all said h = record {
+  few = elim (cases_lt MAX_LINES (length all)) [ inl more ↦ absurd (omega (arith, (clean_limits kind all said MAX_LINES [] h.clean more).0)) | inr few ↦ few ];
+  short = λ k d below. (clean_limits kind all said k d h.clean below).1;
+  spell = h.clean.spell;
+}
+
+-- a line within the limits that says what the earlier records allow has no condition
+no_condition : (kind : TextKind) (earlier : List Record) (number : ℕ) (line : List ℕ) (x : Option Record) (p : Place) → Spell kind (line ∷ []) (x ∷ [])
+    → NoneHolds (limit_condition number line) → ((r : Record) → x ≡ Some r → IsAllowed earlier r) → ¬ Condition kind earlier number line p
+no_condition kind earlier number line None p says within_limits allowed c = elim c [
+  | of_limit h ↦ within_limits p.field p.reason h
+  | of_shape solid h ↦ true≢false (sym says.0 ∙ solid)
+  | of_record r solid spells h ↦ true≢false (sym says.0 ∙ solid)
+]
+no_condition kind earlier number line (Some r) p says within_limits allowed c = elim c [
+  | of_limit h ↦ within_limits p.field p.reason h
+  | of_shape solid h ↦ spelled_shape kind (texts_in line) r says.1 p.field p.reason h
+  | of_record s solid other h ↦ allowed s (ap Some (spells_one kind (texts_in line) r s says.1 other)) p.field p.reason h
+]
+
+-- the record of a line, and those before it and behind it
+records_at : (kind : TextKind) (before : List (List ℕ)) (line : List ℕ) (said earlier : List (Option Record)) (s : SaidAt kind before line said) (r : Record)
+    → s.earlier ≡ earlier → s.here ≡ Some r → records_in said ≡ records_in earlier ++ r ∷ records_in s.more
+records_at kind before line said earlier s r same here = ap records_in s.said_is ∙ rw (here, same) (records_in-append earlier (Some r ∷ s.more))
+
+-- spelled lines have no condition of a limit or a shape, and their records none
+pub faultless_of_spelled : (kind : TextKind) (all : List (List ℕ)) (said : List (Option Record)) → AreSpelled kind all said → AreFaultless kind (records_in said) → IsFaultless kind all said
+faultless_of_spelled kind all said spelled faultless = record { clean = record { spell = spelled.spell; none = none_at }; none_at_end = faultless.complete }
+  where
+    none_at : (before after : List (List ℕ)) (line : List ℕ) (earlier : List (Option Record)) (p : Place) → all ≡ before ++ line ∷ after → Spell kind before earlier
+        → ¬ Condition kind (records_in earlier) (length before + 1) line p
+    none_at before after line earlier p e spell =
+        let s = said_at kind before after line said (rw e at spelled.spell) in
+        let same : s.earlier ≡ earlier = say_same kind before s.earlier earlier s.spell spell in
+        let below : length before < length all = omega (arith, ap length e, length-append before (line ∷ after)) in
+        let short = rw (e, get_or-append_seam before line after line) at (spelled.short (length before) line below) in
+        let within_limits = within (length before + 1) line (omega (arith, below, spelled.few)) short in
+        let allowed : (r : Record) → s.here ≡ Some r → IsAllowed (records_in earlier) r = λ r here. faultless.allowed _ _ r (records_at kind before line said earlier s r same here) in
+        no_condition kind (records_in earlier) (length before + 1) line s.here p s.spell_here within_limits allowed
+
+-- what a reader answers is exact, where a value's records are refused for nothing, and give no other value
+pub reads_exactly : {V : Type 0} (kind : TextKind) (gives : List LineRecord → V → Type 0) (all : List (List ℕ)) (result : Result V ReadError)
+    → ((rs : List LineRecord) (v : V) → gives rs v → AreFaultless kind (records_of rs))
+    → ((rs : List LineRecord) (v w : V) → gives rs v → gives rs w → v ≡ w)
+    → ReadsLines kind gives all result → Reads (SpellsValue kind gives all) (Fault kind all) result
+reads_exactly kind gives all (Ok v) faultless same h = (
+  record { said = h.said; spelled = spelled_of_faultless kind all h.said h.faultless; given = h.given },
+  λ other s.
+      let said_is = say_same kind all s.said h.said s.spelled.spell h.faultless.clean.spell in
+      same (numbered 1 h.said) other v (rw said_is at s.given) h.given,
+  λ l f r. no_fault kind all h.said l f r h.faultless,
+)
+reads_exactly kind gives all (Err (read_errors.Refused place reason)) faultless same h = (
+  h,
+  λ l f r other. one_fault kind all l f place.line place.field r reason other h,
+  λ v s.
+      let none = faultless_of_spelled kind all s.said s.spelled (rw (← records_of-numbered 1 s.said) (faultless (numbered 1 s.said) v s.given)) in
+      no_fault kind all s.said place.line place.field reason none h,
+)
+reads_exactly kind gives all (Err read_errors.Device) faultless same h = tt
+reads_exactly kind gives all (Err read_errors.Memory) faultless same h = tt
