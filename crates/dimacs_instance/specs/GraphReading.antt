@@ -1,9 +1,8 @@
 -- How far a graph has been read.
-use Rattle.std.specs.Prelude.{ℕ, ◌≡◌, ◌≤◌, List, [], ◌∷◌, map, length, Option, None, Some}
+use Rattle.std.specs.Prelude.{ℕ, ◌≤◌, List, [], ◌∷◌, map, length, Option, None, Some}
 use Rattle.std.specs.List.{All}
 use Rattle.dimacs_records.specs.declared.records.Record.{Record}
 use Rattle.dimacs_records.specs.declared.records.Record.TheVariants.{GraphProblem}
-use Rattle.dimacs_records.specs.Readings.{LineRecord, records_of}
 use Rattle.dimacs_instance.specs.declared.network.ArcView.{ArcView}
 use Rattle.dimacs_instance.specs.Arcs.{JoinsNodes}
 use Rattle.dimacs_instance.specs.Graph.{HasWeightAlone, graph_arc}
@@ -29,6 +28,3 @@ begun_records begun = GraphProblem begun.nodes begun.declared ∷ map graph_arc 
 abbrev pub graph_records_so_far : Option GraphBegun → List Record
 graph_records_so_far None = []
 graph_records_so_far (Some begun) = begun_records begun
-
-abbrev pub StandsForGraph : Option GraphBegun → List LineRecord → Type 0
-StandsForGraph begun rs = records_of rs ≡ graph_records_so_far begun

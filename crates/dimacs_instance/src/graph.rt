@@ -5,12 +5,12 @@ ghost use Rattle.dimacs_lines.specs.Devices.{CountsFault};
 ghost use Rattle.dimacs_lines.specs.Puts.{Puts};
 ghost use Rattle.dimacs_records.specs.declared.kinds.TextKind.TheVariants as kinds;
 ghost use Rattle.dimacs_records.specs.declared.records.Record.TheVariants.{GraphProblem, GraphArc};
-ghost use Rattle.dimacs_records.specs.Readings.{CountsRead, TakesRecord};
+ghost use Rattle.dimacs_records.specs.Readings.{CountsRead, TakesRecord, records_of};
 ghost use Rattle.dimacs_records.specs.Faults.{Fault};
 ghost use Rattle.dimacs_records.specs.Texts.{Reads};
 ghost use Rattle.dimacs_lines.specs.Lines.{lines};
 ghost use Rattle.dimacs_instance.specs.Graph.{GraphValue, IsGraph, GivesGraph, SpellsGraph, canonical_graph, graph_arc};
-ghost use Rattle.dimacs_instance.specs.GraphReading.{begun_records, graph_records_so_far, StandsForGraph};
+ghost use Rattle.dimacs_instance.specs.GraphReading.{begun_records};
 
 use crate::network::{ArcView, Network};
 use crate::plain::PlainArcs;
@@ -51,6 +51,16 @@ impl<N: Network> Graph<N> {
 pub struct GraphReading {
     alloc: Global,
     begun: Option<BegunGraph>,
+}
+
+impl Model for GraphReading {
+    ghost use Rattle.std.specs.Prelude.{List};
+    ghost use Rattle.dimacs_records.specs.declared.records.Record.{Record};
+    ghost use Rattle.dimacs_instance.specs.GraphReading.{graph_records_so_far};
+
+    ghost Value = { List Record };
+
+    ghost view = { λ reading. graph_records_so_far reading.begun };
 }
 
 /// The arcs that came behind the problem line.
@@ -94,7 +104,7 @@ impl BegunGraph {
 
 impl GraphReading {
     pub fn new(alloc: Global) -> GraphReading
-        ensures { StandsForGraph result.begun [] }
+        ensures { result ≡ [] }
     {
         GraphReading { alloc, begun: None }
     }
@@ -102,7 +112,7 @@ impl GraphReading {
     fn start(&mut self, nodes: u32, declared: u32) -> Result<(), TakeError>
         requires nodes { nodes ≤ 134217728 }
         requires declared { declared ≤ 268435456 }
-        ensures { TakesRecord (graph_records_so_far self.old.begun) (GraphProblem nodes declared) result (graph_records_so_far self.new.begun) }
+        ensures { TakesRecord self.old (GraphProblem nodes declared) result self.new }
     {
         if self.begun.is_some() {
             return Err(TakeError::refused(0, Reason::ProblemTwice));
@@ -113,6 +123,18 @@ impl GraphReading {
         });
         Ok(())
     }
+
+    #[inline(always)]
+    fn add(&mut self, tail: u32, head: u32, weight: i64) -> Result<(), TakeError>
+        requires tail { 1 ≤ tail }
+        requires head { 1 ≤ head }
+        ensures { TakesRecord self.old (GraphArc tail head weight) result self.new }
+    {
+        let Some(begun) = &mut self.begun else {
+            return Err(TakeError::refused(0, Reason::ProblemMissing));
+        };
+        begun.add(tail, head, weight)
+    }
 }
 
 impl Reading for GraphReading {
@@ -120,7 +142,7 @@ impl Reading for GraphReading {
 
     ghost kind = { λ reading. kinds.Graph };
 
-    ghost stands_for = { λ reading rs. StandsForGraph reading.begun rs };
+    ghost stands_for = { λ reading rs. records_of rs ≡ reading };
 
     ghost gives = { λ rs g. GivesGraph rs g };
 
@@ -128,10 +150,7 @@ impl Reading for GraphReading {
     fn take(&mut self, _line: u64, said: Record) -> Result<(), TakeError> {
         match said {
             Record::GraphProblem { nodes, arcs } => self.start(nodes, arcs),
-            Record::GraphArc { tail, head, weight } => match &mut self.begun {
-                None => Err(TakeError::refused(0, Reason::ProblemMissing)),
-                Some(begun) => begun.add(tail, head, weight),
-            },
+            Record::GraphArc { tail, head, weight } => self.add(tail, head, weight),
         }
     }
 
@@ -161,6 +180,7 @@ pub fn write_graph<N: Network, S: Sink>(graph: &Graph<N>, sink: &mut S) -> Resul
     ensures puts { Puts result (S.accepted sink.old) (canonical_graph graph.now) (S.accepted sink.new) }
     ensures fault { CountsFault result (S.faults sink.old) (S.faults sink.new) }
     ensures round_trip { SpellsGraph (canonical_graph graph.now) graph.now }
+    ensures again { (read : GraphValue) → SpellsGraph (canonical_graph graph.now) read → canonical_graph read ≡ canonical_graph graph.now }
 {
     let network = graph.network();
     let nodes = network.nodes();

@@ -121,3 +121,10 @@ reads_exactly kind gives all (Err (read_errors.Refused place reason)) faultless 
 )
 reads_exactly kind gives all (Err read_errors.Device) faultless same h = tt
 reads_exactly kind gives all (Err read_errors.Memory) faultless same h = tt
+
+-- a text spells one value, where records give one
+pub spells_one_value : {V : Type 0} (kind : TextKind) (gives : List LineRecord → V → Type 0) (all : List (List ℕ)) (v w : V) → ((rs : List LineRecord) (v w : V) → gives rs v → gives rs w → v ≡ w)
+    → SpellsValue kind gives all v → SpellsValue kind gives all w → v ≡ w
+spells_one_value kind gives all v w same s t =
+    let said_is = say_same kind all s.said t.said s.spelled.spell t.spelled.spell in
+    same (numbered 1 t.said) v w (rw said_is at s.given) t.given

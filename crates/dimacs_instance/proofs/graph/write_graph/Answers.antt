@@ -1,10 +1,13 @@
-use Rattle.std.proofs.Common.{◌≡◌, ◌∷◌, [], List, refl, map, take, length}
+use Rattle.std.proofs.Common.{ap, ◌≡◌, ◌∷◌, [], List, refl, map, take, length}
 use Rattle.std.specs.Prelude.{slice_get, Some}
 use Rattle.dimacs_records.specs.declared.records.Record.{Record}
 use Rattle.dimacs_records.specs.declared.records.Record.TheVariants.{GraphProblem}
+use Rattle.dimacs_lines.specs.Lines.{lines}
+use Rattle.dimacs_records.specs.declared.kinds.TextKind.TheVariants.{Graph}
+use Rattle.dimacs_records.proofs.ReadLaws.{spells_one_value}
 use Rattle.dimacs_records.proofs.WrittenLemmas.{written_first, written_more}
-use Rattle.dimacs_instance.specs.Graph.{graph_arc}
-use Rattle.dimacs_instance.proofs.GraphLemmas.{graph_round_trip, next_records}
+use Rattle.dimacs_instance.specs.Graph.{graph_arc, canonical_graph, GivesGraph}
+use Rattle.dimacs_instance.proofs.GraphLemmas.{graph_round_trip, next_records, one_graph}
 use Rattle.dimacs_instance.proofs.graph.write_graph.Goals as goal
 
 pub loop-i-init : goal.loop-i-init
@@ -31,3 +34,8 @@ loop-i-preserved g c =
 
 pub returns-clause-round_trip : goal.returns-clause-round_trip
 returns-clause-round_trip g c = graph_round_trip c.args.graph.now c.network-network.ensures.lawful
+
+pub returns-clause-again : goal.returns-clause-again
+returns-clause-again g c = λ read spelled.
+    let graph = c.args.graph.now in
+    ap canonical_graph (spells_one_value Graph GivesGraph (lines (canonical_graph graph)) read graph one_graph spelled (graph_round_trip graph c.network-network.ensures.lawful))
