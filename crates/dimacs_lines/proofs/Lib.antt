@@ -6,6 +6,7 @@ mod NumberLemmas
 mod FieldLemmas
 mod DigitLemmas
 mod FieldLaw
+mod DecimalLengths
 mod Lanes
 mod Marks
 mod Pairs

@@ -5,6 +5,7 @@
 //! their numbers, however the source cuts the text into pieces; each field and each number is what the bytes spell.
 #![tactic(auto)]
 
+mod decimals;
 mod device;
 mod digits;
 mod files;

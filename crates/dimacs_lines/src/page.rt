@@ -1,17 +1,21 @@
 //! Output in large pieces.
 
 ghost use Rattle.std.specs.Prelude.{◌≡◌, ◌+◌, ◌≤◌, [], ◌++◌, ℕ, List, Option, true, false, length};
-ghost use Rattle.std.specs.Fmt.{signed_decimal};
+ghost use Rattle.std.specs.Fmt.{decimal, signed_decimal};
 ghost use Rattle.dimacs_lines.specs.Puts.{Puts};
 ghost use Rattle.dimacs_lines.specs.Devices.{CountsFault};
 ghost use Rattle.dimacs_lines.specs.Pages.{IsWritten, IsPut, FaultsAre};
 
+use crate::decimals::decimal_length;
 use crate::device::{DeviceFault, Sink, put_all};
-use itoa::Buffer;
+use itoa::{Buffer, write_digits};
 use std::marker::Model;
 
 /// The bytes that a page has room for.
 const PAGE: usize = 16_384;
+
+/// The bytes of the longest number of 64 bits.
+const LONGEST: usize = 20;
 
 /// The end of what was written, until enough of it has come together to be put at once.
 ///
@@ -75,8 +79,10 @@ impl Page {
         ensures written { (start : Option (List ℕ)) (text : List ℕ) → IsWritten start text (S.accepted sink.old) self.old → IsWritten start (text ++ signed_decimal n) (S.accepted sink.new) self.new }
         ensures faults { (start : ℕ) → FaultsAre start (S.faults sink.old) self.old → FaultsAre start (S.faults sink.new) self.new }
     {
-        let mut digits = Buffer::new();
-        self.write(sink, digits.format(n).as_bytes());
+        if PAGE - self.length < LONGEST {
+            self.flush(sink);
+        }
+        self.append_number(n);
     }
 
     /// Writes a wide number in decimal.
@@ -131,6 +137,30 @@ impl Page {
     {
         let end = self.length + bytes.len();
         self.bytes[self.length..end].copy_from_slice(bytes);
+        self.length = end;
+    }
+
+    #[inline(always)]
+    fn append_number(&mut self, n: i64)
+        requires { length self.old.kept + 20 ≤ 16384 }
+        ensures kept { self.new.kept ≡ self.old.kept ++ signed_decimal n }
+        ensures failed { self.new.failed ≡ self.old.failed }
+    {
+        if n < 0 {
+            self.append(b"-");
+        }
+        self.append_digits(n.unsigned_abs());
+    }
+
+    /// The digits are written where they are kept, so that they need no copy.
+    #[inline(always)]
+    fn append_digits(&mut self, n: u64)
+        requires { length self.old.kept + length (decimal n) ≤ 16384 }
+        ensures kept { self.new.kept ≡ self.old.kept ++ decimal n }
+        ensures failed { self.new.failed ≡ self.old.failed }
+    {
+        let end = self.length + decimal_length(n);
+        write_digits(n, &mut self.bytes, end);
         self.length = end;
     }
 }
