@@ -1,0 +1,4 @@
+pub mod Entries
+pub mod Nodes
+pub mod PageLemmas
+pub mod SetLemmas

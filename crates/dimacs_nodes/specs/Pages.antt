@@ -1,0 +1,46 @@
+-- The values of nodes, in pages of 256 slots. No public clause cites this module.
+use Rattle.std.specs.Prelude.{ℕ, zero, suc, ◌*◌, ◌/◌, ◌%◌, ◌≡◌, ◌⊎◌, List, [], map, length, Option, None, Some, slice_index_or, Vec}
+use Rattle.std.specs.Ordering.{nat_cmp}
+use Rattle.std.specs.FinMap.{FinMap, empty, insert}
+use Rattle.std.specs.declared.alloc.Global.{Global}
+
+-- the pages, in the order of their IDs
+abbrev pub Directory : Type 0 → Type 0
+Directory T = List (Vec (Option T) Global)
+
+module _ {T : Type 0} where
+  -- the slots of the page of this ID; none past the last page
+  abbrev pub slots_of : Directory T → ℕ → List (Option T)
+  slots_of pages id = slice_index_or (map (λ (page : Vec (Option T) Global). page.items) pages) (id / 256) []
+
+  abbrev pub HasSlot : Directory T → ℕ → Type 0
+  HasSlot pages id = length (slots_of pages id) ≡ 256
+
+  -- a page has all of its slots, or none
+  abbrev pub ArePages : Directory T → Type 0
+  ArePages pages = (id : ℕ) → (slots_of pages id ≡ []) ⊎ HasSlot pages id
+
+  -- what the slot of this ID holds
+  unfoldable pub value_at : Directory T → ℕ → Option T
+  value_at pages id = slice_index_or (slots_of pages id) (id % 256) None
+
+  -- only the directory may have changed
+  abbrev pub SameSlots : Directory T → Directory T → Type 0
+  SameSlots old new = (id : ℕ) → slots_of new id ≡ slots_of old id
+
+  abbrev pub SameValues : Directory T → Directory T → Type 0
+  SameValues old new = (id : ℕ) → value_at new id ≡ value_at old id
+
+  -- the map with this value, if it is one, at this ID
+  abbrev pub with_option : FinMap nat_cmp T → ℕ → Option T → FinMap nat_cmp T
+  with_option nodes id None = nodes
+  with_option nodes id (Some value) = insert nodes id value
+
+  -- the values of the IDs below n
+  unfoldable pub values_below : (ℕ → Option T) → ℕ → FinMap nat_cmp T
+  values_below value_of zero = empty
+  values_below value_of (suc n) = with_option (values_below value_of n) n (value_of n)
+
+  -- the values that the slots hold
+  unfoldable pub values_in : Directory T → FinMap nat_cmp T
+  values_in pages = values_below (value_at pages) (256 * length pages)
