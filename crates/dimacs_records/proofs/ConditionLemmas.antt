@@ -5,12 +5,12 @@ use Rattle.std.specs.List.{Contains}
 use Rattle.std.proofs.lemmas.Bool.{eqb-true}
 use Rattle.dimacs_records.specs.declared.kinds.TextKind.{TextKind}
 use Rattle.dimacs_records.specs.declared.records.Record.{Record}
-use Rattle.dimacs_records.specs.declared.records.Record.TheVariants.{GraphArc}
+use Rattle.dimacs_records.specs.declared.records.Record.TheVariants.{MaxNode, MaxArc, MinNode, MinArc, GraphArc, CutNode, PotentialsNode, LabelsBlock, LabelsNode}
 use Rattle.dimacs_records.specs.declared.reasons.Reason.{Reason}
-use Rattle.dimacs_records.specs.declared.reasons.Reason.TheVariants.{ProblemMissing, ProblemTwice, NodeRange, TooMany, TooFew}
+use Rattle.dimacs_records.specs.declared.reasons.Reason.TheVariants.{ProblemMissing, ProblemTwice, RecordOrder, NodeRange, NodeTwice, EndTwice, EndMissing, BoundOrder, ParallelArc, TooMany, TooFew, SolutionMissing, SolutionTwice, PredUnknown}
 use Rattle.dimacs_records.specs.declared.faults.LineFault.{LineFault}
 use Rattle.dimacs_records.specs.Earlier.{Problem, problem_in}
-use Rattle.dimacs_records.specs.Conditions.{condition, end_condition, is_above_at, bounded_ids}
+use Rattle.dimacs_records.specs.Conditions.{condition, end_condition, is_above_at, bounded_ids, is_bound_wrong}
 use Rattle.dimacs_records.specs.Order.{Place, at, record_places, end_reasons}
 use Rattle.dimacs_records.specs.Faults.{FirstAtEnd}
 use Rattle.dimacs_records.specs.Readings.{IsAllowed, IsFirstCondition, IsComplete}
@@ -44,24 +44,51 @@ above_two : (f g i k j : ℕ) (p : Option Problem) → is_above_at f p ((g, i) �
 above_two f g i k j p h = elim (chosen f g _ _ h) [ inl e ↦ inl e | inr e ↦ inr (above_one f k j p e) ]
 
 above_fields : (f : ℕ) (p : Option Problem) (r : Record) → is_above_at f p (bounded_ids r) ≡ true → (f ≡ 2) ⊎ ((f ≡ 3) ⊎ (f ≡ 4))
-above_fields f p (GraphArc t k w) h = elim (above_two f 2 t 3 k p h) [ inl e ↦ inl e | inr e ↦ inr (inl e) ]
+above_fields f p (MaxNode id end) h = inl (above_one f 2 id p h)
+above_fields f p (MaxArc tail head cap) h = elim (above_two f 2 tail 3 head p h) [ inl e ↦ inl e | inr e ↦ inr (inl e) ]
+above_fields f p (MinNode id supply) h = inl (above_one f 2 id p h)
+above_fields f p (MinArc tail head low cap cost) h = elim (above_two f 2 tail 3 head p h) [ inl e ↦ inl e | inr e ↦ inr (inl e) ]
+above_fields f p (GraphArc tail head weight) h = elim (above_two f 2 tail 3 head p h) [ inl e ↦ inl e | inr e ↦ inr (inl e) ]
+above_fields f p (CutNode id) h = inl (above_one f 2 id p h)
+above_fields f p (PotentialsNode id value) h = inl (above_one f 2 id p h)
+above_fields f p (LabelsBlock source count) h = inl (above_one f 2 source p h)
+above_fields f p (LabelsNode id dist pred) h = elim (above_two f 2 id 4 pred p h) [ inl e ↦ inl e | inr e ↦ inr (inr e) ]
 above_fields f p r h = absurd (cc)
+
+bound_fields : (f : ℕ) (r : Record) → is_bound_wrong f r ≡ true → (f ≡ 4) ⊎ (f ≡ 5)
+bound_fields f (MaxArc tail head cap) h = inl (at_place f 4 _ h)
+bound_fields f (MinArc tail head low cap cost) h = elim (chosen f 4 _ _ h) [ inl e ↦ inl e | inr e ↦ inr (at_place f 5 _ e) ]
+bound_fields f r h = absurd (cc)
 
 -- where a condition holds is in the order
 listed : (earlier : List Record) (r : Record) (f : ℕ) (reason : Reason) → IsTrue (condition earlier r f reason) → Contains record_places (at f reason)
 listed earlier r f ProblemMissing h = (0, omega arith, ap (λ g. at g ProblemMissing) (sym (at_place f 0 _ h)))
 listed earlier r f ProblemTwice h = (1, omega arith, ap (λ g. at g ProblemTwice) (sym (at_place f 0 _ h)))
+listed earlier r f RecordOrder h = (2, omega arith, ap (λ g. at g RecordOrder) (sym (at_place f 0 _ h)))
 listed earlier r f NodeRange h = elim (above_fields f (problem_in earlier) r h) [
   | inl e ↦ (3, omega arith, ap (λ g. at g NodeRange) (sym e))
   | inr (inl e) ↦ (4, omega arith, ap (λ g. at g NodeRange) (sym e))
   | inr (inr e) ↦ (5, omega arith, ap (λ g. at g NodeRange) (sym e))
 ]
+listed earlier r f NodeTwice h = (6, omega arith, ap (λ g. at g NodeTwice) (sym (at_place f 2 _ h)))
+listed earlier r f EndTwice h = (7, omega arith, ap (λ g. at g EndTwice) (sym (at_place f 3 _ h)))
+listed earlier r f EndMissing h = (8, omega arith, ap (λ g. at g EndMissing) (sym (at_place f 0 _ h)))
+listed earlier r f BoundOrder h = elim (bound_fields f r h) [
+  | inl e ↦ (9, omega arith, ap (λ g. at g BoundOrder) (sym e))
+  | inr e ↦ (10, omega arith, ap (λ g. at g BoundOrder) (sym e))
+]
+listed earlier r f ParallelArc h = (11, omega arith, ap (λ g. at g ParallelArc) (sym (at_place f 0 _ h)))
 listed earlier r f TooMany h = (12, omega arith, ap (λ g. at g TooMany) (sym (at_place f 0 _ h)))
+listed earlier r f TooFew h = (13, omega arith, ap (λ g. at g TooFew) (sym (at_place f 0 _ h)))
+listed earlier r f SolutionTwice h = (14, omega arith, ap (λ g. at g SolutionTwice) (sym (at_place f 0 _ h)))
+listed earlier r f PredUnknown h = (15, omega arith, ap (λ g. at g PredUnknown) (sym (at_place f 0 _ h)))
 listed earlier r f reason h = absurd (cc)
 
 listed_at_end : (kind : TextKind) (all : List Record) (reason : Reason) → IsTrue (end_condition kind all reason) → Contains end_reasons reason
 listed_at_end kind all ProblemMissing h = (0, omega arith, refl)
+listed_at_end kind all EndMissing h = (1, omega arith, refl)
 listed_at_end kind all TooFew h = (2, omega arith, refl)
+listed_at_end kind all SolutionMissing h = (3, omega arith, refl)
 listed_at_end kind all reason h = absurd (cc)
 
 pub is_first_condition : (earlier : List Record) (r : Record) (fault : LineFault) → first_place earlier r ≡ Some (at fault.field fault.reason) → IsFirstCondition earlier r fault

@@ -1,21 +1,23 @@
 -- What a field says, and why it is refused.
-use Rattle.std.proofs.Common.{◌≡◌, ℕ, ◌∷◌, [], List, Bool, true, false, Option, Some, None, length, refl, arith}
+use Rattle.std.proofs.Common.{◌≡◌, ℕ, ◌∷◌, [], List, Bool, true, false, Option, Some, None, Err, length, refl, arith, inl, inr}
 use Rattle.std.proofs.Common.{SFits, w64, ◌^◌, ◌-◌}
-use Rattle.std.specs.Prelude.{ℤ, pos, neg_ℤ, ◌≤ℤ◌, int_lt, ◌&&◌, ◌||◌, nat_lt}
+use Rattle.std.specs.Prelude.{ℤ, pos, neg_ℤ, ◌≤ℤ◌, int_lt, ◌&&◌, ◌||◌, not, nat_lt}
 use Rattle.std.specs.List.{list_all}
 use Rattle.std.specs.Char.{IsAsciiDigit, is_ascii_digit}
 use Rattle.std.specs.Str.{bytes_eq}
-use Rattle.std.proofs.lemmas.Bool.{ltb-true, lt-ltb, and_from, or_from, eq-eqb}
+use Rattle.std.proofs.lemmas.Bool.{ltb-true, lt-ltb, and_from, and_right, or_from, eq-eqb}
 use Rattle.std.proofs.lemmas.Bool.Decides.{nat_tests}
 use Rattle.std.proofs.lemmas.List.Sums.{AllPass-from_list_all, list_all-from_AllPass}
 use Rattle.std.proofs.lemmas.List.Elements.{All-weaker}
 use Rattle.std.proofs.lemmas.Int.{ints}
-use Rattle.dimacs_lines.specs.Number.{digits_of, IsNumber, number_in, IsWithin, Spells}
-use Rattle.dimacs_records.specs.declared.reasons.Reason.TheVariants.{BadNumber, NumberRange}
-use Rattle.dimacs_records.specs.Forms.{FieldType, Word, Number}
+use Rattle.dimacs_lines.specs.Number.{digits_of, IsNumber, number_in, IsWithin, Spells, ReadsNumber}
+use Rattle.dimacs_lines.specs.declared.numbers.NumberFault.{NumberFault}
+use Rattle.dimacs_lines.specs.declared.numbers.NumberFault.TheVariants as number_faults
+use Rattle.dimacs_records.specs.declared.reasons.Reason.TheVariants.{NumberRange}
+use Rattle.dimacs_records.specs.Forms.{FieldType, Word, Either, Number}
 use Rattle.dimacs_records.specs.Spelling.{Part, Text, Amount, Says}
 use Rattle.dimacs_records.specs.Shapes.{is_number}
-use Rattle.dimacs_records.specs.FieldReader.{field_reason}
+use Rattle.dimacs_records.specs.FieldReader.{field_reason, number_reason}
 use Rattle.dimacs_records.specs.Earlier.{or_else}
 
 and_parts : (a b : Bool) → (a && b) ≡ true → (a ≡ true) × (b ≡ true)
@@ -69,15 +71,19 @@ same_bytes (b ∷ bs) = rw (eq-eqb b b refl) (same_bytes bs)
 -- a field that says what it should has no reason to be refused
 pub field_reason-said : (type : FieldType) (text : List ℕ) (part : Part) → Says type text part → field_reason type text ≡ None
 field_reason-said (Word w) text (Text said) h = rw (h.0, same_bytes w) refl
+field_reason-said (Either v w) text (Text said) h = elim h.0 [
+  | inl e ↦ rw (e, same_bytes v) refl
+  | inr e ↦ rw (e, same_bytes w, and_right (not (bytes_eq v w)) false refl) refl
+]
 field_reason-said (Number low high) text (Amount n) h = rw (number_to text h.0.0, ← h.0.1, inside low high n h.1) refl
 field_reason-said (Word w) text (Amount n) h = absurd h
+field_reason-said (Either v w) text (Amount n) h = absurd h
 field_reason-said (Number low high) text (Text said) h = absurd h
 
-pub field_reason-no_number : (low high : ℤ) (text : List ℕ) → ¬ IsNumber text → field_reason (Number low high) text ≡ Some BadNumber
-field_reason-no_number low high text h = rw (no_number text h) refl
-
-pub field_reason-outside : (low high : ℤ) (text : List ℕ) → IsNumber text → ¬ IsWithin low high (number_in text) → field_reason (Number low high) text ≡ Some NumberRange
-field_reason-outside low high text h out = rw (number_to text h, outside low high (number_in text) out) refl
+-- a field that spells no number, or one outside the range
+pub field_reason-refused : (low high : ℤ) (text : List ℕ) (fault : NumberFault) → ReadsNumber low high text (Err fault) → field_reason (Number low high) text ≡ Some (number_reason fault)
+field_reason-refused low high text number_faults.BadNumber h = rw (no_number text h) refl
+field_reason-refused low high text number_faults.NumberRange h = rw (number_to text h.0, outside low high (number_in text) h.1) refl
 
 -- a field that spells a number below or above the range
 pub field_reason-low : (low high n : ℤ) (text : List ℕ) → Spells text n → int_lt n low ≡ true → field_reason (Number low high) text ≡ Some NumberRange
@@ -86,9 +92,10 @@ field_reason-low low high n text h below = rw (number_to text h.0, ← h.1, belo
 pub field_reason-high : (low high n : ℤ) (text : List ℕ) → Spells text n → int_lt n low ≡ false → int_lt high n ≡ true → field_reason (Number low high) text ≡ Some NumberRange
 field_reason-high low high n text h not_below above = rw (number_to text h.0, ← h.1, not_below, above) refl
 
--- a range of i64 lies within that of i64
-pub not_within : (low high : ℤ) (text : List ℕ) → SFits w64 low → SFits w64 high → ¬ IsWithin (neg_ℤ (pos (2 ^ 63))) (pos (2 ^ 63 - 1)) (number_in text) → ¬ IsWithin low high (number_in text)
-not_within low high text f g out h = out (omega (arith, ints, h.0, f.sfits), omega (arith, ints, h.1, g.sfits))
+-- what is no number of i64 is none of a range within it
+pub refused_within : (low high : ℤ) (text : List ℕ) (fault : NumberFault) → SFits w64 low → SFits w64 high → ReadsNumber (neg_ℤ (pos (2 ^ 63))) (pos (2 ^ 63 - 1)) text (Err fault) → ReadsNumber low high text (Err fault)
+refused_within low high text number_faults.BadNumber f g h = h
+refused_within low high text number_faults.NumberRange f g h = (h.0, λ within. h.1 (omega (arith, ints, within.0, f.sfits), omega (arith, ints, within.1, g.sfits)))
 
 pub or_else-none : {X : Type 0} → (o : Option X) → or_else o None ≡ o
 or_else-none None = refl

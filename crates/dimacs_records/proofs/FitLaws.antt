@@ -2,7 +2,7 @@
 use Rattle.std.proofs.Common.{◌≡◌, ℕ, ◌∷◌, [], List, Some}
 use Rattle.dimacs_records.specs.declared.kinds.TextKind.{TextKind}
 use Rattle.dimacs_records.specs.declared.records.Record.{Record}
-use Rattle.dimacs_records.specs.Forms.{FieldType, Word, Number, forms}
+use Rattle.dimacs_records.specs.Forms.{FieldType, Word, Either, Number, forms}
 use Rattle.dimacs_records.specs.Spelling.{Part, Text, Amount, Says, SayAll, letter_of, parts_of}
 use Rattle.dimacs_records.specs.Shapes.{types_in}
 use Rattle.dimacs_records.specs.Canonical.{Fits, FitAll, CanBeSpelled}
@@ -11,6 +11,7 @@ use Rattle.dimacs_records.proofs.SpellLaws.{form_types}
 
 fits_said : (type : FieldType) (text : List ℕ) (part : Part) → Says type text part → Fits type part
 fits_said (Word w) text (Text said) h = h.1
+fits_said (Either v w) text (Text said) h = rw h.1 h.0
 fits_said (Number low high) text (Amount n) h = h.1
 fits_said type text part h = absurd h
 

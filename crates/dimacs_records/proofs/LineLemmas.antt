@@ -4,7 +4,7 @@ use Rattle.std.specs.Prelude.{IsTrue, nat_le}
 use Rattle.std.specs.List.{Contains, list_all}
 use Rattle.std.specs.Str.{bytes_eq}
 use Rattle.dimacs_records.specs.declared.kinds.TextKind.{TextKind}
-use Rattle.dimacs_records.specs.declared.kinds.TextKind.TheVariants.{Graph}
+use Rattle.dimacs_records.specs.declared.kinds.TextKind.TheVariants.{Max, Min, Graph, Queries, Solution, Cut, Potentials, Labels}
 use Rattle.dimacs_records.specs.declared.records.Record.{Record}
 use Rattle.dimacs_records.specs.declared.reasons.Reason.TheVariants.{UnknownLine}
 use Rattle.dimacs_records.specs.declared.faults.LineFault.{LineFault}
@@ -41,7 +41,14 @@ form_of (form ∷ more) letter types h = by_test (bytes_eq form.letter letter) r
         record { form = f.form; contained = (suc f.contained.0, omega (arith, f.contained.1), f.contained.2); letter_is = f.letter_is; types_are = f.types_are }
 
 short_forms : (kind : TextKind) → list_all (λ (form : Form). nat_le (length form.types) 5) (forms kind) ≡ true
+short_forms Max = refl
+short_forms Min = refl
 short_forms Graph = refl
+short_forms Queries = refl
+short_forms Solution = refl
+short_forms Cut = refl
+short_forms Potentials = refl
+short_forms Labels = refl
 
 short_types : (kind : TextKind) (letter : List ℕ) (types : List FieldType) → FormOf (forms kind) letter types → length types ≤ 5
 short_types kind letter types f =

@@ -9,7 +9,7 @@ use Rattle.dimacs_records.specs.declared.reasons.Reason.{Reason}
 use Rattle.dimacs_records.specs.declared.reasons.Reason.TheVariants.{UnknownLine, FieldCount, BadNumber, NumberRange, BadWord}
 use Rattle.dimacs_records.specs.declared.faults.LineFault.{LineFault}
 use Rattle.dimacs_records.specs.Earlier.{or_else}
-use Rattle.dimacs_records.specs.Forms.{FieldType, Word, Number}
+use Rattle.dimacs_records.specs.Forms.{FieldType, Word, Either, Number}
 use Rattle.dimacs_records.specs.Shapes.{field_condition, fields_condition, letter_condition}
 use Rattle.dimacs_records.specs.Order.{Place, at, field_places, shape_places}
 use Rattle.dimacs_records.specs.FieldReader.{fault_at, fault_in, fields_fault, form_fault}
@@ -83,6 +83,7 @@ first_of_fields n (suc k) (type ∷ types) (text ∷ texts) short =
 
 other_field : (type : FieldType) (text : List ℕ) → (field_condition type text UnknownLine ≡ false) × (field_condition type text FieldCount ≡ false)
 other_field (Word w) text = (refl, refl)
+other_field (Either v w) text = (refl, refl)
 other_field (Number low high) text = (refl, refl)
 
 -- a letter that the kind knows is not refused

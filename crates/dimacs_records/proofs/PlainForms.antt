@@ -1,5 +1,5 @@
 -- The forms of each kind have plain words and short numbers, and so do their records.
-use Rattle.std.proofs.Common.{◌≡◌, ◌≤◌, ◌∷◌, [], ℕ, suc, List, Bool, true, false, length, map, refl, ap, sym, subst, arith}
+use Rattle.std.proofs.Common.{◌≡◌, ◌≤◌, ◌∷◌, [], ℕ, suc, List, Bool, true, false, length, map, refl, ap, sym, subst, arith, inl, inr}
 use Rattle.std.specs.Prelude.{ℤ, ◌&&◌, not, nat_lt, nat_le, int_le}
 use Rattle.std.specs.List.{Contains, list_all}
 use Rattle.std.specs.Char.{is_ascii_graphic}
@@ -9,8 +9,8 @@ use Rattle.std.proofs.lemmas.List.Elements.{All-contains}
 use Rattle.std.proofs.lemmas.List.Sums.{AllPass-from_list_all}
 use Rattle.dimacs_lines.specs.Number.{IsWithin}
 use Rattle.dimacs_records.specs.declared.kinds.TextKind.{TextKind}
-use Rattle.dimacs_records.specs.declared.kinds.TextKind.TheVariants.{Graph}
-use Rattle.dimacs_records.specs.Forms.{FieldType, Word, Number, Form, forms}
+use Rattle.dimacs_records.specs.declared.kinds.TextKind.TheVariants.{Max, Min, Graph, Queries, Solution, Cut, Potentials, Labels}
+use Rattle.dimacs_records.specs.Forms.{FieldType, Word, Either, Number, Form, forms}
 use Rattle.dimacs_records.specs.Spelling.{Part, Text, Amount, Says, SayAll, is_comment}
 use Rattle.dimacs_records.specs.Canonical.{text_of, Fits, FitAll}
 use Rattle.dimacs_records.proofs.PlainLines.{IsPlain, ArePlain}
@@ -22,13 +22,21 @@ is_plain text = nat_lt 0 (length text) && (list_all is_ascii_graphic text && nat
 -- all that a field of this type can say is plain
 abbrev pub is_plain_type : FieldType → Bool
 is_plain_type (Word w) = is_plain w
+is_plain_type (Either v w) = is_plain v && is_plain w
 is_plain_type (Number low high) = int_le lowest low && int_le high highest
 
 abbrev is_plain_form : Form → Bool
 is_plain_form form = (is_plain form.letter && not (is_comment form.letter)) && (list_all is_plain_type form.types && nat_le (length form.types) 5)
 
 forms_plain : (kind : TextKind) → list_all is_plain_form (forms kind) ≡ true
+forms_plain Max = refl
+forms_plain Min = refl
 forms_plain Graph = refl
+forms_plain Queries = refl
+forms_plain Solution = refl
+forms_plain Cut = refl
+forms_plain Potentials = refl
+forms_plain Labels = refl
 
 plain_from : (text : List ℕ) → is_plain text ≡ true → IsPlain text
 plain_from text test =
@@ -58,11 +66,18 @@ within_widest low high n test within =
 
 plain_part : (type : FieldType) (part : Part) → is_plain_type type ≡ true → Fits type part → IsPlain (text_of part)
 plain_part (Word w) (Text said) test fits = subst IsPlain (sym fits) (plain_from w test)
+plain_part (Either v w) (Text said) test fits =
+    let tests = and_parts (is_plain v) (is_plain w) test in
+    elim fits [
+      | inl e ↦ subst IsPlain (sym e) (plain_from v tests.0)
+      | inr e ↦ subst IsPlain (sym e) (plain_from w tests.1)
+    ]
 plain_part (Number low high) (Amount n) test fits = plain_signed_decimal n (within_widest low high n test fits)
 plain_part type part test fits = absurd fits
 
 part_says : (type : FieldType) (part : Part) → is_plain_type type ≡ true → Fits type part → Says type (text_of part) part
 part_says (Word w) (Text said) test fits = (fits, fits)
+part_says (Either v w) (Text said) test fits = (fits, refl)
 part_says (Number low high) (Amount n) test fits = (spells_signed_decimal n (within_widest low high n test fits), fits)
 part_says type part test fits = absurd fits
 

@@ -6,7 +6,7 @@ use Rattle.dimacs_records.specs.declared.kinds.TextKind.{TextKind}
 use Rattle.dimacs_records.specs.declared.records.Record.{Record}
 use Rattle.dimacs_records.specs.declared.reasons.Reason.{Reason}
 use Rattle.dimacs_records.specs.declared.reasons.Reason.TheVariants.{FieldCount, BadNumber, NumberRange, BadWord}
-use Rattle.dimacs_records.specs.Forms.{FieldType, Word, Number}
+use Rattle.dimacs_records.specs.Forms.{FieldType, Word, Either, Number}
 use Rattle.dimacs_records.specs.Spelling.{Part, SayAll, SpellsRecord, parts_of}
 use Rattle.dimacs_records.specs.Shapes.{field_condition, fields_condition, letter_condition, shape_condition}
 use Rattle.dimacs_records.specs.FieldReader.{field_reason}
@@ -30,6 +30,7 @@ field_condition-none type text BadNumber h = (field_tests type text h).0
 field_condition-none type text NumberRange h = (field_tests type text h).1
 field_condition-none type text BadWord h = (field_tests type text h).2
 field_condition-none (Word w) text reason h = refl
+field_condition-none (Either v w) text reason h = refl
 field_condition-none (Number low high) text reason h = refl
 
 if_false : (t a b : Bool) → a ≡ false → b ≡ false → (if t then a else b) ≡ false

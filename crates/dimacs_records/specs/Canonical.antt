@@ -1,11 +1,11 @@
 -- The line that spells a record in the canonical form.
-use Rattle.std.specs.Prelude.{ℕ, ◌≡◌, List, [], ◌∷◌, ◌++◌}
+use Rattle.std.specs.Prelude.{ℕ, ◌≡◌, ◌⊎◌, List, [], ◌∷◌, ◌++◌}
 use Rattle.std.specs.List.{flat_map, Contains}
 use Rattle.std.specs.Fmt.{signed_decimal}
 use Rattle.dimacs_lines.specs.Number.{IsWithin}
 use Rattle.dimacs_records.specs.declared.kinds.TextKind.{TextKind}
 use Rattle.dimacs_records.specs.declared.records.Record.{Record}
-use Rattle.dimacs_records.specs.Forms.{FieldType, Word, Number, Form, forms}
+use Rattle.dimacs_records.specs.Forms.{FieldType, Word, Either, Number, Form, forms}
 use Rattle.dimacs_records.specs.Spelling.{Part, Text, Amount, kind_of, letter_of, parts_of}
 
 abbrev pub text_of : Part → List ℕ
@@ -16,9 +16,12 @@ text_of (Amount n) = signed_decimal n
 abbrev pub behind_blank : Part → List ℕ
 behind_blank part = 32 ∷ text_of part
 
--- the letter and the fields with one blank between them, and byte 10
+-- a letter and fields with one blank between them, and byte 10
+abbrev pub line_of : List ℕ → List Part → List ℕ
+line_of letter parts = letter ++ (flat_map behind_blank parts ++ 10 ∷ [])
+
 abbrev pub canonical_line : Record → List ℕ
-canonical_line r = letter_of r ++ (flat_map behind_blank (parts_of r) ++ 10 ∷ [])
+canonical_line r = line_of (letter_of r) (parts_of r)
 
 -- the lines of these records
 abbrev pub canonical_text : List Record → List ℕ
@@ -27,6 +30,7 @@ canonical_text rs = flat_map canonical_line rs
 -- a field of this type can say this
 abbrev pub Fits : FieldType → Part → Type 0
 Fits (Word w) (Text said) = said ≡ w
+Fits (Either v w) (Text said) = (said ≡ v) ⊎ (said ≡ w)
 Fits (Number low high) (Amount n) = IsWithin low high n
 Fits type part = ⊥
 

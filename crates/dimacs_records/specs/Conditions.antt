@@ -1,12 +1,17 @@
 -- Why a record is refused behind the earlier ones, reason by reason.
-use Rattle.std.specs.Prelude.{ℕ, ◌==◌, Bool, false, ◌&&◌, not, List, [], ◌∷◌, Option, is_some, is_none, if◌then◌else◌, nat_lt, length}
+use Rattle.std.specs.Prelude.{ℕ, ◌==◌, Bool, true, false, ◌&&◌, ◌||◌, not, List, [], ◌∷◌, Option, is_some, is_none, if◌then◌else◌, nat_lt, length, count_by, pos, int_lt}
+use Rattle.std.specs.List.{list_any}
 use Rattle.dimacs_lines.specs.declared.reader.TheConstants.{MAX_LINE, MAX_LINES}
 use Rattle.dimacs_records.specs.declared.kinds.TextKind.{TextKind}
+use Rattle.dimacs_records.specs.declared.kinds.TextKind.TheVariants.{Max, Solution, Labels}
+use Rattle.dimacs_records.specs.declared.records.QueryKind.TheVariants.{Sources, Pairs}
 use Rattle.dimacs_records.specs.declared.records.Record.{Record}
-use Rattle.dimacs_records.specs.declared.records.Record.TheVariants.{GraphArc}
+use Rattle.dimacs_records.specs.declared.records.Record.TheVariants.{MaxNode, MaxArc, MinNode, MinArc, GraphArc, SourceQuery, PairQuery, SolutionValue, CutNode, PotentialsNode, LabelsBlock, LabelsNode}
 use Rattle.dimacs_records.specs.declared.reasons.Reason.{Reason}
-use Rattle.dimacs_records.specs.declared.reasons.Reason.TheVariants.{LineTooLong, ProblemMissing, ProblemTwice, NodeRange, TooMany, TooFew, LineLimit}
-use Rattle.dimacs_records.specs.Earlier.{Problem, problem_in, is_problem, is_above, is_full, is_short, is_counted, counted_in}
+use Rattle.dimacs_records.specs.declared.reasons.Reason.TheVariants.{LineTooLong, ProblemMissing, ProblemTwice, RecordOrder, NodeRange, NodeTwice, EndTwice, EndMissing, BoundOrder, ParallelArc, TooMany, TooFew, SolutionMissing, SolutionTwice, PredUnknown, LineLimit}
+use Rattle.dimacs_records.specs.Spelling.{kind_of}
+use Rattle.dimacs_records.specs.Earlier.{Problem, problem_in, is_problem, is_above, is_full, is_short, is_counted, counted_in, asks_for, names, is_max_node, is_end, is_flow_arc, connects, is_value}
+use Rattle.dimacs_records.specs.Blocks.{block_in, is_labelled, is_full_block, is_short_block}
 
 -- at field f of a line with this number the condition of a limit holds
 abbrev pub limit_condition : ℕ → List ℕ → ℕ → Reason → Bool
@@ -14,9 +19,37 @@ limit_condition number line f LineLimit = (f == 0) && nat_lt MAX_LINES number
 limit_condition number line f LineTooLong = (f == 0) && nat_lt MAX_LINE (length line)
 limit_condition number line f reason = false
 
+-- a solution alone has no problem line
+abbrev pub needs_problem : TextKind → Bool
+needs_problem Solution = false
+needs_problem kind = true
+
+abbrev pub is_without_problem : List Record → Record → Bool
+is_without_problem earlier r = (needs_problem (kind_of r) && not (is_problem r)) && is_none (problem_in earlier)
+
+abbrev pub is_problem_twice : List Record → Record → Bool
+is_problem_twice earlier r = is_problem r && is_some (problem_in earlier)
+
+-- a node line behind an arc line; a query that its text does not ask; a label outside any block
+abbrev pub is_out_of_order : List Record → Record → Bool
+is_out_of_order earlier (MaxNode id end) = list_any is_flow_arc earlier
+is_out_of_order earlier (MinNode id supply) = list_any is_flow_arc earlier
+is_out_of_order earlier (SourceQuery id) = list_any (asks_for Pairs) earlier
+is_out_of_order earlier (PairQuery from to) = list_any (asks_for Sources) earlier
+is_out_of_order earlier (LabelsNode id dist pred) = is_none (block_in earlier)
+is_out_of_order earlier r = false
+
 -- the IDs of a line that NODES bounds, each with its field
 abbrev pub bounded_ids : Record → List (ℕ × ℕ)
-bounded_ids (GraphArc t h w) = (2, t) ∷ (3, h) ∷ []
+bounded_ids (MaxNode id end) = (2, id) ∷ []
+bounded_ids (MaxArc tail head cap) = (2, tail) ∷ (3, head) ∷ []
+bounded_ids (MinNode id supply) = (2, id) ∷ []
+bounded_ids (MinArc tail head low cap cost) = (2, tail) ∷ (3, head) ∷ []
+bounded_ids (GraphArc tail head weight) = (2, tail) ∷ (3, head) ∷ []
+bounded_ids (CutNode id) = (2, id) ∷ []
+bounded_ids (PotentialsNode id value) = (2, id) ∷ []
+bounded_ids (LabelsBlock source count) = (2, source) ∷ []
+bounded_ids (LabelsNode id dist pred) = (2, id) ∷ (4, pred) ∷ []
 bounded_ids r = []
 
 -- the ID in field f is above NODES
@@ -24,19 +57,90 @@ abbrev pub is_above_at : ℕ → Option Problem → List (ℕ × ℕ) → Bool
 is_above_at f p [] = false
 is_above_at f p ((g, id) ∷ more) = if f == g then is_above p id else is_above_at f p more
 
+abbrev pub is_named_twice : List Record → Record → Bool
+is_named_twice earlier (MaxNode id end) = list_any (names id) earlier
+is_named_twice earlier (MinNode id supply) = list_any (names id) earlier
+is_named_twice earlier (CutNode id) = list_any (names id) earlier
+is_named_twice earlier (PotentialsNode id value) = list_any (names id) earlier
+is_named_twice earlier (LabelsBlock source count) = list_any (names source) earlier
+is_named_twice earlier (LabelsNode id dist pred) = is_labelled (block_in earlier) id
+is_named_twice earlier r = false
+
+abbrev pub is_end_twice : List Record → Record → Bool
+is_end_twice earlier (MaxNode id end) = list_any (is_end end) earlier
+is_end_twice earlier r = false
+
+-- fewer than two node lines
+abbrev pub lacks_end : List Record → Bool
+lacks_end rs = nat_lt (count_by is_max_node rs) 2
+
+abbrev pub is_without_ends : List Record → Record → Bool
+is_without_ends earlier (MaxArc tail head cap) = lacks_end earlier
+is_without_ends earlier r = false
+
+-- the bound in field f is out of order: a negative one, or CAP below LOW
+abbrev pub is_bound_wrong : ℕ → Record → Bool
+is_bound_wrong f (MaxArc tail head cap) = (f == 4) && int_lt cap (pos 0)
+is_bound_wrong f (MinArc tail head low cap cost) = if f == 4 then int_lt low (pos 0) else (f == 5) && int_lt cap low
+is_bound_wrong f r = false
+
+abbrev pub is_parallel : List Record → Record → Bool
+is_parallel earlier (MaxArc tail head cap) = list_any (connects tail head) earlier
+is_parallel earlier (MinArc tail head low cap cost) = list_any (connects tail head) earlier
+is_parallel earlier r = false
+
+-- one more than the declared count, for a label that of its block
 abbrev pub is_too_many : List Record → Record → Bool
+is_too_many earlier (LabelsNode id dist pred) = is_full_block (block_in earlier)
 is_too_many earlier r = is_counted r && is_full (problem_in earlier) (counted_in earlier)
+
+-- a block behind one that is short of labels
+abbrev pub is_too_few : List Record → Record → Bool
+is_too_few earlier (LabelsBlock source count) = is_short_block (block_in earlier)
+is_too_few earlier r = false
+
+abbrev pub is_value_twice : List Record → Record → Bool
+is_value_twice earlier (SolutionValue value) = list_any is_value earlier
+is_value_twice earlier r = false
+
+abbrev pub is_pred_unknown : List Record → Record → Bool
+is_pred_unknown earlier (LabelsNode id dist pred) = not (is_labelled (block_in earlier) pred)
+is_pred_unknown earlier r = false
 
 -- at field f of record r, behind the earlier records, the condition of a reason holds
 abbrev pub condition : List Record → Record → ℕ → Reason → Bool
-condition earlier r f ProblemMissing = (f == 0) && (not (is_problem r) && is_none (problem_in earlier))
-condition earlier r f ProblemTwice = (f == 0) && (is_problem r && is_some (problem_in earlier))
+condition earlier r f ProblemMissing = (f == 0) && is_without_problem earlier r
+condition earlier r f ProblemTwice = (f == 0) && is_problem_twice earlier r
+condition earlier r f RecordOrder = (f == 0) && is_out_of_order earlier r
 condition earlier r f NodeRange = is_above_at f (problem_in earlier) (bounded_ids r)
+condition earlier r f NodeTwice = (f == 2) && is_named_twice earlier r
+condition earlier r f EndTwice = (f == 3) && is_end_twice earlier r
+condition earlier r f EndMissing = (f == 0) && is_without_ends earlier r
+condition earlier r f BoundOrder = is_bound_wrong f r
+condition earlier r f ParallelArc = (f == 0) && is_parallel earlier r
 condition earlier r f TooMany = (f == 0) && is_too_many earlier r
+condition earlier r f TooFew = (f == 0) && is_too_few earlier r
+condition earlier r f SolutionTwice = (f == 0) && is_value_twice earlier r
+condition earlier r f PredUnknown = (f == 0) && is_pred_unknown earlier r
 condition earlier r f reason = false
+
+abbrev pub needs_ends : TextKind → Bool
+needs_ends Max = true
+needs_ends kind = false
+
+abbrev pub needs_value : TextKind → Bool
+needs_value Solution = true
+needs_value kind = false
+
+-- fewer lines than declared, or fewer labels in the last block
+abbrev pub is_unfinished : TextKind → List Record → Bool
+is_unfinished Labels all = is_short (problem_in all) (counted_in all) || is_short_block (block_in all)
+is_unfinished kind all = is_short (problem_in all) (counted_in all)
 
 -- at the end of a text of these records the condition of a reason holds
 abbrev pub end_condition : TextKind → List Record → Reason → Bool
-end_condition kind all ProblemMissing = is_none (problem_in all)
-end_condition kind all TooFew = is_short (problem_in all) (counted_in all)
+end_condition kind all ProblemMissing = needs_problem kind && is_none (problem_in all)
+end_condition kind all EndMissing = needs_ends kind && lacks_end all
+end_condition kind all TooFew = is_unfinished kind all
+end_condition kind all SolutionMissing = needs_value kind && not (list_any is_value all)
 end_condition kind all reason = false

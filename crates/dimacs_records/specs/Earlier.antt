@@ -1,16 +1,29 @@
 -- What the earlier records of a text say.
-use Rattle.std.specs.Prelude.{ℕ, Bool, true, false, List, [], ◌∷◌, Option, Some, None, is_some, length, nat_lt, nat_le}
+use Rattle.std.specs.Prelude.{ℕ, ◌==◌, ◌&&◌, Bool, true, false, List, [], ◌∷◌, Option, Some, None, is_some, length, nat_lt, nat_le}
 use Rattle.std.specs.List.{filter}
+use Rattle.dimacs_records.specs.declared.records.End.{End}
+use Rattle.dimacs_records.specs.declared.records.End.TheVariants.{Source, Sink}
+use Rattle.dimacs_records.specs.declared.records.QueryKind.{QueryKind}
+use Rattle.dimacs_records.specs.declared.records.QueryKind.TheVariants.{Sources, Pairs}
 use Rattle.dimacs_records.specs.declared.records.Record.{Record}
-use Rattle.dimacs_records.specs.declared.records.Record.TheVariants.{GraphProblem, GraphArc}
+use Rattle.dimacs_records.specs.declared.records.Record.TheVariants.{MaxProblem, MaxNode, MaxArc, MinProblem, MinNode, MinArc, GraphProblem, GraphArc, QueriesProblem, SourceQuery, PairQuery, SolutionValue, CutProblem, CutNode, PotentialsProblem, PotentialsNode, LabelsProblem, LabelsBlock}
 
--- what a problem line declares
+-- what a problem line declares; that of queries has no NODES
 pub record Problem : Type 0 where
-  pub nodes : ℕ
+  pub nodes : Option ℕ
   pub count : ℕ
 
+abbrev pub declares : ℕ → ℕ → Option Problem
+declares nodes count = Some (record { nodes = Some nodes; count = count })
+
 abbrev pub problem_of : Record → Option Problem
-problem_of (GraphProblem n m) = Some (record { nodes = n; count = m })
+problem_of (MaxProblem nodes arcs) = declares nodes arcs
+problem_of (MinProblem nodes arcs) = declares nodes arcs
+problem_of (GraphProblem nodes arcs) = declares nodes arcs
+problem_of (QueriesProblem asks count) = Some (record { nodes = None; count = count })
+problem_of (CutProblem nodes count) = declares nodes count
+problem_of (PotentialsProblem nodes count) = declares nodes count
+problem_of (LabelsProblem nodes blocks) = declares nodes blocks
 problem_of r = None
 
 abbrev pub is_problem : Record → Bool
@@ -25,10 +38,14 @@ abbrev pub problem_in : List Record → Option Problem
 problem_in [] = None
 problem_in (r ∷ rs) = or_else (problem_of r) (problem_in rs)
 
+abbrev pub is_above_nodes : Option ℕ → ℕ → Bool
+is_above_nodes None id = false
+is_above_nodes (Some nodes) id = nat_lt nodes id
+
 -- above NODES
 abbrev pub is_above : Option Problem → ℕ → Bool
 is_above None id = false
-is_above (Some p) id = nat_lt p.nodes id
+is_above (Some p) id = is_above_nodes p.nodes id
 
 -- not below the declared count
 abbrev pub is_full : Option Problem → ℕ → Bool
@@ -42,8 +59,57 @@ is_short (Some p) n = nat_lt n p.count
 
 -- a line that the problem line counts
 abbrev pub is_counted : Record → Bool
-is_counted (GraphArc t h w) = true
+is_counted (MaxArc tail head cap) = true
+is_counted (MinArc tail head low cap cost) = true
+is_counted (GraphArc tail head weight) = true
+is_counted (SourceQuery id) = true
+is_counted (PairQuery from to) = true
+is_counted (CutNode id) = true
+is_counted (PotentialsNode id value) = true
+is_counted (LabelsBlock source count) = true
 is_counted r = false
 
 abbrev pub counted_in : List Record → ℕ
 counted_in rs = length (filter is_counted rs)
+
+-- a problem line of these queries
+abbrev pub asks_for : QueryKind → Record → Bool
+asks_for Sources (QueriesProblem Sources count) = true
+asks_for Pairs (QueriesProblem Pairs count) = true
+asks_for asks r = false
+
+-- a line that names this node as its own: a node line, or that of a block of labels
+abbrev pub names : ℕ → Record → Bool
+names id (MaxNode other end) = other == id
+names id (MinNode other supply) = other == id
+names id (CutNode other) = other == id
+names id (PotentialsNode other value) = other == id
+names id (LabelsBlock source count) = source == id
+names id r = false
+
+abbrev pub is_max_node : Record → Bool
+is_max_node (MaxNode id end) = true
+is_max_node r = false
+
+-- the node line of this end
+abbrev pub is_end : End → Record → Bool
+is_end Source (MaxNode id Source) = true
+is_end Sink (MaxNode id Sink) = true
+is_end end r = false
+
+-- an arc line of a flow instance
+abbrev pub is_flow_arc : Record → Bool
+is_flow_arc (MaxArc tail head cap) = true
+is_flow_arc (MinArc tail head low cap cost) = true
+is_flow_arc r = false
+
+-- an arc line of a flow instance, from this tail to this head
+abbrev pub connects : ℕ → ℕ → Record → Bool
+connects tail head (MaxArc t h cap) = (t == tail) && (h == head)
+connects tail head (MinArc t h low cap cost) = (t == tail) && (h == head)
+connects tail head r = false
+
+-- the line of a solution's value
+abbrev pub is_value : Record → Bool
+is_value (SolutionValue value) = true
+is_value r = false

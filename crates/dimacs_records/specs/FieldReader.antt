@@ -1,11 +1,15 @@
 -- Typed fields, taken from a line one after another, and the first fault among them.
 use Rattle.std.specs.Prelude.{ℕ, suc, ◌≡◌, ◌==◌, true, false, List, [], ◌∷◌, Bool, ◌||◌, not, ℤ, Option, Some, None, Result, Ok, Err, if◌then◌else◌, length, map}
 use Rattle.dimacs_lines.specs.Fields.{Run}
+use Rattle.dimacs_lines.specs.declared.numbers.NumberFault.{NumberFault}
+use Rattle.dimacs_lines.specs.declared.numbers.NumberFault.TheVariants as number_faults
 use Rattle.dimacs_records.specs.declared.kinds.TextKind.{TextKind}
 use Rattle.dimacs_records.specs.declared.records.Record.{Record}
 use Rattle.dimacs_records.specs.declared.reasons.Reason.{Reason}
 use Rattle.dimacs_records.specs.declared.reasons.Reason.TheVariants.{UnknownLine, FieldCount, BadNumber, NumberRange, BadWord}
 use Rattle.dimacs_records.specs.declared.faults.LineFault.{LineFault}
+use Rattle.dimacs_records.specs.declared.typed.Choice.{Choice}
+use Rattle.dimacs_records.specs.declared.typed.Choice.TheVariants.{Former, Latter}
 use Rattle.dimacs_records.specs.declared.typed.FieldReader.{FieldReader}
 use Rattle.dimacs_records.specs.Earlier.{or_else}
 use Rattle.dimacs_records.specs.Forms.{FieldType, Number}
@@ -51,6 +55,16 @@ without_fault (Some fault) r = Err fault
 -- the record, where each field was there and has no fault, and none is left
 abbrev pub finished : FieldReader → Record → Result (Option Record) LineFault
 finished fields r = if fields.missing || not (is_none_left fields.scan) then Err (fault_at 0 FieldCount) else without_fault fields.fault r
+
+-- the word of two that was chosen
+abbrev pub word_of : List ℕ → List ℕ → Choice → List ℕ
+word_of former latter Former = former
+word_of former latter Latter = latter
+
+-- why a field is refused that spells no number in its range
+abbrev pub number_reason : NumberFault → Reason
+number_reason number_faults.BadNumber = BadNumber
+number_reason number_faults.NumberRange = NumberRange
 
 -- the number that a field spells in a range, or the first reason why it spells none
 abbrev pub ReadsAmount : ℤ → ℤ → List ℕ → Result ℤ Reason → Type 0

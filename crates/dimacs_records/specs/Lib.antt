@@ -1,3 +1,4 @@
+pub mod Blocks
 pub mod Canonical
 pub mod CanonicalLaw
 pub mod Conditions
@@ -10,8 +11,8 @@ pub mod Forms
 pub mod LineReader
 pub mod Names
 pub mod Order
+pub mod Printed
 pub mod Readings
 pub mod Shapes
 pub mod Spelling
 pub mod Texts
-pub mod WrittenParts

@@ -7,7 +7,7 @@ use Rattle.dimacs_lines.specs.Number.{digits_of, number_in}
 use Rattle.dimacs_records.specs.declared.kinds.TextKind.{TextKind}
 use Rattle.dimacs_records.specs.declared.reasons.Reason.{Reason}
 use Rattle.dimacs_records.specs.declared.reasons.Reason.TheVariants.{UnknownLine, FieldCount, BadNumber, NumberRange, BadWord}
-use Rattle.dimacs_records.specs.Forms.{FieldType, Word, Number, Form, forms}
+use Rattle.dimacs_records.specs.Forms.{FieldType, Word, Either, Number, Form, forms}
 
 -- an optional sign and one or more digits
 abbrev pub is_number : List ℕ → Bool
@@ -18,6 +18,7 @@ abbrev pub field_condition : FieldType → List ℕ → Reason → Bool
 field_condition (Number low high) text BadNumber = not (is_number text)
 field_condition (Number low high) text NumberRange = is_number text && (int_lt (number_in text) low || int_lt high (number_in text))
 field_condition (Word w) text BadWord = not (bytes_eq w text)
+field_condition (Either v w) text BadWord = not (bytes_eq v text) && not (bytes_eq w text)
 field_condition type text reason = false
 
 -- at field f, where the first of these is field n

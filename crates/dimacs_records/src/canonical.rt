@@ -1,23 +1,16 @@
 //! Records as lines in the canonical form: one blank between fields, numbers in decimal, a line end.
 
-ghost use Rattle.std.specs.Prelude.{ℕ, List, Option, ◌++◌};
-ghost use Rattle.std.specs.List.{flat_map};
-ghost use Rattle.std.specs.Fmt.{signed_decimal};
+ghost use Rattle.std.specs.Prelude.{◌≡◌, ℕ, List, Option, [], ◌∷◌, ◌++◌, pos, codes};
 ghost use Rattle.dimacs_lines.specs.Devices.{CountsFault};
 ghost use Rattle.dimacs_lines.specs.Puts.{Puts};
 ghost use Rattle.dimacs_lines.specs.Pages.{IsWritten, FaultsAre};
-ghost use Rattle.dimacs_records.specs.Canonical.{canonical_line};
-ghost use Rattle.dimacs_records.specs.WrittenParts.{blank_and, line_of};
+ghost use Rattle.dimacs_records.specs.declared.printed.Part.TheVariants.{Number};
+ghost use Rattle.dimacs_records.specs.Canonical.{canonical_line, line_of};
+ghost use Rattle.dimacs_records.specs.Spelling.{Text, Amount};
 
+use crate::printed::{Part, write_line};
 use crate::records::Record;
 use dimacs_lines::{DeviceFault, Page, Sink};
-
-/// A field behind the letter.
-#[derive(Clone, Copy)]
-pub(crate) enum WrittenPart<'a> {
-    Word(&'a [u8]),
-    Number(i64),
-}
 
 /// Puts the line of a record.
 pub fn put_record<S: Sink>(sink: &mut S, said: &Record) -> Result<(), DeviceFault>
@@ -36,51 +29,107 @@ pub fn write_record<S: Sink>(page: &mut Page, sink: &mut S, said: &Record)
     ensures faults { (start : ℕ) → FaultsAre start (S.faults sink.old) page.old → FaultsAre start (S.faults sink.new) page.new }
 {
     match *said {
-        Record::GraphProblem { nodes, arcs } => write_line(
-            page,
-            sink,
-            b"p",
-            &[
-                WrittenPart::Word(b"sp"),
-                WrittenPart::Number(i64::from(nodes)),
-                WrittenPart::Number(i64::from(arcs)),
-            ],
-        ),
-        Record::GraphArc { tail, head, weight } => write_line(
+        Record::MaxProblem { nodes, arcs } => write_problem(page, sink, b"max", nodes, arcs),
+        Record::MaxNode { id, end } => {
+            write_line(page, sink, b"n", &[unsigned(id), Part::Word(end.word())])
+        }
+        Record::MaxArc { tail, head, cap } => write_arc(page, sink, b"a", tail, head, cap),
+        Record::MinProblem { nodes, arcs } => write_problem(page, sink, b"min", nodes, arcs),
+        Record::MinNode { id, supply } => {
+            write_line(page, sink, b"n", &[unsigned(id), Part::Number(supply)])
+        }
+        Record::MinArc {
+            tail,
+            head,
+            low,
+            cap,
+            cost,
+        } => write_line(
             page,
             sink,
             b"a",
             &[
-                WrittenPart::Number(i64::from(tail)),
-                WrittenPart::Number(i64::from(head)),
-                WrittenPart::Number(weight),
+                unsigned(tail),
+                unsigned(head),
+                Part::Number(low),
+                Part::Number(cap),
+                Part::Number(cost),
             ],
+        ),
+        Record::GraphProblem { nodes, arcs } => write_problem(page, sink, b"sp", nodes, arcs),
+        Record::GraphArc { tail, head, weight } => write_arc(page, sink, b"a", tail, head, weight),
+        Record::QueriesProblem { asks, count } => write_line(
+            page,
+            sink,
+            b"p",
+            &[
+                Part::Word(b"aux"),
+                Part::Word(b"sp"),
+                Part::Word(asks.word()),
+                unsigned(count),
+            ],
+        ),
+        Record::SourceQuery { id } => write_line(page, sink, b"s", &[unsigned(id)]),
+        Record::PairQuery { from, to } => {
+            write_line(page, sink, b"q", &[unsigned(from), unsigned(to)])
+        }
+        Record::SolutionValue { value } => write_line(page, sink, b"s", &[Part::Wide(value)]),
+        Record::SolutionEntry { tail, head, flow } => write_arc(page, sink, b"f", tail, head, flow),
+        Record::CutProblem { nodes, count } => write_problem(page, sink, b"cut", nodes, count),
+        Record::CutNode { id } => write_line(page, sink, b"u", &[unsigned(id)]),
+        Record::PotentialsProblem { nodes, count } => {
+            write_problem(page, sink, b"pot", nodes, count)
+        }
+        Record::PotentialsNode { id, value } => {
+            write_line(page, sink, b"y", &[unsigned(id), Part::Wide(value)])
+        }
+        Record::LabelsProblem { nodes, blocks } => {
+            write_problem(page, sink, b"dist", nodes, blocks)
+        }
+        Record::LabelsBlock { source, count } => {
+            write_line(page, sink, b"t", &[unsigned(source), unsigned(count)])
+        }
+        Record::LabelsNode { id, dist, pred } => write_line(
+            page,
+            sink,
+            b"d",
+            &[unsigned(id), Part::Wide(dist), unsigned(pred)],
         ),
     }
 }
 
-/// Writes a letter, and the fields behind it.
+/// Writes a problem line that declares nodes and a count.
 #[inline(always)]
-fn write_line<S: Sink>(page: &mut Page, sink: &mut S, letter: &[u8], parts: &[WrittenPart<'_>])
-    ensures written { (start : Option (List ℕ)) (text : List ℕ) → IsWritten start text (S.accepted sink.old) page.old → IsWritten start (text ++ line_of letter.now parts.now) (S.accepted sink.new) page.new }
+fn write_problem<S: Sink>(page: &mut Page, sink: &mut S, word: &[u8], nodes: u32, count: u32)
+    ensures written { (start : Option (List ℕ)) (text : List ℕ) → IsWritten start text (S.accepted sink.old) page.old → IsWritten start (text ++ line_of (codes "p") (Text word.now ∷ Amount (pos nodes) ∷ Amount (pos count) ∷ [])) (S.accepted sink.new) page.new }
     ensures faults { (start : ℕ) → FaultsAre start (S.faults sink.old) page.old → FaultsAre start (S.faults sink.new) page.new }
 {
-    page.write(sink, letter);
-    for part in parts {
-        write_part(page, sink, part);
-    }
-    page.write(sink, b"\n");
+    write_line(
+        page,
+        sink,
+        b"p",
+        &[Part::Word(word), unsigned(nodes), unsigned(count)],
+    );
 }
 
-/// Writes a blank and a field.
+/// Writes a line of two ends and a number.
 #[inline(always)]
-fn write_part<S: Sink>(page: &mut Page, sink: &mut S, part: &WrittenPart<'_>)
-    ensures written { (start : Option (List ℕ)) (text : List ℕ) → IsWritten start text (S.accepted sink.old) page.old → IsWritten start (text ++ blank_and part.now) (S.accepted sink.new) page.new }
+fn write_arc<S: Sink>(page: &mut Page, sink: &mut S, letter: &[u8], tail: u32, head: u32, n: i64)
+    ensures written { (start : Option (List ℕ)) (text : List ℕ) → IsWritten start text (S.accepted sink.old) page.old → IsWritten start (text ++ line_of letter.now (Amount (pos tail) ∷ Amount (pos head) ∷ Amount n ∷ [])) (S.accepted sink.new) page.new }
     ensures faults { (start : ℕ) → FaultsAre start (S.faults sink.old) page.old → FaultsAre start (S.faults sink.new) page.new }
 {
-    page.write(sink, b" ");
-    match part {
-        WrittenPart::Word(word) => page.write(sink, word),
-        WrittenPart::Number(n) => page.number(sink, *n),
-    }
+    write_line(
+        page,
+        sink,
+        letter,
+        &[unsigned(tail), unsigned(head), Part::Number(n)],
+    );
+}
+
+/// A count or an ID as a field.
+#[inline(always)]
+fn unsigned(n: u32) -> Part<'static>
+    ensures { result ≡ Number (pos n) }
+{
+    Part::Number(i64::from(n))
 }

@@ -1,13 +1,21 @@
 //! The record that a line spells.
 
-ghost use Rattle.std.specs.Prelude.{◌≡◌, ◌∷◌, [], codes};
-ghost use Rattle.dimacs_records.specs.declared.kinds.TextKind.TheVariants.{Graph};
+ghost use Rattle.std.specs.Prelude.{◌≡◌};
 ghost use Rattle.dimacs_records.specs.declared.reasons.Reason.TheVariants.{UnknownLine};
-ghost use Rattle.dimacs_records.specs.Forms.{forms, Word, Nodes, Count, Id, Whole};
+ghost use Rattle.dimacs_records.specs.Forms.{forms};
 ghost use Rattle.dimacs_records.specs.Spelling.{texts_in, is_comment};
 ghost use Rattle.dimacs_records.specs.Shapes.{types_in};
 ghost use Rattle.dimacs_records.specs.LineReader.{ReadsLine};
-ghost use Rattle.dimacs_records.specs.FieldReader.{IsFresh, ReadsForm, ReadsLetter, texts_left, fault_at};
+ghost use Rattle.dimacs_records.specs.FieldReader.{IsFresh, ReadsLetter, texts_left, fault_at};
+
+mod cut;
+mod graph;
+mod labels;
+mod max;
+mod min;
+mod potentials;
+mod queries;
+mod solution;
 
 use crate::faults::LineFault;
 use crate::kinds::TextKind;
@@ -50,43 +58,18 @@ fn letter_record(
     ensures { ReadsLetter kind letter.now (types_in (forms kind) letter.now) (texts_left fields.entry) result }
 {
     match kind {
-        TextKind::Graph => graph_record(letter, fields),
+        TextKind::Max => max::record(letter, fields),
+        TextKind::Min => min::record(letter, fields),
+        TextKind::Graph => graph::record(letter, fields),
+        TextKind::Queries => queries::record(letter, fields),
+        TextKind::Solution => solution::record(letter, fields),
+        TextKind::Cut => cut::record(letter, fields),
+        TextKind::Potentials => potentials::record(letter, fields),
+        TextKind::Labels => labels::record(letter, fields),
     }
 }
 
-#[inline(always)]
-fn graph_record(letter: &[u8], fields: FieldReader) -> Result<Option<Record>, LineFault>
-    requires { IsFresh fields }
-    ensures { ReadsLetter Graph letter.now (types_in (forms Graph) letter.now) (texts_left fields.entry) result }
-{
-    match letter {
-        b"p" => graph_problem(fields),
-        b"a" => graph_arc(fields),
-        _ => Err(unknown_line()),
-    }
-}
-
-fn graph_problem(mut fields: FieldReader) -> Result<Option<Record>, LineFault>
-    requires { IsFresh fields }
-    ensures { ReadsForm Graph (codes "p") (Word (codes "sp") ∷ Nodes ∷ Count ∷ []) (texts_left fields.entry) result }
-{
-    fields.word(2, b"sp");
-    let nodes = fields.nodes(3);
-    let arcs = fields.count(4);
-    fields.finish(Record::GraphProblem { nodes, arcs })
-}
-
-#[inline(always)]
-fn graph_arc(mut fields: FieldReader) -> Result<Option<Record>, LineFault>
-    requires { IsFresh fields }
-    ensures { ReadsForm Graph (codes "a") (Id ∷ Id ∷ Whole ∷ []) (texts_left fields.entry) result }
-{
-    let tail = fields.id(2);
-    let head = fields.id(3);
-    let weight = fields.whole(4);
-    fields.finish(Record::GraphArc { tail, head, weight })
-}
-
+/// The fault of a line that begins with no letter of its kind.
 fn unknown_line() -> LineFault
     ensures { result ≡ fault_at 1 UnknownLine }
 {

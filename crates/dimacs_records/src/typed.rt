@@ -2,16 +2,16 @@
 //!
 //! A fault is kept until the line is finished, since a wrong number of fields comes before it.
 
-ghost use Rattle.std.specs.Prelude.{◌≡◌, ◌≤ℤ◌, ◌≤◌, pos, neg_ℤ, ◌^◌};
+ghost use Rattle.std.specs.Prelude.{◌≡◌, ◌≤ℤ◌, ◌≤◌, pos, neg_ℤ, ◌^◌, codes};
 ghost use Rattle.dimacs_lines.specs.Number.{IsWithin};
 ghost use Rattle.dimacs_records.specs.Earlier.{or_else};
-ghost use Rattle.dimacs_records.specs.Forms.{Nodes, Count, Id, Whole, Word, Number};
-ghost use Rattle.dimacs_records.specs.Spelling.{Text, Amount};
-ghost use Rattle.dimacs_records.specs.FieldReader.{Takes, ReadsAmount, IsFresh, finished, fault_at};
+ghost use Rattle.dimacs_records.specs.Forms.{Nodes, Count, Id, Whole, Wide, Word, Either, Number};
+ghost use Rattle.dimacs_records.specs.Spelling.{Text, Amount, end_word, query_word};
+ghost use Rattle.dimacs_records.specs.FieldReader.{Takes, ReadsAmount, IsFresh, finished, fault_at, number_reason, word_of};
 
 use crate::faults::LineFault;
 use crate::reasons::Reason;
-use crate::records::Record;
+use crate::records::{End, QueryKind, Record};
 use dimacs_lines::{NumberFault, Scan, Token};
 
 /// The greatest NODES, and so the greatest ID.
@@ -19,6 +19,13 @@ pub const MAX_NODES: u32 = 134_217_728;
 
 /// The greatest count of lines that a problem line may declare.
 pub const MAX_COUNT: u32 = 268_435_456;
+
+/// One of two words.
+#[derive(Clone, Copy)]
+enum Choice {
+    Former,
+    Latter,
+}
 
 /// The fields of a line that are not taken yet, and the first fault among those that were.
 #[derive(Drop)]
@@ -53,6 +60,24 @@ impl<'a> FieldReader<'a> {
         }
     }
 
+    pub(crate) fn end(&mut self, field: u32) -> End
+        ensures { Takes field (Either (codes "s") (codes "t")) self.old (Text (end_word result)) self.new }
+    {
+        match self.either(field, b"s", b"t") {
+            Choice::Former => End::Source,
+            Choice::Latter => End::Sink,
+        }
+    }
+
+    pub(crate) fn query_kind(&mut self, field: u32) -> QueryKind
+        ensures { Takes field (Either (codes "ss") (codes "p2p")) self.old (Text (query_word result)) self.new }
+    {
+        match self.either(field, b"ss", b"p2p") {
+            Choice::Former => QueryKind::Sources,
+            Choice::Latter => QueryKind::Pairs,
+        }
+    }
+
     #[inline(always)]
     pub(crate) fn nodes(&mut self, field: u32) -> u32
         ensures { Takes field Nodes self.old (Amount (pos result)) self.new }
@@ -81,6 +106,23 @@ impl<'a> FieldReader<'a> {
         self.range(field, i64::MIN, i64::MAX)
     }
 
+    #[inline(always)]
+    pub(crate) fn wide(&mut self, field: u32) -> i128
+        ensures { Takes field Wide self.old (Amount result) self.new }
+    {
+        let Some(token) = self.scan.next_token() else {
+            self.missing = true;
+            return 0;
+        };
+        match wide_amount(&token) {
+            Ok(n) => n,
+            Err(reason) => {
+                self.refuse(field, reason);
+                0
+            }
+        }
+    }
+
     /// The record, where each field was there and has no fault, and no other one is left.
     #[inline(always)]
     pub(crate) fn finish(mut self, spelled: Record) -> Result<Option<Record>, LineFault>
@@ -95,6 +137,24 @@ impl<'a> FieldReader<'a> {
         match self.fault {
             None => Ok(Some(spelled)),
             Some(fault) => Err(fault),
+        }
+    }
+
+    /// Which of two words a field is; after a fault, the former.
+    fn either(&mut self, field: u32, former: &[u8], latter: &[u8]) -> Choice
+        ensures { Takes field (Either former.now latter.now) self.old (Text (word_of former.now latter.now result)) self.new }
+    {
+        match self.scan.next_token() {
+            None => {
+                self.missing = true;
+                Choice::Former
+            }
+            Some(token) if token.field.text == former => Choice::Former,
+            Some(token) if token.field.text == latter => Choice::Latter,
+            Some(_) => {
+                self.refuse(field, Reason::BadWord);
+                Choice::Former
+            }
         }
     }
 
@@ -139,7 +199,27 @@ fn amount(token: &Token<'_>, low: i64, high: i64) -> Result<i64, Reason>
         Ok(n) if n < low => Err(Reason::NumberRange),
         Ok(n) if high < n => Err(Reason::NumberRange),
         Ok(n) => Ok(n),
-        Err(NumberFault::NumberRange) => Err(Reason::NumberRange),
-        Err(NumberFault::BadNumber) => Err(Reason::BadNumber),
+        Err(fault) => Err(number_reason(fault)),
+    }
+}
+
+/// The wide number that a field spells.
+#[inline(always)]
+fn wide_amount(token: &Token<'_>) -> Result<i128, Reason>
+    ensures { ReadsAmount (neg_ℤ (pos (10 ^ 30))) (pos (10 ^ 30)) token.now.field.text.now result }
+{
+    match token.wide() {
+        Ok(n) => Ok(n),
+        Err(fault) => Err(number_reason(fault)),
+    }
+}
+
+/// Why a field is refused that spells no number in its range.
+fn number_reason(fault: NumberFault) -> Reason
+    ensures { result ≡ number_reason fault }
+{
+    match fault {
+        NumberFault::BadNumber => Reason::BadNumber,
+        NumberFault::NumberRange => Reason::NumberRange,
     }
 }

@@ -1,7 +1,7 @@
 use Rattle.std.proofs.Common.{◌≡◌, true, false, rules, w64, SFits}
 use Rattle.std.specs.Prelude.{int_lt}
 use Rattle.std.proofs.lemmas.Int.{to_z-of_z}
-use Rattle.dimacs_records.proofs.FieldLemmas.{field_reason-no_number, field_reason-outside, field_reason-low, field_reason-high, not_within}
+use Rattle.dimacs_records.proofs.FieldLemmas.{field_reason-refused, field_reason-low, field_reason-high, refused_within}
 use Rattle.dimacs_records.proofs.typed.amount.Goals as goal
 
 pub returns-in-Ok : goal.returns-in-Ok
@@ -25,14 +25,9 @@ returns-in-Ok-2 c =
     let above : int_lt high n ≡ true = rw (to_z-of_z w64 n n_fits, to_z-of_z w64 high high_fits) at c.if-high-n.true in
     field_reason-high low high n c.args.token.now.field.text.now c.in-Ok.ensures.0 not_below above
 
-pub returns-in-Err-NumberRange : goal.returns-in-Err-NumberRange
-returns-in-Err-NumberRange c =
+pub returns-in-Err : goal.returns-in-Err
+returns-in-Err c =
     let text = c.args.token.now.field.text.now in
     let low_fits : SFits w64 c.args.low = search rules in
     let high_fits : SFits w64 c.args.high = search rules in
-    let out = rw c.in-Err-NumberRange.field-0-is at c.in-Err-NumberRange.ensures in
-    field_reason-outside c.args.low c.args.high text out.0 (not_within c.args.low c.args.high text low_fits high_fits out.1)
-
-pub returns-in-Err-BadNumber : goal.returns-in-Err-BadNumber
-returns-in-Err-BadNumber c =
-    field_reason-no_number c.args.low c.args.high c.args.token.now.field.text.now (rw c.in-Err-BadNumber.field-0-is at c.in-Err-BadNumber.ensures)
+    rw c.number_reason.ensures (field_reason-refused c.args.low c.args.high text c.in-Err.fault (refused_within c.args.low c.args.high text c.in-Err.fault low_fits high_fits c.in-Err.ensures))

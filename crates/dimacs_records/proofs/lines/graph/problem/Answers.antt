@@ -4,7 +4,7 @@ use Rattle.dimacs_records.specs.declared.kinds.TextKind.TheVariants.{Graph}
 use Rattle.dimacs_records.specs.declared.records.Record.TheVariants.{GraphProblem}
 use Rattle.dimacs_records.specs.Forms.{Word, Nodes, Count}
 use Rattle.dimacs_records.proofs.FormLemmas.{reads_form}
-use Rattle.dimacs_records.proofs.lines.graph_problem.Goals as goal
+use Rattle.dimacs_records.proofs.lines.graph.problem.Goals as goal
 
 pub returns : goal.returns
 returns c =

@@ -1,0 +1,40 @@
+-- The blocks of labels among the earlier records of a text.
+use Rattle.std.specs.Prelude.{ℕ, ◌==◌, Bool, false, List, [], ◌∷◌, ◌++◌, Option, Some, None, length, nat_lt, nat_le}
+use Rattle.std.specs.List.{fold, list_any}
+use Rattle.dimacs_records.specs.declared.records.Record.{Record}
+use Rattle.dimacs_records.specs.declared.records.Record.TheVariants.{LabelsBlock, LabelsNode}
+
+-- a `t` line, and the IDs of the `d` lines behind it
+pub record Block : Type 0 where
+  pub source : ℕ
+  pub count : ℕ
+  pub ids : List ℕ
+
+abbrev pub with_label : Option Block → ℕ → Option Block
+with_label None id = None
+with_label (Some block) id = Some (record block { ids = block.ids ++ id ∷ [] })
+
+-- the last block, after one more record
+abbrev pub block_after : Option Block → Record → Option Block
+block_after block (LabelsBlock source count) = Some (record { source = source; count = count; ids = [] })
+block_after block (LabelsNode id dist pred) = with_label block id
+block_after block r = block
+
+-- the last block
+abbrev pub block_in : List Record → Option Block
+block_in rs = fold block_after None rs
+
+-- the block's source, or the ID of one of its `d` lines
+abbrev pub is_labelled : Option Block → ℕ → Bool
+is_labelled None id = false
+is_labelled (Some block) id = list_any (λ other. other == id) (block.source ∷ block.ids)
+
+-- no fewer `d` lines than the block declares
+abbrev pub is_full_block : Option Block → Bool
+is_full_block None = false
+is_full_block (Some block) = nat_le block.count (length block.ids)
+
+-- fewer `d` lines than the block declares
+abbrev pub is_short_block : Option Block → Bool
+is_short_block None = false
+is_short_block (Some block) = nat_lt (length block.ids) block.count

@@ -1,0 +1,44 @@
+//! The lines of a solution.
+
+ghost use Rattle.std.specs.Prelude.{◌∷◌, [], codes};
+ghost use Rattle.dimacs_records.specs.declared.kinds.TextKind.TheVariants.{Solution};
+ghost use Rattle.dimacs_records.specs.Forms.{forms, Id, Whole, Wide};
+ghost use Rattle.dimacs_records.specs.Shapes.{types_in};
+ghost use Rattle.dimacs_records.specs.FieldReader.{IsFresh, ReadsForm, ReadsLetter, texts_left};
+
+use super::unknown_line;
+use crate::faults::LineFault;
+use crate::records::Record;
+use crate::typed::FieldReader;
+
+/// What a line says that begins with this field.
+#[inline(always)]
+pub(super) fn record(letter: &[u8], fields: FieldReader) -> Result<Option<Record>, LineFault>
+    requires { IsFresh fields }
+    ensures { ReadsLetter Solution letter.now (types_in (forms Solution) letter.now) (texts_left fields.entry) result }
+{
+    match letter {
+        b"s" => value(fields),
+        b"f" => entry(fields),
+        _ => Err(unknown_line()),
+    }
+}
+
+fn value(mut fields: FieldReader) -> Result<Option<Record>, LineFault>
+    requires { IsFresh fields }
+    ensures { ReadsForm Solution (codes "s") (Wide ∷ []) (texts_left fields.entry) result }
+{
+    let value = fields.wide(2);
+    fields.finish(Record::SolutionValue { value })
+}
+
+#[inline(always)]
+fn entry(mut fields: FieldReader) -> Result<Option<Record>, LineFault>
+    requires { IsFresh fields }
+    ensures { ReadsForm Solution (codes "f") (Id ∷ Id ∷ Whole ∷ []) (texts_left fields.entry) result }
+{
+    let tail = fields.id(2);
+    let head = fields.id(3);
+    let flow = fields.whole(4);
+    fields.finish(Record::SolutionEntry { tail, head, flow })
+}

@@ -1,0 +1,53 @@
+//! Lines of words and numbers.
+
+ghost use Rattle.std.specs.Prelude.{◌++◌, List, Option, ℕ};
+ghost use Rattle.dimacs_lines.specs.Devices.{CountsFault};
+ghost use Rattle.dimacs_lines.specs.Pages.{FaultsAre, IsWritten};
+ghost use Rattle.dimacs_lines.specs.Puts.{Puts};
+ghost use Rattle.dimacs_records.specs.Printed.{blank_and, printed_line};
+
+use dimacs_lines::{DeviceFault, Page, Sink};
+
+/// A field behind the first word of a line.
+#[derive(Clone, Copy)]
+pub enum Part<'a> {
+    Word(&'a [u8]),
+    Number(i64),
+    Wide(i128),
+}
+
+/// Puts a line: a word, and the fields behind it with one blank between them.
+pub fn put_line<S: Sink>(sink: &mut S, word: &[u8], parts: &[Part<'_>]) -> Result<(), DeviceFault>
+    ensures puts { Puts result (S.accepted sink.old) (printed_line word.now parts.now) (S.accepted sink.new) }
+    ensures fault { CountsFault result (S.faults sink.old) (S.faults sink.new) }
+{
+    let mut page = Page::new();
+    write_line(&mut page, sink, word, parts);
+    page.finish(sink)
+}
+
+/// Writes a line behind what was written before.
+pub fn write_line<S: Sink>(page: &mut Page, sink: &mut S, word: &[u8], parts: &[Part<'_>])
+    ensures written { (start : Option (List ℕ)) (text : List ℕ) → IsWritten start text (S.accepted sink.old) page.old → IsWritten start (text ++ printed_line word.now parts.now) (S.accepted sink.new) page.new }
+    ensures faults { (start : ℕ) → FaultsAre start (S.faults sink.old) page.old → FaultsAre start (S.faults sink.new) page.new }
+{
+    page.write(sink, word);
+    for part in parts {
+        write_part(page, sink, part);
+    }
+    page.write(sink, b"\n");
+}
+
+/// Writes a blank and a field.
+#[inline(always)]
+fn write_part<S: Sink>(page: &mut Page, sink: &mut S, part: &Part<'_>)
+    ensures written { (start : Option (List ℕ)) (text : List ℕ) → IsWritten start text (S.accepted sink.old) page.old → IsWritten start (text ++ blank_and part.now) (S.accepted sink.new) page.new }
+    ensures faults { (start : ℕ) → FaultsAre start (S.faults sink.old) page.old → FaultsAre start (S.faults sink.new) page.new }
+{
+    page.write(sink, b" ");
+    match part {
+        Part::Word(word) => page.write(sink, word),
+        Part::Number(n) => page.number(sink, *n),
+        Part::Wide(n) => page.wide(sink, *n),
+    }
+}
