@@ -19,7 +19,7 @@ use Rattle.dimacs_records.specs.Faults.{FirstAtEnd}
 use Rattle.dimacs_records.specs.FieldReader.{fault_at}
 use Rattle.dimacs_records.proofs.ConditionLemmas.{is_first_condition, is_allowed, is_first_at_end, is_complete}
 use Rattle.dimacs_instance.specs.declared.network.ArcView.{ArcView}
-use Rattle.dimacs_instance.specs.Arcs.{weight_arc}
+use Rattle.dimacs_instance.specs.Plain.{weight_arc}
 use Rattle.dimacs_records.specs.Forms.{form, Word, Nodes, Count, Id, Whole}
 use Rattle.dimacs_records.specs.Canonical.{CanBeSpelled}
 use Rattle.dimacs_records.specs.Readings.{LineRecord, records_of}

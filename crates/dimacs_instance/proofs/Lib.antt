@@ -1,2 +1,10 @@
 mod ArcLemmas
+mod EndsLemmas
 mod GraphLemmas
+mod MaxLemmas
+mod MaxTextLemmas
+pub mod MinLemmas
+pub mod MinSupplies
+pub mod MinTextLemmas
+mod QueriesLemmas
+mod SimpleLemmas

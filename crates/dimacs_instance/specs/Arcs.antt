@@ -1,5 +1,5 @@
 -- Arcs and their ends.
-use Rattle.std.specs.Prelude.{ℕ, ◌≡◌, ◌==◌, ◌<◌, ◌≤◌, ◌&&◌, Bool, true, List, Option, Some, None, length, take, count_by, IfSome, slice_get, ℤ, pos}
+use Rattle.std.specs.Prelude.{ℕ, ◌≡◌, ◌==◌, ◌<◌, ◌≤◌, ◌&&◌, Bool, true, List, Option, Some, None, length, take, count_by, IfSome, slice_get}
 use Rattle.dimacs_instance.specs.declared.network.ArcView.{ArcView}
 
 abbrev pub joins : ℕ → ℕ → ArcView → Bool
@@ -13,10 +13,6 @@ IsKthBetween arcs tail head k (Some i) = (i < length arcs) × IfSome (slice_get 
 -- both ends are nodes
 abbrev pub JoinsNodes : ℕ → ArcView → Type 0
 JoinsNodes nodes a = ((1 ≤ a.tail) × (a.tail ≤ nodes)) × ((1 ≤ a.head) × (a.head ≤ nodes))
-
--- an arc with a weight alone
-abbrev pub weight_arc : ℕ → ℕ → ℤ → ArcView
-weight_arc tail head weight = record { tail = tail; head = head; low = pos 0; cap = pos 0; cost = weight }
 
 -- a number of nodes, and arcs in order
 pub record NetworkValue : Type 0 where

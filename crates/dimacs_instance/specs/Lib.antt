@@ -1,4 +1,15 @@
 pub mod Arcs
+pub mod Buckets
+pub mod Ends
+pub mod Flows
 pub mod Graph
-pub mod Plain
 pub mod GraphReading
+pub mod MaxReading
+pub mod MaxTexts
+pub mod MinCodes
+pub mod MinFlows
+pub mod MinReading
+pub mod MinTexts
+pub mod Plain
+pub mod QueriesReading
+pub mod QueryTexts

@@ -13,7 +13,7 @@ ghost use Rattle.dimacs_instance.specs.Graph.{GraphValue, IsGraph, GivesGraph, S
 ghost use Rattle.dimacs_instance.specs.GraphReading.{begun_records};
 
 use crate::network::{ArcView, Network};
-use crate::plain::PlainArcs;
+use crate::plain::{PlainArcs, WeightArc};
 use dimacs_lines::{DeviceFault, Page, Sink, Source};
 use dimacs_records::{
     ReadError, Reading, Reason, Record, TakeError, TextKind, read_text, write_record,
@@ -22,6 +22,7 @@ use std::alloc::Global;
 use std::marker::Model;
 
 /// A graph for shortest paths: each arc's `cost` is its weight.
+#[derive(Drop)]
 pub struct Graph<N: Network> {
     network: N,
 }
@@ -67,7 +68,7 @@ impl Model for GraphReading {
 #[derive(Drop)]
 pub(crate) struct BegunGraph {
     declared: u32,
-    network: PlainArcs,
+    network: PlainArcs<WeightArc>,
 }
 
 impl Model for BegunGraph {
@@ -95,7 +96,7 @@ impl BegunGraph {
         if self.network.arcs() == self.declared {
             return Err(TakeError::refused(0, Reason::TooMany));
         }
-        let Ok(()) = self.network.push_weight(tail, head, weight) else {
+        let Ok(()) = self.network.push(WeightArc { tail, head, weight }) else {
             return Err(TakeError::Memory);
         };
         Ok(())
@@ -138,7 +139,7 @@ impl GraphReading {
 }
 
 impl Reading for GraphReading {
-    type Value = Graph<PlainArcs>;
+    type Value = Graph<PlainArcs<WeightArc>>;
 
     ghost kind = { λ reading. kinds.Graph };
 
@@ -151,10 +152,11 @@ impl Reading for GraphReading {
         match said {
             Record::GraphProblem { nodes, arcs } => self.start(nodes, arcs),
             Record::GraphArc { tail, head, weight } => self.add(tail, head, weight),
+            _ => unreachable!(),
         }
     }
 
-    fn finish(self) -> Result<Graph<PlainArcs>, TakeError> {
+    fn finish(self) -> Result<Graph<PlainArcs<WeightArc>>, TakeError> {
         let Some(begun) = self.begun else {
             return Err(TakeError::refused(0, Reason::ProblemMissing));
         };
@@ -168,7 +170,10 @@ impl Reading for GraphReading {
 }
 
 /// Reads a graph text.
-pub fn read_graph<S: Source>(alloc: Global, source: &mut S) -> Result<Graph<PlainArcs>, ReadError>
+pub fn read_graph<S: Source>(
+    alloc: Global,
+    source: &mut S,
+) -> Result<Graph<PlainArcs<WeightArc>>, ReadError>
     ensures reads { (text : List ℕ) → S.coming source.old ≡ Some text → Reads (SpellsGraph text) (Fault kinds.Graph (lines text)) result }
     ensures device { CountsRead result (S.faults source.old) (S.faults source.new) }
 {

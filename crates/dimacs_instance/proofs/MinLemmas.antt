@@ -1,0 +1,424 @@
+-- Records behind those of a minimum cost flow instance that was begun.
+use Rattle.std.proofs.Common.{◌≡◌, ◌≢◌, ℕ, suc, ◌<◌, ◌≤◌, ◌∷◌, ◌++◌, [], List, Bool, true, false, Option, Some, None, length, map, take, cond, ◌+◌, ◌==◌, ◌&&◌, ◌||◌, ◌⊎◌, inl, inr, refl, ap, ap₂, sym, ◌∙◌, subst, append_assoc, arith}
+use Rattle.std.specs.Prelude.{ℤ, pos, codes, slice_get, is_some, nat_lt, nat_le, int_lt, not, count_by, if◌then◌else◌, Result, Ok, Err, OnOk, OnErr}
+use Rattle.std.specs.List.{All, filter, list_any}
+use Rattle.std.specs.Ordering.{nat_cmp, int_eq}
+use Rattle.std.specs.Cmp.{nat_cmp_total}
+use Rattle.std.specs.Result.{is_err}
+use Rattle.std.specs.FinMap.{FinMap, from_entries, from_entries_push, get-from_entries, nat_cmp-IsAntisymmetric}
+use Rattle.std.specs.FinMap.Entries.{find}
+use Rattle.std.specs.FinMap as map
+use Rattle.std.specs.FinSet as set
+use Rattle.std.proofs.lemmas.List.{map-append, length-append, length-map, append-nil, nil_from_length}
+use Rattle.std.proofs.lemmas.List.Elements.{All-nil, All-cons, All-head, All-tail, All-push, All-append, All-map, All-weaker, All-contains, Contains-append_right, filter-append}
+use Rattle.std.proofs.lemmas.List.Folds.{list_any-append}
+use Rattle.std.proofs.lemmas.List.Sums.{sum_by-append, sum_by-cons}
+use Rattle.std.proofs.lemmas.Bool.{lt-ltb, le-ltb, le-leb, eqb-true, eq-eqb, and_parts}
+use Rattle.std.proofs.lemmas.Bool.Decides.{nat_tests}
+use Rattle.std.proofs.lemmas.Int.{ints}
+use Rattle.dimacs_nodes.proofs.Entries.{All-empty, All-insert}
+use Rattle.dimacs_nodes.proofs.Nodes.{get-insert, contains-insert, get-empty, contains-empty}
+use Rattle.dimacs_records.specs.declared.kinds.TextKind.TheVariants.{Min}
+use Rattle.dimacs_records.specs.declared.records.Record.{Record}
+use Rattle.dimacs_records.specs.declared.records.Record.TheVariants.{MinProblem, MinNode, MinArc}
+use Rattle.dimacs_records.specs.declared.reasons.Reason.TheVariants.{ProblemMissing, ProblemTwice, RecordOrder, NodeRange, NodeTwice, BoundOrder, ParallelArc, TooMany, TooFew}
+use Rattle.dimacs_records.specs.declared.faults.TakeError.{TakeError}
+use Rattle.dimacs_records.specs.Earlier.{is_flow_arc, names, connects, counted_in}
+use Rattle.dimacs_records.specs.Readings.{LineRecord, records_of, on_line, AreBefore, IsAllowed, IsFirstCondition, IsComplete}
+use Rattle.dimacs_records.specs.Faults.{FirstAtEnd}
+use Rattle.dimacs_records.specs.FieldReader.{fault_at}
+use Rattle.dimacs_records.proofs.ConditionLemmas.{is_first_condition, is_allowed, is_first_at_end, is_complete}
+use Rattle.dimacs_instance.specs.declared.network.ArcView.{ArcView}
+use Rattle.dimacs_instance.specs.Arcs.{joins, JoinsNodes}
+use Rattle.dimacs_instance.specs.Ends.{has_ends}
+use Rattle.dimacs_instance.specs.Flows.{IsNode, IsSimple, IsWhole}
+use Rattle.dimacs_instance.specs.MinFlows.{MinValue, IsMin, IsSupply, HasBounds}
+use Rattle.dimacs_instance.specs.MinTexts.{min_node, min_arc, min_records, is_of, is_supplied, AreNamed}
+use Rattle.dimacs_instance.specs.MinReading.{MinBegun, IsMinBegun, IsBegunBy, StandsForMin, TakesMin, ends_of_arc, is_named, with_supply, with_arc}
+
+abbrev one_if : Bool → ℕ
+one_if b = cond b 1 0
+
+-- none passes where none is counted, and none is counted where none passes
+none_counted : {X : Type 0} (p : X → Bool) (xs : List X) → list_any p xs ≡ false → count_by p xs ≡ 0
+none_counted p [] h = refl
+none_counted p (x ∷ xs) h = by_test (p x) refl h (none_counted p xs)
+  where
+    by_test : (b : Bool) → p x ≡ b → (b || list_any p xs) ≡ false → (list_any p xs ≡ false → count_by p xs ≡ 0) → count_by p (x ∷ xs) ≡ 0
+    by_test true e h rest = absurd (cc)
+    by_test false e h rest = omega (arith, sum_by-cons (λ y. cond (p y) 1 0) x xs, ap one_if e, rest h)
+
+none_passes : {X : Type 0} (p : X → Bool) (xs : List X) → count_by p xs ≡ 0 → list_any p xs ≡ false
+none_passes p [] h = refl
+none_passes p (x ∷ xs) h = by_test (p x) refl (none_passes p xs)
+  where
+    by_test : (b : Bool) → p x ≡ b → (count_by p xs ≡ 0 → list_any p xs ≡ false) → (b || list_any p xs) ≡ false
+    by_test true e rest = absurd (omega (arith, h, sum_by-cons (λ y. cond (p y) 1 0) x xs, ap one_if e))
+    by_test false e rest = rest (omega (arith, h, sum_by-cons (λ y. cond (p y) 1 0) x xs))
+
+-- an element that is counted at most once is none of those before it
+pub once_before : {X : Type 0} (p : X → Bool) (front back : List X) (x : X) → p x ≡ true → count_by p (front ++ x ∷ back) ≤ 1 → list_any p front ≡ false
+once_before p front back x here once =
+    none_passes p front (omega (arith, once, sum_by-append (λ y. cond (p y) 1 0) front (x ∷ back), sum_by-cons (λ y. cond (p y) 1 0) x back, ap one_if here))
+
+-- one more that may pass
+count_push : {X : Type 0} (p : X → Bool) (xs : List X) (x : X) → count_by p (xs ++ x ∷ []) ≡ count_by p xs + cond (p x) 1 0
+count_push p xs x = omega (arith, sum_by-append (λ y. cond (p y) 1 0) xs (x ∷ []), sum_by-cons (λ y. cond (p y) 1 0) x [])
+
+any_push : {X : Type 0} (p : X → Bool) (xs : List X) (x : X) → list_any p (xs ++ x ∷ []) ≡ (list_any p xs || (p x || false))
+any_push p xs x = list_any-append p xs (x ∷ [])
+
+-- the lines of arcs, and the node lines before them
+any_flow_arc : (named : List (ℕ × ℤ)) (arcs : List ArcView) → list_any is_flow_arc (map min_node named ++ map min_arc arcs) ≡ nat_lt 0 (length arcs)
+any_flow_arc [] [] = refl
+any_flow_arc [] (a ∷ arcs) = sym (lt-ltb 0 (suc (length arcs)) (omega arith))
+any_flow_arc (s ∷ named) arcs = any_flow_arc named arcs
+
+no_arc_names : (id : ℕ) (arcs : List ArcView) → list_any (names id) (map min_arc arcs) ≡ false
+no_arc_names id [] = refl
+no_arc_names id (a ∷ arcs) = no_arc_names id arcs
+
+any_names : (id : ℕ) (named : List (ℕ × ℤ)) (arcs : List ArcView) → list_any (names id) (map min_node named ++ map min_arc arcs) ≡ list_any (is_of id) named
+any_names id [] arcs = no_arc_names id arcs
+any_names id (s ∷ named) arcs = ap (λ b. (s.0 == id) || b) (any_names id named arcs)
+
+any_arc_connects : (t h : ℕ) (arcs : List ArcView) → list_any (connects t h) (map min_arc arcs) ≡ list_any (joins t h) arcs
+any_arc_connects t h [] = refl
+any_arc_connects t h (a ∷ arcs) = ap (λ b. joins t h a || b) (any_arc_connects t h arcs)
+
+any_connects : (t h : ℕ) (named : List (ℕ × ℤ)) (arcs : List ArcView) → list_any (connects t h) (map min_node named ++ map min_arc arcs) ≡ list_any (joins t h) arcs
+any_connects t h [] arcs = any_arc_connects t h arcs
+any_connects t h (s ∷ named) arcs = any_connects t h named arcs
+
+pub any_has_ends : (t h : ℕ) (arcs : List ArcView) → list_any (has_ends t h) (map ends_of_arc arcs) ≡ list_any (joins t h) arcs
+any_has_ends t h [] = refl
+any_has_ends t h (a ∷ arcs) = ap (λ b. joins t h a || b) (any_has_ends t h arcs)
+
+counted_in-arcs : (arcs : List ArcView) → counted_in (map min_arc arcs) ≡ length arcs
+counted_in-arcs [] = refl
+counted_in-arcs (a ∷ arcs) = ap suc (counted_in-arcs arcs)
+
+counted : (named : List (ℕ × ℤ)) (arcs : List ArcView) → counted_in (map min_node named ++ map min_arc arcs) ≡ length arcs
+counted [] arcs = counted_in-arcs arcs
+counted (s ∷ named) arcs = counted named arcs
+
+-- behind the problem line, these node lines and these arcs
+module _ (nodes declared : ℕ) (named : List (ℕ × ℤ)) (arcs : List ArcView) where
+  abbrev earlier : List Record
+  earlier = min_records nodes declared named arcs
+
+  second_problem : (n m : ℕ) → IsFirstCondition earlier (MinProblem n m) (fault_at 0 ProblemTwice)
+  second_problem n m = is_first_condition earlier (MinProblem n m) (fault_at 0 ProblemTwice) refl
+
+  node_behind_arc : (id : ℕ) (s : ℤ) → 0 < length arcs → IsFirstCondition earlier (MinNode id s) (fault_at 0 RecordOrder)
+  node_behind_arc id s some = is_first_condition earlier (MinNode id s) (fault_at 0 RecordOrder) (rw (any_flow_arc named arcs, lt-ltb 0 (length arcs) some) refl)
+
+  module _ (id : ℕ) (s : ℤ) (no_arcs : length arcs ≤ 0) where
+    in_order : list_any is_flow_arc (map min_node named ++ map min_arc arcs) ≡ false
+    in_order = any_flow_arc named arcs ∙ le-ltb 0 (length arcs) no_arcs
+
+    node_above : nodes < id → IsFirstCondition earlier (MinNode id s) (fault_at 2 NodeRange)
+    node_above above = is_first_condition earlier (MinNode id s) (fault_at 2 NodeRange) (rw (in_order, lt-ltb nodes id above) refl)
+
+    node_again : id ≤ nodes → list_any (is_of id) named ≡ true → IsFirstCondition earlier (MinNode id s) (fault_at 2 NodeTwice)
+    node_again within again = is_first_condition earlier (MinNode id s) (fault_at 2 NodeTwice) (rw (in_order, le-ltb nodes id within, any_names id named arcs, again) refl)
+
+    pub node_new : id ≤ nodes → list_any (is_of id) named ≡ false → IsAllowed earlier (MinNode id s)
+    node_new within new = is_allowed earlier (MinNode id s) (rw (in_order, le-ltb nodes id within, any_names id named arcs, new) refl)
+
+  module _ (a : ArcView) where
+    tail_above : nodes < a.tail → IsFirstCondition earlier (min_arc a) (fault_at 2 NodeRange)
+    tail_above above = is_first_condition earlier (min_arc a) (fault_at 2 NodeRange) (rw (lt-ltb nodes a.tail above) refl)
+
+    module _ (tail : a.tail ≤ nodes) where
+      head_above : nodes < a.head → IsFirstCondition earlier (min_arc a) (fault_at 3 NodeRange)
+      head_above above = is_first_condition earlier (min_arc a) (fault_at 3 NodeRange) (rw (le-ltb nodes a.tail tail, lt-ltb nodes a.head above) refl)
+
+      module _ (head : a.head ≤ nodes) where
+        low_negative : int_lt a.low (pos 0) ≡ true → IsFirstCondition earlier (min_arc a) (fault_at 4 BoundOrder)
+        low_negative low = is_first_condition earlier (min_arc a) (fault_at 4 BoundOrder) (rw (le-ltb nodes a.tail tail, le-ltb nodes a.head head, low) refl)
+
+        module _ (low : int_lt a.low (pos 0) ≡ false) where
+          cap_below_low : int_lt a.cap a.low ≡ true → IsFirstCondition earlier (min_arc a) (fault_at 5 BoundOrder)
+          cap_below_low cap = is_first_condition earlier (min_arc a) (fault_at 5 BoundOrder) (rw (le-ltb nodes a.tail tail, le-ltb nodes a.head head, low, cap) refl)
+
+          module _ (cap : int_lt a.cap a.low ≡ false) where
+            parallel : list_any (joins a.tail a.head) arcs ≡ true → IsFirstCondition earlier (min_arc a) (fault_at 0 ParallelArc)
+            parallel again =
+                is_first_condition earlier (min_arc a) (fault_at 0 ParallelArc) (rw (le-ltb nodes a.tail tail, le-ltb nodes a.head head, low, cap, any_connects a.tail a.head named arcs, again) refl)
+
+            module _ (alone : list_any (joins a.tail a.head) arcs ≡ false) where
+              one_too_many : length arcs ≡ declared → IsFirstCondition earlier (min_arc a) (fault_at 0 TooMany)
+              one_too_many full =
+                  let all : nat_le declared (counted_in earlier) ≡ true = rw (counted named arcs) (le-leb declared (length arcs) (omega (arith, full))) in
+                  is_first_condition earlier (min_arc a) (fault_at 0 TooMany) (rw (le-ltb nodes a.tail tail, le-ltb nodes a.head head, low, cap, any_connects a.tail a.head named arcs, alone, all) refl)
+
+              pub one_more_arc : length arcs < declared → IsAllowed earlier (min_arc a)
+              one_more_arc room =
+                  let all : nat_le declared (counted_in earlier) ≡ false = rw (counted named arcs) (grind (arith, nat_tests, room)) in
+                  is_allowed earlier (min_arc a) (rw (le-ltb nodes a.tail tail, le-ltb nodes a.head head, low, cap, any_connects a.tail a.head named arcs, alone, all) refl)
+
+  too_few_arcs : length arcs < declared → FirstAtEnd Min earlier TooFew
+  too_few_arcs room =
+      let few : nat_lt (counted_in earlier) declared ≡ true = rw (counted named arcs) (lt-ltb (length arcs) declared room) in
+      is_first_at_end Min earlier TooFew (rw few refl)
+
+  pub all_arcs : declared ≤ length arcs → IsComplete Min earlier
+  all_arcs full =
+      let few : nat_lt (counted_in earlier) declared ≡ false = rw (counted named arcs) (le-ltb (length arcs) declared full) in
+      is_complete Min earlier (rw few refl)
+
+-- a fact of these records is one of the records that were taken
+of_taken : (P : List Record → Type 0) (b : MinBegun) (rs : List Record) (h : IsBegunBy b rs) → P (min_records b.nodes b.declared h.named b.arcs) → P rs
+of_taken P b rs h p = subst P (sym h.records) p
+
+-- what a reading refuses that was begun
+module _ (b : MinBegun) (rs : List Record) (h : IsBegunBy b rs) where
+  pub refuses_problem : (n m : ℕ) → IsFirstCondition rs (MinProblem n m) (fault_at 0 ProblemTwice)
+  refuses_problem n m = of_taken (λ (rs : List Record). IsFirstCondition rs (MinProblem n m) (fault_at 0 ProblemTwice)) b rs h (second_problem b.nodes b.declared h.named b.arcs n m)
+
+  pub refuses_order : (id : ℕ) (s : ℤ) → 0 < length b.arcs → IsFirstCondition rs (MinNode id s) (fault_at 0 RecordOrder)
+  refuses_order id s some = of_taken (λ (rs : List Record). IsFirstCondition rs (MinNode id s) (fault_at 0 RecordOrder)) b rs h (node_behind_arc b.nodes b.declared h.named b.arcs id s some)
+
+  pub refuses_node_above : (id : ℕ) (s : ℤ) → length b.arcs ≤ 0 → b.nodes < id → IsFirstCondition rs (MinNode id s) (fault_at 2 NodeRange)
+  refuses_node_above id s no_arcs above = of_taken (λ (rs : List Record). IsFirstCondition rs (MinNode id s) (fault_at 2 NodeRange)) b rs h (node_above b.nodes b.declared h.named b.arcs id s no_arcs above)
+
+  pub refuses_node_again : (id : ℕ) (s : ℤ) → length b.arcs ≤ 0 → id ≤ b.nodes → is_named b id ≡ true → IsFirstCondition rs (MinNode id s) (fault_at 2 NodeTwice)
+  refuses_node_again id s no_arcs within again =
+      of_taken (λ (rs : List Record). IsFirstCondition rs (MinNode id s) (fault_at 2 NodeTwice)) b rs h (node_again b.nodes b.declared h.named b.arcs id s no_arcs within (sym (h.nodes_named id) ∙ again))
+
+  allows_node : (id : ℕ) (s : ℤ) → length b.arcs ≤ 0 → id ≤ b.nodes → is_named b id ≡ false → IsAllowed rs (MinNode id s)
+  allows_node id s no_arcs within new = of_taken (λ (rs : List Record). IsAllowed rs (MinNode id s)) b rs h (node_new b.nodes b.declared h.named b.arcs id s no_arcs within (sym (h.nodes_named id) ∙ new))
+
+  module _ (a : ArcView) where
+    pub refuses_tail : b.nodes < a.tail → IsFirstCondition rs (min_arc a) (fault_at 2 NodeRange)
+    refuses_tail above = of_taken (λ (rs : List Record). IsFirstCondition rs (min_arc a) (fault_at 2 NodeRange)) b rs h (tail_above b.nodes b.declared h.named b.arcs a above)
+
+    pub refuses_head : a.tail ≤ b.nodes → b.nodes < a.head → IsFirstCondition rs (min_arc a) (fault_at 3 NodeRange)
+    refuses_head tail above = of_taken (λ (rs : List Record). IsFirstCondition rs (min_arc a) (fault_at 3 NodeRange)) b rs h (head_above b.nodes b.declared h.named b.arcs a tail above)
+
+    module _ (tail : a.tail ≤ b.nodes) (head : a.head ≤ b.nodes) where
+      pub refuses_low : int_lt a.low (pos 0) ≡ true → IsFirstCondition rs (min_arc a) (fault_at 4 BoundOrder)
+      refuses_low low = of_taken (λ (rs : List Record). IsFirstCondition rs (min_arc a) (fault_at 4 BoundOrder)) b rs h (low_negative b.nodes b.declared h.named b.arcs a tail head low)
+
+      pub refuses_cap : int_lt a.low (pos 0) ≡ false → int_lt a.cap a.low ≡ true → IsFirstCondition rs (min_arc a) (fault_at 5 BoundOrder)
+      refuses_cap low cap = of_taken (λ (rs : List Record). IsFirstCondition rs (min_arc a) (fault_at 5 BoundOrder)) b rs h (cap_below_low b.nodes b.declared h.named b.arcs a tail head low cap)
+
+      module _ (low : int_lt a.low (pos 0) ≡ false) (cap : int_lt a.cap a.low ≡ false) where
+        pub refuses_parallel : list_any (joins a.tail a.head) b.arcs ≡ true → IsFirstCondition rs (min_arc a) (fault_at 0 ParallelArc)
+        refuses_parallel again = of_taken (λ (rs : List Record). IsFirstCondition rs (min_arc a) (fault_at 0 ParallelArc)) b rs h (parallel b.nodes b.declared h.named b.arcs a tail head low cap again)
+
+        pub refuses_count : list_any (joins a.tail a.head) b.arcs ≡ false → length b.arcs ≡ b.declared → IsFirstCondition rs (min_arc a) (fault_at 0 TooMany)
+        refuses_count alone full = of_taken (λ (rs : List Record). IsFirstCondition rs (min_arc a) (fault_at 0 TooMany)) b rs h (one_too_many b.nodes b.declared h.named b.arcs a tail head low cap alone full)
+
+        pub takes_arc : list_any (joins a.tail a.head) b.arcs ≡ false → length b.arcs < b.declared → IsAllowed rs (min_arc a) × IsBegunBy (with_arc b a) (rs ++ min_arc a ∷ [])
+        takes_arc alone room = (
+          of_taken (λ (rs : List Record). IsAllowed rs (min_arc a)) b rs h (one_more_arc b.nodes b.declared h.named b.arcs a tail head low cap alone room),
+          record {
+            named = h.named;
+            are_named = h.are_named;
+            supplies = h.supplies;
+            nodes_named = h.nodes_named;
+            records = ap (λ rs. rs ++ min_arc a ∷ []) h.records
+                ∙ ap (λ rs. MinProblem b.nodes b.declared ∷ rs) (append_assoc (map min_node h.named) (map min_arc b.arcs) (min_arc a ∷ []))
+                ∙ ap (λ arcs. MinProblem b.nodes b.declared ∷ map min_node h.named ++ arcs) (sym (map-append min_arc b.arcs (a ∷ [])));
+          },
+        )
+
+  pub refuses_end : length b.arcs < b.declared → FirstAtEnd Min rs TooFew
+  refuses_end room = of_taken (λ (rs : List Record). FirstAtEnd Min rs TooFew) b rs h (too_few_arcs b.nodes b.declared h.named b.arcs room)
+
+  pub completes : b.declared ≤ length b.arcs → IsComplete Min rs
+  completes full = of_taken (λ (rs : List Record). IsComplete Min rs) b rs h (all_arcs b.nodes b.declared h.named b.arcs full)
+
+-- one node line more
+once_more : (named : List (ℕ × ℤ)) (id : ℕ) (s : ℤ) → ((other : ℕ) → count_by (is_of other) named ≤ 1) → list_any (is_of id) named ≡ false → (other : ℕ) → count_by (is_of other) (named ++ (id, s) ∷ []) ≤ 1
+once_more named id s once new other = by_test (id == other) refl
+  where
+    by_test : (b : Bool) → (id == other) ≡ b → count_by (is_of other) (named ++ (id, s) ∷ []) ≤ 1
+    by_test true e =
+        let same : id ≡ other = eqb-true id other e in
+        let none : count_by (is_of other) named ≡ 0 = none_counted (is_of other) named (ap (λ n. list_any (is_of n) named) (sym same) ∙ new) in
+        omega (arith, count_push (is_of other) named (id, s), none, ap one_if e)
+    by_test false e = omega (arith, count_push (is_of other) named (id, s), once other, ap one_if e)
+
+named_more : (nodes : ℕ) (named : List (ℕ × ℤ)) (id : ℕ) (s : ℤ) → AreNamed nodes named → IsNode nodes id → list_any (is_of id) named ≡ false → AreNamed nodes (named ++ (id, s) ∷ [])
+named_more nodes named id s are node new = record {
+  within = All-push (λ (x : ℕ × ℤ). IsNode nodes x.0) named (id, s) are.within node;
+  once = once_more named id s are.once new;
+}
+
+records_more : (nodes declared id : ℕ) (s : ℤ) (rs : List Record) (named : List (ℕ × ℤ)) (arcs : List ArcView) → rs ≡ min_records nodes declared named arcs → arcs ≡ []
+    → rs ++ MinNode id s ∷ [] ≡ min_records nodes declared (named ++ (id, s) ∷ []) arcs
+records_more nodes declared id s rs named arcs is none =
+    ap (λ rs. rs ++ MinNode id s ∷ []) is
+    ∙ ap (λ (arcs : List ArcView). min_records nodes declared named arcs ++ MinNode id s ∷ []) none
+    ∙ ap (λ rs. MinProblem nodes declared ∷ rs ++ MinNode id s ∷ []) (append-nil (map min_node named))
+    ∙ ap (λ rs. MinProblem nodes declared ∷ rs) (sym (map-append min_node named ((id, s) ∷ [])) ∙ sym (append-nil (map min_node (named ++ (id, s) ∷ []))))
+    ∙ ap (λ (arcs : List ArcView). min_records nodes declared (named ++ (id, s) ∷ []) arcs) (sym none)
+
+zero_more : (g z e : Bool) → (g || (e || z)) ≡ ((g || z) || (e || false))
+zero_more true z e = refl
+zero_more false true true = refl
+zero_more false true false = refl
+zero_more false false true = refl
+zero_more false false false = refl
+
+value_more : (g : Option ℤ) (z e : Bool) (s : ℤ) → (is_some (cond e (Some s) g) || z) ≡ ((is_some g || z) || (e || false))
+value_more (Some v) z true s = refl
+value_more (Some v) z false s = refl
+value_more None true true s = refl
+value_more None true false s = refl
+value_more None false true s = refl
+value_more None false false s = refl
+
+no_value : (g : Option ℤ) (z : Bool) → (is_some g || z) ≡ false → g ≡ None
+no_value None z e = refl
+no_value (Some v) z e = absurd (cc)
+
+same_test : (a b : ℕ) → (a == b) ≡ (b == a)
+same_test a b = grind (arith, nat_tests)
+
+-- a zero or a supply is kept, and named
+module _ (b : MinBegun) (rs : List Record) (h : IsBegunBy b rs) (id : ℕ) (s : ℤ) (no_arcs : length b.arcs ≤ 0) (node : IsNode b.nodes id) (new : is_named b id ≡ false) where
+  abbrev more : List (ℕ × ℤ)
+  more = h.named ++ (id, s) ∷ []
+
+  none_before : list_any (is_of id) h.named ≡ false
+  none_before = sym (h.nodes_named id) ∙ new
+
+  any_more : (other : ℕ) → (is_named b other || ((other == id) || false)) ≡ list_any (is_of other) more
+  any_more other = ap₂ (λ x y. x || (y || false)) (h.nodes_named other) (same_test other id) ∙ sym (any_push (is_of other) h.named (id, s))
+
+  -- s where the test for 0 answers false, else none
+  supplied_more : (t : Bool) → int_eq s (pos 0) ≡ t → filter is_supplied more ≡ filter is_supplied h.named ++ cond (not t) ((id, s) ∷ []) []
+  supplied_more t e = filter-append is_supplied h.named ((id, s) ∷ []) ∙ ap (λ b. filter is_supplied h.named ++ cond (not b) ((id, s) ∷ []) []) e
+
+  not_found : find nat_cmp id (filter is_supplied h.named) ≡ None
+  not_found = sym (get-from_entries nat_cmp_total (filter is_supplied h.named) id) ∙ ap (λ m. map.get m id) (sym h.supplies) ∙ no_value (map.get b.supplies id) (set.contains b.zeros id) new
+
+  begun_with : (t : Bool) → int_eq s (pos 0) ≡ t → IsBegunBy (if t then record b { zeros = set.insert b.zeros id } else record b { supplies = map.insert b.supplies id s }) (rs ++ MinNode id s ∷ [])
+  begun_with true e = record {
+    named = more;
+    are_named = named_more b.nodes h.named id s h.are_named node none_before;
+    supplies = h.supplies ∙ ap from_entries (sym (supplied_more true e ∙ append-nil (filter is_supplied h.named)));
+    nodes_named = λ other. ap (λ z. is_some (map.get b.supplies other) || z) (contains-insert b.zeros id other) ∙ zero_more (is_some (map.get b.supplies other)) (set.contains b.zeros other) (other == id) ∙ any_more other;
+    records = records_more b.nodes b.declared id s rs h.named b.arcs h.records (nil_from_length b.arcs (omega arith));
+  }
+  begun_with false e = record {
+    named = more;
+    are_named = named_more b.nodes h.named id s h.are_named node none_before;
+    supplies = ap (λ m. map.insert m id s) h.supplies
+        ∙ sym (ap from_entries (supplied_more false e) ∙ from_entries_push nat_cmp_total nat_cmp-IsAntisymmetric (filter is_supplied h.named) id s not_found);
+    nodes_named = λ other. ap (λ o. is_some o || set.contains b.zeros other) (get-insert b.supplies id other s) ∙ value_more (map.get b.supplies other) (set.contains b.zeros other) (other == id) s ∙ any_more other;
+    records = records_more b.nodes b.declared id s rs h.named b.arcs h.records (nil_from_length b.arcs (omega arith));
+  }
+
+  pub takes_node : IsAllowed rs (MinNode id s) × IsBegunBy (with_supply b id s) (rs ++ MinNode id s ∷ [])
+  takes_node = (allows_node b rs h id s no_arcs node.1 new, begun_with (int_eq s (pos 0)) refl)
+
+-- the law of what was begun
+pub new_law : (nodes declared : ℕ) → nodes ≤ 134217728 → declared ≤ 268435456 → IsMinBegun (record { nodes = nodes; declared = declared; supplies = map.empty; zeros = set.empty; arcs = [] })
+new_law nodes declared nodes_few arcs_few = record {
+  nodes_few = nodes_few;
+  arcs_few = arcs_few;
+  no_more = omega arith;
+  supplied = All-empty (IsSupply nodes);
+  joined = All-nil (JoinsNodes nodes);
+  bounds = All-nil HasBounds;
+  simple = λ t h. omega arith;
+}
+
+pub law_with_supply : (b : MinBegun) (id : ℕ) (s : ℤ) → IsMinBegun b → IsNode b.nodes id → s ≢ pos 0 → IsWhole s → IsMinBegun (record b { supplies = map.insert b.supplies id s })
+law_with_supply b id s law node some whole = record {
+  nodes_few = law.nodes_few;
+  arcs_few = law.arcs_few;
+  no_more = law.no_more;
+  supplied = All-insert (IsSupply b.nodes) b.supplies id s law.supplied (node, some, whole);
+  joined = law.joined;
+  bounds = law.bounds;
+  simple = law.simple;
+}
+
+simple_more : (arcs : List ArcView) (a : ArcView) → IsSimple arcs → list_any (joins a.tail a.head) arcs ≡ false → IsSimple (arcs ++ a ∷ [])
+simple_more arcs a simple alone t h = by_test (joins t h a) refl
+  where
+    by_test : (b : Bool) → joins t h a ≡ b → count_by (joins t h) (arcs ++ a ∷ []) ≤ 1
+    by_test true e =
+        let parts = and_parts (a.tail == t) (a.head == h) e in
+        let tail : a.tail ≡ t = eqb-true a.tail t parts.0 in
+        let head : a.head ≡ h = eqb-true a.head h parts.1 in
+        let none : count_by (joins t h) arcs ≡ 0 = none_counted (joins t h) arcs (ap₂ (λ x y. list_any (joins x y) arcs) (sym tail) (sym head) ∙ alone) in
+        omega (arith, count_push (joins t h) arcs a, none, ap one_if e)
+    by_test false e = omega (arith, count_push (joins t h) arcs a, simple t h, ap one_if e)
+
+pub law_with_arc : (b : MinBegun) (a : ArcView) → IsMinBegun b → JoinsNodes b.nodes a → HasBounds a → list_any (joins a.tail a.head) b.arcs ≡ false → length b.arcs < b.declared → IsMinBegun (with_arc b a)
+law_with_arc b a law joined bounds alone room = record {
+  nodes_few = law.nodes_few;
+  arcs_few = law.arcs_few;
+  no_more = omega (arith, length-append b.arcs (a ∷ []));
+  supplied = law.supplied;
+  joined = All-push (JoinsNodes b.nodes) b.arcs a law.joined joined;
+  bounds = All-push HasBounds b.arcs a law.bounds bounds;
+  simple = simple_more b.arcs a law.simple alone;
+}
+
+-- before the problem line
+pub refuses_node_first : (id : ℕ) (s : ℤ) → IsFirstCondition [] (MinNode id s) (fault_at 0 ProblemMissing)
+refuses_node_first id s = is_first_condition [] (MinNode id s) (fault_at 0 ProblemMissing) refl
+
+pub refuses_arc_first : (a : ArcView) → IsFirstCondition [] (min_arc a) (fault_at 0 ProblemMissing)
+refuses_arc_first a = is_first_condition [] (min_arc a) (fault_at 0 ProblemMissing) refl
+
+pub allows_problem : (n m : ℕ) → IsAllowed [] (MinProblem n m)
+allows_problem n m = is_allowed [] (MinProblem n m) refl
+
+nothing_read : FirstAtEnd Min [] ProblemMissing
+nothing_read = is_first_at_end Min [] ProblemMissing refl
+
+pub takes_problem : (nodes declared : ℕ) (rs : List Record) → rs ≡ []
+    → IsAllowed rs (MinProblem nodes declared) × IsBegunBy (record { nodes = nodes; declared = declared; supplies = map.empty; zeros = set.empty; arcs = [] }) (rs ++ MinProblem nodes declared ∷ [])
+takes_problem nodes declared rs none = (
+  subst (λ (rs : List Record). IsAllowed rs (MinProblem nodes declared)) (sym none) (allows_problem nodes declared),
+  record {
+    named = [];
+    are_named = record { within = All-nil (λ (s : ℕ × ℤ). IsNode nodes s.0); once = λ id. omega arith };
+    supplies = refl;
+    nodes_named = λ id. ap₂ (λ o z. is_some o || z) (get-empty id) (contains-empty id);
+    records = ap (λ rs. rs ++ MinProblem nodes declared ∷ []) none;
+  },
+)
+
+pub refuses_second : (begun : Option MinBegun) (rs : List Record) (n m : ℕ) → is_some begun ≡ true → StandsForMin begun rs → IsFirstCondition rs (MinProblem n m) (fault_at 0 ProblemTwice)
+refuses_second (Some b) rs n m e h = refuses_problem b rs h n m
+refuses_second None rs n m e h = absurd (cc)
+
+pub takes_first : (begun : Option MinBegun) (rs : List Record) (n m : ℕ) → is_some begun ≡ false → StandsForMin begun rs
+    → IsAllowed rs (MinProblem n m) × IsBegunBy (record { nodes = n; declared = m; supplies = map.empty; zeros = set.empty; arcs = [] }) (rs ++ MinProblem n m ∷ [])
+takes_first None rs n m e h = takes_problem n m rs h
+takes_first (Some b) rs n m e h = absurd (cc)
+
+-- where a value was set, or not
+pub law_after_set : {E : Type 0} (b : MinBegun) (id : ℕ) (s : ℤ) (supplies : FinMap nat_cmp ℤ) (r : Result Unit E) → OnOk r (supplies ≡ map.insert b.supplies id s) → OnErr r (supplies ≡ b.supplies)
+    → IsMinBegun b → IsNode b.nodes id → s ≢ pos 0 → IsWhole s → IsMinBegun (record b { supplies = supplies })
+law_after_set b id s supplies (Ok done) set unset law node some whole = subst (λ (m : FinMap nat_cmp ℤ). IsMinBegun (record b { supplies = m })) (sym set) (law_with_supply b id s law node some whole)
+law_after_set b id s supplies (Err e) set unset law node some whole = subst (λ (m : FinMap nat_cmp ℤ). IsMinBegun (record b { supplies = m })) (sym unset) law
+
+pub on_ok_of : {E : Type 0} {P : Type 0} (r : Result Unit E) → is_err r ≡ false → OnOk r P → P
+on_ok_of (Ok done) e h = h
+on_ok_of (Err error) e h = absurd (cc)
+
+-- what a reading stands for that has begun, or not
+pub stands : (o : Option MinBegun) (b : MinBegun) (rs : List Record) → o ≡ Some b → StandsForMin o rs → IsBegunBy b rs
+stands o b rs is h = subst (λ (x : Option MinBegun). StandsForMin x rs) is h
+
+pub refuses_nothing : (o : Option MinBegun) (rs : List Record) → o ≡ None → StandsForMin o rs → FirstAtEnd Min rs ProblemMissing
+refuses_nothing None rs e h = subst (λ (rs : List Record). FirstAtEnd Min rs ProblemMissing) (sym h) nothing_read
+refuses_nothing (Some b) rs e h = absurd (cc)
+
+-- records with the lines that they stand on
+pub taken_on_line : (old new : Option MinBegun) (said : Record) (r : Result Unit TakeError) (line : ℕ) → TakesMin old said r new
+    → OnOk r ((rs : List LineRecord) → StandsForMin old (records_of rs) → AreBefore line rs → StandsForMin new (records_of (rs ++ on_line line said ∷ [])))
+taken_on_line old new said (Ok done) line takes = λ rs h before.
+    subst (StandsForMin new) (sym (map-append (λ (x : LineRecord). x.says) rs (on_line line said ∷ []))) (takes (records_of rs) h).1
+taken_on_line old new said (Err error) line takes = tt

@@ -1,0 +1,123 @@
+-- Supplies by node: their lines and their sums.
+use Rattle.std.proofs.Common.{◌≡◌, ◌≢◌, ℕ, zero, suc, ◌<◌, ◌≤◌, ◌∷◌, ◌++◌, [], List, Option, Some, None, length, map, take, ◌+◌, ◌*◌, ◌^◌, cond, refl, ap, ap₂, sym, ◌∙◌, subst, append_assoc, add-one, arith}
+use Rattle.std.specs.Prelude.{ℤ, pos, negsuc, ◌≤ℤ◌, ◌<ℤ◌, ◌+ℤ◌, ◌-ℤ◌, slice_get, sum_by, unwrap_or}
+use Rattle.std.specs.List.{filter}
+use Rattle.std.specs.FinMap.{FinMap, get, entries, values}
+use Rattle.std.proofs.lemmas.Int.{ints}
+use Rattle.std.proofs.lemmas.List.{map-append, append-nil, take_more}
+use Rattle.std.proofs.lemmas.List.Sums.{sum_by-append, sum_by-cons}
+use Rattle.std.proofs.lemmas.Option.{slice_get_within, get_or_from_slice_get}
+use Rattle.std.proofs.lemmas.Grind.{flat_map-append}
+use Rattle.dimacs_lines.specs.Pages.{PageState, IsWritten}
+use Rattle.dimacs_nodes.proofs.Entries.{entry_of, entries_below, entries_below-none, entries_below-next, entries_are, All-get}
+use Rattle.dimacs_records.specs.declared.records.Record.{Record}
+use Rattle.dimacs_records.specs.declared.records.Record.TheVariants.{MinProblem}
+use Rattle.dimacs_records.specs.Canonical.{canonical_line, canonical_text}
+use Rattle.dimacs_instance.specs.declared.network.ArcView.{ArcView}
+use Rattle.dimacs_instance.specs.Flows.{IsNode, IsWhole}
+use Rattle.dimacs_instance.specs.MinFlows.{MinValue, IsMin, IsSupply, supply_of, positive_part, negative_part}
+use Rattle.dimacs_instance.specs.MinTexts.{min_node, min_arc, min_records, is_supplied}
+use Rattle.dimacs_instance.proofs.MinTextLemmas.{no_supply, no_supply_past, supplied_test}
+
+-- the supplies of the nodes below n
+abbrev pub supplies_below : MinValue → ℕ → List (ℕ × ℤ)
+supplies_below m n = entries_below (get m.supplies) n
+
+module _ (m : MinValue) (law : IsMin m) where
+  entry_is : (id : ℕ) (o : Option ℤ) → get m.supplies id ≡ o → entry_of id o ≡ filter is_supplied ((id, unwrap_or o (pos 0)) ∷ [])
+  entry_is id None e = refl
+  entry_is id (Some v) e = sym (ap (λ b. cond b ((id, v) ∷ []) []) (supplied_test (id, v) (All-get (IsSupply m.nodes) m.supplies id v law.supplied e).1))
+
+  pub first_supplies : supplies_below m 1 ≡ []
+  first_supplies = entries_below-next (get m.supplies) 0 ∙ ap (λ es. es ++ entry_of 0 (get m.supplies 0)) (entries_below-none (get m.supplies)) ∙ ap (entry_of 0) (no_supply m law 0 (λ node. omega (arith, node.0)))
+
+  pub next_supplies : (id : ℕ) → supplies_below m (id + 1) ≡ supplies_below m id ++ filter is_supplied ((id, supply_of m id) ∷ [])
+  next_supplies id = entries_below-next (get m.supplies) id ∙ ap (λ es. supplies_below m id ++ es) (entry_is id (get m.supplies id) refl)
+
+  pub all_supplies : supplies_below m (m.nodes + 1) ≡ entries m.supplies
+  all_supplies = sym (entries_are m.supplies (m.nodes + 1) (no_supply_past m law))
+
+  whole_value : (id : ℕ) (o : Option ℤ) → get m.supplies id ≡ o → IsWhole (unwrap_or o (pos 0))
+  whole_value id None e = (omega (arith, ints), omega (arith, ints))
+  whole_value id (Some v) e = (All-get (IsSupply m.nodes) m.supplies id v law.supplied e).2
+
+  pub whole_supply : (id : ℕ) → IsWhole (supply_of m id)
+  whole_supply id = whole_value id (get m.supplies id) refl
+
+-- the sum of a part of these supplies
+abbrev pub sum_below : (ℤ → ℕ) → MinValue → ℕ → ℕ
+sum_below part m n = sum_by part (map (λ (s : ℕ × ℤ). s.1) (supplies_below m n))
+
+module _ (part : ℤ → ℕ) (nothing : part (pos 0) ≡ 0) (m : MinValue) where
+  sum-entry_of : (id : ℕ) (o : Option ℤ) → sum_by part (map (λ (s : ℕ × ℤ). s.1) (entry_of id o)) ≡ part (unwrap_or o (pos 0))
+  sum-entry_of id None = sym nothing
+  sum-entry_of id (Some v) = sum_by-cons part v [] ∙ omega arith
+
+  pub sum_next : (id : ℕ) → sum_below part m (id + 1) ≡ sum_below part m id + part (supply_of m id)
+  sum_next id =
+      ap (λ es. sum_by part (map (λ (s : ℕ × ℤ). s.1) es)) (entries_below-next (get m.supplies) id)
+      ∙ ap (sum_by part) (map-append (λ (s : ℕ × ℤ). s.1) (supplies_below m id) (entry_of id (get m.supplies id)))
+      ∙ sum_by-append part (map (λ (s : ℕ × ℤ). s.1) (supplies_below m id)) (map (λ (s : ℕ × ℤ). s.1) (entry_of id (get m.supplies id)))
+      ∙ ap (λ n. sum_below part m id + n) (sum-entry_of id (get m.supplies id))
+
+  sum_none : sum_below part m 0 ≡ 0
+  sum_none = ap (λ es. sum_by part (map (λ (s : ℕ × ℤ). s.1) es)) (entries_below-none (get m.supplies))
+
+  pub sum_bound : (few : (id : ℕ) → part (supply_of m id) ≤ 2 ^ 63) (n : ℕ) → sum_below part m n ≤ n * 2 ^ 63
+  sum_bound few zero = omega (arith, sum_none)
+  sum_bound few (suc n) =
+      let next : sum_below part m (suc n) ≡ sum_below part m n + part (supply_of m n) = ap (sum_below part m) (sym (add-one n)) ∙ sum_next n in
+      omega (arith, next, sum_bound few n, few n)
+
+  -- one supply more was added
+  pub sum_more : (id : ℕ) (old new s : ℤ) → old ≡ pos (sum_below part m id) → s ≡ supply_of m id → new ≡ old +ℤ pos (part s) → new ≡ pos (sum_below part m (id + 1))
+  sum_more id old new s old_is s_is new_is = new_is ∙ ap₂ (λ x y. x +ℤ pos (part y)) old_is s_is ∙ ap pos (sym (sum_next id))
+
+  pub sum_first : IsMin m → sum_below part m 1 ≡ 0
+  sum_first law = ap (λ es. sum_by part (map (λ (s : ℕ × ℤ). s.1) es)) (first_supplies m law)
+
+  pub sum_all : IsMin m → sum_below part m (m.nodes + 1) ≡ sum_by part (values m.supplies)
+  sum_all law = ap (λ es. sum_by part (map (λ (s : ℕ × ℤ). s.1) es)) (all_supplies m law)
+
+  pub sum_fits : ((id : ℕ) → part (supply_of m id) ≤ 2 ^ 63) → (n : ℕ) → n ≤ 134217728 → (pos 0 ≤ℤ pos (sum_below part m n)) × (pos (sum_below part m n) <ℤ pos (2 ^ 100))
+  sum_fits few n h = (omega (arith, ints), omega (arith, ints, sum_bound few n, h))
+
+pub positive_few : (s : ℤ) → IsWhole s → positive_part s ≤ 2 ^ 63
+positive_few (pos n) h = omega (arith, ints, h.1)
+positive_few (negsuc n) h = omega arith
+
+pub negative_few : (s : ℤ) → IsWhole s → negative_part s ≤ 2 ^ 63
+negative_few (pos n) h = omega arith
+negative_few (negsuc n) h = omega (arith, ints, h.0)
+
+canonical_text-append : (xs ys : List Record) → canonical_text (xs ++ ys) ≡ canonical_text xs ++ canonical_text ys
+canonical_text-append xs ys = flat_map-append canonical_line xs ys
+
+-- the lines of supplies behind a text
+module _ (start new : Option (List ℕ)) (page : PageState) (text : List ℕ) where
+  pub no_lines : (now : List (ℕ × ℤ)) → now ≡ [] → IsWritten start text new page → IsWritten start (text ++ canonical_text (map min_node now)) new page
+  no_lines now none h = subst (λ t. IsWritten start t new page) (sym (ap (λ es. text ++ canonical_text (map min_node es)) none ∙ append-nil text)) h
+
+  pub same_lines : (before now : List (ℕ × ℤ)) → now ≡ before → IsWritten start (text ++ canonical_text (map min_node before)) new page → IsWritten start (text ++ canonical_text (map min_node now)) new page
+  same_lines before now same h = subst (λ (es : List (ℕ × ℤ)). IsWritten start (text ++ canonical_text (map min_node es)) new page) (sym same) h
+
+  pub next_lines : (before more now : List (ℕ × ℤ)) → now ≡ before ++ more → IsWritten start ((text ++ canonical_text (map min_node before)) ++ canonical_text (map min_node more)) new page
+      → IsWritten start (text ++ canonical_text (map min_node now)) new page
+  next_lines before more now is h =
+      let lines : canonical_text (map min_node now) ≡ canonical_text (map min_node before) ++ canonical_text (map min_node more) =
+      ap (λ es. canonical_text (map min_node es)) is ∙ ap canonical_text (map-append min_node before more) ∙ canonical_text-append (map min_node before) (map min_node more) in
+      subst (λ t. IsWritten start t new page) (append_assoc text (canonical_text (map min_node before)) (canonical_text (map min_node more)) ∙ ap (λ t. text ++ t) (sym lines)) h
+
+-- the problem line and the node lines
+pub node_lines : (nodes count : ℕ) (named : List (ℕ × ℤ)) → canonical_text (MinProblem nodes count ∷ []) ++ canonical_text (map min_node named) ≡ canonical_text (min_records nodes count named [])
+node_lines nodes count named =
+    sym (canonical_text-append (MinProblem nodes count ∷ []) (map min_node named)) ∙ ap (λ t. canonical_text (MinProblem nodes count ∷ t)) (sym (append-nil (map min_node named)))
+
+-- one arc more of the records
+pub next_records : (nodes count : ℕ) (named : List (ℕ × ℤ)) (arcs : List ArcView) (i : ℕ) (a : ArcView) → slice_get arcs i ≡ Some a
+    → min_records nodes count named (take (i + 1) arcs) ≡ min_records nodes count named (take i arcs) ++ min_arc a ∷ []
+next_records nodes count named arcs i a got =
+    let taken : take (i + 1) arcs ≡ take i arcs ++ a ∷ [] = take_more arcs i a (slice_get_within arcs i a got) ∙ ap (λ x. take i arcs ++ x ∷ []) (get_or_from_slice_get arcs i a a got) in
+    ap (min_records nodes count named) taken
+    ∙ ap (λ t. MinProblem nodes count ∷ map min_node named ++ t) (map-append min_arc (take i arcs) (a ∷ []))
+    ∙ ap (λ t. MinProblem nodes count ∷ t) (sym (append_assoc (map min_node named) (map min_arc (take i arcs)) (min_arc a ∷ [])))

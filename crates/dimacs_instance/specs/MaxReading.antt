@@ -1,0 +1,74 @@
+-- How far a maximum flow instance has been read.
+use Rattle.std.specs.Prelude.{ℕ, ◌≡◌, ◌≢◌, ◌≤◌, List, [], ◌∷◌, ◌++◌, map, length, Option, None, Some}
+use Rattle.std.specs.List.{All}
+use Rattle.dimacs_records.specs.declared.records.Record.{Record}
+use Rattle.dimacs_records.specs.declared.records.Record.TheVariants.{MaxProblem, MaxNode}
+use Rattle.dimacs_instance.specs.declared.network.ArcView.{ArcView}
+use Rattle.dimacs_instance.specs.declared.max.EndLine.{EndLine}
+use Rattle.dimacs_instance.specs.declared.max.EndLines.{EndLines}
+use Rattle.dimacs_instance.specs.declared.max.EndLines.TheVariants.{Neither, One, Both}
+use Rattle.dimacs_instance.specs.Arcs.{JoinsNodes}
+use Rattle.dimacs_instance.specs.Ends.{Ends, arc_ends}
+use Rattle.dimacs_instance.specs.Flows.{IsNode, IsSimple, HasCapacityAlone}
+use Rattle.dimacs_instance.specs.MaxTexts.{max_arc}
+
+-- what the problem line declares, the node lines and the arcs behind it
+pub record MaxBegun : Type 0 where
+  pub nodes : ℕ
+  pub declared : ℕ
+  pub ends : EndLines
+  pub arcs : List ArcView
+
+abbrev pub max_node : EndLine → Record
+max_node e = MaxNode e.node e.end
+
+-- the node lines in their order
+abbrev pub end_records : EndLines → List Record
+end_records Neither = []
+end_records (One first) = max_node first ∷ []
+end_records (Both first second) = max_node first ∷ max_node second ∷ []
+
+-- two node lines name different nodes for different ends
+abbrev pub AreApart : EndLines → Type 0
+AreApart (Both first second) = (first.node ≢ second.node) × (first.end ≢ second.end)
+AreApart ends = Unit {0}
+
+-- the node lines name nodes
+abbrev pub AreNodes : ℕ → EndLines → Type 0
+AreNodes nodes Neither = Unit {0}
+AreNodes nodes (One first) = IsNode nodes first.node
+AreNodes nodes (Both first second) = IsNode nodes first.node × IsNode nodes second.node
+
+-- arcs come behind both node lines
+abbrev pub ComeLast : EndLines → List ArcView → Type 0
+ComeLast (Both first second) arcs = Unit {0}
+ComeLast ends arcs = arcs ≡ []
+
+-- a beginning of a maximum flow instance
+pub record IsMaxBegun (begun : MaxBegun) : Type 0 where
+  pub nodes_few : begun.nodes ≤ 134217728
+  pub arcs_few : begun.declared ≤ 268435456
+  pub no_more : length begun.arcs ≤ begun.declared
+  pub ends_within : AreNodes begun.nodes begun.ends
+  pub ends_apart : AreApart begun.ends
+  pub arcs_last : ComeLast begun.ends begun.arcs
+  pub joined : All (JoinsNodes begun.nodes) begun.arcs
+  pub capacities : All HasCapacityAlone begun.arcs
+  pub simple : IsSimple begun.arcs
+
+-- a beginning, and the ends of its arcs in their order
+pub record IsMaxKept (begun : MaxBegun) (seen : List Ends) : Type 0 where
+  pub lawful : IsMaxBegun begun
+  pub seen_is : seen ≡ map arc_ends begun.arcs
+
+-- with one arc more
+abbrev pub with_arc : MaxBegun → ArcView → MaxBegun
+with_arc begun a = record begun { arcs = begun.arcs ++ a ∷ [] }
+
+-- the records that were taken
+abbrev pub max_begun_records : MaxBegun → List Record
+max_begun_records begun = MaxProblem begun.nodes begun.declared ∷ (end_records begun.ends ++ map max_arc begun.arcs)
+
+abbrev pub max_records_so_far : Option MaxBegun → List Record
+max_records_so_far None = []
+max_records_so_far (Some begun) = max_begun_records begun

@@ -1,0 +1,30 @@
+-- How the values of minimum cost flow instances are stored. No public clause cites this module.
+use Rattle.std.specs.Prelude.{ℕ, ℤ, List, Option, refl}
+use Rattle.std.specs.Coded.{Coded, code_by, coded×, coded_ℕ, coded_ℤ, coded_list, coded_option}
+use Rattle.std.specs.Ordering.{nat_cmp}
+use Rattle.std.specs.FinMap.{FinMap}
+use Rattle.std.specs.FinMap as map
+use Rattle.std.specs.FinSet.{FinSet}
+use Rattle.std.specs.FinSet as set
+use Rattle.dimacs_instance.specs.declared.network.ArcView.{ArcView}
+use Rattle.dimacs_instance.specs.MinFlows.{MinValue}
+use Rattle.dimacs_instance.specs.MinReading.{MinBegun}
+
+abbrev arc_code : Coded ArcView
+arc_code =
+    code_by (ℕ × (ℕ × (ℤ × (ℤ × ℤ)))) (coded× coded_ℕ (coded× coded_ℕ (coded× coded_ℤ (coded× coded_ℤ coded_ℤ)))) (λ a. (a.tail, (a.head, (a.low, (a.cap, a.cost)))))
+    (λ p. record { tail = p.0; head = p.1.0; low = p.1.1.0; cap = p.1.1.1.0; cost = p.1.1.1.1 }) (λ _. refl)
+
+abbrev supplies_code : Coded (FinMap nat_cmp ℤ)
+supplies_code = map.code coded_ℕ coded_ℤ
+
+abbrev pub min_code : Coded MinValue
+min_code =
+    code_by (ℕ × (FinMap nat_cmp ℤ × List ArcView)) (coded× coded_ℕ (coded× supplies_code (coded_list arc_code))) (λ m. (m.nodes, (m.supplies, m.arcs)))
+    (λ p. record { nodes = p.0; supplies = p.1.0; arcs = p.1.1 }) (λ _. refl)
+
+abbrev pub begun_code : Coded MinBegun
+begun_code =
+    code_by (ℕ × (ℕ × (FinMap nat_cmp ℤ × (FinSet nat_cmp × List ArcView)))) (coded× coded_ℕ (coded× coded_ℕ (coded× supplies_code (coded× (set.code coded_ℕ) (coded_list arc_code)))))
+    (λ b. (b.nodes, (b.declared, (b.supplies, (b.zeros, b.arcs)))))
+    (λ p. record { nodes = p.0; declared = p.1.0; supplies = p.1.1.0; zeros = p.1.1.1.0; arcs = p.1.1.1.1 }) (λ _. refl)

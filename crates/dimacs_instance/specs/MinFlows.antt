@@ -1,0 +1,50 @@
+-- What minimum cost flow instances are.
+use Rattle.std.specs.Prelude.{ℕ, suc, ℤ, ◌≢◌, ◌≤◌, ◌≤ℤ◌, List, length, pos, negsuc, unwrap_or, sum_by}
+use Rattle.std.specs.List.{All}
+use Rattle.std.specs.Ordering.{nat_cmp}
+use Rattle.std.specs.FinMap.{FinMap, get, entries, values}
+use Rattle.dimacs_instance.specs.declared.network.ArcView.{ArcView}
+use Rattle.dimacs_instance.specs.Arcs.{JoinsNodes}
+use Rattle.dimacs_instance.specs.Flows.{IsWhole, IsSimple, IsNode}
+
+-- a minimum cost flow instance; the map has the supplies that aren't 0, by node
+pub record MinValue : Type 0 where
+  pub nodes : ℕ
+  pub supplies : FinMap nat_cmp ℤ
+  pub arcs : List ArcView
+
+-- a lower bound that isn't negative, and a capacity that isn't less
+abbrev pub HasBounds : ArcView → Type 0
+HasBounds a = (pos 0 ≤ℤ a.low) × (a.low ≤ℤ a.cap) × IsWhole a.cap × IsWhole a.cost
+
+-- a node, and a supply that isn't 0
+abbrev pub IsSupply : ℕ → ℕ × ℤ → Type 0
+IsSupply nodes s = IsNode nodes s.0 × (s.1 ≢ pos 0) × IsWhole s.1
+
+pub record IsMin (m : MinValue) : Type 0 where
+  pub nodes_few : m.nodes ≤ 134217728
+  pub arcs_few : length m.arcs ≤ 268435456
+  pub supplied : All (IsSupply m.nodes) (entries m.supplies)
+  pub joined : All (JoinsNodes m.nodes) m.arcs
+  pub bounds : All HasBounds m.arcs
+  pub simple : IsSimple m.arcs
+
+-- the supply of a node; 0 where the map has none
+abbrev pub supply_of : MinValue → ℕ → ℤ
+supply_of m id = unwrap_or (get m.supplies id) (pos 0)
+
+abbrev pub positive_part : ℤ → ℕ
+positive_part (pos n) = n
+positive_part (negsuc n) = 0
+
+abbrev pub negative_part : ℤ → ℕ
+negative_part (pos n) = 0
+negative_part (negsuc n) = suc n
+
+-- the sum of the positive supplies
+abbrev pub supplied : MinValue → ℕ
+supplied m = sum_by positive_part (values m.supplies)
+
+-- the sum of the negative supplies, without sign
+abbrev pub demanded : MinValue → ℕ
+demanded m = sum_by negative_part (values m.supplies)

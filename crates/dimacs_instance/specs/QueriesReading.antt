@@ -1,0 +1,24 @@
+-- How far queries have been read.
+use Rattle.std.specs.Prelude.{ℕ, ◌≤◌, List, [], ◌∷◌, length, Option, None, Some}
+use Rattle.dimacs_records.specs.declared.records.Record.{Record}
+use Rattle.dimacs_records.specs.declared.records.Record.TheVariants.{QueriesProblem}
+use Rattle.dimacs_instance.specs.QueryTexts.{QueriesValue, HaveIds, kind_asked, query_lines}
+
+-- what the problem line declares, and the queries behind it
+pub record QueriesBegun : Type 0 where
+  pub declared : ℕ
+  pub queries : QueriesValue
+
+-- a beginning of the queries
+pub record AreBegun (begun : QueriesBegun) : Type 0 where
+  pub few : begun.declared ≤ 268435456
+  pub no_more : length (query_lines begun.queries) ≤ begun.declared
+  pub ids : HaveIds begun.queries
+
+-- the records that were taken
+abbrev pub queries_begun_records : QueriesBegun → List Record
+queries_begun_records begun = QueriesProblem (kind_asked begun.queries) begun.declared ∷ query_lines begun.queries
+
+abbrev pub query_records_so_far : Option QueriesBegun → List Record
+query_records_so_far None = []
+query_records_so_far (Some begun) = queries_begun_records begun

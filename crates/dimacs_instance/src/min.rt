@@ -1,0 +1,411 @@
+//! Minimum cost flow instances.
+
+ghost use Rattle.std.specs.Prelude.{◌≡◌, ◌≤◌, ◌<◌, ◌≤ℤ◌, ◌<ℤ◌, ◌+ℤ◌, ◌^◌, ◌++◌, ◌∷◌, [], ℕ, List, Option, length, map, Some, None, pos, OnOk, OnErr, false};
+ghost use Rattle.std.specs.List.{filter, list_any};
+ghost use Rattle.std.specs.FinMap.{entries};
+ghost use Rattle.dimacs_lines.specs.Devices.{CountsFault};
+ghost use Rattle.dimacs_lines.specs.Lines.{lines};
+ghost use Rattle.dimacs_lines.specs.Pages.{IsWritten, FaultsAre};
+ghost use Rattle.dimacs_lines.specs.Puts.{Puts};
+ghost use Rattle.dimacs_records.specs.declared.kinds.TextKind.TheVariants as kinds;
+ghost use Rattle.dimacs_records.specs.declared.records.Record.TheVariants.{MinProblem, MinNode};
+ghost use Rattle.dimacs_records.specs.Canonical.{canonical_text};
+ghost use Rattle.dimacs_records.specs.Readings.{CountsRead, records_of};
+ghost use Rattle.dimacs_records.specs.Faults.{Fault};
+ghost use Rattle.dimacs_records.specs.Texts.{Reads};
+ghost use Rattle.dimacs_instance.specs.Arcs.{joins, JoinsNodes};
+ghost use Rattle.dimacs_instance.specs.MinFlows.{MinValue, IsMin, HasBounds, supply_of, positive_part, negative_part, supplied, demanded};
+ghost use Rattle.dimacs_instance.specs.Flows.{IsNode};
+ghost use Rattle.dimacs_instance.specs.MinTexts.{GivesMin, SpellsMin, canonical_min, is_supplied, min_node, min_arc};
+ghost use Rattle.dimacs_instance.specs.MinReading.{TakesMin, StandsForMin, is_named, with_supply, with_arc};
+
+use crate::ends::SeenEnds;
+use crate::network::{ArcView, Network};
+use crate::plain::PlainArcs;
+use dimacs_lines::{DeviceFault, Memory, Page, Sink, Source};
+use dimacs_nodes::{NodeMap, NodeSet};
+use dimacs_records::{
+    ReadError, Reading, Reason, Record, TakeError, TextKind, read_text, write_record,
+};
+use std::alloc::Global;
+use std::marker::Model;
+
+/// A minimum cost flow instance: a node with a positive supply puts flow into the network, one with a negative supply
+/// takes it out.
+#[derive(Drop)]
+pub struct MinInstance<N: Network> {
+    /// The supplies that aren't 0.
+    supplies: NodeMap<i64>,
+    network: N,
+}
+
+impl<N: Network> Model for MinInstance<N> {
+    ghost use Rattle.dimacs_instance.specs.MinFlows.{MinValue, IsMin};
+    ghost use Rattle.dimacs_instance.specs.MinCodes.{min_code};
+
+    ghost Value = { MinValue };
+
+    ghost coded = { min_code };
+
+    ghost view = { λ m. record { nodes = N.node_count m.network; supplies = m.supplies; arcs = N.list m.network } };
+
+    ghost invariant = { λ m. IsMin (record { nodes = N.node_count m.network; supplies = m.supplies; arcs = N.list m.network }) };
+}
+
+/// How much all nodes together put into the network, and how much they take out.
+#[derive(Clone, Copy, Debug, PartialEq, Eq)]
+pub struct SupplySums {
+    pub supplied: i128,
+    pub demanded: i128,
+}
+
+impl SupplySums {
+    /// The sums with one supply more.
+    #[inline]
+    fn with(self, supply: i64) -> SupplySums
+        requires supplied { (pos 0 ≤ℤ self.supplied) × (self.supplied <ℤ pos (2 ^ 100)) }
+        requires demanded { (pos 0 ≤ℤ self.demanded) × (self.demanded <ℤ pos (2 ^ 100)) }
+        ensures supplied { result.supplied ≡ self.supplied +ℤ pos (positive_part supply) }
+        ensures demanded { result.demanded ≡ self.demanded +ℤ pos (negative_part supply) }
+    {
+        let supply = i128::from(supply);
+        if supply > 0 {
+            SupplySums {
+                supplied: self.supplied + supply,
+                ..self
+            }
+        } else {
+            SupplySums {
+                demanded: self.demanded - supply,
+                ..self
+            }
+        }
+    }
+}
+
+impl<N: Network> MinInstance<N> {
+    pub fn network(&self) -> &N
+        ensures nodes { N.node_count result.now ≡ self.now.nodes }
+        ensures arcs { N.list result.now ≡ self.now.arcs }
+        ensures lawful { IsMin self.now }
+    {
+        &self.network
+    }
+
+    /// The supply of a node, and 0 of an ID that is none.
+    #[inline]
+    pub fn supply(&self, id: u32) -> i64
+        ensures { result ≡ supply_of self.now id }
+    {
+        self.supplies.get(id).unwrap_or(0)
+    }
+
+    /// The sums of the positive supplies and of the negative ones, without sign.
+    pub fn supply_sums(&self) -> SupplySums
+        ensures supplied { result.supplied ≡ pos (supplied self.now) }
+        ensures demanded { result.demanded ≡ pos (demanded self.now) }
+    {
+        let mut sums = SupplySums {
+            supplied: 0,
+            demanded: 0,
+        };
+        for id in 1..=self.network().nodes() {
+            sums = sums.with(self.supply(id));
+        }
+        sums
+    }
+}
+
+/// Makes a minimum cost flow instance of the records of a text.
+#[derive(Drop)]
+pub struct MinReading {
+    alloc: Global,
+    begun: Option<BegunMin>,
+}
+
+impl Model for MinReading {
+    ghost use Rattle.std.specs.Prelude.{Option};
+    ghost use Rattle.std.specs.Coded.{coded_option};
+    ghost use Rattle.dimacs_instance.specs.MinReading.{MinBegun};
+    ghost use Rattle.dimacs_instance.specs.MinCodes.{begun_code};
+
+    ghost Value = { Option MinBegun };
+
+    ghost coded = { coded_option begun_code };
+
+    ghost view = { λ reading. reading.begun };
+}
+
+/// What came behind the problem line: node lines, and then arcs.
+#[derive(Drop)]
+pub(crate) struct BegunMin {
+    declared: u32,
+    supplies: NodeMap<i64>,
+    /// The nodes that are named with supply 0.
+    zeros: NodeSet,
+    network: PlainArcs<ArcView>,
+    seen: SeenEnds,
+}
+
+impl Model for BegunMin {
+    ghost use Rattle.std.specs.Prelude.{◌≡◌, map};
+    ghost use Rattle.dimacs_instance.specs.MinReading.{MinBegun, IsMinBegun, ends_of_arc};
+    ghost use Rattle.dimacs_instance.specs.MinCodes.{begun_code};
+
+    ghost Value = { MinBegun };
+
+    ghost coded = { begun_code };
+
+    ghost view = { λ b. record { nodes = b.network.nodes; declared = b.declared; supplies = b.supplies; zeros = b.zeros; arcs = b.network.arcs } };
+
+    ghost invariant = { λ b. IsMinBegun (record { nodes = b.network.nodes; declared = b.declared; supplies = b.supplies; zeros = b.zeros; arcs = b.network.arcs }) × (b.seen ≡ map ends_of_arc b.network.arcs) };
+}
+
+impl BegunMin {
+    /// Whether a node line was taken for this node.
+    #[inline]
+    fn is_named(&self, id: u32) -> bool
+        ensures { result ≡ is_named self.now id }
+    {
+        self.supplies.get(id).is_some() || self.zeros.contains(id)
+    }
+
+    fn name(&mut self, id: u32, supply: i64) -> Result<(), TakeError>
+        requires { 1 ≤ id }
+        ensures { TakesMin (Some self.old) (MinNode id supply) result (Some self.new) }
+    {
+        if self.network.arcs() > 0 {
+            return Err(TakeError::refused(0, Reason::RecordOrder));
+        }
+        if id > self.network.nodes() {
+            return Err(TakeError::refused(2, Reason::NodeRange));
+        }
+        if self.is_named(id) {
+            return Err(TakeError::refused(2, Reason::NodeTwice));
+        }
+        let Ok(()) = self.keep_supply(id, supply) else {
+            return Err(TakeError::Memory);
+        };
+        Ok(())
+    }
+
+    fn keep_supply(&mut self, id: u32, supply: i64) -> Result<(), Memory>
+        requires { IsNode self.old.nodes id }
+        ensures kept { OnOk result (self.new ≡ with_supply self.old id supply) }
+        ensures unchanged { OnErr result (self.new ≡ self.old) }
+    {
+        if supply == 0 {
+            self.zeros.insert(id)
+        } else {
+            self.supplies.set(id, supply)
+        }
+    }
+
+    #[inline]
+    fn add(&mut self, arc: ArcView) -> Result<(), TakeError>
+        requires tail { 1 ≤ arc.tail }
+        requires head { 1 ≤ arc.head }
+        ensures { TakesMin (Some self.old) (min_arc arc) result (Some self.new) }
+    {
+        if arc.tail > self.network.nodes() {
+            return Err(TakeError::refused(2, Reason::NodeRange));
+        }
+        if arc.head > self.network.nodes() {
+            return Err(TakeError::refused(3, Reason::NodeRange));
+        }
+        if arc.low < 0 {
+            return Err(TakeError::refused(4, Reason::BoundOrder));
+        }
+        if arc.cap < arc.low {
+            return Err(TakeError::refused(5, Reason::BoundOrder));
+        }
+        if self.seen.contains(arc.tail, arc.head) {
+            return Err(TakeError::refused(0, Reason::ParallelArc));
+        }
+        if self.network.arcs() == self.declared {
+            return Err(TakeError::refused(0, Reason::TooMany));
+        }
+        let Ok(()) = self.keep_arc(arc) else {
+            return Err(TakeError::Memory);
+        };
+        Ok(())
+    }
+
+    #[inline]
+    fn keep_arc(&mut self, arc: ArcView) -> Result<(), Memory>
+        requires joined { JoinsNodes self.old.nodes arc }
+        requires bounds { HasBounds arc }
+        requires alone { list_any (joins arc.tail arc.head) self.old.arcs ≡ false }
+        requires room { length self.old.arcs < self.old.declared }
+        ensures kept { OnOk result (self.new ≡ with_arc self.old arc) }
+        ensures unchanged { OnErr result (self.new ≡ self.old) }
+    {
+        self.network.push(arc)?;
+        let seen = self.seen.push(arc.tail, arc.head);
+        if seen.is_err() {
+            self.network.pop();
+        }
+        seen
+    }
+}
+
+impl MinReading {
+    pub fn new(alloc: Global) -> MinReading
+        ensures { result ≡ None }
+    {
+        MinReading { alloc, begun: None }
+    }
+
+    fn start(&mut self, nodes: u32, declared: u32) -> Result<(), TakeError>
+        requires nodes { nodes ≤ 134217728 }
+        requires declared { declared ≤ 268435456 }
+        ensures { TakesMin self.old (MinProblem nodes declared) result self.new }
+    {
+        if self.begun.is_some() {
+            return Err(TakeError::refused(0, Reason::ProblemTwice));
+        }
+        self.begun = Some(BegunMin {
+            declared,
+            supplies: NodeMap::new(self.alloc),
+            zeros: NodeSet::new(self.alloc),
+            network: PlainArcs::new(self.alloc, nodes),
+            seen: SeenEnds::new(self.alloc),
+        });
+        Ok(())
+    }
+
+    fn name(&mut self, id: u32, supply: i64) -> Result<(), TakeError>
+        requires { 1 ≤ id }
+        ensures { TakesMin self.old (MinNode id supply) result self.new }
+    {
+        let Some(begun) = &mut self.begun else {
+            return Err(TakeError::refused(0, Reason::ProblemMissing));
+        };
+        begun.name(id, supply)
+    }
+
+    #[inline(always)]
+    fn add(&mut self, arc: ArcView) -> Result<(), TakeError>
+        requires tail { 1 ≤ arc.tail }
+        requires head { 1 ≤ arc.head }
+        ensures { TakesMin self.old (min_arc arc) result self.new }
+    {
+        let Some(begun) = &mut self.begun else {
+            return Err(TakeError::refused(0, Reason::ProblemMissing));
+        };
+        begun.add(arc)
+    }
+}
+
+impl Reading for MinReading {
+    type Value = MinInstance<PlainArcs<ArcView>>;
+
+    ghost kind = { λ reading. kinds.Min };
+
+    ghost stands_for = { λ reading rs. StandsForMin reading (records_of rs) };
+
+    ghost gives = { λ rs m. GivesMin rs m };
+
+    #[inline(always)]
+    fn take(&mut self, _line: u64, said: Record) -> Result<(), TakeError> {
+        match said {
+            Record::MinProblem { nodes, arcs } => self.start(nodes, arcs),
+            Record::MinNode { id, supply } => self.name(id, supply),
+            Record::MinArc {
+                tail,
+                head,
+                low,
+                cap,
+                cost,
+            } => self.add(ArcView {
+                tail,
+                head,
+                low,
+                cap,
+                cost,
+            }),
+            _ => unreachable!(),
+        }
+    }
+
+    fn finish(self) -> Result<MinInstance<PlainArcs<ArcView>>, TakeError> {
+        let Some(begun) = self.begun else {
+            return Err(TakeError::refused(0, Reason::ProblemMissing));
+        };
+        if begun.network.arcs() < begun.declared {
+            return Err(TakeError::refused(0, Reason::TooFew));
+        }
+        Ok(MinInstance {
+            supplies: begun.supplies,
+            network: begun.network,
+        })
+    }
+}
+
+/// Reads the text of a minimum cost flow instance.
+pub fn read_min<S: Source>(
+    alloc: Global,
+    source: &mut S,
+) -> Result<MinInstance<PlainArcs<ArcView>>, ReadError>
+    ensures reads { (text : List ℕ) → S.coming source.old ≡ Some text → Reads (SpellsMin text) (Fault kinds.Min (lines text)) result }
+    ensures device { CountsRead result (S.faults source.old) (S.faults source.new) }
+{
+    read_text(alloc, TextKind::Min, MinReading::new(alloc), source)
+}
+
+/// Writes the canonical text of a minimum cost flow instance.
+pub fn write_min<N: Network, S: Sink>(
+    instance: &MinInstance<N>,
+    sink: &mut S,
+) -> Result<(), DeviceFault>
+    ensures puts { Puts result (S.accepted sink.old) (canonical_min instance.now) (S.accepted sink.new) }
+    ensures fault { CountsFault result (S.faults sink.old) (S.faults sink.new) }
+    ensures round_trip { SpellsMin (canonical_min instance.now) instance.now }
+    ensures again { (read : MinValue) → SpellsMin (canonical_min instance.now) read → canonical_min read ≡ canonical_min instance.now }
+{
+    let network = instance.network();
+    let nodes = network.nodes();
+    let arcs = network.arcs();
+    let mut page = Page::new();
+    write_record(&mut page, sink, &Record::MinProblem { nodes, arcs });
+    write_supplies(&mut page, sink, instance);
+    for i in 0..arcs {
+        write_record(&mut page, sink, &arc_record(network.arc(i)));
+    }
+    page.finish(sink)
+}
+
+/// Writes the node lines, by ID.
+fn write_supplies<N: Network, S: Sink>(page: &mut Page, sink: &mut S, instance: &MinInstance<N>)
+    ensures written { (start : Option (List ℕ)) (text : List ℕ) → IsWritten start text (S.accepted sink.old) page.old → IsWritten start (text ++ canonical_text (map min_node (entries instance.now.supplies))) (S.accepted sink.new) page.new }
+    ensures faults { (start : ℕ) → FaultsAre start (S.faults sink.old) page.old → FaultsAre start (S.faults sink.new) page.new }
+{
+    for id in 1..=instance.network().nodes() {
+        write_supply(page, sink, id, instance.supply(id));
+    }
+}
+
+/// Writes the line of a node, unless its supply is 0.
+#[inline(always)]
+fn write_supply<S: Sink>(page: &mut Page, sink: &mut S, id: u32, supply: i64)
+    ensures written { (start : Option (List ℕ)) (text : List ℕ) → IsWritten start text (S.accepted sink.old) page.old → IsWritten start (text ++ canonical_text (map min_node (filter is_supplied ((id, supply) ∷ [])))) (S.accepted sink.new) page.new }
+    ensures faults { (start : ℕ) → FaultsAre start (S.faults sink.old) page.old → FaultsAre start (S.faults sink.new) page.new }
+{
+    if supply != 0 {
+        write_record(page, sink, &Record::MinNode { id, supply });
+    }
+}
+
+/// The line of an arc.
+#[inline(always)]
+fn arc_record(arc: ArcView) -> Record
+    ensures { result ≡ min_arc arc }
+{
+    Record::MinArc {
+        tail: arc.tail,
+        head: arc.head,
+        low: arc.low,
+        cap: arc.cap,
+        cost: arc.cost,
+    }
+}

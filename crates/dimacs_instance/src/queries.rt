@@ -1,0 +1,292 @@
+//! Queries for shortest paths.
+
+ghost use Rattle.std.specs.Prelude.{◌≡◌, ◌≤◌, ◌<◌, ◌++◌, [], ℕ, List, Option, Some, IfOk, length, slice_get};
+ghost use Rattle.std.specs.Result.{result_map_both};
+ghost use Rattle.dimacs_lines.specs.Devices.{CountsFault};
+ghost use Rattle.dimacs_lines.specs.Lines.{lines};
+ghost use Rattle.dimacs_lines.specs.Pages.{FaultsAre, IsWritten};
+ghost use Rattle.dimacs_lines.specs.Puts.{Puts};
+ghost use Rattle.dimacs_records.specs.declared.kinds.TextKind.TheVariants as kinds;
+ghost use Rattle.dimacs_records.specs.declared.records.Record.TheVariants.{QueriesProblem, SourceQuery, PairQuery};
+ghost use Rattle.dimacs_records.specs.Canonical.{canonical_line};
+ghost use Rattle.dimacs_records.specs.Faults.{Fault};
+ghost use Rattle.dimacs_records.specs.Readings.{CountsRead, TakesRecord, records_of};
+ghost use Rattle.dimacs_records.specs.Texts.{Reads};
+ghost use Rattle.dimacs_instance.specs.QueryTexts.{QueriesValue, AreLawful, GivesQueries, SpellsQueries, asked, canonical_queries, kind_asked, query_lines};
+ghost use Rattle.dimacs_instance.specs.QueriesReading.{queries_begun_records};
+
+use dimacs_lines::{DeviceFault, Page, Sink, Source};
+use dimacs_records::{
+    Part, QueryKind, ReadError, Reading, Reason, Record, TakeError, TextKind, read_text,
+    write_line, write_record,
+};
+use std::alloc::Global;
+use std::marker::Model;
+
+/// What is asked of a graph. The lists are open: what was read is lawful, and `read_queries` says so.
+#[derive(Drop)]
+pub enum Queries {
+    /// The distances from each source to all nodes.
+    Sources(Vec<u32>),
+    /// The distance from one node of each pair to the other.
+    Pairs(Vec<(u32, u32)>),
+}
+
+impl Queries {
+    pub fn kind(&self) -> QueryKind
+        ensures { result ≡ kind_asked (asked self.now) }
+    {
+        match self {
+            Queries::Sources(_) => QueryKind::Sources,
+            Queries::Pairs(_) => QueryKind::Pairs,
+        }
+    }
+
+    pub fn len(&self) -> usize
+        ensures { result ≡ length (query_lines (asked self.now)) }
+    {
+        match self {
+            Queries::Sources(ids) => ids.len(),
+            Queries::Pairs(pairs) => pairs.len(),
+        }
+    }
+
+    /// The line of a query.
+    #[inline(always)]
+    fn line(&self, i: usize) -> Record
+        requires { i < length (query_lines (asked self.now)) }
+        ensures { slice_get (query_lines (asked self.now)) i ≡ Some result }
+    {
+        match self {
+            Queries::Sources(ids) => Record::SourceQuery { id: ids[i] },
+            Queries::Pairs(pairs) => {
+                let (from, to) = pairs[i];
+                Record::PairQuery { from, to }
+            }
+        }
+    }
+}
+
+/// Queries whose IDs and number lie in their ranges.
+#[derive(Drop)]
+pub struct LawfulQueries {
+    queries: Queries,
+}
+
+impl Model for LawfulQueries {
+    ghost use Rattle.dimacs_instance.specs.QueryTexts.{QueriesValue, AreLawful, asked};
+
+    ghost Value = { QueriesValue };
+
+    ghost view = { λ lawful. asked lawful.queries };
+
+    ghost invariant = { λ lawful. AreLawful (asked lawful.queries) };
+}
+
+impl LawfulQueries {
+    pub fn into_queries(self) -> Queries
+        ensures same { asked result ≡ self }
+        ensures lawful { AreLawful (asked result) }
+    {
+        self.queries
+    }
+}
+
+/// Makes queries of the records of a text.
+#[derive(Drop)]
+pub struct QueriesReading {
+    alloc: Global,
+    begun: Option<BegunQueries>,
+}
+
+impl Model for QueriesReading {
+    ghost use Rattle.std.specs.Prelude.{List};
+    ghost use Rattle.dimacs_records.specs.declared.records.Record.{Record};
+    ghost use Rattle.dimacs_instance.specs.QueriesReading.{query_records_so_far};
+
+    ghost Value = { List Record };
+
+    ghost view = { λ reading. query_records_so_far reading.begun };
+}
+
+/// The queries that came behind the problem line.
+#[derive(Drop)]
+pub(crate) struct BegunQueries {
+    declared: u32,
+    queries: Queries,
+}
+
+impl Model for BegunQueries {
+    ghost use Rattle.dimacs_instance.specs.QueryTexts.{asked};
+    ghost use Rattle.dimacs_instance.specs.QueriesReading.{QueriesBegun, AreBegun};
+
+    ghost Value = { QueriesBegun };
+
+    ghost view = { λ b. record { declared = b.declared; queries = asked b.queries } };
+
+    ghost invariant = { λ b. AreBegun (record { declared = b.declared; queries = asked b.queries }) };
+}
+
+impl BegunQueries {
+    fn add_source(&mut self, id: u32) -> Result<(), TakeError>
+        requires least { 1 ≤ id }
+        requires most { id ≤ 134217728 }
+        ensures { TakesRecord (queries_begun_records self.old) (SourceQuery id) result (queries_begun_records self.new) }
+    {
+        let Queries::Sources(ids) = &mut self.queries else {
+            return Err(TakeError::refused(0, Reason::RecordOrder));
+        };
+        if ids.len() == self.declared as usize {
+            return Err(TakeError::refused(0, Reason::TooMany));
+        }
+        let Ok(()) = ids.push(id) else {
+            return Err(TakeError::Memory);
+        };
+        Ok(())
+    }
+
+    fn add_pair(&mut self, from: u32, to: u32) -> Result<(), TakeError>
+        requires from_least { 1 ≤ from }
+        requires from_most { from ≤ 134217728 }
+        requires to_least { 1 ≤ to }
+        requires to_most { to ≤ 134217728 }
+        ensures { TakesRecord (queries_begun_records self.old) (PairQuery from to) result (queries_begun_records self.new) }
+    {
+        let Queries::Pairs(pairs) = &mut self.queries else {
+            return Err(TakeError::refused(0, Reason::RecordOrder));
+        };
+        if pairs.len() == self.declared as usize {
+            return Err(TakeError::refused(0, Reason::TooMany));
+        }
+        let Ok(()) = pairs.push((from, to)) else {
+            return Err(TakeError::Memory);
+        };
+        Ok(())
+    }
+}
+
+impl QueriesReading {
+    pub fn new(alloc: Global) -> QueriesReading
+        ensures { result ≡ [] }
+    {
+        QueriesReading { alloc, begun: None }
+    }
+
+    fn start(&mut self, asks: QueryKind, declared: u32) -> Result<(), TakeError>
+        requires declared { declared ≤ 268435456 }
+        ensures { TakesRecord self.old (QueriesProblem asks declared) result self.new }
+    {
+        if self.begun.is_some() {
+            return Err(TakeError::refused(0, Reason::ProblemTwice));
+        }
+        let queries = match asks {
+            QueryKind::Sources => Queries::Sources(Vec::new(self.alloc)),
+            QueryKind::Pairs => Queries::Pairs(Vec::new(self.alloc)),
+        };
+        self.begun = Some(BegunQueries { declared, queries });
+        Ok(())
+    }
+
+    #[inline(always)]
+    fn add_source(&mut self, id: u32) -> Result<(), TakeError>
+        requires least { 1 ≤ id }
+        requires most { id ≤ 134217728 }
+        ensures { TakesRecord self.old (SourceQuery id) result self.new }
+    {
+        let Some(begun) = &mut self.begun else {
+            return Err(TakeError::refused(0, Reason::ProblemMissing));
+        };
+        begun.add_source(id)
+    }
+
+    #[inline(always)]
+    fn add_pair(&mut self, from: u32, to: u32) -> Result<(), TakeError>
+        requires from_least { 1 ≤ from }
+        requires from_most { from ≤ 134217728 }
+        requires to_least { 1 ≤ to }
+        requires to_most { to ≤ 134217728 }
+        ensures { TakesRecord self.old (PairQuery from to) result self.new }
+    {
+        let Some(begun) = &mut self.begun else {
+            return Err(TakeError::refused(0, Reason::ProblemMissing));
+        };
+        begun.add_pair(from, to)
+    }
+}
+
+impl Reading for QueriesReading {
+    type Value = LawfulQueries;
+
+    ghost kind = { λ reading. kinds.Queries };
+
+    ghost stands_for = { λ reading rs. records_of rs ≡ reading };
+
+    ghost gives = { λ rs queries. GivesQueries rs queries };
+
+    #[inline(always)]
+    fn take(&mut self, _line: u64, said: Record) -> Result<(), TakeError> {
+        match said {
+            Record::QueriesProblem { asks, count } => self.start(asks, count),
+            Record::SourceQuery { id } => self.add_source(id),
+            Record::PairQuery { from, to } => self.add_pair(from, to),
+            _ => unreachable!(),
+        }
+    }
+
+    fn finish(self) -> Result<LawfulQueries, TakeError> {
+        let Some(begun) = self.begun else {
+            return Err(TakeError::refused(0, Reason::ProblemMissing));
+        };
+        if begun.queries.len() < begun.declared as usize {
+            return Err(TakeError::refused(0, Reason::TooFew));
+        }
+        Ok(LawfulQueries {
+            queries: begun.queries,
+        })
+    }
+}
+
+/// Reads a text of queries.
+pub fn read_queries<S: Source>(alloc: Global, source: &mut S) -> Result<Queries, ReadError>
+    ensures reads { (text : List ℕ) → S.coming source.old ≡ Some text → Reads (SpellsQueries text) (Fault kinds.Queries (lines text)) (result_map_both asked (λ e. e) result) }
+    ensures lawful { IfOk result (λ queries. AreLawful (asked queries)) }
+    ensures device { CountsRead result (S.faults source.old) (S.faults source.new) }
+{
+    match read_text(alloc, TextKind::Queries, QueriesReading::new(alloc), source) {
+        Ok(lawful) => Ok(lawful.into_queries()),
+        Err(error) => Err(error),
+    }
+}
+
+/// Writes the canonical text of queries, of open lists too.
+pub fn write_queries<S: Sink>(queries: &Queries, sink: &mut S) -> Result<(), DeviceFault>
+    ensures puts { Puts result (S.accepted sink.old) (canonical_queries (asked queries.now)) (S.accepted sink.new) }
+    ensures fault { CountsFault result (S.faults sink.old) (S.faults sink.new) }
+    ensures round_trip { AreLawful (asked queries.now) → SpellsQueries (canonical_queries (asked queries.now)) (asked queries.now) }
+    ensures again { AreLawful (asked queries.now) → (read : QueriesValue) → SpellsQueries (canonical_queries (asked queries.now)) read → canonical_queries read ≡ canonical_queries (asked queries.now) }
+{
+    let mut page = Page::new();
+    write_problem(&mut page, sink, queries.kind(), queries.len());
+    for i in 0..queries.len() {
+        write_record(&mut page, sink, &queries.line(i));
+    }
+    page.finish(sink)
+}
+
+/// Writes the problem line, also of a number that none may declare.
+fn write_problem<S: Sink>(page: &mut Page, sink: &mut S, asks: QueryKind, count: usize)
+    ensures written { (start : Option (List ℕ)) (text : List ℕ) → IsWritten start text (S.accepted sink.old) page.old → IsWritten start (text ++ canonical_line (QueriesProblem asks count)) (S.accepted sink.new) page.new }
+    ensures faults { (start : ℕ) → FaultsAre start (S.faults sink.old) page.old → FaultsAre start (S.faults sink.new) page.new }
+{
+    write_line(
+        page,
+        sink,
+        b"p",
+        &[
+            Part::Word(b"aux"),
+            Part::Word(b"sp"),
+            Part::Word(asks.word()),
+            Part::Wide(count as i128),
+        ],
+    );
+}
