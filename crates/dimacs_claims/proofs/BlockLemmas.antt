@@ -1,0 +1,139 @@
+-- One label more in a block.
+use Rattle.std.proofs.Common.{◌≡◌, ℕ, zero, suc, ◌<◌, ◌∷◌, ◌++◌, [], List, Bool, true, false, cond, Option, Some, None, length, slice_index_or, refl, ap, sym, ◌∙◌, subst, arith, inl, inr, ◌⊎◌}
+use Rattle.std.specs.Prelude.{ℤ, pos, is_some, if◌then◌else◌, ◌==◌, ◌||◌, map}
+use Rattle.std.specs.List.{Contains, list_any}
+use Rattle.std.specs.Ordering.{nat_cmp}
+use Rattle.std.specs.Cmp.{unsigned_tied}
+use Rattle.std.specs.BTreeMap.{BTreeMap, get, is_at}
+use Rattle.std.proofs.lemmas.Bool.{eqb-true, eq-eqb}
+use Rattle.std.proofs.lemmas.List.{length-append}
+use Rattle.std.proofs.lemmas.List.Elements.{All-push}
+use Rattle.dimacs_records.specs.Earlier.{or_else}
+use Rattle.dimacs_records.proofs.SplitLemmas.{two_places, same, sooner, later}
+use Rattle.dimacs_claims.specs.declared.block.Label.{Label}
+use Rattle.dimacs_claims.specs.Labels.{BlockValue, label, distance_in, with_label, EachBehind, IsFresh, HasPred, IsLabel, IsBlock}
+use Rattle.dimacs_claims.specs.Distances.{AreDistances}
+
+-- a test before a choice
+test_first : (b : Bool) (d : ℤ) (rest other : Option ℤ) → (if b then Some d else or_else rest other) ≡ or_else (if b then Some d else rest) other
+test_first true d rest other = refl
+test_first false d rest other = refl
+
+abbrev one_label : Label → ℕ → Option ℤ
+one_label l v = if l.id == v then Some l.dist else None
+
+distance_in-push : (ls : List Label) (l : Label) (v : ℕ) → distance_in (ls ++ l ∷ []) v ≡ or_else (distance_in ls v) (one_label l v)
+distance_in-push [] l v = refl
+distance_in-push (m ∷ ls) l v = ap (λ rest. if m.id == v then Some m.dist else rest) (distance_in-push ls l v) ∙ test_first (m.id == v) m.dist (distance_in ls v) (one_label l v)
+
+label-push : (b : BlockValue) (l : Label) (v : ℕ) → label (with_label b l) v ≡ or_else (label b v) (one_label l v)
+label-push b l v = ap (λ rest. if b.source == v then Some (pos 0) else rest) (distance_in-push b.labels l v) ∙ test_first (b.source == v) (pos 0) (distance_in b.labels v) (one_label l v)
+
+or_else-none : (x : Option ℤ) → or_else x None ≡ x
+or_else-none None = refl
+or_else-none (Some d) = refl
+
+-- at the new label's node there was none
+one_more_at : (c : Bool) (d : ℤ) (x : Option ℤ) → (c ≡ true → x ≡ None) → cond c (Some d) x ≡ or_else x (if c then Some d else None)
+one_more_at true d x h = sym (ap (λ y. or_else y (Some d)) (h refl))
+one_more_at false d x h = sym (or_else-none x)
+
+pub are_distances_more : (old new : BTreeMap ℕ ℤ) (b : BlockValue) (l : Label) → AreDistances old b → label b l.id ≡ None → ((q : ℕ) → get nat_cmp new q ≡ cond (is_at (nat_cmp l.id) q) (Some l.dist) (get nat_cmp old q)) → AreDistances new (with_label b l)
+are_distances_more old new b l are fresh more v =
+    more v ∙ (ap (λ t. cond t (Some l.dist) (get nat_cmp old v)) (unsigned_tied l.id v) ∙ (ap (cond (l.id == v) (Some l.dist)) (are v)
+    ∙ (one_more_at (l.id == v) l.dist (label b v) (λ e. subst (λ w. label b w ≡ None) (eqb-true l.id v e) fresh) ∙ sym (label-push b l v))))
+
+-- what is behind each other stays, and the last is behind all others
+pub each_behind_nil : {X : Type 0} (P : List X → X → Type 0) → EachBehind P []
+each_behind_nil P before after x e = absurd (omega (arith, ap length e, length-append before (x ∷ after)))
+
+pub each_behind_push : {X : Type 0} (P : List X → X → Type 0) (xs : List X) (x : X) → EachBehind P xs → P xs x → EachBehind P (xs ++ x ∷ [])
+each_behind_push P xs x each last before after y e = elim (two_places xs before [] after x y e) [
+  | same before_is y_is ↦ subst (λ ys. P ys y) before_is (subst (P xs) y_is last)
+  | sooner rest longer ↦ absurd (omega (arith, ap length e, length-append xs (x ∷ []), length-append before (y ∷ after), ap length longer, length-append xs (x ∷ rest)))
+  | later rest longer ↦ each before rest y longer
+]
+
+some_if : (c : Bool) (d : ℤ) (x : Option ℤ) → is_some (if c then Some d else x) ≡ (c || is_some x)
+some_if true d x = refl
+some_if false d x = refl
+
+abbrev pub label_id : Label → ℕ
+label_id l = l.id
+
+is_some-distance_in : (ls : List Label) (v : ℕ) → is_some (distance_in ls v) ≡ list_any (λ other. other == v) (map label_id ls)
+is_some-distance_in [] v = refl
+is_some-distance_in (l ∷ ls) v = some_if (l.id == v) l.dist (distance_in ls v) ∙ ap (λ t. (l.id == v) || t) (is_some-distance_in ls v)
+
+-- a node has a label where the block's source or an ID of its labels is its own
+pub is_some-label : (b : BlockValue) (v : ℕ) → is_some (label b v) ≡ list_any (λ other. other == v) (b.source ∷ map label_id b.labels)
+is_some-label b v = some_if (b.source == v) (pos 0) (distance_in b.labels v) ∙ ap (λ t. (b.source == v) || t) (is_some-distance_in b.labels v)
+
+abbrev LabelOf : List Label → ℕ → Type 0
+LabelOf ls v = (m : Label) × Contains ls m × (m.id ≡ v)
+
+further : (m : Label) (ls : List Label) (v : ℕ) → LabelOf ls v → LabelOf (m ∷ ls) v
+further m ls v h = (h.0, (suc h.1.0, (omega (arith, h.1.1)), h.1.2), h.2)
+
+label_found : (ls : List Label) (v : ℕ) → is_some (distance_in ls v) ≡ true → LabelOf ls v
+label_found [] v h = absurd (cc)
+label_found (m ∷ ls) v h = by_test (m.id == v) refl (label_found ls v) h
+  where
+    by_test : (c : Bool) → (m.id == v) ≡ c → (is_some (distance_in ls v) ≡ true → LabelOf ls v) → is_some (if c then Some m.dist else distance_in ls v) ≡ true → LabelOf (m ∷ ls) v
+    by_test true e more t = (m, (0, omega arith, refl), eqb-true m.id v e)
+    by_test false e more t = further m ls v (more t)
+
+or_true : (c b : Bool) → (c ≡ true) ⊎ (b ≡ true) → (c || b) ≡ true
+or_true true b h = refl
+or_true false b (inl e) = absurd (cc)
+or_true false b (inr e) = e
+
+label_there : (ls : List Label) (v k : ℕ) (m : Label) → k < length ls → slice_index_or ls k m ≡ m → m.id ≡ v → is_some (distance_in ls v) ≡ true
+label_there [] v k m below e is = absurd (omega (arith, below))
+label_there (l ∷ ls) v zero m below e is =
+    some_if (l.id == v) l.dist (distance_in ls v) ∙ or_true (l.id == v) _ (inl (eq-eqb l.id v (ap label_id e ∙ is)))
+label_there (l ∷ ls) v (suc k) m below e is =
+    some_if (l.id == v) l.dist (distance_in ls v) ∙ or_true (l.id == v) _ (inr (label_there ls v k m (omega (arith, below)) e is))
+
+-- a predecessor with a label
+pub has_pred : (b : BlockValue) (l : Label) → is_some (label b l.pred) ≡ true → HasPred b.source b.labels l
+has_pred b l h = by_test (b.source == l.pred) refl h
+  where
+    by_test : (c : Bool) → (b.source == l.pred) ≡ c → is_some (if c then Some (pos 0) else distance_in b.labels l.pred) ≡ true → HasPred b.source b.labels l
+    by_test true e t = inl (sym (eqb-true b.source l.pred e))
+    by_test false e t = inr (label_found b.labels l.pred t)
+
+pub pred_has_label : (b : BlockValue) (l : Label) → HasPred b.source b.labels l → is_some (label b l.pred) ≡ true
+pred_has_label b l (inl e) = some_if (b.source == l.pred) (pos 0) (distance_in b.labels l.pred) ∙ or_true (b.source == l.pred) _ (inl (eq-eqb _ _ (sym e)))
+pred_has_label b l (inr h) = some_if (b.source == l.pred) (pos 0) (distance_in b.labels l.pred) ∙ or_true (b.source == l.pred) _ (inr (label_there b.labels l.pred h.1.0 h.0 h.1.1 h.1.2 h.2))
+
+true_or_false : (c : Bool) → ¬ (c ≡ true) → c ≡ false
+true_or_false true h = absurd (h refl)
+true_or_false false h = refl
+
+-- a node without a label
+pub is_fresh : (b : BlockValue) (l : Label) → is_some (label b l.id) ≡ false → IsFresh b.source b.labels l
+is_fresh b l h = (
+  λ e. absurd (not_both (or_true (b.source == l.id) _ (inl (eq-eqb _ _ (sym e))))),
+  λ m among e. absurd (not_both (or_true (b.source == l.id) _ (inr (label_there b.labels l.id among.0 m among.1 among.2 e)))),
+)
+  where
+    not_both : ((b.source == l.id) || is_some (distance_in b.labels l.id)) ≡ true → ⊥
+    not_both t = let s = some_if (b.source == l.id) (pos 0) (distance_in b.labels l.id) in absurd (cc)
+
+pub fresh_has_none : (b : BlockValue) (l : Label) → IsFresh b.source b.labels l → is_some (label b l.id) ≡ false
+fresh_has_none b l h = true_or_false _ (λ t. by_test (b.source == l.id) refl t)
+  where
+    by_test : (c : Bool) → (b.source == l.id) ≡ c → is_some (if c then Some (pos 0) else distance_in b.labels l.id) ≡ true → ⊥
+    by_test true e t = h.0 (sym (eqb-true b.source l.id e))
+    by_test false e t = let m = label_found b.labels l.id t in h.1 m.0 m.1 m.2
+
+-- a block with one label more
+pub block_push : (nodes : ℕ) (b : BlockValue) (l : Label) → IsBlock nodes b → IsLabel nodes l → length b.labels < 268435456 → is_some (label b l.id) ≡ false → is_some (label b l.pred) ≡ true → IsBlock nodes (with_label b l)
+block_push nodes b l is label_is room fresh pred = record {
+  source_within = is.source_within;
+  few = omega (arith, room, length-append b.labels (l ∷ []));
+  within = All-push (IsLabel nodes) b.labels l is.within label_is;
+  fresh = each_behind_push (IsFresh b.source) b.labels l is.fresh (is_fresh b l fresh);
+  preds = each_behind_push (HasPred b.source) b.labels l is.preds (has_pred b l pred);
+}

@@ -1,0 +1,319 @@
+-- Sets of nodes, and records behind those of a set that was begun.
+use Rattle.std.proofs.Common.{◌≡◌, ℕ, suc, ◌<◌, ◌≤◌, ◌∷◌, ◌++◌, [], List, Bool, true, false, Option, Some, None, length, map, ◌+◌, ◌-◌, ◌==◌, ◌||◌, refl, ap, ap₂, sym, ◌∙◌, subst, arith}
+use Rattle.std.specs.Prelude.{codes, is_some, nat_lt, nat_le, count_by}
+use Rattle.std.specs.List.{All, filter, list_any, range_with_len}
+use Rattle.std.specs.Ordering.{nat_cmp}
+use Rattle.std.specs.Cmp.{nat_cmp_total}
+use Rattle.std.specs.FinSet.{FinSet, contains, from_list, from_list_push, same_set, contains-from_list_nat, nat_cmp-IsAntisymmetric}
+use Rattle.std.specs.FinSet as set
+use Rattle.std.proofs.lemmas.List.{map-append, length-append, length-map}
+use Rattle.std.proofs.lemmas.List.Elements.{All-nil, All-cons, All-head, All-tail, All-push}
+use Rattle.std.proofs.lemmas.Bool.{lt-ltb, le-ltb, le-leb, eqb-true}
+use Rattle.std.proofs.lemmas.Bool.Decides.{nat_tests}
+use Rattle.std.proofs.lemmas.Int.{ints}
+use Rattle.dimacs_nodes.proofs.Nodes.{contains-insert, contains-empty}
+use Rattle.dimacs_records.specs.declared.kinds.TextKind.TheVariants as kinds
+use Rattle.dimacs_records.specs.declared.records.Record.{Record}
+use Rattle.dimacs_records.specs.declared.records.Record.TheVariants.{CutProblem, CutNode}
+use Rattle.dimacs_records.specs.declared.reasons.Reason.TheVariants.{ProblemMissing, ProblemTwice, NodeRange, NodeTwice, TooMany, TooFew}
+use Rattle.dimacs_records.specs.Earlier.{names, counted_in}
+use Rattle.dimacs_records.specs.Canonical.{CanBeSpelled}
+use Rattle.dimacs_records.specs.Forms.{form, Word, Nodes, Count, Id}
+use Rattle.dimacs_records.specs.Readings.{LineRecord, records_of, IsAllowed, IsFirstCondition, IsComplete}
+use Rattle.dimacs_records.specs.Texts.{AreFaultless}
+use Rattle.dimacs_records.specs.Faults.{FirstAtEnd}
+use Rattle.dimacs_records.specs.FieldReader.{fault_at}
+use Rattle.dimacs_records.proofs.CanonicalLaws.{canonical_spelled, numbered_all}
+use Rattle.dimacs_records.proofs.ConditionLemmas.{is_first_condition, is_allowed, is_first_at_end, is_complete}
+use Rattle.dimacs_records.proofs.SplitLemmas.{image_at}
+use Rattle.dimacs_claims.specs.Cuts.{CutValue, IsCut, IsNode, AreNamed, GivesCut, SpellsCut, canonical_cut, cut_records, empty_cut, ids_in, is_id, with_node}
+use Rattle.dimacs_claims.specs.CutReading.{CutBegun, IsCutBegun, IsCutBegunBy, with_line}
+use Rattle.dimacs_claims.specs.Takings.{StandsFor}
+use Rattle.dimacs_claims.proofs.NodeLists.{once_before, once_more, passing, passing_once, passing_few, none_passing, All-passing, passing_below, passing_listed, passing_more}
+
+any_names : (id : ℕ) (named : List ℕ) → list_any (names id) (map CutNode named) ≡ list_any (is_id id) named
+any_names id [] = refl
+any_names id (x ∷ named) = ap (λ b. (x == id) || b) (any_names id named)
+
+counted : (named : List ℕ) → counted_in (map CutNode named) ≡ length named
+counted [] = refl
+counted (x ∷ named) = ap suc (counted named)
+
+-- behind the problem line and these lines
+module _ (nodes declared : ℕ) (named : List ℕ) where
+  abbrev earlier : List Record
+  earlier = cut_records nodes declared named
+
+  second_problem : (n k : ℕ) → IsFirstCondition earlier (CutProblem n k) (fault_at 0 ProblemTwice)
+  second_problem n k = is_first_condition earlier (CutProblem n k) (fault_at 0 ProblemTwice) refl
+
+  module _ (id : ℕ) where
+    node_above : nodes < id → IsFirstCondition earlier (CutNode id) (fault_at 2 NodeRange)
+    node_above above = is_first_condition earlier (CutNode id) (fault_at 2 NodeRange) (rw (lt-ltb nodes id above) refl)
+
+    node_again : id ≤ nodes → list_any (is_id id) named ≡ true → IsFirstCondition earlier (CutNode id) (fault_at 2 NodeTwice)
+    node_again within again = is_first_condition earlier (CutNode id) (fault_at 2 NodeTwice) (rw (le-ltb nodes id within, any_names id named, again) refl)
+
+    one_too_many : id ≤ nodes → list_any (is_id id) named ≡ false → length named ≡ declared → IsFirstCondition earlier (CutNode id) (fault_at 0 TooMany)
+    one_too_many within new full =
+        let all : nat_le declared (counted_in earlier) ≡ true = rw (counted named) (le-leb declared (length named) (omega (arith, full))) in
+        is_first_condition earlier (CutNode id) (fault_at 0 TooMany) (rw (le-ltb nodes id within, any_names id named, new, all) refl)
+
+    one_more : id ≤ nodes → list_any (is_id id) named ≡ false → length named < declared → IsAllowed earlier (CutNode id)
+    one_more within new room =
+        let all : nat_le declared (counted_in earlier) ≡ false = rw (counted named) (grind (arith, nat_tests, room)) in
+        is_allowed earlier (CutNode id) (rw (le-ltb nodes id within, any_names id named, new, all) refl)
+
+  too_few : length named < declared → FirstAtEnd kinds.Cut earlier TooFew
+  too_few room =
+      let few : nat_lt (counted_in earlier) declared ≡ true = rw (counted named) (lt-ltb (length named) declared room) in
+      is_first_at_end kinds.Cut earlier TooFew (rw few refl)
+
+  all_lines : declared ≤ length named → IsComplete kinds.Cut earlier
+  all_lines full =
+      let few : nat_lt (counted_in earlier) declared ≡ false = rw (counted named) (le-ltb (length named) declared full) in
+      is_complete kinds.Cut earlier (rw few refl)
+
+-- behind nothing
+pub refuses_first : (id : ℕ) → IsFirstCondition [] (CutNode id) (fault_at 0 ProblemMissing)
+refuses_first id = is_first_condition [] (CutNode id) (fault_at 0 ProblemMissing) refl
+
+allows_problem : (n k : ℕ) → IsAllowed [] (CutProblem n k)
+allows_problem n k = is_allowed [] (CutProblem n k) refl
+
+nothing_read : FirstAtEnd kinds.Cut [] ProblemMissing
+nothing_read = is_first_at_end kinds.Cut [] ProblemMissing refl
+
+-- one line more that names a new node
+pub named_more : (nodes : ℕ) (named : List ℕ) (id : ℕ) → AreNamed nodes named → IsNode nodes id → list_any (is_id id) named ≡ false → AreNamed nodes (named ++ id ∷ [])
+named_more nodes named id are node new = record {
+  within = All-push (IsNode nodes) named id are.within node;
+  once = once_more is_id named id (λ other same. ap (λ n. list_any (is_id n) named) (sym (eqb-true id other same)) ∙ new) are.once;
+}
+
+-- the set of what is named
+contains_named : (ids : FinSet nat_cmp) (named : List ℕ) (id : ℕ) → ids ≡ from_list named → contains ids id ≡ list_any (is_id id) named
+contains_named ids named id is = ap (λ s. contains s id) is ∙ contains-from_list_nat named id
+
+pub one_node_more : (c : CutValue) (id : ℕ) → contains c.ids id ≡ false → IsNode c.nodes id → length (ids_in (with_node c id)) ≡ length (ids_in c) + 1
+one_node_more c id new node = passing_more (contains c.ids) (contains (set.insert c.ids id)) c.nodes id new (contains-insert c.ids id) node
+
+pub no_nodes : (nodes : ℕ) → length (ids_in (empty_cut nodes)) ≡ 0
+no_nodes nodes = ap length (none_passing (contains set.empty) (range_with_len 1 nodes) contains-empty)
+
+-- a fact of these records is one of the records that were taken
+of_taken : (P : List Record → Type 0) (b : CutBegun) (rs : List Record) (h : IsCutBegunBy b rs) → P (cut_records b.cut.nodes b.declared h.named) → P rs
+of_taken P b rs h p = subst P (sym h.records) p
+
+module _ (b : CutBegun) (rs : List Record) (h : IsCutBegunBy b rs) where
+  refuses_problem : (n k : ℕ) → IsFirstCondition rs (CutProblem n k) (fault_at 0 ProblemTwice)
+  refuses_problem n k = of_taken (λ (rs : List Record). IsFirstCondition rs (CutProblem n k) (fault_at 0 ProblemTwice)) b rs h (second_problem b.cut.nodes b.declared h.named n k)
+
+  module _ (id : ℕ) where
+    is_named : contains b.cut.ids id ≡ list_any (is_id id) h.named
+    is_named = contains_named b.cut.ids h.named id h.ids
+
+    pub refuses_above : b.cut.nodes < id → IsFirstCondition rs (CutNode id) (fault_at 2 NodeRange)
+    refuses_above above = of_taken (λ (rs : List Record). IsFirstCondition rs (CutNode id) (fault_at 2 NodeRange)) b rs h (node_above b.cut.nodes b.declared h.named id above)
+
+    module _ (within : id ≤ b.cut.nodes) where
+      pub refuses_again : contains b.cut.ids id ≡ true → IsFirstCondition rs (CutNode id) (fault_at 2 NodeTwice)
+      refuses_again again = of_taken (λ (rs : List Record). IsFirstCondition rs (CutNode id) (fault_at 2 NodeTwice)) b rs h (node_again b.cut.nodes b.declared h.named id within (sym is_named ∙ again))
+
+      module _ (new : contains b.cut.ids id ≡ false) where
+        pub refuses_more : length (ids_in b.cut) ≡ b.declared → IsFirstCondition rs (CutNode id) (fault_at 0 TooMany)
+        refuses_more full =
+            of_taken (λ (rs : List Record). IsFirstCondition rs (CutNode id) (fault_at 0 TooMany)) b rs h (one_too_many b.cut.nodes b.declared h.named id within (sym is_named ∙ new) (sym h.count ∙ full))
+
+        pub takes_node : 1 ≤ id → length (ids_in b.cut) < b.declared → IsAllowed rs (CutNode id) × IsCutBegunBy (with_line b id) (rs ++ CutNode id ∷ [])
+        takes_node least room = (
+          of_taken (λ (rs : List Record). IsAllowed rs (CutNode id)) b rs h (one_more b.cut.nodes b.declared h.named id within (sym is_named ∙ new) (omega (arith, h.count, room))),
+          record {
+            named = h.named ++ id ∷ [];
+            are_named = named_more b.cut.nodes h.named id h.are_named (least, within) (sym is_named ∙ new);
+            ids = ap (λ s. set.insert s id) h.ids ∙ sym (from_list_push nat_cmp_total nat_cmp-IsAntisymmetric h.named id);
+            count = omega (arith, one_node_more b.cut id new (least, within), h.count, length-append h.named (id ∷ []));
+            records = ap (λ rs. rs ++ CutNode id ∷ []) h.records ∙ ap (λ rs. CutProblem b.cut.nodes b.declared ∷ rs) (sym (map-append CutNode h.named (id ∷ [])));
+          },
+        )
+
+  pub refuses_end : length (ids_in b.cut) < b.declared → FirstAtEnd kinds.Cut rs TooFew
+  refuses_end room = of_taken (λ (rs : List Record). FirstAtEnd kinds.Cut rs TooFew) b rs h (too_few b.cut.nodes b.declared h.named (omega (arith, h.count, room)))
+
+  pub completes : b.declared ≤ length (ids_in b.cut) → IsComplete kinds.Cut rs
+  completes full = of_taken (λ (rs : List Record). IsComplete kinds.Cut rs) b rs h (all_lines b.cut.nodes b.declared h.named (omega (arith, h.count, full)))
+
+-- the laws of what was begun
+pub empty_law : (nodes : ℕ) → nodes ≤ 134217728 → IsCut (empty_cut nodes)
+empty_law nodes few = record { nodes_few = few; within = λ id e. absurd (cc (contains-empty id, e)) }
+
+pub law_with_node : (c : CutValue) (id : ℕ) → IsCut c → IsNode c.nodes id → IsCut (with_node c id)
+law_with_node c id law node = record { nodes_few = law.nodes_few; within = λ other e. by_test other (other == id) refl (sym (contains-insert c.ids id other) ∙ e) }
+  where
+    by_test : (other : ℕ) (b : Bool) → (other == id) ≡ b → ((other == id) || contains c.ids other) ≡ true → IsNode c.nodes other
+    by_test other true same e = let is : other ≡ id = eqb-true other id same in rw is node
+    by_test other false apart e = law.within other (sym (ap (λ b. b || contains c.ids other) apart) ∙ e)
+
+pub begun_law : (nodes declared : ℕ) → nodes ≤ 134217728 → declared ≤ 268435456 → IsCutBegun (record { declared = declared; cut = empty_cut nodes })
+begun_law nodes declared nodes_few few = record { few = few; no_more = omega (arith, no_nodes nodes); is_cut = empty_law nodes nodes_few }
+
+pub law_with_line : (b : CutBegun) (id : ℕ) → IsCutBegun b → IsNode b.cut.nodes id → contains b.cut.ids id ≡ false → length (ids_in b.cut) < b.declared → IsCutBegun (with_line b id)
+law_with_line b id law node new room = record { few = law.few; no_more = omega (arith, one_node_more b.cut id new node, room); is_cut = law_with_node b.cut id law.is_cut node }
+
+takes_problem : (nodes declared : ℕ) (rs : List Record) → rs ≡ []
+    → IsAllowed rs (CutProblem nodes declared) × IsCutBegunBy (record { declared = declared; cut = empty_cut nodes }) (rs ++ CutProblem nodes declared ∷ [])
+takes_problem nodes declared rs none = (
+  subst (λ (rs : List Record). IsAllowed rs (CutProblem nodes declared)) (sym none) (allows_problem nodes declared),
+  record {
+    named = [];
+    are_named = record { within = All-nil (IsNode nodes); once = λ id. omega arith };
+    ids = refl;
+    count = no_nodes nodes;
+    records = ap (λ rs. rs ++ CutProblem nodes declared ∷ []) none;
+  },
+)
+
+pub refuses_second : (begun : Option CutBegun) (rs : List Record) (n k : ℕ) → is_some begun ≡ true → StandsFor IsCutBegunBy begun rs → IsFirstCondition rs (CutProblem n k) (fault_at 0 ProblemTwice)
+refuses_second (Some b) rs n k e h = refuses_problem b rs h n k
+refuses_second None rs n k e h = absurd (cc)
+
+pub takes_first : (begun : Option CutBegun) (rs : List Record) (n k : ℕ) → is_some begun ≡ false → StandsFor IsCutBegunBy begun rs
+    → IsAllowed rs (CutProblem n k) × IsCutBegunBy (record { declared = k; cut = empty_cut n }) (rs ++ CutProblem n k ∷ [])
+takes_first None rs n k e h = takes_problem n k rs h
+takes_first (Some b) rs n k e h = absurd (cc)
+
+pub refuses_nothing : (o : Option CutBegun) (rs : List Record) → o ≡ None → StandsFor IsCutBegunBy o rs → FirstAtEnd kinds.Cut rs ProblemMissing
+refuses_nothing None rs e h = subst (λ (rs : List Record). FirstAtEnd kinds.Cut rs ProblemMissing) (sym h) nothing_read
+refuses_nothing (Some b) rs e h = absurd (cc)
+
+-- what was begun and is whole gives its set
+pub gives_cut : (b : CutBegun) (rs : List LineRecord) → IsCutBegunBy b (records_of rs) → b.declared ≡ length (ids_in b.cut) → IsCut b.cut → GivesCut rs b.cut
+gives_cut b rs h full law = record {
+  named = h.named;
+  are_named = h.are_named;
+  ids = h.ids;
+  records = h.records ∙ ap (λ k. cut_records b.cut.nodes k h.named) (full ∙ h.count);
+  is_cut = law;
+}
+
+allowed_at : (before here : List Record) (r s : Record) → before ≡ here → r ≡ s → IsAllowed here s → IsAllowed before r
+allowed_at before here r s before_is r_is h = rw (before_is, r_is) h
+
+-- the lines of a set are refused for nothing
+lines_allowed : (nodes : ℕ) (named : List ℕ) → AreNamed nodes named → (before after : List Record) (r : Record) → cut_records nodes (length named) named ≡ before ++ r ∷ after → IsAllowed before r
+lines_allowed nodes named are [] after r e = let first : r ≡ CutProblem nodes (length named) = cc in rw first (allows_problem nodes (length named))
+lines_allowed nodes named are (b ∷ bs) after r e =
+    let first : b ≡ CutProblem nodes (length named) = cc in
+    let at = image_at CutNode named bs after r (cc) in
+    let room : length at.front < length named = omega (arith, ap length at.xs_are, length-append at.front (at.x ∷ at.back)) in
+    let within : All (IsNode nodes) (at.front ++ at.x ∷ at.back) = subst (All (IsNode nodes)) at.xs_are are.within in
+    let node : IsNode nodes at.x = All-head (IsNode nodes) at.x at.back (All-after (IsNode nodes) at.front (at.x ∷ at.back) within) in
+    let once : count_by (is_id at.x) (at.front ++ at.x ∷ at.back) ≤ 1 = subst (λ (xs : List ℕ). count_by (is_id at.x) xs ≤ 1) at.xs_are (are.once at.x) in
+    let new : list_any (is_id at.x) at.front ≡ false = once_before (is_id at.x) at.front at.back at.x (grind (arith, nat_tests)) once in
+    allowed_at (b ∷ bs) (cut_records nodes (length named) at.front) r (CutNode at.x) (ap₂ (λ x xs. x ∷ xs) first at.before_is) at.y_is (one_more nodes (length named) at.front at.x node.1 new room)
+  where
+    All-after : {X : Type 0} (P : X → Type 0) (front back : List X) → All P (front ++ back) → All P back
+    All-after P [] back h = h
+    All-after P (x ∷ front) back h = All-after P front back (All-tail P x (front ++ back) h)
+
+pub cut_faultless : (rs : List LineRecord) (c : CutValue) → GivesCut rs c → AreFaultless kinds.Cut (records_of rs)
+cut_faultless rs c h =
+    rw h.records (record { allowed = lines_allowed c.nodes h.named h.are_named; complete = all_lines c.nodes (length h.named) h.named (omega arith) })
+
+-- the set that records give
+id_of : Record → ℕ
+id_of (CutNode id) = id
+id_of r = 0
+
+cut_of : List Record → CutValue
+cut_of (CutProblem nodes count ∷ rs) = record { nodes = nodes; ids = from_list (map id_of rs) }
+cut_of rs = empty_cut 0
+
+ids_of-lines : (named : List ℕ) → map id_of (map CutNode named) ≡ named
+unfolding id_of
+ids_of-lines [] = refl
+ids_of-lines (id ∷ named) = ap (λ xs. id ∷ xs) (ids_of-lines named)
+
+cut_of-records : (nodes count : ℕ) (named : List ℕ) → cut_of (cut_records nodes count named) ≡ record { nodes = nodes; ids = from_list named }
+unfolding cut_of
+cut_of-records nodes count named = ap (λ (xs : List ℕ). record { nodes = nodes; ids = from_list xs }) (ids_of-lines named)
+
+cut_given : (rs : List LineRecord) (c : CutValue) → GivesCut rs c → cut_of (records_of rs) ≡ c
+cut_given rs c h = ap cut_of h.records ∙ cut_of-records c.nodes (length h.named) h.named ∙ ap (λ (s : FinSet nat_cmp). record { nodes = c.nodes; ids = s }) (sym h.ids)
+
+pub one_cut : (rs : List LineRecord) (c d : CutValue) → GivesCut rs c → GivesCut rs d → c ≡ d
+one_cut rs c d a b = sym (cut_given rs c a) ∙ cut_given rs d b
+
+pub few_ids : (c : CutValue) → IsCut c → length (ids_in c) ≤ 134217728
+few_ids c law = omega (arith, passing_few (contains c.ids) c.nodes, law.nodes_few)
+
+ids_named : (c : CutValue) → IsCut c → AreNamed c.nodes (ids_in c)
+ids_named c law = record {
+  within = All-passing (IsNode c.nodes) (contains c.ids) (range_with_len 1 c.nodes) law.within;
+  once = passing_once (contains c.ids) c.nodes;
+}
+
+set_of_ids : (c : CutValue) → IsCut c → c.ids ≡ from_list (ids_in c)
+set_of_ids c law =
+    same_set nat_cmp_total nat_cmp-IsAntisymmetric c.ids (from_list (ids_in c)) (λ id. sym (contains-from_list_nat (ids_in c) id ∙ passing_listed (contains c.ids) c.nodes id (law.within id)))
+
+-- a node that was in the set changes nothing
+pub again_same : (s : FinSet nat_cmp) (id : ℕ) → contains s id ≡ true → set.insert s id ≡ s
+again_same s id h = same_set nat_cmp_total nat_cmp-IsAntisymmetric (set.insert s id) s (λ other. contains-insert s id other ∙ by_test other (other == id) refl)
+  where
+    by_test : (other : ℕ) (b : Bool) → (other == id) ≡ b → (b || contains s other) ≡ contains s other
+    by_test other true e = sym (ap (contains s) (eqb-true other id e) ∙ h)
+    by_test other false e = refl
+
+problem_fits : (nodes count : ℕ) → nodes ≤ 134217728 → count ≤ 268435456 → CanBeSpelled kinds.Cut (CutProblem nodes count)
+problem_fits nodes count nodes_few few = record {
+  form = form (codes "p") (Word (codes "cut") ∷ Nodes ∷ Count ∷ []);
+  of_kind = (0, omega arith, refl);
+  for_kind = refl;
+  letter = refl;
+  fit = (refl, ((omega (arith, ints), omega (arith, ints, nodes_few)), ((omega (arith, ints), omega (arith, ints, few)), tt)));
+}
+
+line_fits : (id : ℕ) → 1 ≤ id → id ≤ 134217728 → CanBeSpelled kinds.Cut (CutNode id)
+line_fits id least most = record {
+  form = form (codes "u") (Id ∷ []);
+  of_kind = (1, omega arith, refl);
+  for_kind = refl;
+  letter = refl;
+  fit = ((omega (arith, ints, least), omega (arith, ints, most)), tt);
+}
+
+lines_fit : (nodes : ℕ) (named : List ℕ) → nodes ≤ 134217728 → All (IsNode nodes) named → All (CanBeSpelled kinds.Cut) (map CutNode named)
+lines_fit nodes [] few are = All-nil (CanBeSpelled kinds.Cut)
+lines_fit nodes (id ∷ named) few are =
+    let node : IsNode nodes id = All-head (IsNode nodes) id named are in
+    All-cons (CanBeSpelled kinds.Cut) (CutNode id) (map CutNode named) (line_fits id node.0 (omega (arith, node.1, few))) (lines_fit nodes named few (All-tail (IsNode nodes) id named are))
+
+-- the canonical text of a set spells it
+pub cut_round_trip : (c : CutValue) → IsCut c → SpellsCut (canonical_cut c) c
+cut_round_trip c law =
+    let all = cut_records c.nodes (length (ids_in c)) (ids_in c) in
+    let few = few_ids c law in
+    let problem : CanBeSpelled kinds.Cut (CutProblem c.nodes (length (ids_in c))) = problem_fits c.nodes (length (ids_in c)) law.nodes_few (omega (arith, few)) in
+    let lines : All (CanBeSpelled kinds.Cut) (map CutNode (ids_in c)) = lines_fit c.nodes (ids_in c) law.nodes_few (ids_named c law).within in
+    let fit : All (CanBeSpelled kinds.Cut) all = All-cons (CanBeSpelled kinds.Cut) (CutProblem c.nodes (length (ids_in c))) (map CutNode (ids_in c)) problem lines in
+    record {
+      said = map (λ (r : Record). Some r) all;
+      spelled = canonical_spelled kinds.Cut all fit (omega (arith, few, length-map (ids_in c) CutNode));
+      given = record {
+        named = ids_in c;
+        are_named = ids_named c law;
+        ids = set_of_ids c law;
+        records = numbered_all all;
+        is_cut = law;
+      };
+    }
+
+-- the lines of the nodes below this ID
+abbrev pub lines_below : CutValue → ℕ → List Record
+lines_below c id = map CutNode (passing (contains c.ids) (id - 1))
+
+pub lines_below_next : (first : Record) (c : CutValue) (id : ℕ) → 1 ≤ id → first ∷ lines_below c (id + 1) ≡ (first ∷ lines_below c id) ++ map CutNode (filter (contains c.ids) (id ∷ []))
+lines_below_next first c id least =
+    ap (λ ids. first ∷ map CutNode ids) (passing_below (contains c.ids) id least)
+    ∙ ap (λ rs. first ∷ rs) (map-append CutNode (passing (contains c.ids) (id - 1)) (filter (contains c.ids) (id ∷ [])))

@@ -1,0 +1,213 @@
+-- The records of labels have no fault, are those of no others, and can be spelled.
+use Rattle.std.proofs.Common.{◌≡◌, ℕ, suc, ◌<◌, ◌≤◌, ◌+◌, ◌∷◌, ◌++◌, [], List, false, Option, Some, None, length, map, refl, ap, sym, ◌∙◌, subst, arith, append_assoc}
+use Rattle.std.specs.Prelude.{codes, nat_le}
+use Rattle.std.specs.List.{All, list_any, flat_map}
+use Rattle.std.proofs.lemmas.Bool.{le-ltb, ne_eqb}
+use Rattle.std.proofs.lemmas.Bool.Decides.{nat_tests}
+use Rattle.std.proofs.lemmas.Int.{ints}
+use Rattle.std.proofs.lemmas.List.{length-append, length-map, append-nil, map-append}
+use Rattle.std.proofs.lemmas.List.Elements.{All-nil, All-cons, All-head, All-tail, All-append}
+use Rattle.dimacs_records.specs.declared.kinds.TextKind.TheVariants.{Labels}
+use Rattle.dimacs_records.specs.declared.records.Record.{Record}
+use Rattle.dimacs_records.specs.declared.records.Record.TheVariants.{LabelsProblem, LabelsBlock, LabelsNode}
+use Rattle.dimacs_records.specs.Blocks.{Block, is_short_block}
+use Rattle.dimacs_records.specs.Forms.{form, Word, Nodes, Count, Id, Wide}
+use Rattle.dimacs_records.specs.Canonical.{CanBeSpelled}
+use Rattle.dimacs_records.specs.Readings.{LineRecord, records_of, IsAllowed, IsComplete}
+use Rattle.dimacs_records.specs.Texts.{AreFaultless}
+use Rattle.dimacs_records.proofs.CanonicalLaws.{canonical_spelled, numbered_all}
+use Rattle.dimacs_claims.specs.declared.block.Label.{Label}
+use Rattle.dimacs_claims.specs.Labels.{BlockValue, LabelsValue, AreLabels, EachBehind, IsBlock, IsLabel, IsFresh, HasPred, IsNewSource}
+use Rattle.dimacs_claims.specs.LabelTexts.{label_line, block_lines, label_records, GivesLabels, SpellsLabels, canonical_labels, FitText}
+use Rattle.dimacs_claims.proofs.BlockLemmas.{label_id, is_some-label, fresh_has_none, pred_has_label}
+use Rattle.dimacs_claims.proofs.LabelStates.{Say, opened, is_source, say_problem, say_block, say_label, first_problem, block_allowed, label_allowed, all_there}
+use Rattle.dimacs_claims.proofs.LabelRecords.{source_of, say_labels}
+
+-- each record is allowed behind the earlier ones and those before it
+AllAllowed : List Record → List Record → Type 0
+AllAllowed earlier [] = Unit {0}
+AllAllowed earlier (r ∷ rs) = IsAllowed earlier r × AllAllowed (earlier ++ r ∷ []) rs
+
+all_allowed-append : (xs ys earlier : List Record) → AllAllowed earlier xs → AllAllowed (earlier ++ xs) ys → AllAllowed earlier (xs ++ ys)
+unfolding AllAllowed
+all_allowed-append [] ys earlier a b = subst (λ e. AllAllowed e ys) (append-nil earlier) b
+all_allowed-append (x ∷ xs) ys earlier a b = (a.0, all_allowed-append xs ys (earlier ++ x ∷ []) a.1 (subst (λ e. AllAllowed e ys) (sym (append_assoc earlier (x ∷ []) xs)) b))
+
+allowed_at : (before all after earlier : List Record) (r : Record) → AllAllowed earlier all → all ≡ before ++ r ∷ after → IsAllowed (earlier ++ before) r
+unfolding AllAllowed
+allowed_at before [] after earlier r a e = absurd (omega (arith, ap length e, length-append before (r ∷ after)))
+allowed_at [] (x ∷ xs) after earlier r a e = let first : x ≡ r = cc in subst (λ t. IsAllowed t r) (sym (append-nil earlier)) (subst (IsAllowed earlier) first a.0)
+allowed_at (b ∷ before) (x ∷ xs) after earlier r a e =
+    let first : x ≡ b = cc in
+    subst (λ t. IsAllowed t r) (append_assoc earlier (b ∷ []) before) (subst (λ y. IsAllowed ((earlier ++ y ∷ []) ++ before) r) first (allowed_at before xs after (earlier ++ x ∷ []) r a.1 (cc)))
+
+-- where each element has something behind the ones before it
+each_here : {X : Type 0} (P : List X → X → Type 0) (done more : List X) (x : X) → EachBehind P (done ++ x ∷ more) → P done x
+each_here P done more x each = each done more x refl
+
+each_next : {X : Type 0} (P : List X → X → Type 0) (done more : List X) (x : X) → EachBehind P (done ++ x ∷ more) → EachBehind P ((done ++ x ∷ []) ++ more)
+each_next P done more x each = subst (EachBehind P) (sym (append_assoc done (x ∷ []) more)) each
+
+abbrev with_labels : ℕ → List Label → BlockValue
+with_labels source ls = record { source = source; labels = ls }
+
+not_full : (count n : ℕ) → n < count → nat_le count n ≡ false
+not_full count n room = grind (arith, nat_tests, room)
+
+-- labels of a block that is begun are allowed
+labels_allowed : (ls done : List Label) (earlier : List Record) (nodes declared : ℕ) (sources : List ℕ) (source count : ℕ) → Say earlier nodes declared sources (Some (opened source count (map label_id done)))
+    → length done + length ls ≡ count → All (IsLabel nodes) ls → EachBehind (IsFresh source) (done ++ ls) → EachBehind (HasPred source) (done ++ ls) → AllAllowed earlier (map label_line ls)
+unfolding AllAllowed
+labels_allowed [] done earlier nodes declared sources source count say all within fresh preds = tt
+labels_allowed (l ∷ ls) done earlier nodes declared sources source count say all within fresh preds =
+    let is = All-head (IsLabel nodes) l ls within in
+    let b = with_labels source done in
+    let new = sym (is_some-label b l.id) ∙ fresh_has_none b l (each_here (IsFresh source) done ls l fresh) in
+    let known = sym (is_some-label b l.pred) ∙ pred_has_label b l (each_here (HasPred source) done ls l preds) in
+    let room : nat_le count (length (map label_id done)) ≡ false = rw (length-map done label_id) (not_full count (length done) (omega (arith, all))) in
+    let next = subst (λ ids. Say (earlier ++ label_line l ∷ []) nodes declared sources (Some (opened source count ids))) (sym (map-append label_id done (l ∷ []))) (say_label earlier nodes declared sources source count (map label_id done) say l.id l.dist l.pred) in (
+      label_allowed earlier nodes declared sources (Some (opened source count (map label_id done))) say l.id l.dist l.pred refl is.id.1 is.pred.1 new room known,
+      labels_allowed ls (done ++ l ∷ []) (earlier ++ label_line l ∷ []) nodes declared sources source count next (omega (arith, all, length-append done (l ∷ []))) (All-tail (IsLabel nodes) l ls within)
+          (each_next (IsFresh source) done ls l fresh) (each_next (HasPred source) done ls l preds),
+    )
+
+-- a source that no block has
+other_sources : (done : List BlockValue) (b : BlockValue) → IsNewSource done b → list_any (is_source b.source) (map source_of done) ≡ false
+other_sources [] b new = refl
+other_sources (d ∷ done) b new =
+    rw (ne_eqb d.source b.source (new d (0, omega arith, refl))) (other_sources done b (λ o among. new o (suc among.0, omega (arith, among.1), among.2)))
+
+full_is_not_short : (source count : ℕ) (ids : List ℕ) → length ids ≡ count → is_short_block (Some (opened source count ids)) ≡ false
+full_is_not_short source count ids full = le-ltb (length ids) count (omega (arith, full))
+
+-- behind other blocks, blocks are allowed, and with them the text is complete
+record BlocksFit (earlier : List Record) (rs : List Record) : Type 0 where
+  allowed : AllAllowed earlier rs
+  complete : IsComplete Labels (earlier ++ rs)
+
+blocks_fit : (bs done : List BlockValue) (earlier : List Record) (nodes declared : ℕ) (last : Option Block) → Say earlier nodes declared (map source_of done) last → is_short_block last ≡ false
+    → length done + length bs ≡ declared → All (IsBlock nodes) bs → EachBehind IsNewSource (done ++ bs) → BlocksFit earlier (flat_map block_lines bs)
+unfolding AllAllowed
+blocks_fit [] done earlier nodes declared last say full all are sources = record {
+  allowed = tt;
+  complete = subst (IsComplete Labels) (sym (append-nil earlier)) (all_there earlier nodes declared (map source_of done) last say (omega (arith, all, length-map done source_of)) full);
+}
+blocks_fit (b ∷ bs) done earlier nodes declared last say full all are sources =
+    let is = All-head (IsBlock nodes) b bs are in
+    let count = length b.labels in
+    let new = other_sources done b (each_here IsNewSource done bs b sources) in
+    let opens = block_allowed earlier nodes declared (map source_of done) last say b.source count is.source_within.1 new (omega (arith, all, length-map done source_of)) full in
+    let begun = earlier ++ LabelsBlock b.source count ∷ [] in
+    let said = say_block earlier nodes declared (map source_of done) last say b.source count in
+    let labels = labels_allowed b.labels [] begun nodes declared (map source_of done ++ b.source ∷ []) b.source count said (omega arith) is.within is.fresh is.preds in
+    let behind = say_labels b.labels begun nodes declared (map source_of done ++ b.source ∷ []) b.source count [] said in
+    let here : AllAllowed earlier (block_lines b) = (opens, labels) in
+    let next = subst (λ xs. Say (begun ++ map label_line b.labels) nodes declared xs (Some (opened b.source count (map label_id b.labels)))) (sym (map-append source_of done (b ∷ []))) behind in
+    let same : begun ++ map label_line b.labels ≡ earlier ++ block_lines b = append_assoc earlier (LabelsBlock b.source count ∷ []) (map label_line b.labels) in
+    let rest = blocks_fit bs (done ++ b ∷ []) (earlier ++ block_lines b) nodes declared (Some (opened b.source count (map label_id b.labels))) (subst (λ e. Say e nodes declared (map source_of (done ++ b ∷ [])) (Some (opened b.source count (map label_id b.labels)))) same next)
+    (full_is_not_short b.source count (map label_id b.labels) (length-map b.labels label_id)) (omega (arith, all, length-append done (b ∷ []))) (All-tail (IsBlock nodes) b bs are) (each_next IsNewSource done bs b sources) in
+    record {
+      allowed = all_allowed-append (block_lines b) (flat_map block_lines bs) earlier here rest.allowed;
+      complete = subst (IsComplete Labels) (append_assoc earlier (block_lines b) (flat_map block_lines bs)) rest.complete;
+    }
+
+faultless_records : (labels : LabelsValue) → AreLabels labels → AreFaultless Labels (label_records labels)
+unfolding AllAllowed
+faultless_records labels are =
+    let declared = length labels.blocks in
+    let fit = blocks_fit labels.blocks [] (LabelsProblem labels.nodes declared ∷ []) labels.nodes declared None (say_problem labels.nodes declared) refl (omega arith) are.blocks are.sources in
+    let all : AllAllowed [] (label_records labels) = (first_problem labels.nodes declared, fit.allowed) in
+    record {
+      allowed = λ before after r e. allowed_at before (label_records labels) after [] r all e;
+      complete = fit.complete;
+    }
+
+pub labels_faultless : (rs : List LineRecord) (labels : LabelsValue) → GivesLabels rs labels → AreFaultless Labels (records_of rs)
+labels_faultless rs labels h = rw h.0 (faultless_records labels h.1)
+
+-- the labels before the first block line, and the blocks
+abbrev Parts : Type 0
+Parts = List Label × List BlockValue
+
+with_record : Record → Parts → Parts
+with_record (LabelsNode id dist pred) parts = (record { dist = dist; id = id; pred = pred } ∷ parts.0, parts.1)
+with_record (LabelsBlock source count) parts = ([], record { source = source; labels = parts.0 } ∷ parts.1)
+with_record r parts = parts
+
+parts_of : List Record → Parts
+parts_of [] = ([], [])
+parts_of (r ∷ rs) = with_record r (parts_of rs)
+
+labels_of : List Record → LabelsValue
+labels_of (LabelsProblem nodes count ∷ rs) = record { nodes = nodes; blocks = (parts_of rs).1 }
+labels_of rs = record { nodes = 0; blocks = [] }
+
+parts_of-labels : (ls : List Label) (rs : List Record) → parts_of (map label_line ls ++ rs) ≡ (ls ++ (parts_of rs).0, (parts_of rs).1)
+unfolding with_record parts_of
+parts_of-labels [] rs = refl
+parts_of-labels (l ∷ ls) rs = ap (with_record (label_line l)) (parts_of-labels ls rs)
+
+parts_of-blocks : (bs : List BlockValue) → parts_of (flat_map block_lines bs) ≡ ([], bs)
+unfolding with_record parts_of
+parts_of-blocks [] = refl
+parts_of-blocks (b ∷ bs) =
+    let rest = flat_map block_lines bs in
+    let labels : parts_of (map label_line b.labels ++ rest) ≡ (b.labels, bs) = parts_of-labels b.labels rest ∙ (ap (λ (p : Parts). (b.labels ++ p.0, p.1)) (parts_of-blocks bs) ∙ ap (λ ls. (ls, bs)) (append-nil b.labels)) in
+    ap (with_record (LabelsBlock b.source (length b.labels))) labels
+
+labels_of-label_records : (labels : LabelsValue) → labels_of (label_records labels) ≡ labels
+unfolding labels_of
+labels_of-label_records labels = ap (λ (p : Parts). record { nodes = labels.nodes; blocks = p.1 }) (parts_of-blocks labels.blocks)
+
+-- the records of labels are those of no others
+pub one_labels : (rs : List LineRecord) (labels others : LabelsValue) → GivesLabels rs labels → GivesLabels rs others → labels ≡ others
+one_labels rs labels others a b = sym (labels_of-label_records labels) ∙ (ap labels_of (sym a.0 ∙ b.0) ∙ labels_of-label_records others)
+
+problem_fits : (labels : LabelsValue) → AreLabels labels → CanBeSpelled Labels (LabelsProblem labels.nodes (length labels.blocks))
+problem_fits labels are = record {
+  form = form (codes "p") (Word (codes "dist") ∷ Nodes ∷ Count ∷ []);
+  of_kind = (0, omega arith, refl);
+  for_kind = refl;
+  letter = refl;
+  fit = (refl, ((omega (arith, ints), omega (arith, ints, are.nodes_few)), ((omega (arith, ints), omega (arith, ints, are.blocks_few)), tt)));
+}
+
+block_fits : (nodes : ℕ) (b : BlockValue) → nodes ≤ 134217728 → IsBlock nodes b → CanBeSpelled Labels (LabelsBlock b.source (length b.labels))
+block_fits nodes b few is = record {
+  form = form (codes "t") (Id ∷ Count ∷ []);
+  of_kind = (1, omega arith, refl);
+  for_kind = refl;
+  letter = refl;
+  fit = ((omega (arith, ints, is.source_within.0), omega (arith, ints, is.source_within.1, few)), ((omega (arith, ints), omega (arith, ints, is.few)), tt));
+}
+
+label_fits : (nodes : ℕ) (l : Label) → nodes ≤ 134217728 → IsLabel nodes l → CanBeSpelled Labels (label_line l)
+label_fits nodes l few is = record {
+  form = form (codes "d") (Id ∷ Wide ∷ Id ∷ []);
+  of_kind = (2, omega arith, refl);
+  for_kind = refl;
+  letter = refl;
+  fit = ((omega (arith, ints, is.id.0), omega (arith, ints, is.id.1, few)), (is.dist, ((omega (arith, ints, is.pred.0), omega (arith, ints, is.pred.1, few)), tt)));
+}
+
+labels_fit : (nodes : ℕ) (ls : List Label) → nodes ≤ 134217728 → All (IsLabel nodes) ls → All (CanBeSpelled Labels) (map label_line ls)
+labels_fit nodes [] few are = All-nil (CanBeSpelled Labels)
+labels_fit nodes (l ∷ ls) few are = All-cons (CanBeSpelled Labels) (label_line l) (map label_line ls) (label_fits nodes l few (All-head (IsLabel nodes) l ls are)) (labels_fit nodes ls few (All-tail (IsLabel nodes) l ls are))
+
+blocks_spelled : (nodes : ℕ) (bs : List BlockValue) → nodes ≤ 134217728 → All (IsBlock nodes) bs → All (CanBeSpelled Labels) (flat_map block_lines bs)
+blocks_spelled nodes [] few are = All-nil (CanBeSpelled Labels)
+blocks_spelled nodes (b ∷ bs) few are =
+    let is = All-head (IsBlock nodes) b bs are in
+    All-append (CanBeSpelled Labels) (block_lines b) (flat_map block_lines bs) (All-cons (CanBeSpelled Labels) (LabelsBlock b.source (length b.labels)) (map label_line b.labels) (block_fits nodes b few is) (labels_fit nodes b.labels few is.within))
+    (blocks_spelled nodes bs few (All-tail (IsBlock nodes) b bs are))
+
+-- the canonical text of labels spells them
+pub labels_round_trip : (labels : LabelsValue) → AreLabels labels → FitText labels → SpellsLabels (canonical_labels labels) labels
+labels_round_trip labels are few =
+    let rs = label_records labels in
+    let fit : All (CanBeSpelled Labels) rs = All-cons (CanBeSpelled Labels) (LabelsProblem labels.nodes (length labels.blocks)) (flat_map block_lines labels.blocks) (problem_fits labels are) (blocks_spelled labels.nodes labels.blocks are.nodes_few are.blocks) in
+    record {
+      said = map (λ (r : Record). Some r) rs;
+      spelled = canonical_spelled Labels rs fit few;
+      given = (numbered_all rs, are);
+    }

@@ -1,0 +1,192 @@
+-- The records of labels.
+use Rattle.std.proofs.Common.{◌≡◌, ℕ, suc, ◌<◌, ◌≤◌, ◌+◌, ◌∷◌, ◌++◌, [], List, Bool, true, false, Option, Some, None, length, map, refl, ap, ap₂, sym, ◌∙◌, arith, append_assoc, inl, inr, ◌⊎◌, zero}
+use Rattle.std.specs.Prelude.{◌==◌, ◌||◌}
+use Rattle.std.specs.List.{list_any, flat_map}
+use Rattle.std.specs.Ordering.{nat_cmp, eq_by_cmp}
+use Rattle.std.specs.Cmp.{nat_cmp_total, nat_eq_equiv, unsigned_tied}
+use Rattle.std.specs.FinSet as set
+use Rattle.std.proofs.lemmas.Bool.{lt-ltb, le-ltb, eq-eqb}
+use Rattle.std.proofs.lemmas.List.Folds.{list_any-append}
+use Rattle.std.proofs.lemmas.List.{length-append, length-map, append-nil, map-append}
+use Rattle.std.proofs.lemmas.List.Elements.{All-nil, All-cons, All-append}
+use Rattle.dimacs_records.specs.declared.records.Record.{Record}
+use Rattle.dimacs_records.specs.declared.records.Record.TheVariants.{LabelsProblem, LabelsBlock}
+use Rattle.dimacs_records.specs.Blocks.{Block, is_short_block}
+use Rattle.dimacs_claims.specs.declared.block.Label.{Label}
+use Rattle.dimacs_claims.specs.Labels.{BlockValue, IsBlock, IsLabel, IsFresh, HasPred, IsNewSource, IsNode}
+use Rattle.dimacs_claims.specs.LabelTexts.{label_line, block_lines}
+use Rattle.dimacs_claims.specs.LabelsReading.{LabelsBegun, AreLabelsBegun, AreSources, lines_of_short, lacking, lines_of_blocks, labels_begun_records, has_source, with_block}
+use Rattle.dimacs_claims.proofs.BlockLemmas.{label_id, each_behind_nil, each_behind_push}
+use Rattle.dimacs_claims.proofs.LabelStates.{Say, opened, is_source, say_problem, say_block, say_label}
+
+abbrev pub source_of : BlockValue → ℕ
+source_of b = b.source
+
+-- what a text says behind these labels
+pub say_labels : (ls : List Label) (earlier : List Record) (nodes declared : ℕ) (sources : List ℕ) (source count : ℕ) (ids : List ℕ) → Say earlier nodes declared sources (Some (opened source count ids))
+    → Say (earlier ++ map label_line ls) nodes declared sources (Some (opened source count (ids ++ map label_id ls)))
+say_labels [] earlier nodes declared sources source count ids say = rw (append-nil earlier, append-nil ids) say
+say_labels (l ∷ ls) earlier nodes declared sources source count ids say =
+    rw (← append_assoc earlier (label_line l ∷ []) (map label_line ls), ← append_assoc ids (l.id ∷ []) (map label_id ls))
+    (say_labels ls (earlier ++ label_line l ∷ []) nodes declared sources source count (ids ++ l.id ∷ []) (say_label earlier nodes declared sources source count ids say l.id l.dist l.pred))
+
+-- a block that lacks this many labels, as its records say
+abbrev pub opened_with : ℕ → BlockValue → Block
+opened_with missing b = opened b.source (length b.labels + missing) (map label_id b.labels)
+
+pub say_short : (missing : ℕ) (b : BlockValue) (earlier : List Record) (nodes declared : ℕ) (sources : List ℕ) (last : Option Block) → Say earlier nodes declared sources last
+    → Say (earlier ++ lines_of_short missing b) nodes declared (sources ++ b.source ∷ []) (Some (opened_with missing b))
+say_short missing b earlier nodes declared sources last say =
+    let count = length b.labels + missing in
+    rw (← append_assoc earlier (LabelsBlock b.source count ∷ []) (map label_line b.labels))
+    (say_labels b.labels (earlier ++ LabelsBlock b.source count ∷ []) nodes declared (sources ++ b.source ∷ []) b.source count [] (say_block earlier nodes declared sources last say b.source count))
+
+abbrev pub last_after : ℕ → Option Block → List BlockValue → Option Block
+last_after missing last [] = last
+last_after missing last (b ∷ more) = last_after missing (Some (opened_with (lacking missing more) b)) more
+
+say_blocks : (blocks : List BlockValue) (missing : ℕ) (earlier : List Record) (nodes declared : ℕ) (sources : List ℕ) (last : Option Block) → Say earlier nodes declared sources last
+    → Say (earlier ++ lines_of_blocks missing blocks) nodes declared (sources ++ map source_of blocks) (last_after missing last blocks)
+say_blocks [] missing earlier nodes declared sources last say = rw (append-nil earlier, append-nil sources) say
+say_blocks (b ∷ more) missing earlier nodes declared sources last say =
+    rw (← append_assoc earlier (lines_of_short (lacking missing more) b) (lines_of_blocks missing more), ← append_assoc sources (b.source ∷ []) (map source_of more))
+    (say_blocks more missing (earlier ++ lines_of_short (lacking missing more) b) nodes declared (sources ++ b.source ∷ []) (Some (opened_with (lacking missing more) b))
+    (say_short (lacking missing more) b earlier nodes declared sources last say))
+
+last_after-push : (front : List BlockValue) (b : BlockValue) (missing : ℕ) (last : Option Block) → last_after missing last (front ++ b ∷ []) ≡ Some (opened_with missing b)
+last_after-push [] b missing last = refl
+last_after-push (f ∷ front) b missing last = last_after-push front b missing (Some (opened_with (lacking missing (front ++ b ∷ [])) f))
+
+-- behind the problem line alone
+pub say_no_block : (nodes declared missing : ℕ) → Say (labels_begun_records (record { nodes = nodes; declared = declared; missing = missing; blocks = [] })) nodes declared [] None
+say_no_block nodes declared missing = say_problem nodes declared
+
+-- behind these blocks and one more, which lacks labels
+pub say_begun : (nodes declared missing : ℕ) (front : List BlockValue) (b : BlockValue)
+    → Say (labels_begun_records (record { nodes = nodes; declared = declared; missing = missing; blocks = front ++ b ∷ [] })) nodes declared (map source_of (front ++ b ∷ [])) (Some (opened_with missing b))
+say_begun nodes declared missing front b =
+    rw (← last_after-push front b missing None) (say_blocks (front ++ b ∷ []) missing (LabelsProblem nodes declared ∷ []) nodes declared [] None (say_problem nodes declared))
+
+-- blocks without a gap
+lacking-zero : (blocks : List BlockValue) → lacking 0 blocks ≡ 0
+lacking-zero [] = refl
+lacking-zero (b ∷ more) = refl
+
+lines_of_short-zero : (b : BlockValue) (missing : ℕ) → missing ≡ 0 → lines_of_short missing b ≡ block_lines b
+lines_of_short-zero b missing none = ap (λ n. LabelsBlock b.source n ∷ map label_line b.labels) (omega (arith, none))
+
+pub lines_of_blocks-zero : (blocks : List BlockValue) → lines_of_blocks 0 blocks ≡ flat_map block_lines blocks
+lines_of_blocks-zero [] = refl
+lines_of_blocks-zero (b ∷ more) = ap₂ (λ xs ys. xs ++ ys) (lines_of_short-zero b (lacking 0 more) (lacking-zero more)) (lines_of_blocks-zero more)
+
+-- one label more in the last block
+pub lines_of_blocks-push_label : (front : List BlockValue) (source : ℕ) (ls : List Label) (l : Label) (missing : ℕ)
+    → lines_of_blocks missing (front ++ record { source = source; labels = ls ++ l ∷ [] } ∷ []) ≡ lines_of_blocks (suc missing) (front ++ record { source = source; labels = ls } ∷ []) ++ label_line l ∷ []
+lines_of_blocks-push_label [] source ls l missing =
+    let count : length (ls ++ l ∷ []) + missing ≡ length ls + suc missing = omega (arith, length-append ls (l ∷ [])) in
+    ap (λ rs. rs ++ []) (ap₂ (λ n rs. LabelsBlock source n ∷ rs) count (map-append label_line ls (l ∷ []))) ∙ (append-nil _ ∙ ap (λ rs. rs ++ label_line l ∷ []) (sym (append-nil (lines_of_short (suc missing) (record { source = source; labels = ls })))))
+lines_of_blocks-push_label (f ∷ front) source ls l missing =
+    ap₂ (λ n rs. lines_of_short n f ++ rs) (lacking-push front _ _ missing (suc missing)) (lines_of_blocks-push_label front source ls l missing) ∙ sym (append_assoc (lines_of_short (lacking (suc missing) (front ++ record { source = source; labels = ls } ∷ [])) f) _ (label_line l ∷ []))
+  where
+    lacking-push : (bs : List BlockValue) (b c : BlockValue) (m n : ℕ) → lacking m (bs ++ b ∷ []) ≡ lacking n (bs ++ c ∷ [])
+    lacking-push [] b c m n = refl
+    lacking-push (a ∷ bs) b c m n = refl
+
+-- one block more behind those that lack nothing
+pub lines_of_blocks-push_block : (blocks : List BlockValue) (source count : ℕ)
+    → lines_of_blocks count (blocks ++ record { source = source; labels = [] } ∷ []) ≡ lines_of_blocks 0 blocks ++ LabelsBlock source count ∷ []
+lines_of_blocks-push_block [] source count = let same : 0 + count ≡ count = omega arith in ap (λ n. LabelsBlock source n ∷ []) same
+lines_of_blocks-push_block (f ∷ blocks) source count =
+    ap₂ (λ n rs. lines_of_short n f ++ rs) (lacking-both blocks _ count) (lines_of_blocks-push_block blocks source count) ∙ sym (append_assoc (lines_of_short (lacking 0 blocks) f) _ (LabelsBlock source count ∷ []))
+  where
+    lacking-both : (bs : List BlockValue) (b : BlockValue) (n : ℕ) → lacking n (bs ++ b ∷ []) ≡ lacking 0 bs
+    lacking-both [] b n = refl
+    lacking-both (a ∷ bs) b n = refl
+
+-- behind what was taken
+pub say_taken : (begun : LabelsBegun) → Say (labels_begun_records begun) begun.nodes begun.declared (map source_of begun.blocks) (last_after begun.missing None begun.blocks)
+say_taken begun = say_blocks begun.blocks begun.missing (LabelsProblem begun.nodes begun.declared ∷ []) begun.nodes begun.declared [] None (say_problem begun.nodes begun.declared)
+
+abbrev pub HasLast : List BlockValue → Type 0
+HasLast blocks = (front : List BlockValue) × (b : BlockValue) × (blocks ≡ front ++ b ∷ [])
+
+pub last_cases : (blocks : List BlockValue) → (blocks ≡ []) ⊎ HasLast blocks
+last_cases [] = inl refl
+last_cases (b ∷ more) = elim (last_cases more) [
+  | inl none ↦ inr ([], b, ap (λ bs. b ∷ bs) none)
+  | inr h ↦ inr (b ∷ h.0, h.1, ap (λ bs. b ∷ bs) h.2)
+]
+
+pub last_is : (blocks : List BlockValue) (missing : ℕ) (h : HasLast blocks) → last_after missing None blocks ≡ Some (opened_with missing h.1)
+last_is blocks missing h = ap (last_after missing None) h.2 ∙ last_after-push h.0 h.1 missing None
+
+pub not_short : (blocks : List BlockValue) (missing : ℕ) → missing ≡ 0 → is_short_block (last_after missing None blocks) ≡ false
+not_short blocks missing none = elim (last_cases blocks) [
+  | inl e ↦ ap (λ bs. is_short_block (last_after missing None bs)) e
+  | inr h ↦ ap is_short_block (last_is blocks missing h) ∙ le-ltb (length (map label_id h.1.labels)) (length h.1.labels + missing) (omega (arith, none, length-map h.1.labels label_id))
+]
+
+pub is_short : (blocks : List BlockValue) (missing : ℕ) → 0 < missing → (blocks ≡ [] → missing ≡ 0) → is_short_block (last_after missing None blocks) ≡ true
+is_short blocks missing lacks only = elim (last_cases blocks) [
+  | inl e ↦ absurd (omega (arith, only e, lacks))
+  | inr h ↦ ap is_short_block (last_is blocks missing h) ∙ lt-ltb (length (map label_id h.1.labels)) (length h.1.labels + missing) (omega (arith, lacks, length-map h.1.labels label_id))
+]
+
+pub list_any-has_source : (id : ℕ) (blocks : List BlockValue) → list_any (has_source id) blocks ≡ list_any (is_source id) (map source_of blocks)
+list_any-has_source id [] = refl
+list_any-has_source id (b ∷ blocks) = ap (λ t. (b.source == id) || t) (list_any-has_source id blocks)
+
+or_behind : (a b c : Bool) → a ≡ c → (a || b) ≡ (b || (c || false))
+or_behind true true c same = refl
+or_behind true false c same = ap (λ t. t || false) same
+or_behind false true c same = refl
+or_behind false false c same = ap (λ t. t || false) same
+
+-- the source of one block more
+pub are_sources_more : (sources : set.FinSet nat_cmp) (blocks : List BlockValue) (b : BlockValue) → AreSources sources blocks → AreSources (set.insert sources b.source) (blocks ++ b ∷ [])
+are_sources_more sources blocks b are id =
+    set.contains-insert nat_cmp_total sources b.source id ∙ (ap (λ t. eq_by_cmp nat_cmp id b.source || t) (are id)
+    ∙ (or_behind (eq_by_cmp nat_cmp id b.source) (list_any (has_source id) blocks) (b.source == id) (unsigned_tied id b.source ∙ nat_eq_equiv.symm id b.source) ∙ sym (list_any-append (has_source id) blocks (b ∷ []))))
+
+-- a source that is none of those of the blocks
+pub new_source : (blocks : List BlockValue) (b : BlockValue) → list_any (has_source b.source) blocks ≡ false → IsNewSource blocks b
+new_source [] b none other among same = absurd (omega (arith, among.1))
+new_source (d ∷ blocks) b none other (zero, below, is) same = let first = eq-eqb other.source b.source same in absurd (first_not (d.source == b.source) _ (ap (λ (o : BlockValue). o.source == b.source) is ∙ first) none)
+  where
+    first_not : (x y : Bool) → x ≡ true → (x || y) ≡ false → ⊥
+    first_not true y e h = absurd (cc)
+    first_not false y e h = absurd (cc)
+new_source (d ∷ blocks) b none other (suc k, below, is) same = new_source blocks b (rest_not (d.source == b.source) _ none) other (k, omega (arith, below), is) same
+  where
+    rest_not : (x y : Bool) → (x || y) ≡ false → y ≡ false
+    rest_not true y h = absurd (cc)
+    rest_not false y h = h
+
+pub push_same : {X : Type 0} (xs ys : List X) (x y : X) → xs ++ x ∷ [] ≡ ys ++ y ∷ [] → x ≡ y
+push_same [] [] x y e = cc
+push_same [] (d ∷ ys) x y e = absurd (omega (arith, ap length e, length-append ys (y ∷ [])))
+push_same (d ∷ xs) [] x y e = absurd (omega (arith, ap length e, length-append xs (x ∷ [])))
+push_same (c ∷ xs) (d ∷ ys) x y e = push_same xs ys x y (cc)
+
+-- a beginning with one block more
+pub begun_block : (begun : LabelsBegun) (source count : ℕ) → AreLabelsBegun begun → IsNode begun.nodes source → count ≤ 268435456 → list_any (has_source source) begun.blocks ≡ false → length begun.blocks < begun.declared → AreLabelsBegun (with_block begun source count)
+begun_block begun source count are within few fresh room =
+    let b : BlockValue = record { source = source; labels = [] } in
+    record {
+      nodes_few = are.nodes_few;
+      blocks_few = are.blocks_few;
+      no_more = omega (arith, room, length-append begun.blocks (b ∷ []));
+      last_few = λ front last e. omega (arith, few, ap (λ (x : BlockValue). length x.labels) (push_same begun.blocks front b last e));
+      none_lack = λ e. absurd (omega (arith, ap length e, length-append begun.blocks (b ∷ [])));
+      blocks = All-append (IsBlock begun.nodes) begun.blocks (b ∷ []) are.blocks (All-cons (IsBlock begun.nodes) b [] (empty_block b within refl) (All-nil (IsBlock begun.nodes)));
+      sources = each_behind_push IsNewSource begun.blocks b are.sources (new_source begun.blocks b fresh);
+    }
+  where
+    empty_block : (b : BlockValue) → IsNode begun.nodes b.source → b.labels ≡ [] → IsBlock begun.nodes b
+    empty_block b within none = record {
+      source_within = within;
+      few = omega (arith, ap length none);
+      within = rw none (All-nil (IsLabel begun.nodes));
+      fresh = rw none (each_behind_nil (IsFresh b.source));
+      preds = rw none (each_behind_nil (HasPred b.source));
+    }

@@ -1,0 +1,145 @@
+-- What the earlier records of a text of labels say, and which records are allowed behind them.
+use Rattle.std.proofs.Common.{◌≡◌, ℕ, ◌<◌, ◌≤◌, ◌+◌, ◌∷◌, ◌++◌, [], List, Bool, true, false, Option, Some, None, length, refl, ap, sym, ◌∙◌, arith}
+use Rattle.std.specs.Prelude.{ℤ, is_none, nat_le, ◌==◌, ◌||◌}
+use Rattle.std.specs.List.{list_any}
+use Rattle.std.proofs.lemmas.Bool.{lt-ltb, le-ltb, le-leb}
+use Rattle.std.proofs.lemmas.Bool.Decides.{nat_tests}
+use Rattle.std.proofs.lemmas.List.{length-append}
+use Rattle.std.proofs.lemmas.List.Elements.{filter-append}
+use Rattle.std.proofs.lemmas.List.Folds.{list_any-append}
+use Rattle.std.proofs.lemmas.List.Sums.{fold-append}
+use Rattle.dimacs_records.specs.declared.kinds.TextKind.TheVariants.{Labels}
+use Rattle.dimacs_records.specs.declared.records.Record.{Record}
+use Rattle.dimacs_records.specs.declared.records.Record.TheVariants.{LabelsProblem, LabelsBlock, LabelsNode}
+use Rattle.dimacs_records.specs.declared.reasons.Reason.TheVariants.{ProblemMissing, ProblemTwice, RecordOrder, NodeRange, NodeTwice, TooMany, TooFew, PredUnknown}
+use Rattle.dimacs_records.specs.Blocks.{Block, block_in, block_after, is_labelled, is_full_block, is_short_block}
+use Rattle.dimacs_records.specs.Earlier.{Problem, declares, problem_in, problem_of, or_else, counted_in, is_counted, names}
+use Rattle.dimacs_records.specs.Faults.{FirstAtEnd}
+use Rattle.dimacs_records.specs.FieldReader.{fault_at}
+use Rattle.dimacs_records.specs.Readings.{IsAllowed, IsFirstCondition, IsComplete}
+use Rattle.dimacs_records.proofs.ConditionLemmas.{is_first_condition, is_allowed, is_first_at_end, is_complete}
+
+abbrev pub is_source : ℕ → ℕ → Bool
+is_source id source = source == id
+
+-- the earlier records have this problem line, blocks of these sources, and this last block
+pub record Say (earlier : List Record) (nodes declared : ℕ) (sources : List ℕ) (last : Option Block) : Type 0 where
+  pub problem : problem_in earlier ≡ declares nodes declared
+  pub counted : counted_in earlier ≡ length sources
+  pub named : (id : ℕ) → list_any (names id) earlier ≡ list_any (is_source id) sources
+  pub block : block_in earlier ≡ last
+
+abbrev pub opened : ℕ → ℕ → List ℕ → Block
+opened source count ids = record { source = source; count = count; ids = ids }
+
+or_else-some : {X : Type 0} (x y z : Option X) → y ≡ z → or_else x y ≡ or_else x z
+or_else-some x y z e = ap (or_else x) e
+
+problem_in-append : (rs more : List Record) (p : Problem) → problem_in rs ≡ Some p → problem_in (rs ++ more) ≡ Some p
+problem_in-append [] more p h = absurd (cc)
+problem_in-append (r ∷ rs) more p h = by_first (problem_of r) refl h (problem_in-append rs more p)
+  where
+    by_first : (first : Option Problem) → problem_of r ≡ first → or_else first (problem_in rs) ≡ Some p → (problem_in rs ≡ Some p → problem_in (rs ++ more) ≡ Some p) → or_else (problem_of r) (problem_in (rs ++ more)) ≡ Some p
+    by_first None e t behind = rw e (behind t)
+    by_first (Some q) e t behind = rw e t
+
+counted_in-append : (rs more : List Record) → counted_in (rs ++ more) ≡ counted_in rs + counted_in more
+counted_in-append rs more = ap length (filter-append is_counted rs more) ∙ length-append _ _
+
+block_in-push : (rs : List Record) (r : Record) → block_in (rs ++ r ∷ []) ≡ block_after (block_in rs) r
+block_in-push rs r = fold-append block_after None rs (r ∷ [])
+
+-- behind the problem line
+pub say_problem : (nodes declared : ℕ) → Say (LabelsProblem nodes declared ∷ []) nodes declared [] None
+say_problem nodes declared = record { problem = refl; counted = refl; named = λ id. refl; block = refl }
+
+-- what is said about earlier records
+module _ (earlier : List Record) (nodes declared : ℕ) (sources : List ℕ) (last : Option Block) (say : Say earlier nodes declared sources last) where
+  pub say_block : (source count : ℕ) → Say (earlier ++ LabelsBlock source count ∷ []) nodes declared (sources ++ source ∷ []) (Some (opened source count []))
+  say_block source count = record {
+    problem = problem_in-append earlier (LabelsBlock source count ∷ []) _ say.problem;
+    counted = counted_in-append earlier (LabelsBlock source count ∷ []) ∙ (ap (λ n. n + 1) say.counted ∙ sym (length-append sources (source ∷ [])));
+    named = λ id. list_any-append (names id) earlier (LabelsBlock source count ∷ []) ∙ (ap (λ b. b || list_any (is_source id) (source ∷ [])) (say.named id) ∙ sym (list_any-append (is_source id) sources (source ∷ [])));
+    block = block_in-push earlier (LabelsBlock source count);
+  }
+
+  pub second_problem : (n m : ℕ) → IsFirstCondition earlier (LabelsProblem n m) (fault_at 0 ProblemTwice)
+  second_problem n m = is_first_condition earlier (LabelsProblem n m) (fault_at 0 ProblemTwice) (rw say.problem refl)
+
+  pub source_above : (source count : ℕ) → nodes < source → IsFirstCondition earlier (LabelsBlock source count) (fault_at 2 NodeRange)
+  source_above source count above = is_first_condition earlier (LabelsBlock source count) (fault_at 2 NodeRange) (rw (say.problem, lt-ltb nodes source above) refl)
+
+  pub source_twice : (source count : ℕ) → source ≤ nodes → list_any (is_source source) sources ≡ true → IsFirstCondition earlier (LabelsBlock source count) (fault_at 2 NodeTwice)
+  source_twice source count within twice = is_first_condition earlier (LabelsBlock source count) (fault_at 2 NodeTwice) (rw (say.problem, le-ltb nodes source within, say.named source, twice) refl)
+
+  pub too_many_blocks : (source count : ℕ) → source ≤ nodes → list_any (is_source source) sources ≡ false → declared ≤ length sources → IsFirstCondition earlier (LabelsBlock source count) (fault_at 0 TooMany)
+  too_many_blocks source count within fresh full = is_first_condition earlier (LabelsBlock source count) (fault_at 0 TooMany) (rw (say.problem, say.counted, le-ltb nodes source within, say.named source, fresh, le-leb declared (length sources) full) refl)
+
+  pub block_before_short : (source count : ℕ) → source ≤ nodes → list_any (is_source source) sources ≡ false → length sources < declared → is_short_block last ≡ true → IsFirstCondition earlier (LabelsBlock source count) (fault_at 0 TooFew)
+  block_before_short source count within fresh room short =
+      let counted : nat_le declared (length sources) ≡ false = grind (arith, nat_tests, room) in
+      is_first_condition earlier (LabelsBlock source count) (fault_at 0 TooFew) (rw (say.problem, say.counted, say.block, le-ltb nodes source within, say.named source, fresh, counted, short) refl)
+
+  pub block_allowed : (source count : ℕ) → source ≤ nodes → list_any (is_source source) sources ≡ false → length sources < declared → is_short_block last ≡ false → IsAllowed earlier (LabelsBlock source count)
+  block_allowed source count within fresh room short =
+      let counted : nat_le declared (length sources) ≡ false = grind (arith, nat_tests, room) in
+      is_allowed earlier (LabelsBlock source count) (rw (say.problem, say.counted, say.block, le-ltb nodes source within, say.named source, fresh, counted, short) refl)
+
+  pub label_outside : (id : ℕ) (dist : ℤ) (pred : ℕ) → is_none last ≡ true → IsFirstCondition earlier (LabelsNode id dist pred) (fault_at 0 RecordOrder)
+  label_outside id dist pred outside = is_first_condition earlier (LabelsNode id dist pred) (fault_at 0 RecordOrder) (rw (say.problem, say.block, outside) refl)
+
+  pub id_above : (id : ℕ) (dist : ℤ) (pred : ℕ) → is_none last ≡ false → nodes < id → IsFirstCondition earlier (LabelsNode id dist pred) (fault_at 2 NodeRange)
+  id_above id dist pred inside above = is_first_condition earlier (LabelsNode id dist pred) (fault_at 2 NodeRange) (rw (say.problem, say.block, inside, lt-ltb nodes id above) refl)
+
+  pub pred_above : (id : ℕ) (dist : ℤ) (pred : ℕ) → is_none last ≡ false → id ≤ nodes → nodes < pred → IsFirstCondition earlier (LabelsNode id dist pred) (fault_at 4 NodeRange)
+  pred_above id dist pred inside within above = is_first_condition earlier (LabelsNode id dist pred) (fault_at 4 NodeRange) (rw (say.problem, say.block, inside, le-ltb nodes id within, lt-ltb nodes pred above) refl)
+
+  -- a label of nodes in their range, in a block
+  module _ (id : ℕ) (dist : ℤ) (pred : ℕ) (inside : is_none last ≡ false) (id_within : id ≤ nodes) (pred_within : pred ≤ nodes) where
+    pub label_twice : is_labelled last id ≡ true → IsFirstCondition earlier (LabelsNode id dist pred) (fault_at 2 NodeTwice)
+    label_twice twice = is_first_condition earlier (LabelsNode id dist pred) (fault_at 2 NodeTwice) (rw (say.problem, say.block, inside, le-ltb nodes id id_within, le-ltb nodes pred pred_within, twice) refl)
+
+    pub too_many_labels : is_labelled last id ≡ false → is_full_block last ≡ true → IsFirstCondition earlier (LabelsNode id dist pred) (fault_at 0 TooMany)
+    too_many_labels fresh full = is_first_condition earlier (LabelsNode id dist pred) (fault_at 0 TooMany) (rw (say.problem, say.block, inside, le-ltb nodes id id_within, le-ltb nodes pred pred_within, fresh, full) refl)
+
+    pub pred_unknown : is_labelled last id ≡ false → is_full_block last ≡ false → is_labelled last pred ≡ false → IsFirstCondition earlier (LabelsNode id dist pred) (fault_at 0 PredUnknown)
+    pred_unknown fresh room unknown = is_first_condition earlier (LabelsNode id dist pred) (fault_at 0 PredUnknown) (rw (say.problem, say.block, inside, le-ltb nodes id id_within, le-ltb nodes pred pred_within, fresh, room, unknown) refl)
+
+    pub label_allowed : is_labelled last id ≡ false → is_full_block last ≡ false → is_labelled last pred ≡ true → IsAllowed earlier (LabelsNode id dist pred)
+    label_allowed fresh room known = is_allowed earlier (LabelsNode id dist pred) (rw (say.problem, say.block, inside, le-ltb nodes id id_within, le-ltb nodes pred pred_within, fresh, room, known) refl)
+
+  pub too_few_blocks : length sources < declared → FirstAtEnd Labels earlier TooFew
+  too_few_blocks room = is_first_at_end Labels earlier TooFew (rw (say.problem, say.counted, lt-ltb (length sources) declared room) refl)
+
+  pub too_few_labels : declared ≤ length sources → is_short_block last ≡ true → FirstAtEnd Labels earlier TooFew
+  too_few_labels full short = is_first_at_end Labels earlier TooFew (rw (say.problem, say.counted, say.block, le-ltb (length sources) declared full, short) refl)
+
+  pub all_there : declared ≤ length sources → is_short_block last ≡ false → IsComplete Labels earlier
+  all_there full short = is_complete Labels earlier (rw (say.problem, say.counted, say.block, le-ltb (length sources) declared full, short) refl)
+
+-- one label more
+pub say_label : (earlier : List Record) (nodes declared : ℕ) (sources : List ℕ) (source count : ℕ) (ids : List ℕ) → Say earlier nodes declared sources (Some (opened source count ids))
+    → (id : ℕ) (dist : ℤ) (pred : ℕ) → Say (earlier ++ LabelsNode id dist pred ∷ []) nodes declared sources (Some (opened source count (ids ++ id ∷ [])))
+say_label earlier nodes declared sources source count ids say id dist pred = record {
+  problem = problem_in-append earlier (LabelsNode id dist pred ∷ []) _ say.problem;
+  counted = counted_in-append earlier (LabelsNode id dist pred ∷ []) ∙ omega (arith, say.counted);
+  named = λ v. list_any-append (names v) earlier (LabelsNode id dist pred ∷ []) ∙ (or_false _ ∙ say.named v);
+  block = block_in-push earlier (LabelsNode id dist pred) ∙ ap (λ b. block_after b (LabelsNode id dist pred)) say.block;
+}
+  where
+    or_false : (b : Bool) → (b || false) ≡ b
+    or_false true = refl
+    or_false false = refl
+
+-- behind nothing
+pub block_without_problem : (source count : ℕ) → IsFirstCondition [] (LabelsBlock source count) (fault_at 0 ProblemMissing)
+block_without_problem source count = is_first_condition [] (LabelsBlock source count) (fault_at 0 ProblemMissing) refl
+
+pub label_without_problem : (id : ℕ) (dist : ℤ) (pred : ℕ) → IsFirstCondition [] (LabelsNode id dist pred) (fault_at 0 ProblemMissing)
+label_without_problem id dist pred = is_first_condition [] (LabelsNode id dist pred) (fault_at 0 ProblemMissing) refl
+
+pub first_problem : (nodes blocks : ℕ) → IsAllowed [] (LabelsProblem nodes blocks)
+first_problem nodes blocks = is_allowed [] (LabelsProblem nodes blocks) refl
+
+pub nothing_read : FirstAtEnd Labels [] ProblemMissing
+nothing_read = is_first_at_end Labels [] ProblemMissing refl

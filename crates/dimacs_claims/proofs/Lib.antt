@@ -1,0 +1,12 @@
+pub mod BegunLemmas
+pub mod BlockLemmas
+mod CutLemmas
+pub mod LabelLaws
+pub mod LabelRecords
+pub mod LabelStates
+pub mod LabelWrites
+mod NodeLists
+mod PotentialsLemmas
+pub mod SolutionLemmas
+mod TakingLemmas
+mod ValueLemmas

@@ -1,0 +1,437 @@
+-- Potentials, and records behind those of potentials that were begun.
+use Rattle.std.proofs.Common.{◌≡◌, ◌≢◌, ℕ, suc, ◌<◌, ◌≤◌, ◌∷◌, ◌++◌, [], List, Bool, true, false, Option, Some, None, length, map, cond, ◌+◌, ◌-◌, ◌==◌, ◌||◌, refl, ap, ap₂, sym, ◌∙◌, subst, arith}
+use Rattle.std.specs.Prelude.{ℤ, pos, codes, is_some, nat_lt, nat_le, not, count_by, unwrap_or, if◌then◌else◌}
+use Rattle.std.specs.List.{All, filter, list_any, range_with_len}
+use Rattle.std.specs.Ordering.{nat_cmp, int_eq}
+use Rattle.std.specs.Cmp.{nat_cmp_total, unsigned_tied}
+use Rattle.std.specs.FinMap.{FinMap, get, insert, from_entries, from_entries_push, same_map, get-empty, get-from_entries, nat_cmp-IsAntisymmetric}
+use Rattle.std.specs.FinMap.Entries.{find}
+use Rattle.std.specs.FinSet.{contains}
+use Rattle.std.specs.FinSet as set
+use Rattle.std.proofs.lemmas.List.{map-append, length-append, length-map, append-nil}
+use Rattle.std.proofs.lemmas.List.Elements.{All-nil, All-cons, All-head, All-tail, All-push, filter-append}
+use Rattle.std.proofs.lemmas.List.Folds.{list_any-append}
+use Rattle.std.proofs.lemmas.Bool.{lt-ltb, le-ltb, le-leb, eqb-true}
+use Rattle.std.proofs.lemmas.Bool.Decides.{nat_tests}
+use Rattle.std.proofs.lemmas.Int.{ints}
+use Rattle.dimacs_nodes.proofs.Nodes.{contains-insert, contains-empty, get-insert}
+use Rattle.dimacs_records.specs.declared.kinds.TextKind.TheVariants as kinds
+use Rattle.dimacs_records.specs.declared.records.Record.{Record}
+use Rattle.dimacs_records.specs.declared.records.Record.TheVariants.{PotentialsProblem, PotentialsNode}
+use Rattle.dimacs_records.specs.declared.reasons.Reason.TheVariants.{ProblemMissing, ProblemTwice, NodeRange, NodeTwice, TooMany, TooFew}
+use Rattle.dimacs_records.specs.Earlier.{names, counted_in}
+use Rattle.dimacs_records.specs.Canonical.{CanBeSpelled}
+use Rattle.dimacs_records.specs.Forms.{form, Word, Nodes, Count, Id, Wide}
+use Rattle.dimacs_records.specs.Readings.{LineRecord, records_of, IsAllowed, IsFirstCondition, IsComplete}
+use Rattle.dimacs_records.specs.Texts.{AreFaultless}
+use Rattle.dimacs_records.specs.Faults.{FirstAtEnd}
+use Rattle.dimacs_records.specs.FieldReader.{fault_at}
+use Rattle.dimacs_records.proofs.CanonicalLaws.{canonical_spelled, numbered_all}
+use Rattle.dimacs_records.proofs.ConditionLemmas.{is_first_condition, is_allowed, is_first_at_end, is_complete}
+use Rattle.dimacs_records.proofs.SplitLemmas.{image_at}
+use Rattle.dimacs_claims.specs.Cuts.{IsNode, is_id}
+use Rattle.dimacs_claims.specs.Potentials.{PotentialsValue, ArePotentials, GivesPotentials, IsWide, NameNodes, SpellsPotentials, canonical_potentials, has_value, is_nonzero, is_of, node_line, nonzero_ids, potential_of, potentials_records, with_values, zero_potentials}
+use Rattle.dimacs_claims.specs.PotentialsReading.{PotentialsBegun, AreBegun, AreBegunBy, is_named, with_line, with_value, with_zero}
+use Rattle.dimacs_claims.specs.Takings.{StandsFor}
+use Rattle.dimacs_claims.proofs.NodeLists.{All-passing, count_map, once_before, once_more, passing, passing_below, passing_few, passing_listed, passing_once}
+use Rattle.dimacs_claims.proofs.ValueLemmas.{not_zero, zero_law}
+
+any_names : (id : ℕ) (named : List (ℕ × ℤ)) → list_any (names id) (map node_line named) ≡ list_any (is_of id) named
+any_names id [] = refl
+any_names id (n ∷ named) = ap (λ b. (n.0 == id) || b) (any_names id named)
+
+counted : (named : List (ℕ × ℤ)) → counted_in (map node_line named) ≡ length named
+counted [] = refl
+counted (n ∷ named) = ap suc (counted named)
+
+-- behind the problem line and these lines
+module _ (nodes declared : ℕ) (named : List (ℕ × ℤ)) where
+  abbrev earlier : List Record
+  earlier = potentials_records nodes declared named
+
+  second_problem : (n k : ℕ) → IsFirstCondition earlier (PotentialsProblem n k) (fault_at 0 ProblemTwice)
+  second_problem n k = is_first_condition earlier (PotentialsProblem n k) (fault_at 0 ProblemTwice) refl
+
+  module _ (id : ℕ) (v : ℤ) where
+    node_above : nodes < id → IsFirstCondition earlier (PotentialsNode id v) (fault_at 2 NodeRange)
+    node_above above = is_first_condition earlier (PotentialsNode id v) (fault_at 2 NodeRange) (rw (lt-ltb nodes id above) refl)
+
+    node_again : id ≤ nodes → list_any (is_of id) named ≡ true → IsFirstCondition earlier (PotentialsNode id v) (fault_at 2 NodeTwice)
+    node_again within again = is_first_condition earlier (PotentialsNode id v) (fault_at 2 NodeTwice) (rw (le-ltb nodes id within, any_names id named, again) refl)
+
+    one_too_many : id ≤ nodes → list_any (is_of id) named ≡ false → length named ≡ declared → IsFirstCondition earlier (PotentialsNode id v) (fault_at 0 TooMany)
+    one_too_many within new full =
+        let all : nat_le declared (counted_in earlier) ≡ true = rw (counted named) (le-leb declared (length named) (omega (arith, full))) in
+        is_first_condition earlier (PotentialsNode id v) (fault_at 0 TooMany) (rw (le-ltb nodes id within, any_names id named, new, all) refl)
+
+    one_more : id ≤ nodes → list_any (is_of id) named ≡ false → length named < declared → IsAllowed earlier (PotentialsNode id v)
+    one_more within new room =
+        let all : nat_le declared (counted_in earlier) ≡ false = rw (counted named) (grind (arith, nat_tests, room)) in
+        is_allowed earlier (PotentialsNode id v) (rw (le-ltb nodes id within, any_names id named, new, all) refl)
+
+  too_few : length named < declared → FirstAtEnd kinds.Potentials earlier TooFew
+  too_few room =
+      let few : nat_lt (counted_in earlier) declared ≡ true = rw (counted named) (lt-ltb (length named) declared room) in
+      is_first_at_end kinds.Potentials earlier TooFew (rw few refl)
+
+  all_lines : declared ≤ length named → IsComplete kinds.Potentials earlier
+  all_lines full =
+      let few : nat_lt (counted_in earlier) declared ≡ false = rw (counted named) (le-ltb (length named) declared full) in
+      is_complete kinds.Potentials earlier (rw few refl)
+
+-- behind nothing
+pub refuses_first : (id : ℕ) (v : ℤ) → IsFirstCondition [] (PotentialsNode id v) (fault_at 0 ProblemMissing)
+refuses_first id v = is_first_condition [] (PotentialsNode id v) (fault_at 0 ProblemMissing) refl
+
+allows_problem : (n k : ℕ) → IsAllowed [] (PotentialsProblem n k)
+allows_problem n k = is_allowed [] (PotentialsProblem n k) refl
+
+nothing_read : FirstAtEnd kinds.Potentials [] ProblemMissing
+nothing_read = is_first_at_end kinds.Potentials [] ProblemMissing refl
+
+-- one line more that names a new node
+named_more : (nodes : ℕ) (named : List (ℕ × ℤ)) (id : ℕ) (v : ℤ) → NameNodes nodes named → IsNode nodes id → list_any (is_of id) named ≡ false → NameNodes nodes (named ++ (id, v) ∷ [])
+named_more nodes named id v are node new = record {
+  within = All-push (λ (n : ℕ × ℤ). IsNode nodes n.0) named (id, v) are.within node;
+  once = once_more is_of named (id, v) (λ other same. ap (λ n. list_any (is_of n) named) (sym (eqb-true id other same)) ∙ new) are.once;
+}
+
+same_test : (a b : ℕ) → (a == b) ≡ (b == a)
+same_test a b = grind (arith, nat_tests)
+
+any_push : (named : List (ℕ × ℤ)) (id other : ℕ) (v : ℤ) → list_any (is_of other) (named ++ (id, v) ∷ []) ≡ (list_any (is_of other) named || ((id == other) || false))
+any_push named id other v = list_any-append (is_of other) named ((id, v) ∷ [])
+
+zero_more : (g z e : Bool) → (g || (e || z)) ≡ ((g || z) || (e || false))
+zero_more true z e = refl
+zero_more false true true = refl
+zero_more false true false = refl
+zero_more false false true = refl
+zero_more false false false = refl
+
+value_more : (b g z e : Bool) → b ≡ (e || g) → (b || z) ≡ ((g || z) || (e || false))
+value_more b g z true is = ap (λ x. x || z) is ∙ or_true (g || z)
+  where
+    or_true : (a : Bool) → true ≡ (a || true)
+    or_true true = refl
+    or_true false = refl
+value_more b g z false is = ap (λ x. x || z) is ∙ or_false (g || z)
+  where
+    or_false : (a : Bool) → a ≡ (a || false)
+    or_false true = refl
+    or_false false = refl
+
+no_value : (g z : Bool) → (g || z) ≡ false → g ≡ false
+no_value false z e = refl
+no_value true z e = absurd (cc)
+
+-- where the potential is 0 the map has none
+no_entry : (p : PotentialsValue) (id : ℕ) → ArePotentials p → is_nonzero (potential_of p id) ≡ false → get p.values id ≡ None
+no_entry p id law e = by_case (get p.values id) refl e
+  where
+    by_case : (o : Option ℤ) → get p.values id ≡ o → is_nonzero (unwrap_or o (pos 0)) ≡ false → o ≡ None
+    by_case None is e = refl
+    by_case (Some v) is e = absurd (cc (e, ap not (not_zero v (law.within id v is).1)))
+
+potential_at : (e : Bool) (v : ℤ) (found : Option ℤ) → int_eq v (pos 0) ≡ false → is_nonzero (unwrap_or (cond e (Some v) found) (pos 0)) ≡ (e || is_nonzero (unwrap_or found (pos 0)))
+potential_at true v found some = ap not some
+potential_at false v found some = refl
+
+-- a fact of these records is one of the records that were taken
+of_taken : (P : List Record → Type 0) (b : PotentialsBegun) (rs : List Record) (h : AreBegunBy b rs) → P (potentials_records b.potentials.nodes b.declared h.named) → P rs
+of_taken P b rs h p = subst P (sym h.records) p
+
+module _ (b : PotentialsBegun) (rs : List Record) (h : AreBegunBy b rs) where
+  refuses_problem : (n k : ℕ) → IsFirstCondition rs (PotentialsProblem n k) (fault_at 0 ProblemTwice)
+  refuses_problem n k = of_taken (λ (rs : List Record). IsFirstCondition rs (PotentialsProblem n k) (fault_at 0 ProblemTwice)) b rs h (second_problem b.potentials.nodes b.declared h.named n k)
+
+  module _ (id : ℕ) (v : ℤ) where
+    pub refuses_above : b.potentials.nodes < id → IsFirstCondition rs (PotentialsNode id v) (fault_at 2 NodeRange)
+    refuses_above above = of_taken (λ (rs : List Record). IsFirstCondition rs (PotentialsNode id v) (fault_at 2 NodeRange)) b rs h (node_above b.potentials.nodes b.declared h.named id v above)
+
+    module _ (within : id ≤ b.potentials.nodes) where
+      pub refuses_again : is_named b id ≡ true → IsFirstCondition rs (PotentialsNode id v) (fault_at 2 NodeTwice)
+      refuses_again again = of_taken (λ (rs : List Record). IsFirstCondition rs (PotentialsNode id v) (fault_at 2 NodeTwice)) b rs h (node_again b.potentials.nodes b.declared h.named id v within (sym (h.nodes_named id) ∙ again))
+
+      module _ (new : is_named b id ≡ false) where
+        none_before : list_any (is_of id) h.named ≡ false
+        none_before = sym (h.nodes_named id) ∙ new
+
+        pub refuses_more : b.taken ≡ b.declared → IsFirstCondition rs (PotentialsNode id v) (fault_at 0 TooMany)
+        refuses_more full = of_taken (λ (rs : List Record). IsFirstCondition rs (PotentialsNode id v) (fault_at 0 TooMany)) b rs h (one_too_many b.potentials.nodes b.declared h.named id v within none_before (sym h.count ∙ full))
+
+        abbrev more : List (ℕ × ℤ)
+        more = h.named ++ (id, v) ∷ []
+
+        any_more : (other : ℕ) → (is_named b other || ((other == id) || false)) ≡ list_any (is_of other) more
+        any_more other = ap₂ (λ x y. x || (y || false)) (h.nodes_named other) (same_test other id) ∙ sym (any_push h.named id other v)
+
+        valued_more : (t : Bool) → int_eq v (pos 0) ≡ t → filter has_value more ≡ filter has_value h.named ++ cond (not t) ((id, v) ∷ []) []
+        valued_more t e = filter-append has_value h.named ((id, v) ∷ []) ∙ ap (λ b. filter has_value h.named ++ cond (not b) ((id, v) ∷ []) []) e
+
+        records_more : rs ++ PotentialsNode id v ∷ [] ≡ potentials_records b.potentials.nodes b.declared more
+        records_more = ap (λ rs. rs ++ PotentialsNode id v ∷ []) h.records ∙ ap (λ rs. PotentialsProblem b.potentials.nodes b.declared ∷ rs) (sym (map-append node_line h.named ((id, v) ∷ [])))
+
+        count_more : b.taken + 1 ≡ length more
+        count_more = omega (arith, h.count, length-append h.named ((id, v) ∷ []))
+
+        module _ (least : 1 ≤ id) (law : ArePotentials b.potentials) where
+          not_found : find nat_cmp id (filter has_value h.named) ≡ None
+          not_found =
+              sym (get-from_entries nat_cmp_total (filter has_value h.named) id) ∙ ap (λ m. get m id) (sym h.values)
+              ∙ no_entry b.potentials id law (no_value (is_nonzero (potential_of b.potentials id)) (contains b.zeros id) new)
+
+          begun_with : (t : Bool) → int_eq v (pos 0) ≡ t → AreBegunBy (if t then with_zero b id else with_value b id v) (rs ++ PotentialsNode id v ∷ [])
+          begun_with true e = record {
+            named = more;
+            name_nodes = named_more b.potentials.nodes h.named id v h.name_nodes (least, within) none_before;
+            values = h.values ∙ ap from_entries (sym (valued_more true e ∙ append-nil (filter has_value h.named)));
+            nodes_named = λ other. ap (λ z. is_nonzero (potential_of b.potentials other) || z) (contains-insert b.zeros id other) ∙ zero_more (is_nonzero (potential_of b.potentials other)) (contains b.zeros other) (other == id) ∙ any_more other;
+            count = count_more;
+            records = records_more;
+          }
+          begun_with false e = record {
+            named = more;
+            name_nodes = named_more b.potentials.nodes h.named id v h.name_nodes (least, within) none_before;
+            values = ap (λ m. insert m id v) h.values
+                ∙ sym (ap from_entries (valued_more false e) ∙ from_entries_push nat_cmp_total nat_cmp-IsAntisymmetric (filter has_value h.named) id v not_found);
+            nodes_named = λ other. value_more (is_nonzero (unwrap_or (get (insert b.potentials.values id v) other) (pos 0))) (is_nonzero (potential_of b.potentials other)) (contains b.zeros other) (other == id) (ap (λ o. is_nonzero (unwrap_or o (pos 0))) (get-insert b.potentials.values id other v) ∙ potential_at (other == id) v (get b.potentials.values other) e)
+                ∙ any_more other;
+            count = count_more;
+            records = records_more;
+          }
+
+          pub takes_node : b.taken < b.declared → IsAllowed rs (PotentialsNode id v) × AreBegunBy (with_line b id v) (rs ++ PotentialsNode id v ∷ [])
+          takes_node room = (
+            of_taken (λ (rs : List Record). IsAllowed rs (PotentialsNode id v)) b rs h (one_more b.potentials.nodes b.declared h.named id v within none_before (omega (arith, h.count, room))),
+            begun_with (int_eq v (pos 0)) refl,
+          )
+
+  pub refuses_end : b.taken < b.declared → FirstAtEnd kinds.Potentials rs TooFew
+  refuses_end room = of_taken (λ (rs : List Record). FirstAtEnd kinds.Potentials rs TooFew) b rs h (too_few b.potentials.nodes b.declared h.named (omega (arith, h.count, room)))
+
+  pub completes : b.declared ≤ b.taken → IsComplete kinds.Potentials rs
+  completes full = of_taken (λ (rs : List Record). IsComplete kinds.Potentials rs) b rs h (all_lines b.potentials.nodes b.declared h.named (omega (arith, h.count, full)))
+
+-- the laws of what was begun
+pub begun_law : (nodes declared : ℕ) → nodes ≤ 134217728 → declared ≤ 268435456 → AreBegun (record { declared = declared; taken = 0; potentials = zero_potentials nodes; zeros = set.empty })
+begun_law nodes declared nodes_few few = record { few = few; no_more = omega arith; are_potentials = zero_law nodes nodes_few }
+
+takes_problem : (nodes declared : ℕ) (rs : List Record) → rs ≡ []
+    → IsAllowed rs (PotentialsProblem nodes declared) × AreBegunBy (record { declared = declared; taken = 0; potentials = zero_potentials nodes; zeros = set.empty }) (rs ++ PotentialsProblem nodes declared ∷ [])
+takes_problem nodes declared rs none = (
+  subst (λ (rs : List Record). IsAllowed rs (PotentialsProblem nodes declared)) (sym none) (allows_problem nodes declared),
+  record {
+    named = [];
+    name_nodes = record { within = All-nil (λ (n : ℕ × ℤ). IsNode nodes n.0); once = λ id. omega arith };
+    values = refl;
+    nodes_named = λ id. ap₂ (λ o z. is_nonzero (unwrap_or o (pos 0)) || z) (get-empty nat_cmp id) (contains-empty id);
+    count = refl;
+    records = ap (λ rs. rs ++ PotentialsProblem nodes declared ∷ []) none;
+  },
+)
+
+pub refuses_second : (begun : Option PotentialsBegun) (rs : List Record) (n k : ℕ) → is_some begun ≡ true → StandsFor AreBegunBy begun rs → IsFirstCondition rs (PotentialsProblem n k) (fault_at 0 ProblemTwice)
+refuses_second (Some b) rs n k e h = refuses_problem b rs h n k
+refuses_second None rs n k e h = absurd (cc)
+
+pub takes_first : (begun : Option PotentialsBegun) (rs : List Record) (n k : ℕ) → is_some begun ≡ false → StandsFor AreBegunBy begun rs
+    → IsAllowed rs (PotentialsProblem n k) × AreBegunBy (record { declared = k; taken = 0; potentials = zero_potentials n; zeros = set.empty }) (rs ++ PotentialsProblem n k ∷ [])
+takes_first None rs n k e h = takes_problem n k rs h
+takes_first (Some b) rs n k e h = absurd (cc)
+
+pub refuses_nothing : (o : Option PotentialsBegun) (rs : List Record) → o ≡ None → StandsFor AreBegunBy o rs → FirstAtEnd kinds.Potentials rs ProblemMissing
+refuses_nothing None rs e h = subst (λ (rs : List Record). FirstAtEnd kinds.Potentials rs ProblemMissing) (sym h) nothing_read
+refuses_nothing (Some b) rs e h = absurd (cc)
+
+-- what was begun and is whole gives its potentials
+pub gives_potentials : (b : PotentialsBegun) (rs : List LineRecord) → AreBegunBy b (records_of rs) → b.declared ≡ b.taken → ArePotentials b.potentials → GivesPotentials rs b.potentials
+gives_potentials b rs h full law = record {
+  named = h.named;
+  name_nodes = h.name_nodes;
+  values = h.values;
+  records = h.records ∙ ap (λ k. potentials_records b.potentials.nodes k h.named) (full ∙ h.count);
+  are_potentials = law;
+}
+
+allowed_at : (before here : List Record) (r s : Record) → before ≡ here → r ≡ s → IsAllowed here s → IsAllowed before r
+allowed_at before here r s before_is r_is h = rw (before_is, r_is) h
+
+-- the lines of potentials are refused for nothing
+lines_allowed : (nodes : ℕ) (named : List (ℕ × ℤ)) → NameNodes nodes named → (before after : List Record) (r : Record) → potentials_records nodes (length named) named ≡ before ++ r ∷ after → IsAllowed before r
+lines_allowed nodes named are [] after r e = let first : r ≡ PotentialsProblem nodes (length named) = cc in rw first (allows_problem nodes (length named))
+lines_allowed nodes named are (b ∷ bs) after r e =
+    let first : b ≡ PotentialsProblem nodes (length named) = cc in
+    let at = image_at node_line named bs after r (cc) in
+    let room : length at.front < length named = omega (arith, ap length at.xs_are, length-append at.front (at.x ∷ at.back)) in
+    let within : All (λ (n : ℕ × ℤ). IsNode nodes n.0) (at.front ++ at.x ∷ at.back) = subst (All (λ (n : ℕ × ℤ). IsNode nodes n.0)) at.xs_are are.within in
+    let node : IsNode nodes at.x.0 = All-head (λ (n : ℕ × ℤ). IsNode nodes n.0) at.x at.back (All-after (λ (n : ℕ × ℤ). IsNode nodes n.0) at.front (at.x ∷ at.back) within) in
+    let once : count_by (is_of at.x.0) (at.front ++ at.x ∷ at.back) ≤ 1 = subst (λ (xs : List (ℕ × ℤ)). count_by (is_of at.x.0) xs ≤ 1) at.xs_are (are.once at.x.0) in
+    let new : list_any (is_of at.x.0) at.front ≡ false = once_before (is_of at.x.0) at.front at.back at.x (grind (arith, nat_tests)) once in
+    allowed_at (b ∷ bs) (potentials_records nodes (length named) at.front) r (node_line at.x) (ap₂ (λ x xs. x ∷ xs) first at.before_is) at.y_is (one_more nodes (length named) at.front at.x.0 at.x.1 node.1 new room)
+  where
+    All-after : {X : Type 0} (P : X → Type 0) (front back : List X) → All P (front ++ back) → All P back
+    All-after P [] back h = h
+    All-after P (x ∷ front) back h = All-after P front back (All-tail P x (front ++ back) h)
+
+pub potentials_faultless : (rs : List LineRecord) (p : PotentialsValue) → GivesPotentials rs p → AreFaultless kinds.Potentials (records_of rs)
+potentials_faultless rs p h =
+    rw h.records (record { allowed = lines_allowed p.nodes h.named h.name_nodes; complete = all_lines p.nodes (length h.named) h.named (omega arith) })
+
+-- the potentials that records give
+value_of : Record → ℕ × ℤ
+value_of (PotentialsNode id v) = (id, v)
+value_of r = (0, pos 0)
+
+potentials_in : List Record → PotentialsValue
+potentials_in (PotentialsProblem nodes count ∷ rs) = record { nodes = nodes; values = from_entries (filter has_value (map value_of rs)) }
+potentials_in rs = zero_potentials 0
+
+values_of-lines : (named : List (ℕ × ℤ)) → map value_of (map node_line named) ≡ named
+unfolding value_of
+values_of-lines [] = refl
+values_of-lines (n ∷ named) = ap (λ xs. n ∷ xs) (values_of-lines named)
+
+potentials_in-records : (nodes count : ℕ) (named : List (ℕ × ℤ)) → potentials_in (potentials_records nodes count named) ≡ record { nodes = nodes; values = from_entries (filter has_value named) }
+unfolding potentials_in
+potentials_in-records nodes count named = ap (λ (xs : List (ℕ × ℤ)). record { nodes = nodes; values = from_entries (filter has_value xs) }) (values_of-lines named)
+
+potentials_given : (rs : List LineRecord) (p : PotentialsValue) → GivesPotentials rs p → potentials_in (records_of rs) ≡ p
+potentials_given rs p h =
+    ap potentials_in h.records ∙ potentials_in-records p.nodes (length h.named) h.named ∙ ap (λ (m : FinMap nat_cmp ℤ). record { nodes = p.nodes; values = m }) (sym h.values)
+
+pub one_potentials : (rs : List LineRecord) (p q : PotentialsValue) → GivesPotentials rs p → GivesPotentials rs q → p ≡ q
+one_potentials rs p q a b = sym (potentials_given rs p a) ∙ potentials_given rs q b
+
+-- the nodes whose potential isn't 0
+abbrev pub nonzero_at : PotentialsValue → ℕ → Bool
+nonzero_at p id = is_nonzero (potential_of p id)
+
+nonzero_node : (p : PotentialsValue) → ArePotentials p → (id : ℕ) → nonzero_at p id ≡ true → IsNode p.nodes id × IsWide (potential_of p id)
+nonzero_node p law id e = by_case (get p.values id) refl e
+  where
+    by_case : (o : Option ℤ) → get p.values id ≡ o → is_nonzero (unwrap_or o (pos 0)) ≡ true → IsNode p.nodes id × IsWide (unwrap_or o (pos 0))
+    by_case None is e = absurd (cc)
+    by_case (Some v) is e = let has = law.within id v is in (has.0, has.2)
+
+count_named : (p : PotentialsValue) (id : ℕ) (ids : List ℕ) → count_by (is_of id) (with_values p ids) ≡ count_by (is_id id) ids
+count_named p id ids = count_map (is_of id) (λ n. (n, potential_of p n)) ids
+
+All-values : (P : ℕ × ℤ → Type 0) (p : PotentialsValue) (ids : List ℕ) → All (λ id. P (id, potential_of p id)) ids → All P (with_values p ids)
+All-values P p [] all = All-nil P
+All-values P p (id ∷ ids) all = All-cons P (id, potential_of p id) (with_values p ids) (All-head (λ id. P (id, potential_of p id)) id ids all) (All-values P p ids (All-tail (λ id. P (id, potential_of p id)) id ids all))
+
+nonzero_named : (p : PotentialsValue) → ArePotentials p → NameNodes p.nodes (with_values p (nonzero_ids p))
+nonzero_named p law = record {
+  within = All-values (λ (n : ℕ × ℤ). IsNode p.nodes n.0) p (nonzero_ids p) (All-passing (λ id. IsNode p.nodes id) (nonzero_at p) (range_with_len 1 p.nodes) (λ id e. (nonzero_node p law id e).0));
+  once = λ id. omega (arith, count_named p id (nonzero_ids p), passing_once (nonzero_at p) p.nodes id);
+}
+
+-- none of them is left out
+all_have_values : (p : PotentialsValue) (ids : List ℕ) → filter has_value (with_values p (filter (nonzero_at p) ids)) ≡ with_values p (filter (nonzero_at p) ids)
+all_have_values p [] = refl
+all_have_values p (id ∷ ids) = by_test (nonzero_at p id) refl (all_have_values p ids)
+  where
+    by_test : (b : Bool) → nonzero_at p id ≡ b → filter has_value (with_values p (filter (nonzero_at p) ids)) ≡ with_values p (filter (nonzero_at p) ids)
+        → filter has_value (with_values p (cond b (id ∷ filter (nonzero_at p) ids) (filter (nonzero_at p) ids))) ≡ with_values p (cond b (id ∷ filter (nonzero_at p) ids) (filter (nonzero_at p) ids))
+    by_test true e rest =
+        ap (λ b. cond b ((id, potential_of p id) ∷ filter has_value (with_values p (filter (nonzero_at p) ids))) (filter has_value (with_values p (filter (nonzero_at p) ids)))) e
+        ∙ ap (λ xs. (id, potential_of p id) ∷ xs) rest
+    by_test false e rest = rest
+
+found_listed : (p : PotentialsValue) (id : ℕ) (ids : List ℕ) → find nat_cmp id (with_values p ids) ≡ cond (list_any (is_id id) ids) (Some (potential_of p id)) None
+found_listed p id [] = refl
+found_listed p id (x ∷ ids) =
+    ap (λ b. cond b (Some (potential_of p x)) (find nat_cmp id (with_values p ids))) (unsigned_tied id x ∙ same_test id x) ∙ by_test (x == id) refl (found_listed p id ids)
+  where
+    by_test : (b : Bool) → (x == id) ≡ b → find nat_cmp id (with_values p ids) ≡ cond (list_any (is_id id) ids) (Some (potential_of p id)) None
+        → cond b (Some (potential_of p x)) (find nat_cmp id (with_values p ids)) ≡ cond (b || list_any (is_id id) ids) (Some (potential_of p id)) None
+    by_test true same rest = ap (λ n. Some (potential_of p n)) (eqb-true x id same)
+    by_test false apart rest = rest
+
+kept_value : (p : PotentialsValue) → ArePotentials p → (id : ℕ) → get p.values id ≡ cond (nonzero_at p id) (Some (potential_of p id)) None
+kept_value p law id = by_case (get p.values id) refl
+  where
+    by_case : (o : Option ℤ) → get p.values id ≡ o → o ≡ cond (is_nonzero (unwrap_or o (pos 0))) (Some (unwrap_or o (pos 0))) None
+    by_case None is = refl
+    by_case (Some v) is = ap (λ b. cond (not b) (Some v) None) (sym (not_zero v (law.within id v is).1))
+
+values_named : (p : PotentialsValue) → ArePotentials p → p.values ≡ from_entries (filter has_value (with_values p (nonzero_ids p)))
+values_named p law =
+    same_map nat_cmp_total nat_cmp-IsAntisymmetric _ _ (λ id.
+    kept_value p law id
+    ∙ ap (λ b. cond b (Some (potential_of p id)) None) (sym (passing_listed (nonzero_at p) p.nodes id (λ e. (nonzero_node p law id e).0)))
+    ∙ sym (found_listed p id (nonzero_ids p))
+    ∙ sym (get-from_entries nat_cmp_total (with_values p (nonzero_ids p)) id))
+    ∙ ap from_entries (sym (all_have_values p (range_with_len 1 p.nodes)))
+
+pub few_nonzero : (p : PotentialsValue) → ArePotentials p → length (nonzero_ids p) ≤ 134217728
+few_nonzero p law = omega (arith, passing_few (nonzero_at p) p.nodes, law.nodes_few)
+
+problem_fits : (nodes count : ℕ) → nodes ≤ 134217728 → count ≤ 268435456 → CanBeSpelled kinds.Potentials (PotentialsProblem nodes count)
+problem_fits nodes count nodes_few few = record {
+  form = form (codes "p") (Word (codes "pot") ∷ Nodes ∷ Count ∷ []);
+  of_kind = (0, omega arith, refl);
+  for_kind = refl;
+  letter = refl;
+  fit = (refl, ((omega (arith, ints), omega (arith, ints, nodes_few)), ((omega (arith, ints), omega (arith, ints, few)), tt)));
+}
+
+line_fits : (id : ℕ) (v : ℤ) → 1 ≤ id → id ≤ 134217728 → IsWide v → CanBeSpelled kinds.Potentials (PotentialsNode id v)
+line_fits id v least most wide = record {
+  form = form (codes "y") (Id ∷ Wide ∷ []);
+  of_kind = (1, omega arith, refl);
+  for_kind = refl;
+  letter = refl;
+  fit = ((omega (arith, ints, least), omega (arith, ints, most)), (wide, tt));
+}
+
+lines_fit : (nodes : ℕ) (named : List (ℕ × ℤ)) → nodes ≤ 134217728 → All (λ (n : ℕ × ℤ). IsNode nodes n.0 × IsWide n.1) named → All (CanBeSpelled kinds.Potentials) (map node_line named)
+lines_fit nodes [] few are = All-nil (CanBeSpelled kinds.Potentials)
+lines_fit nodes (n ∷ named) few are =
+    let here = All-head (λ (n : ℕ × ℤ). IsNode nodes n.0 × IsWide n.1) n named are in
+    All-cons (CanBeSpelled kinds.Potentials) (node_line n) (map node_line named) (line_fits n.0 n.1 here.0.0 (omega (arith, here.0.1, few)) here.1) (lines_fit nodes named few (All-tail (λ (n : ℕ × ℤ). IsNode nodes n.0 × IsWide n.1) n named are))
+
+-- the canonical text of potentials spells them
+pub potentials_round_trip : (p : PotentialsValue) → ArePotentials p → SpellsPotentials (canonical_potentials p) p
+potentials_round_trip p law =
+    let ids = nonzero_ids p in
+    let all = potentials_records p.nodes (length ids) (with_values p ids) in
+    let few = few_nonzero p law in
+    let same_length : length (with_values p ids) ≡ length ids = length-map ids (λ id. (id, potential_of p id)) in
+    let problem : CanBeSpelled kinds.Potentials (PotentialsProblem p.nodes (length ids)) = problem_fits p.nodes (length ids) law.nodes_few (omega (arith, few)) in
+    let can = All-values (λ (n : ℕ × ℤ). IsNode p.nodes n.0 × IsWide n.1) p ids (All-passing (λ id. IsNode p.nodes id × IsWide (potential_of p id)) (nonzero_at p) (range_with_len 1 p.nodes) (nonzero_node p law)) in
+    let lines : All (CanBeSpelled kinds.Potentials) (map node_line (with_values p ids)) = lines_fit p.nodes (with_values p ids) law.nodes_few can in
+    let fit : All (CanBeSpelled kinds.Potentials) all = All-cons (CanBeSpelled kinds.Potentials) (PotentialsProblem p.nodes (length ids)) (map node_line (with_values p ids)) problem lines in
+    record {
+      said = map (λ (r : Record). Some r) all;
+      spelled = canonical_spelled kinds.Potentials all fit (omega (arith, few, same_length, length-map (with_values p ids) node_line));
+      given = record {
+        named = with_values p ids;
+        name_nodes = nonzero_named p law;
+        values = values_named p law;
+        records = numbered_all all ∙ ap (λ k. potentials_records p.nodes k (with_values p ids)) (sym same_length);
+        are_potentials = law;
+      };
+    }
+
+-- the lines of the nodes below this ID
+abbrev pub lines_below : PotentialsValue → ℕ → List Record
+lines_below p id = map node_line (with_values p (passing (nonzero_at p) (id - 1)))
+
+pub lines_below_next : (first : Record) (p : PotentialsValue) (id : ℕ) → 1 ≤ id → first ∷ lines_below p (id + 1) ≡ (first ∷ lines_below p id) ++ map node_line (with_values p (filter (nonzero_at p) (id ∷ [])))
+lines_below_next first p id least =
+    ap (λ ids. first ∷ map node_line (with_values p ids)) (passing_below (nonzero_at p) id least)
+    ∙ ap (λ ns. first ∷ map node_line ns) (map-append (λ id. (id, potential_of p id)) (passing (nonzero_at p) (id - 1)) (filter (nonzero_at p) (id ∷ [])))
+    ∙ ap (λ rs. first ∷ rs) (map-append node_line (with_values p (passing (nonzero_at p) (id - 1))) (with_values p (filter (nonzero_at p) (id ∷ []))))
+
+-- the number of nodes below this ID whose potential isn't 0
+pub count_below_in : (p : PotentialsValue) (id : ℕ) → 1 ≤ id → potential_of p id ≢ pos 0 → length (passing (nonzero_at p) (id - 1)) + 1 ≡ length (passing (nonzero_at p) (id + 1 - 1))
+count_below_in p id least some =
+    let one : filter (nonzero_at p) (id ∷ []) ≡ id ∷ [] = ap (λ b. cond (not b) (id ∷ []) []) (not_zero (potential_of p id) some) in
+    omega (arith, ap length (passing_below (nonzero_at p) id least), length-append (passing (nonzero_at p) (id - 1)) (filter (nonzero_at p) (id ∷ [])), ap length one)
+
+pub count_below_out : (p : PotentialsValue) (id : ℕ) → 1 ≤ id → potential_of p id ≡ pos 0 → length (passing (nonzero_at p) (id - 1)) ≡ length (passing (nonzero_at p) (id + 1 - 1))
+count_below_out p id least none =
+    let no_one : filter (nonzero_at p) (id ∷ []) ≡ [] = ap (λ v. cond (is_nonzero v) (id ∷ []) []) none in
+    omega (arith, ap length (passing_below (nonzero_at p) id least), length-append (passing (nonzero_at p) (id - 1)) (filter (nonzero_at p) (id ∷ [])), ap length no_one)

@@ -1,0 +1,285 @@
+-- The records of a solution.
+use Rattle.std.proofs.Common.{◌≡◌, ℕ, suc, ◌≤◌, ◌∷◌, ◌++◌, [], List, true, false, Option, Some, None, Result, Ok, Err, length, map, ◌+◌, refl, ap, sym, ◌∙◌, arith}
+use Rattle.std.specs.Prelude.{ℤ, pos, neg_ℤ, ◌^◌, codes, is_some, IfOk}
+use Rattle.std.specs.List.{All, list_any}
+use Rattle.std.specs.Result.{result_map_both}
+use Rattle.std.proofs.lemmas.Int.{ints}
+use Rattle.std.proofs.lemmas.List.{append-nil, length-append, length-map}
+use Rattle.std.proofs.lemmas.List.Elements.{All-nil, All-cons, All-head, All-tail}
+use Rattle.dimacs_lines.specs.Number.{IsWithin}
+use Rattle.dimacs_records.specs.declared.kinds.TextKind.TheVariants as kinds
+use Rattle.dimacs_records.specs.declared.records.Record.{Record}
+use Rattle.dimacs_records.specs.declared.records.Record.TheVariants as records
+use Rattle.dimacs_records.specs.declared.reasons.Reason.TheVariants.{SolutionTwice, SolutionMissing}
+use Rattle.dimacs_records.specs.declared.faults.ReadError.{ReadError}
+use Rattle.dimacs_records.specs.declared.faults.ReadError.TheVariants as read_errors
+use Rattle.dimacs_records.specs.Earlier.{problem_in, is_value}
+use Rattle.dimacs_records.specs.Faults.{FirstAtEnd, Spell}
+use Rattle.dimacs_records.specs.FieldReader.{fault_at}
+use Rattle.dimacs_records.specs.Spelling.{parts_of, texts_in}
+use Rattle.dimacs_records.specs.Forms.{form, Wide, Id, Whole}
+use Rattle.dimacs_records.specs.Canonical.{CanBeSpelled, FitAll, canonical_text}
+use Rattle.dimacs_records.specs.Readings.{LineRecord, IsOfKind, ReadsLines, IsAllowed, IsFirstCondition, IsComplete, on_line, records_of, numbered}
+use Rattle.dimacs_records.specs.Texts.{AreFaultless, AreSpelled}
+use Rattle.dimacs_records.proofs.CanonicalLaws.{canonical_spelled}
+use Rattle.dimacs_records.proofs.ConditionLemmas.{is_first_condition, is_allowed, is_first_at_end, is_complete}
+use Rattle.dimacs_records.proofs.FitLaws.{fits_of}
+use Rattle.dimacs_records.proofs.ReadLaws.{spelled_of_faultless}
+use Rattle.dimacs_records.proofs.SplitLemmas.{image_at}
+use Rattle.dimacs_claims.specs.declared.solution.Entry.{Entry}
+use Rattle.dimacs_claims.specs.declared.solution.Solution.{Solution}
+use Rattle.dimacs_claims.specs.declared.solution.ValueLine.{ValueLine}
+use Rattle.dimacs_claims.specs.SolutionTexts.{SolutionValue, StandsAmong, GivesSolution, SpellsSolution, IsLawful, IsLawfulEntry, canonical_solution, claimed, entry_line, entry_record, on_lines_from, renumbered, solution_records}
+use Rattle.dimacs_claims.specs.SolutionReading.{AreTaken}
+
+abbrev IsSolutionLine : LineRecord → Type 0
+IsSolutionLine r = IsOfKind kinds.Solution r.says
+
+abbrev value_record : ℤ → Record
+value_record value = records.SolutionValue value
+
+-- the records of entries alone
+records_of-entries : (es : List Entry) → records_of (map entry_line es) ≡ map entry_record es
+records_of-entries [] = refl
+records_of-entries (e ∷ es) = ap (λ rs. entry_record e ∷ rs) (records_of-entries es)
+
+no_value_in_entries : (es : List Entry) → list_any is_value (records_of (map entry_line es)) ≡ false
+no_value_in_entries [] = refl
+no_value_in_entries (e ∷ es) = no_value_in_entries es
+
+no_problem_in_entries : (es : List Entry) → problem_in (records_of (map entry_line es)) ≡ None
+no_problem_in_entries [] = refl
+no_problem_in_entries (e ∷ es) = no_problem_in_entries es
+
+-- the records of entries, and among them that of a value
+value_among : (es : List Entry) (before after : List LineRecord) (line : ℕ) (value : ℤ) → map entry_line es ≡ before ++ after
+    → list_any is_value (records_of (before ++ on_line line (value_record value) ∷ after)) ≡ true
+value_among es [] after line value e = refl
+value_among (x ∷ es) (b ∷ before) after line value e =
+    let first : b ≡ entry_line x = cc in
+    rw first (value_among es before after line value (cc))
+value_among [] (b ∷ before) after line value e = absurd (cc)
+
+no_problem_among : (es : List Entry) (before after : List LineRecord) (line : ℕ) (value : ℤ) → map entry_line es ≡ before ++ after
+    → problem_in (records_of (before ++ on_line line (value_record value) ∷ after)) ≡ None
+no_problem_among es [] after line value e = rw (← e) (no_problem_in_entries es)
+no_problem_among (x ∷ es) (b ∷ before) after line value e =
+    let first : b ≡ entry_line x = cc in
+    rw first (no_problem_among es before after line value (cc))
+no_problem_among [] (b ∷ before) after line value e = absurd (cc)
+
+-- an entry is taken behind any records
+entry_allowed : (earlier : List Record) (e : Entry) → IsAllowed earlier (entry_record e)
+entry_allowed earlier e = is_allowed earlier (entry_record e) refl
+
+-- a value is taken where none came before
+first_value_allowed : (earlier : List Record) (value : ℤ) → list_any is_value earlier ≡ false → IsAllowed earlier (value_record value)
+first_value_allowed earlier value none = is_allowed earlier (value_record value) (rw none refl)
+
+value_allowed : (es : List Entry) (rs : List LineRecord) (value : ℤ) → rs ≡ map entry_line es → IsAllowed (records_of rs) (value_record value)
+value_allowed es rs value rs_are = rw rs_are (first_value_allowed (records_of (map entry_line es)) value (no_value_in_entries es))
+
+value_twice : (es : List Entry) (rs : List LineRecord) (line : ℕ) (first value : ℤ) → StandsAmong (on_line line (value_record first)) (map entry_line es) rs
+    → IsFirstCondition (records_of rs) (value_record value) (fault_at 0 SolutionTwice)
+value_twice es rs line first value h =
+    let twice : list_any is_value (records_of rs) ≡ true = rw h.all_are (value_among es h.before h.after line first h.others_are) in
+    is_first_condition (records_of rs) (value_record value) (fault_at 0 SolutionTwice) (rw twice refl)
+
+pub no_value_at_end : (es : List Entry) (rs : List LineRecord) → rs ≡ map entry_line es → FirstAtEnd kinds.Solution (records_of rs) SolutionMissing
+no_value_at_end es rs rs_are = rw rs_are (is_first_at_end kinds.Solution (records_of (map entry_line es)) SolutionMissing (rw (no_problem_in_entries es, no_value_in_entries es) refl))
+
+pub complete_with_value : (es : List Entry) (rs : List LineRecord) (line : ℕ) (value : ℤ) → StandsAmong (on_line line (value_record value)) (map entry_line es) rs → IsComplete kinds.Solution (records_of rs)
+complete_with_value es rs line value h =
+    let has : list_any is_value (records_of rs) ≡ true = rw h.all_are (value_among es h.before h.after line value h.others_are) in
+    let none : problem_in (records_of rs) ≡ None = rw h.all_are (no_problem_among es h.before h.after line value h.others_are) in
+    is_complete kinds.Solution (records_of rs) (rw (none, has) refl)
+
+-- what is taken behind a reading's records
+value_taken : (es : List Entry) (rs : List LineRecord) (line : ℕ) (value : ℤ) → rs ≡ map entry_line es → StandsAmong (on_line line (value_record value)) (map entry_line es) (rs ++ on_line line (value_record value) ∷ [])
+value_taken es rs line value rs_are = record { before = rs; after = []; others_are = sym rs_are ∙ sym (append-nil rs); all_are = refl }
+
+-- behind a value, and behind none
+pub value_came : (value : Option ValueLine) (es : List Entry) (rs : List LineRecord) (other : ℤ) → is_some value ≡ true → AreTaken value es rs → IsFirstCondition (records_of rs) (value_record other) (fault_at 0 SolutionTwice)
+value_came (Some v) es rs other came h = value_twice es rs v.line v.value other h
+value_came None es rs other came h = absurd (cc)
+
+pub value_first : (value : Option ValueLine) (es : List Entry) (rs : List LineRecord) (line : ℕ) (said : ℤ) → is_some value ≡ false → AreTaken value es rs
+    → IsAllowed (records_of rs) (value_record said) × StandsAmong (on_line line (value_record said)) (map entry_line es) (rs ++ on_line line (value_record said) ∷ [])
+value_first None es rs line said none h = (value_allowed es rs said h, value_taken es rs line said h)
+value_first (Some v) es rs line said none h = absurd (cc)
+
+-- a record among those of a solution is an entry's, or that of a value behind entries alone
+data Place (before : List Record) (r : Record) : Type 0 where
+  of_entry : (e : Entry) → r ≡ entry_record e → Place before r
+  of_value : (value : ℤ) → r ≡ value_record value → list_any is_value before ≡ false → Place before r
+
+place_of : (es : List Entry) (before after : List LineRecord) (line : ℕ) (value : ℤ) (earlier more : List Record) (r : Record) → map entry_line es ≡ before ++ after
+    → records_of (before ++ on_line line (value_record value) ∷ after) ≡ earlier ++ r ∷ more → Place earlier r
+place_of es [] after line value [] more r e h = of_value value (cc) refl
+place_of es [] after line value (b ∷ earlier) more r e h =
+    let behind : records_of after ≡ earlier ++ r ∷ more = cc in
+    let at = image_at entry_record es earlier more r (sym (records_of-entries es) ∙ (ap records_of e ∙ behind)) in
+    of_entry at.x at.y_is
+place_of (x ∷ es) (b ∷ before) after line value [] more r e h =
+    let first : b ≡ entry_line x = cc in
+    let says : b.says ≡ r = cc in
+    of_entry x (sym says ∙ ap (λ (l : LineRecord). l.says) first)
+place_of (x ∷ es) (b ∷ before) after line value (c ∷ earlier) more r e h =
+    let first : b ≡ entry_line x = cc in
+    let says : b.says ≡ c = cc in
+    let c_is : c ≡ entry_record x = sym says ∙ ap (λ (l : LineRecord). l.says) first in
+    elim (place_of es before after line value earlier more r (cc) (cc)) [
+      | of_entry y r_is ↦ of_entry y r_is
+      | of_value v r_is none ↦ of_value v r_is (rw c_is none)
+    ]
+place_of [] (b ∷ before) after line value earlier more r e h = absurd (cc)
+
+allowed_at : (before : List Record) (r : Record) → Place before r → IsAllowed before r
+allowed_at before r (of_entry e r_is) = rw r_is (entry_allowed before e)
+allowed_at before r (of_value value r_is none) = rw r_is (first_value_allowed before value none)
+
+-- the records of a solution are refused for nothing
+pub solution_faultless : (rs : List LineRecord) (s : SolutionValue) → GivesSolution rs s → AreFaultless kinds.Solution (records_of rs)
+solution_faultless rs s h = record {
+  allowed = λ before after r e. allowed_at before r (place_of s.entries h.before h.after s.value_line s.value before after r h.others_are (rw h.all_are at e));
+  complete = complete_with_value s.entries rs s.value_line s.value h;
+}
+
+-- what is read is what the value read claims
+pub claimed_read : (all : List (List ℕ)) (result : Result Solution ReadError) → ReadsLines kinds.Solution (λ rs s. GivesSolution rs (claimed s)) all result → ReadsLines kinds.Solution GivesSolution all (result_map_both claimed (λ e. e) result)
+claimed_read all (Ok s) h = record { said = h.said; faultless = h.faultless; given = h.given }
+claimed_read all (Err (read_errors.Refused place reason)) h = h
+claimed_read all (Err read_errors.Device) h = tt
+claimed_read all (Err read_errors.Memory) h = tt
+
+-- the solution that records give
+with_line : ℕ → Record → SolutionValue → SolutionValue
+with_line line (records.SolutionValue value) s = record { value = value; value_line = line; entries = s.entries }
+with_line line (records.SolutionEntry tail head flow) s = record { value = s.value; value_line = s.value_line; entries = record { tail = tail; head = head; flow = flow; line = line } ∷ s.entries }
+with_line line r s = s
+
+solution_in : List LineRecord → SolutionValue
+solution_in [] = record { value = pos 0; value_line = 0; entries = [] }
+solution_in (r ∷ rs) = with_line r.line r.says (solution_in rs)
+
+-- a solution with one entry more in front
+abbrev behind_entry : Entry → SolutionValue → SolutionValue
+behind_entry e s = record { value = s.value; value_line = s.value_line; entries = e ∷ s.entries }
+
+entries_in-entries : (es : List Entry) → (solution_in (map entry_line es)).entries ≡ es
+unfolding solution_in with_line
+entries_in-entries [] = refl
+entries_in-entries (e ∷ es) = ap (λ xs. e ∷ xs) (entries_in-entries es)
+
+solution_in-among : (es : List Entry) (before after : List LineRecord) (line : ℕ) (value : ℤ) → map entry_line es ≡ before ++ after
+    → solution_in (before ++ on_line line (value_record value) ∷ after) ≡ record { value = value; value_line = line; entries = es }
+unfolding solution_in with_line
+solution_in-among es [] after line value e = ap (λ xs. record { value = value; value_line = line; entries = xs }) (ap (λ rs. (solution_in rs).entries) (sym e) ∙ entries_in-entries es)
+solution_in-among (x ∷ es) (b ∷ before) after line value e =
+    let first : b ≡ entry_line x = cc in
+    rw first (ap (behind_entry x) (solution_in-among es before after line value (cc)))
+solution_in-among [] (b ∷ before) after line value e = absurd (cc)
+
+solution_in-given : (rs : List LineRecord) (s : SolutionValue) → GivesSolution rs s → solution_in rs ≡ s
+solution_in-given rs s h = ap solution_in h.all_are ∙ solution_in-among s.entries h.before h.after s.value_line s.value h.others_are
+
+-- the records of a solution are those of no other
+pub one_solution : (rs : List LineRecord) (s t : SolutionValue) → GivesSolution rs s → GivesSolution rs t → s ≡ t
+one_solution rs s t a b = sym (solution_in-given rs s a) ∙ solution_in-given rs t b
+
+value_fits : (s : SolutionValue) → IsLawful s → CanBeSpelled kinds.Solution (value_record s.value)
+value_fits s is = record {
+  form = form (codes "s") (Wide ∷ []);
+  of_kind = (0, omega arith, refl);
+  for_kind = refl;
+  letter = refl;
+  fit = (is.value, tt);
+}
+
+entry_fits : (e : Entry) → IsLawfulEntry e → CanBeSpelled kinds.Solution (entry_record e)
+entry_fits e is = record {
+  form = form (codes "f") (Id ∷ Id ∷ Whole ∷ []);
+  of_kind = (1, omega arith, refl);
+  for_kind = refl;
+  letter = refl;
+  fit = ((omega (arith, ints, is.tail.0), omega (arith, ints, is.tail.1)), ((omega (arith, ints, is.head.0), omega (arith, ints, is.head.1)), (is.flow, tt)));
+}
+
+entries_fit : (es : List Entry) → All IsLawfulEntry es → All (CanBeSpelled kinds.Solution) (map entry_record es)
+entries_fit [] are = All-nil (CanBeSpelled kinds.Solution)
+entries_fit (e ∷ es) are =
+    All-cons (CanBeSpelled kinds.Solution) (entry_record e) (map entry_record es) (entry_fits e (All-head IsLawfulEntry e es are)) (entries_fit es (All-tail IsLawfulEntry e es are))
+
+numbered-entries : (line : ℕ) (es : List Entry) → numbered line (map (λ (r : Record). Some r) (map entry_record es)) ≡ map entry_line (on_lines_from line es)
+numbered-entries line [] = refl
+numbered-entries line (e ∷ es) = ap (λ rs. on_line line (entry_record e) ∷ rs) (numbered-entries (suc line) es)
+
+-- the canonical text of a lawful solution spells it on lines of its own
+pub solution_round_trip : (s : SolutionValue) → IsLawful s → SpellsSolution (canonical_solution s) (renumbered s)
+solution_round_trip s is =
+    let fit : All (CanBeSpelled kinds.Solution) (solution_records s) = All-cons (CanBeSpelled kinds.Solution) (value_record s.value) (map entry_record s.entries) (value_fits s is) (entries_fit s.entries is.entries) in
+    record {
+      said = map (λ (r : Record). Some r) (solution_records s);
+      spelled = canonical_spelled kinds.Solution (solution_records s) fit (omega (arith, length-map s.entries entry_record, is.few));
+      given = record {
+        before = [];
+        after = map entry_line (on_lines_from 2 s.entries);
+        others_are = refl;
+        all_are = ap (λ rs. on_line 1 (value_record s.value) ∷ rs) (numbered-entries 2 s.entries);
+      };
+    }
+
+records-on_lines_from : (line : ℕ) (es : List Entry) → map entry_record (on_lines_from line es) ≡ map entry_record es
+records-on_lines_from line [] = refl
+records-on_lines_from line (e ∷ es) = ap (λ rs. entry_record e ∷ rs) (records-on_lines_from (suc line) es)
+
+-- the lines are not written
+pub canonical-renumbered : (s : SolutionValue) → canonical_solution (renumbered s) ≡ canonical_solution s
+canonical-renumbered s = ap (λ rs. canonical_text (value_record s.value ∷ rs)) (records-on_lines_from 2 s.entries)
+
+-- the records of spelled lines are of the kind, one a line at most
+all_of_kind : (all : List (List ℕ)) (said : List (Option Record)) (line : ℕ) → Spell kinds.Solution all said → All IsSolutionLine (numbered line said)
+all_of_kind [] [] line h = All-nil IsSolutionLine
+all_of_kind (text ∷ all) (None ∷ said) line h = all_of_kind all said (suc line) h.1
+all_of_kind (text ∷ all) (Some r ∷ said) line h =
+    All-cons IsSolutionLine (on_line line r) (numbered (suc line) said) (record { texts = texts_in text; spelled = h.1 }) (all_of_kind all said (suc line) h.2)
+all_of_kind all said line h = absurd h
+
+one_a_line : (all : List (List ℕ)) (said : List (Option Record)) (line : ℕ) → Spell kinds.Solution all said → length (numbered line said) ≤ length all
+one_a_line [] [] line h = omega arith
+one_a_line (text ∷ all) (None ∷ said) line h = omega (arith, one_a_line all said (suc line) h.1)
+one_a_line (text ∷ all) (Some r ∷ said) line h = omega (arith, one_a_line all said (suc line) h.2)
+one_a_line all said line h = absurd h
+
+spelled_value : (value : ℤ) → IsOfKind kinds.Solution (value_record value) → IsWithin (neg_ℤ (pos (10 ^ 30))) (pos (10 ^ 30)) value
+spelled_value value h = (fits_of kinds.Solution (value_record value) (Wide ∷ []) h refl).0
+
+spelled_entry : (e : Entry) → IsOfKind kinds.Solution (entry_record e) → IsLawfulEntry e
+spelled_entry e h =
+    let fit : FitAll (Id ∷ Id ∷ Whole ∷ []) (parts_of (entry_record e)) = fits_of kinds.Solution (entry_record e) (Id ∷ Id ∷ Whole ∷ []) h refl in
+    record { tail = (omega (arith, ints, fit.0.0), omega (arith, ints, fit.0.1)); head = (omega (arith, ints, fit.1.0.0), omega (arith, ints, fit.1.0.1)); flow = fit.1.1.0 }
+
+spelled_entries : (es : List Entry) → All IsSolutionLine (map entry_line es) → All IsLawfulEntry es
+spelled_entries [] are = All-nil IsLawfulEntry
+spelled_entries (e ∷ es) are =
+    All-cons IsLawfulEntry e es (spelled_entry e (All-head IsSolutionLine (entry_line e) (map entry_line es) are)) (spelled_entries es (All-tail IsSolutionLine (entry_line e) (map entry_line es) are))
+
+-- all of a list but one of them
+all_others : (before after : List LineRecord) (r : LineRecord) → All IsSolutionLine (before ++ r ∷ after) → IsSolutionLine r × All IsSolutionLine (before ++ after)
+all_others [] after r are = (All-head IsSolutionLine r after are, All-tail IsSolutionLine r after are)
+all_others (b ∷ before) after r are =
+    let rest = all_others before after r (All-tail IsSolutionLine b (before ++ r ∷ after) are) in
+    (rest.0, All-cons IsSolutionLine b (before ++ after) (All-head IsSolutionLine b (before ++ r ∷ after) are) rest.1)
+
+-- a solution that lines spell is lawful
+lawful_given : (all : List (List ℕ)) (said : List (Option Record)) (s : SolutionValue) → AreSpelled kinds.Solution all said → GivesSolution (numbered 1 said) s → IsLawful s
+lawful_given all said s spelled h =
+    let r = on_line s.value_line (value_record s.value) in
+    let are = all_others h.before h.after r (rw h.all_are at (all_of_kind all said 1 spelled.spell)) in
+    let entries : All IsSolutionLine (map entry_line s.entries) = rw h.others_are are.1 in
+    let count : length (numbered 1 said) ≡ length s.entries + 1 = omega (arith, ap length h.all_are, length-append h.before (r ∷ h.after), ap length h.others_are, length-append h.before h.after, length-map s.entries entry_line) in
+    record { value = spelled_value s.value are.0; entries = spelled_entries s.entries entries; few = omega (arith, count, one_a_line all said 1 spelled.spell, spelled.few) }
+
+pub lawful_read : (all : List (List ℕ)) (result : Result Solution ReadError) → ReadsLines kinds.Solution (λ rs s. GivesSolution rs (claimed s)) all result → IfOk result (λ s. IsLawful (claimed s))
+lawful_read all (Ok s) h = lawful_given all h.said (claimed s) (spelled_of_faultless kinds.Solution all h.said h.faultless) h.given
+lawful_read all (Err error) h = tt

@@ -1,0 +1,105 @@
+-- Maps of potentials, with and without those that are 0.
+use Rattle.std.proofs.Common.{◌≡◌, ◌≢◌, ◌≤◌, ℕ, ◌==◌, Bool, true, false, Option, Some, None, cond, refl, sym, ◌∙◌, ap}
+use Rattle.std.specs.Prelude.{ℤ, pos, not, unwrap_or, if◌then◌else◌, Result, Ok, Err, OnOk, OnErr}
+use Rattle.std.specs.Ordering.{nat_cmp, int_eq}
+use Rattle.std.specs.Cmp.{nat_cmp_total, unsigned_tied, signed_Decides}
+use Rattle.std.specs.FinMap.{FinMap, empty, get, insert, remove, same_map, get-empty, get-remove, get-retain_keys, nat_cmp-IsAntisymmetric}
+use Rattle.std.proofs.lemmas.Bool.{eqb-true}
+use Rattle.dimacs_nodes.proofs.Nodes.{get-insert}
+use Rattle.dimacs_claims.specs.Cuts.{IsNode}
+use Rattle.dimacs_claims.specs.Potentials.{PotentialsValue, ArePotentials, IsPotential, IsWide, is_nonzero, with_potential, zero_potentials}
+use Rattle.dimacs_claims.specs.PotentialsReading.{without_zeros}
+
+-- what is found, unless it is 0
+abbrev pub unless_zero : Option ℤ → Option ℤ
+unless_zero found = cond (is_nonzero (unwrap_or found (pos 0))) found None
+
+pub get-without_zeros : (m : FinMap nat_cmp ℤ) (id : ℕ) → get (without_zeros m) id ≡ unless_zero (get m id)
+unfolding without_zeros
+get-without_zeros m id = get-retain_keys m (λ id. is_nonzero (unwrap_or (get m id) (pos 0))) id (λ x e. ap (λ n. is_nonzero (unwrap_or (get m n) (pos 0))) (sym (nat_cmp-IsAntisymmetric id x e)))
+
+zero_is : (n : ℤ) → int_eq n (pos 0) ≡ true → n ≡ pos 0
+zero_is n e = (signed_Decides n (pos 0)).0 e
+
+pub not_zero : (n : ℤ) → n ≢ pos 0 → int_eq n (pos 0) ≡ false
+not_zero n some = by_test (int_eq n (pos 0)) refl
+  where
+    by_test : (b : Bool) → int_eq n (pos 0) ≡ b → b ≡ false
+    by_test true e = absurd (some (zero_is n e))
+    by_test false e = refl
+
+pub isnt_zero : (n : ℤ) → int_eq n (pos 0) ≡ false → n ≢ pos 0
+isnt_zero n e is = absurd (cc (e, (signed_Decides n (pos 0)).1 is))
+
+-- the potential is the same without the zeros
+same_potential : (found : Option ℤ) → unwrap_or (unless_zero found) (pos 0) ≡ unwrap_or found (pos 0)
+same_potential None = refl
+same_potential (Some n) = by_test (int_eq n (pos 0)) refl
+  where
+    by_test : (b : Bool) → int_eq n (pos 0) ≡ b → unwrap_or (cond (not b) (Some n) None) (pos 0) ≡ n
+    by_test true e = sym (zero_is n e)
+    by_test false e = refl
+
+pub potential-without_zeros : (m : FinMap nat_cmp ℤ) (id : ℕ) → unwrap_or (get (without_zeros m) id) (pos 0) ≡ unwrap_or (get m id) (pos 0)
+potential-without_zeros m id = ap (λ o. unwrap_or o (pos 0)) (get-without_zeros m id) ∙ same_potential (get m id)
+
+pub without_zeros-empty : without_zeros empty ≡ empty
+without_zeros-empty = same_map nat_cmp_total nat_cmp-IsAntisymmetric (without_zeros empty) empty (λ id. get-without_zeros empty id ∙ ap unless_zero (get-empty nat_cmp id) ∙ sym (get-empty nat_cmp id))
+
+pub get-removed : (m : FinMap nat_cmp ℤ) (id other : ℕ) → get (remove m id) other ≡ cond (other == id) None (get m other)
+get-removed m id other = get-remove nat_cmp_total m id other ∙ ap (λ b. cond b None (get m other)) (unsigned_tied other id)
+
+-- to set a value is to change one potential
+pub without_zeros-insert : (m : FinMap nat_cmp ℤ) (id : ℕ) (n : ℤ) → without_zeros (insert m id n) ≡ (if int_eq n (pos 0) then remove (without_zeros m) id else insert (without_zeros m) id n)
+without_zeros-insert m id n = by_test (int_eq n (pos 0)) refl
+  where
+    after : (other : ℕ) → get (without_zeros (insert m id n)) other ≡ unless_zero (cond (other == id) (Some n) (get m other))
+    after other = get-without_zeros (insert m id n) other ∙ ap unless_zero (get-insert m id other n)
+
+    zero_at : (b : Bool) (found : Option ℤ) → int_eq n (pos 0) ≡ true → unless_zero (cond b (Some n) found) ≡ cond b None (unless_zero found)
+    zero_at true found e = ap (λ b. cond (not b) (Some n) None) e
+    zero_at false found e = refl
+
+    value_at : (b : Bool) (found : Option ℤ) → int_eq n (pos 0) ≡ false → unless_zero (cond b (Some n) found) ≡ cond b (Some n) (unless_zero found)
+    value_at true found e = ap (λ b. cond (not b) (Some n) None) e
+    value_at false found e = refl
+
+    by_test : (b : Bool) → int_eq n (pos 0) ≡ b → without_zeros (insert m id n) ≡ (if b then remove (without_zeros m) id else insert (without_zeros m) id n)
+    by_test true e =
+        same_map nat_cmp_total nat_cmp-IsAntisymmetric _ _ (λ other. after other ∙ zero_at (other == id) (get m other) e ∙ ap (cond (other == id) None) (sym (get-without_zeros m other)) ∙ sym (get-removed (without_zeros m) id other))
+    by_test false e =
+        same_map nat_cmp_total nat_cmp-IsAntisymmetric _ _ (λ other. after other ∙ value_at (other == id) (get m other) e ∙ ap (cond (other == id) (Some n)) (sym (get-without_zeros m other)) ∙ sym (get-insert (without_zeros m) id other n))
+
+-- the laws of potentials
+pub zero_law : (nodes : ℕ) → nodes ≤ 134217728 → ArePotentials (zero_potentials nodes)
+zero_law nodes few = record { nodes_few = few; within = λ id n e. absurd (cc (get-empty nat_cmp id, e)) }
+
+pub law_with_potential : (p : PotentialsValue) (id : ℕ) (n : ℤ) → ArePotentials p → IsNode p.nodes id → IsWide n → ArePotentials (with_potential p id n)
+law_with_potential p id n law node wide = record { nodes_few = law.nodes_few; within = λ other w e. by_value (int_eq n (pos 0)) refl other w e }
+  where
+    removed : (other : ℕ) (w : ℤ) (b : Bool) → cond b None (get p.values other) ≡ Some w → IsPotential p.nodes other w
+    removed other w true e = absurd (cc)
+    removed other w false e = law.within other w e
+
+    inserted : (other : ℕ) (w : ℤ) (b : Bool) → int_eq n (pos 0) ≡ false → (other == id) ≡ b → cond b (Some n) (get p.values other) ≡ Some w → IsPotential p.nodes other w
+    inserted other w true some same e =
+        let is : other ≡ id = eqb-true other id same in
+        let value : w ≡ n = cc in
+        rw (is, value) (node, isnt_zero n some, wide)
+    inserted other w false some apart e = law.within other w e
+
+    by_value : (b : Bool) → int_eq n (pos 0) ≡ b → (other : ℕ) (w : ℤ) → get (if b then remove p.values id else insert p.values id n) other ≡ Some w → IsPotential p.nodes other w
+    by_value true e other w is = removed other w (other == id) (sym (get-removed p.values id other) ∙ is)
+    by_value false e other w is = inserted other w (other == id) e refl (sym (get-insert p.values id other n) ∙ is)
+
+-- where a value was set, or not
+pub law_after_set : {E : Type 0} (nodes : ℕ) (old new : FinMap nat_cmp ℤ) (id : ℕ) (n : ℤ) (r : Result Unit E) → OnOk r (new ≡ insert old id n) → OnErr r (new ≡ old)
+    → ArePotentials (record { nodes = nodes; values = without_zeros old }) → IsNode nodes id → IsWide n → ArePotentials (record { nodes = nodes; values = without_zeros new })
+law_after_set nodes old new id n (Ok done) set unset law node wide =
+    rw (set, without_zeros-insert old id n) (law_with_potential (record { nodes = nodes; values = without_zeros old }) id n law node wide)
+law_after_set nodes old new id n (Err error) set unset law node wide = rw unset law
+
+pub set_potential : {E : Type 0} (nodes : ℕ) (old new : FinMap nat_cmp ℤ) (id : ℕ) (n : ℤ) (r : Result Unit E) → OnOk r (new ≡ insert old id n)
+    → OnOk r ((record { nodes = nodes; values = without_zeros new }) ≡ with_potential (record { nodes = nodes; values = without_zeros old }) id n)
+set_potential nodes old new id n (Ok done) set = ap (λ m. record { nodes = nodes; values = m }) (ap without_zeros set ∙ without_zeros-insert old id n)
+set_potential nodes old new id n (Err error) set = tt

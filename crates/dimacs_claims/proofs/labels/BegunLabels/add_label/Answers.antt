@@ -1,0 +1,89 @@
+use Rattle.std.proofs.Common.{◌≡◌, ◌<◌, true, false, refl, ap, sym, subst, ◌∙◌, ◌++◌, ◌∷◌, [], arith}
+use Rattle.std.specs.Prelude.{is_some}
+use Rattle.dimacs_records.specs.Readings.{IsAllowed}
+use Rattle.dimacs_claims.specs.Labels.{label}
+use Rattle.dimacs_claims.specs.LabelTexts.{label_line}
+use Rattle.dimacs_claims.specs.LabelsReading.{LabelsBegun, labels_begun_records}
+use Rattle.dimacs_claims.proofs.BegunLemmas.{label_before_blocks, begun_id_above, begun_pred_above, begun_label_twice, begun_too_many_labels, begun_pred_unknown, begun_label_allowed, pushed_label, with_blocks, sources_stay, begun_label, no_last, last_got}
+use Rattle.dimacs_claims.proofs.labels.BegunLabels.add_label.Goals as goal
+
+pub returns-in_default : goal.returns-in_default
+returns-in_default c =
+    let inside = c.self.inside in
+    let begun : LabelsBegun = record { nodes = inside.nodes; declared = inside.declared; missing = inside.missing; blocks = inside.blocks.items } in
+    let none = no_last begun.blocks (rw c.deref.ensures.value at c.in_default.ensures.value) in
+    rw (← c.self.view_is, c.refused.ensures) (label_before_blocks begun c.args.label none, refl)
+
+pub returns-then-label-self : goal.returns-then-label-self
+returns-then-label-self c =
+    let inside = c.self.inside in
+    let begun : LabelsBegun = record { nodes = inside.nodes; declared = inside.declared; missing = inside.missing; blocks = inside.blocks.items } in
+    let b = c.in-Some.block.now in
+    let at = last_got begun.blocks b (rw c.deref.ensures.value at c.in-Some.ensures.value) in
+    rw (← c.self.view_is, c.refused-then-label-self.ensures) (begun_id_above begun at.0 b at.1 c.args.label c.if-label-self.true, refl)
+
+pub returns-then-label-self-2 : goal.returns-then-label-self-2
+returns-then-label-self-2 c =
+    let inside = c.self.inside in
+    let begun : LabelsBegun = record { nodes = inside.nodes; declared = inside.declared; missing = inside.missing; blocks = inside.blocks.items } in
+    let b = c.in-Some.block.now in
+    let at = last_got begun.blocks b (rw c.deref.ensures.value at c.in-Some.ensures.value) in
+    rw (← c.self.view_is, c.refused-then-label-self-2.ensures) (begun_pred_above begun at.0 b at.1 c.args.label c.if-label-self.false c.if-label-self-2.true, refl)
+
+pub returns-then-is_some : goal.returns-then-is_some
+returns-then-is_some c =
+    let inside = c.self.inside in
+    let begun : LabelsBegun = record { nodes = inside.nodes; declared = inside.declared; missing = inside.missing; blocks = inside.blocks.items } in
+    let b = c.in-Some.block.now in
+    let at = last_got begun.blocks b (rw c.deref.ensures.value at c.in-Some.ensures.value) in
+    let twice : is_some (label b c.args.label.id) ≡ true = ap is_some (sym c.distance.ensures) ∙ sym c.if-is_some.ensures in
+    rw (← c.self.view_is, c.refused-then-is_some.ensures) (begun_label_twice begun at.0 b at.1 c.args.label c.if-label-self.false c.if-label-self-2.false twice, refl)
+
+pub returns-then-self-eq0 : goal.returns-then-self-eq0
+returns-then-self-eq0 c =
+    let inside = c.self.inside in
+    let begun : LabelsBegun = record { nodes = inside.nodes; declared = inside.declared; missing = inside.missing; blocks = inside.blocks.items } in
+    let b = c.in-Some.block.now in
+    let at = last_got begun.blocks b (rw c.deref.ensures.value at c.in-Some.ensures.value) in
+    let fresh : is_some (label b c.args.label.id) ≡ false = ap is_some (sym c.distance.ensures) ∙ sym c.if-is_some.ensures in
+    rw (← c.self.view_is, c.refused-then-self-eq0.ensures) (begun_too_many_labels begun at.0 b at.1 c.args.label c.if-label-self.false c.if-label-self-2.false fresh c.if-self-eq0.true, refl)
+
+pub returns-then-is_none : goal.returns-then-is_none
+returns-then-is_none c =
+    let inside = c.self.inside in
+    let begun : LabelsBegun = record { nodes = inside.nodes; declared = inside.declared; missing = inside.missing; blocks = inside.blocks.items } in
+    let b = c.in-Some.block.now in
+    let at = last_got begun.blocks b (rw c.deref.ensures.value at c.in-Some.ensures.value) in
+    let fresh : is_some (label b c.args.label.id) ≡ false = ap is_some (sym c.distance.ensures) ∙ sym c.if-is_some.ensures in
+    let lacks : 0 < begun.missing = omega (arith, c.if-self-eq0.false) in
+    let unknown : is_some (label b c.args.label.pred) ≡ false = ap is_some (sym c.distance-2.ensures) ∙ c.if-is_none.ensures in
+    rw (← c.self.view_is, c.refused-then-is_none.ensures) (begun_pred_unknown begun at.0 b at.1 c.args.label c.if-label-self.false c.if-label-self-2.false fresh lacks unknown, refl)
+
+pub invariant_of-self-2 : goal.invariant_of-self-2
+invariant_of-self-2 c =
+    let inside = c.self.inside in
+    let begun : LabelsBegun = record { nodes = inside.nodes; declared = inside.declared; missing = inside.missing; blocks = inside.blocks.items } in
+    let b = c.in-Some.block.now in
+    let at = last_got begun.blocks b (rw c.deref.ensures.value at c.in-Some.ensures.value) in
+    let fresh : is_some (label b c.args.label.id) ≡ false = ap is_some (sym c.distance.ensures) ∙ sym c.if-is_some.ensures in
+    let lacks : 0 < begun.missing = omega (arith, c.if-self-eq0.false) in
+    let known : is_some (label b c.args.label.pred) ≡ true = ap is_some (sym c.distance-2.ensures) ∙ c.if-is_none.ensures in
+    let l = c.args.label in
+    rw (c.in-Ok.ensures.added at.0 b at.1) (
+      begun_label begun at.0 b at.1 l c.self.invariant.0 (record { id = (c.requires.id, c.if-label-self.false); dist = c.requires.dist; pred = (c.requires.pred, c.if-label-self-2.false) }) fresh known lacks,
+      sources_stay begun at.0 b at.1 l inside.sources c.self.invariant.1,
+    )
+
+pub returns : goal.returns
+returns c =
+    let inside = c.self.inside in
+    let begun : LabelsBegun = record { nodes = inside.nodes; declared = inside.declared; missing = inside.missing; blocks = inside.blocks.items } in
+    let b = c.in-Some.block.now in
+    let at = last_got begun.blocks b (rw c.deref.ensures.value at c.in-Some.ensures.value) in
+    let fresh : is_some (label b c.args.label.id) ≡ false = ap is_some (sym c.distance.ensures) ∙ sym c.if-is_some.ensures in
+    let lacks : 0 < begun.missing = omega (arith, c.if-self-eq0.false) in
+    let known : is_some (label b c.args.label.pred) ≡ true = ap is_some (sym c.distance-2.ensures) ∙ c.if-is_none.ensures in
+    let l = c.args.label in (
+      subst (λ t. IsAllowed (labels_begun_records t) (label_line l)) c.self.view_is (begun_label_allowed begun at.0 b at.1 l c.if-label-self.false c.if-label-self-2.false fresh lacks known),
+      ap (λ bs. labels_begun_records (with_blocks begun bs)) (c.in-Ok.ensures.added at.0 b at.1) ∙ (pushed_label begun at.0 b at.1 l lacks ∙ ap (λ t. labels_begun_records t ++ label_line l ∷ []) c.self.view_is),
+    )

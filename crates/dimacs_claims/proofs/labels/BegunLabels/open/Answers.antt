@@ -1,0 +1,9 @@
+use Rattle.std.proofs.Common.{[]}
+use Rattle.dimacs_claims.specs.Labels.{BlockValue}
+use Rattle.dimacs_claims.proofs.LabelRecords.{are_sources_more}
+use Rattle.dimacs_claims.proofs.labels.BegunLabels.open.Goals as goal
+
+pub invariant_of-self-2 : goal.invariant_of-self-2
+invariant_of-self-2 c =
+    let b : BlockValue = record { source = c.args.source; labels = [] } in
+    rw (c.in-Ok.ensures.items, c.in_ok-block.ensures, c.in-Ok-insert.ensures.inserted) (rw (← c.self.view_is) at c.requires, are_sources_more c.self.inside.sources c.self.inside.blocks.items b c.self.invariant.1)

@@ -1,0 +1,11 @@
+use Rattle.std.proofs.Common.{◌≡◌, ◌≤◌, ◌-◌, length}
+use Rattle.dimacs_claims.proofs.NodeLists.{passing}
+use Rattle.dimacs_claims.proofs.PotentialsLemmas.{nonzero_at}
+use Rattle.dimacs_claims.proofs.potentials.Potentials.count_nonzero.Given as goal
+
+-- those so far were counted
+abbrev pub invariant-loop-id : goal.invariant-loop-id
+invariant-loop-id l = record {
+  least : 1 ≤ l.id;
+  counted : l.count ≡ length (passing (nonzero_at l.self) (l.id - 1));
+}

@@ -1,0 +1,36 @@
+-- How far a set of nodes has been read, and how such values are stored.
+use Rattle.std.specs.Prelude.{ℕ, ◌≡◌, ◌≤◌, List, length, refl}
+use Rattle.std.specs.Coded.{Coded, code_by, coded×, coded_ℕ}
+use Rattle.std.specs.Ordering.{nat_cmp}
+use Rattle.std.specs.FinSet.{FinSet, from_list}
+use Rattle.std.specs.FinSet as set
+use Rattle.dimacs_records.specs.declared.records.Record.{Record}
+use Rattle.dimacs_claims.specs.Cuts.{CutValue, IsCut, AreNamed, cut_records, ids_in, with_node}
+
+-- what the problem line declares, and the nodes behind it
+pub record CutBegun : Type 0 where
+  pub declared : ℕ
+  pub cut : CutValue
+
+-- a beginning of a set
+pub record IsCutBegun (begun : CutBegun) : Type 0 where
+  pub few : begun.declared ≤ 268435456
+  pub no_more : length (ids_in begun.cut) ≤ begun.declared
+  pub is_cut : IsCut begun.cut
+
+-- these records may have been taken
+pub record IsCutBegunBy (begun : CutBegun) (rs : List Record) : Type 0 where
+  pub named : List ℕ
+  pub are_named : AreNamed begun.cut.nodes named
+  pub ids : begun.cut.ids ≡ from_list named
+  pub count : length (ids_in begun.cut) ≡ length named
+  pub records : rs ≡ cut_records begun.cut.nodes begun.declared named
+
+abbrev pub with_line : CutBegun → ℕ → CutBegun
+with_line begun id = record begun { cut = with_node begun.cut id }
+
+abbrev pub cut_code : Coded CutValue
+cut_code = code_by (ℕ × FinSet nat_cmp) (coded× coded_ℕ (set.code coded_ℕ)) (λ c. (c.nodes, c.ids)) (λ p. record { nodes = p.0; ids = p.1 }) (λ _. refl)
+
+abbrev pub begun_code : Coded CutBegun
+begun_code = code_by (ℕ × CutValue) (coded× coded_ℕ cut_code) (λ b. (b.declared, b.cut)) (λ p. record { declared = p.0; cut = p.1 }) (λ _. refl)

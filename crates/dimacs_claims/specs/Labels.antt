@@ -1,0 +1,79 @@
+-- Labels: claimed distances from sources.
+use Rattle.std.specs.Prelude.{ℕ, ◌≡◌, ◌≢◌, ◌≤◌, ◌⊎◌, ◌^◌, ◌==◌, if◌then◌else◌, List, [], ◌∷◌, ◌++◌, length, slice_get, Option, Some, None, ℤ, pos, neg_ℤ}
+use Rattle.std.specs.List.{All, Contains}
+use Rattle.dimacs_lines.specs.Number.{IsWithin}
+use Rattle.dimacs_claims.specs.declared.block.Label.{Label}
+
+-- the labels of the nodes that are claimed to be reached from the source
+pub record BlockValue : Type 0 where
+  pub source : ℕ
+  pub labels : List Label
+
+pub record LabelsValue : Type 0 where
+  pub nodes : ℕ
+  pub blocks : List BlockValue
+
+abbrev pub distance_in : List Label → ℕ → Option ℤ
+distance_in [] v = None
+distance_in (l ∷ labels) v = if l.id == v then Some l.dist else distance_in labels v
+
+-- the claimed distance of v: 0 at the source, none where it has no label
+abbrev pub label : BlockValue → ℕ → Option ℤ
+label b v = if b.source == v then Some (pos 0) else distance_in b.labels v
+
+abbrev pub label_in : Option BlockValue → ℕ → Option ℤ
+label_in None v = None
+label_in (Some b) v = label b v
+
+-- in the block of this number, from 0; none past the blocks
+abbrev pub label_at : List BlockValue → ℕ → ℕ → Option ℤ
+label_at blocks k v = label_in (slice_get blocks k) v
+
+abbrev pub with_label : BlockValue → Label → BlockValue
+with_label b l = record { source = b.source; labels = b.labels ++ l ∷ [] }
+
+-- each element has this behind the ones before it
+abbrev pub EachBehind : {X : Type 0} → (List X → X → Type 0) → List X → Type 0
+EachBehind {X} P xs = (before after : List X) (x : X) → xs ≡ before ++ x ∷ after → P before x
+
+-- a label of a node that is neither the source nor named by an earlier label
+abbrev pub IsFresh : ℕ → List Label → Label → Type 0
+IsFresh source before l = (l.id ≢ source) × ((m : Label) → Contains before m → m.id ≢ l.id)
+
+-- a label whose predecessor is the source, or has an earlier label
+abbrev pub HasPred : ℕ → List Label → Label → Type 0
+HasPred source before l = (l.pred ≡ source) ⊎ ((m : Label) × Contains before m × (m.id ≡ l.pred))
+
+-- the predecessor on each label is the source, or has an earlier label
+abbrev pub PredsAreEarlier : BlockValue → Type 0
+PredsAreEarlier b = EachBehind (HasPred b.source) b.labels
+
+abbrev pub IsNode : ℕ → ℕ → Type 0
+IsNode nodes id = (1 ≤ id) × (id ≤ nodes)
+
+abbrev pub IsWide : ℤ → Type 0
+IsWide n = IsWithin (neg_ℤ (pos (10 ^ 30))) (pos (10 ^ 30)) n
+
+-- the label's numbers lie in their ranges
+pub record IsLabel (nodes : ℕ) (l : Label) : Type 0 where
+  pub id : IsNode nodes l.id
+  pub dist : IsWide l.dist
+  pub pred : IsNode nodes l.pred
+
+-- numbers within their ranges, one label for a node, and each behind that of its predecessor
+pub record IsBlock (nodes : ℕ) (b : BlockValue) : Type 0 where
+  pub source_within : IsNode nodes b.source
+  pub few : length b.labels ≤ 268435456
+  pub within : All (IsLabel nodes) b.labels
+  pub fresh : EachBehind (IsFresh b.source) b.labels
+  pub preds : PredsAreEarlier b
+
+-- a block of a source that no earlier block has
+abbrev pub IsNewSource : List BlockValue → BlockValue → Type 0
+IsNewSource before b = (other : BlockValue) → Contains before other → other.source ≢ b.source
+
+pub record AreLabels (labels : LabelsValue) : Type 0 where
+  pub nodes_few : labels.nodes ≤ 134217728
+  pub blocks_few : length labels.blocks ≤ 268435456
+  pub blocks : All (IsBlock labels.nodes) labels.blocks
+  pub sources : EachBehind IsNewSource labels.blocks

@@ -1,0 +1,68 @@
+-- How far labels have been read.
+use Rattle.std.specs.Prelude.{ℕ, ◌≡◌, ◌≤◌, ◌+◌, ◌==◌, Bool, List, [], ◌∷◌, ◌++◌, map, length, Option, None, Some}
+use Rattle.std.specs.List.{All, list_any}
+use Rattle.std.specs.Ordering.{nat_cmp}
+use Rattle.std.specs.FinSet as set
+use Rattle.dimacs_records.specs.declared.records.Record.{Record}
+use Rattle.dimacs_records.specs.declared.records.Record.TheVariants.{LabelsProblem, LabelsBlock}
+use Rattle.dimacs_claims.specs.Labels.{BlockValue, EachBehind, IsBlock, IsNewSource}
+use Rattle.dimacs_claims.specs.LabelTexts.{label_line}
+
+-- what the problem line declares, the blocks behind it, and how many labels the last one lacks
+pub record LabelsBegun : Type 0 where
+  pub nodes : ℕ
+  pub declared : ℕ
+  pub missing : ℕ
+  pub blocks : List BlockValue
+
+-- the lines of a block that lacks some of its labels
+abbrev pub lines_of_short : ℕ → BlockValue → List Record
+lines_of_short missing b = LabelsBlock b.source (length b.labels + missing) ∷ map label_line b.labels
+
+-- what a block lacks where the last of those from it on lacks this
+abbrev pub lacking : ℕ → List BlockValue → ℕ
+lacking missing [] = missing
+lacking missing (b ∷ more) = 0
+
+-- the lines of blocks, the last of which lacks labels
+abbrev pub lines_of_blocks : ℕ → List BlockValue → List Record
+lines_of_blocks missing [] = []
+lines_of_blocks missing (b ∷ more) = lines_of_short (lacking missing more) b ++ lines_of_blocks missing more
+
+-- the records that were taken
+abbrev pub labels_begun_records : LabelsBegun → List Record
+labels_begun_records begun = LabelsProblem begun.nodes begun.declared ∷ lines_of_blocks begun.missing begun.blocks
+
+abbrev pub label_records_so_far : Option LabelsBegun → List Record
+label_records_so_far None = []
+label_records_so_far (Some begun) = labels_begun_records begun
+
+-- the last block declared no more labels than may be
+abbrev pub LastIsFew : LabelsBegun → Type 0
+LastIsFew begun = (front : List BlockValue) (b : BlockValue) → begun.blocks ≡ front ++ b ∷ [] → length b.labels + begun.missing ≤ 268435456
+
+-- a beginning of labels
+pub record AreLabelsBegun (begun : LabelsBegun) : Type 0 where
+  pub nodes_few : begun.nodes ≤ 134217728
+  pub blocks_few : begun.declared ≤ 268435456
+  pub no_more : length begun.blocks ≤ begun.declared
+  pub last_few : LastIsFew begun
+  pub none_lack : begun.blocks ≡ [] → begun.missing ≡ 0
+  pub blocks : All (IsBlock begun.nodes) begun.blocks
+  pub sources : EachBehind IsNewSource begun.blocks
+
+abbrev pub has_source : ℕ → BlockValue → Bool
+has_source id b = b.source == id
+
+-- the set of the sources of the blocks
+abbrev pub AreSources : set.FinSet nat_cmp → List BlockValue → Type 0
+AreSources sources blocks = (id : ℕ) → set.contains sources id ≡ list_any (has_source id) blocks
+
+-- one block more, which lacks all of its labels
+abbrev pub with_block : LabelsBegun → ℕ → ℕ → LabelsBegun
+with_block begun source count = record {
+  nodes = begun.nodes;
+  declared = begun.declared;
+  missing = count;
+  blocks = begun.blocks ++ record { source = source; labels = [] } ∷ [];
+}

@@ -1,0 +1,11 @@
+pub mod CutReading
+pub mod Cuts
+pub mod Distances
+pub mod LabelTexts
+pub mod Labels
+pub mod LabelsReading
+pub mod Potentials
+pub mod PotentialsReading
+pub mod SolutionReading
+pub mod SolutionTexts
+pub mod Takings

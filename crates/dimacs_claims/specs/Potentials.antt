@@ -1,0 +1,87 @@
+-- Potentials of nodes, and the texts that spell them.
+use Rattle.std.specs.Prelude.{ℕ, ℤ, ◌≡◌, ◌≢◌, ◌==◌, ◌≤◌, ◌^◌, Bool, not, List, ◌∷◌, Some, map, length, count_by, if◌then◌else◌, pos, neg_ℤ, unwrap_or}
+use Rattle.std.specs.List.{All, filter, range_with_len}
+use Rattle.std.specs.Ordering.{nat_cmp, int_eq}
+use Rattle.std.specs.FinMap.{FinMap, empty, get, insert, remove, from_entries}
+use Rattle.dimacs_lines.specs.Lines.{lines}
+use Rattle.dimacs_lines.specs.Number.{IsWithin}
+use Rattle.dimacs_records.specs.declared.kinds.TextKind.TheVariants as kinds
+use Rattle.dimacs_records.specs.declared.records.Record.{Record}
+use Rattle.dimacs_records.specs.declared.records.Record.TheVariants.{PotentialsProblem, PotentialsNode}
+use Rattle.dimacs_records.specs.Canonical.{canonical_text}
+use Rattle.dimacs_records.specs.Readings.{LineRecord, records_of}
+use Rattle.dimacs_records.specs.Texts.{SpellsValue}
+use Rattle.dimacs_claims.specs.Cuts.{IsNode}
+
+-- a number of nodes, and the potentials that aren't 0
+pub record PotentialsValue : Type 0 where
+  pub nodes : ℕ
+  pub values : FinMap nat_cmp ℤ
+
+-- the potential of a node; 0 where the map has none
+abbrev pub potential_of : PotentialsValue → ℕ → ℤ
+potential_of p id = unwrap_or (get p.values id) (pos 0)
+
+abbrev pub is_nonzero : ℤ → Bool
+is_nonzero n = not (int_eq n (pos 0))
+
+abbrev pub IsWide : ℤ → Type 0
+IsWide n = IsWithin (neg_ℤ (pos (10 ^ 30))) (pos (10 ^ 30)) n
+
+-- a node, and a potential that isn't 0
+abbrev pub IsPotential : ℕ → ℕ → ℤ → Type 0
+IsPotential nodes id value = IsNode nodes id × (value ≢ pos 0) × IsWide value
+
+pub record ArePotentials (p : PotentialsValue) : Type 0 where
+  pub nodes_few : p.nodes ≤ 134217728
+  pub within : (id : ℕ) (value : ℤ) → get p.values id ≡ Some value → IsPotential p.nodes id value
+
+abbrev pub zero_potentials : ℕ → PotentialsValue
+zero_potentials nodes = record { nodes = nodes; values = empty }
+
+-- with another potential of this node
+abbrev pub with_potential : PotentialsValue → ℕ → ℤ → PotentialsValue
+with_potential p id value = record p { values = if int_eq value (pos 0) then remove p.values id else insert p.values id value }
+
+-- the nodes whose potential isn't 0, by ID
+abbrev pub nonzero_ids : PotentialsValue → List ℕ
+nonzero_ids p = filter (λ id. is_nonzero (potential_of p id)) (range_with_len 1 p.nodes)
+
+-- these nodes with their potentials
+abbrev pub with_values : PotentialsValue → List ℕ → List (ℕ × ℤ)
+with_values p ids = map (λ id. (id, potential_of p id)) ids
+
+abbrev pub is_of : ℕ → ℕ × ℤ → Bool
+is_of id n = n.0 == id
+
+abbrev pub has_value : ℕ × ℤ → Bool
+has_value n = is_nonzero n.1
+
+-- the lines name nodes, and no node twice
+pub record NameNodes (nodes : ℕ) (named : List (ℕ × ℤ)) : Type 0 where
+  pub within : All (λ (n : ℕ × ℤ). IsNode nodes n.0) named
+  pub once : (id : ℕ) → count_by (is_of id) named ≤ 1
+
+-- the line of a node and its potential
+abbrev pub node_line : ℕ × ℤ → Record
+node_line n = PotentialsNode n.0 n.1
+
+-- the problem line, and then the nodes
+abbrev pub potentials_records : ℕ → ℕ → List (ℕ × ℤ) → List Record
+potentials_records nodes count named = PotentialsProblem nodes count ∷ map node_line named
+
+-- the records name each node whose potential isn't 0, and may name others
+pub record GivesPotentials (rs : List LineRecord) (p : PotentialsValue) : Type 0 where
+  pub named : List (ℕ × ℤ)
+  pub name_nodes : NameNodes p.nodes named
+  pub values : p.values ≡ from_entries (filter has_value named)
+  pub records : records_of rs ≡ potentials_records p.nodes (length named) named
+  pub are_potentials : ArePotentials p
+
+-- the text spells these potentials
+abbrev pub SpellsPotentials : List ℕ → PotentialsValue → Type 0
+SpellsPotentials text p = SpellsValue kinds.Potentials GivesPotentials (lines text) p
+
+-- the nodes stand by ID, and those of potential 0 are left out
+abbrev pub canonical_potentials : PotentialsValue → List ℕ
+canonical_potentials p = canonical_text (potentials_records p.nodes (length (nonzero_ids p)) (with_values p (nonzero_ids p)))

@@ -1,0 +1,58 @@
+-- How far potentials have been read, and how such values are stored.
+use Rattle.std.specs.Prelude.{ℕ, ℤ, ◌≡◌, ◌≤◌, ◌+◌, ◌||◌, Bool, List, length, refl, pos, if◌then◌else◌, unwrap_or}
+use Rattle.std.specs.Coded.{Coded, code_by, coded×, coded_ℕ, coded_ℤ}
+use Rattle.std.specs.List.{filter, list_any}
+use Rattle.std.specs.Ordering.{nat_cmp, int_eq}
+use Rattle.std.specs.FinMap.{FinMap, get, insert, from_entries, retain_keys}
+use Rattle.std.specs.FinMap as map
+use Rattle.std.specs.FinSet.{FinSet}
+use Rattle.std.specs.FinSet as set
+use Rattle.dimacs_records.specs.declared.records.Record.{Record}
+use Rattle.dimacs_claims.specs.Potentials.{PotentialsValue, ArePotentials, NameNodes, has_value, is_nonzero, is_of, potential_of, potentials_records}
+
+-- the values that aren't 0
+unfoldable pub without_zeros : FinMap nat_cmp ℤ → FinMap nat_cmp ℤ
+without_zeros values = retain_keys values (λ id. is_nonzero (unwrap_or (get values id) (pos 0)))
+
+-- what the problem line declares, how many lines came behind it, the potentials, and the nodes that are named with 0
+pub record PotentialsBegun : Type 0 where
+  pub declared : ℕ
+  pub taken : ℕ
+  pub potentials : PotentialsValue
+  pub zeros : FinSet nat_cmp
+
+-- a beginning of potentials
+pub record AreBegun (begun : PotentialsBegun) : Type 0 where
+  pub few : begun.declared ≤ 268435456
+  pub no_more : begun.taken ≤ begun.declared
+  pub are_potentials : ArePotentials begun.potentials
+
+abbrev pub is_named : PotentialsBegun → ℕ → Bool
+is_named begun id = is_nonzero (potential_of begun.potentials id) || set.contains begun.zeros id
+
+-- these records may have been taken
+pub record AreBegunBy (begun : PotentialsBegun) (rs : List Record) : Type 0 where
+  pub named : List (ℕ × ℤ)
+  pub name_nodes : NameNodes begun.potentials.nodes named
+  pub values : begun.potentials.values ≡ from_entries (filter has_value named)
+  pub nodes_named : (id : ℕ) → is_named begun id ≡ list_any (is_of id) named
+  pub count : begun.taken ≡ length named
+  pub records : rs ≡ potentials_records begun.potentials.nodes begun.declared named
+
+abbrev pub with_zero : PotentialsBegun → ℕ → PotentialsBegun
+with_zero begun id = record { declared = begun.declared; taken = begun.taken + 1; potentials = begun.potentials; zeros = set.insert begun.zeros id }
+
+abbrev pub with_value : PotentialsBegun → ℕ → ℤ → PotentialsBegun
+with_value begun id value = record { declared = begun.declared; taken = begun.taken + 1; potentials = record { nodes = begun.potentials.nodes; values = insert begun.potentials.values id value }; zeros = begun.zeros }
+
+-- with one line more
+abbrev pub with_line : PotentialsBegun → ℕ → ℤ → PotentialsBegun
+with_line begun id value = if int_eq value (pos 0) then with_zero begun id else with_value begun id value
+
+abbrev pub potentials_code : Coded PotentialsValue
+potentials_code = code_by (ℕ × FinMap nat_cmp ℤ) (coded× coded_ℕ (map.code coded_ℕ coded_ℤ)) (λ p. (p.nodes, p.values)) (λ p. record { nodes = p.0; values = p.1 }) (λ _. refl)
+
+abbrev pub begun_code : Coded PotentialsBegun
+begun_code =
+    code_by (ℕ × (ℕ × (PotentialsValue × FinSet nat_cmp))) (coded× coded_ℕ (coded× coded_ℕ (coded× potentials_code (set.code coded_ℕ)))) (λ b. (b.declared, (b.taken, (b.potentials, b.zeros))))
+    (λ p. record { declared = p.0; taken = p.1.0; potentials = p.1.1.0; zeros = p.1.1.1 }) (λ _. refl)

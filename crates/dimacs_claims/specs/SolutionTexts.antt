@@ -1,0 +1,76 @@
+-- Solutions, and the texts that spell them.
+use Rattle.std.specs.Prelude.{ℕ, suc, ◌+◌, ◌-◌, ◌^◌, ◌≡◌, ◌≤◌, List, [], ◌∷◌, ◌++◌, map, length, ℤ, pos, neg_ℤ}
+use Rattle.std.specs.List.{All}
+use Rattle.dimacs_lines.specs.Lines.{lines}
+use Rattle.dimacs_lines.specs.Number.{IsWithin}
+use Rattle.dimacs_lines.specs.declared.reader.TheConstants.{MAX_LINES}
+use Rattle.dimacs_records.specs.declared.kinds.TextKind.TheVariants as kinds
+use Rattle.dimacs_records.specs.declared.records.Record.{Record}
+use Rattle.dimacs_records.specs.declared.records.Record.TheVariants as records
+use Rattle.dimacs_records.specs.Canonical.{canonical_text}
+use Rattle.dimacs_records.specs.Readings.{LineRecord, on_line}
+use Rattle.dimacs_records.specs.Texts.{SpellsValue}
+use Rattle.dimacs_claims.specs.declared.solution.Entry.{Entry}
+use Rattle.dimacs_claims.specs.declared.solution.Solution.{Solution}
+
+-- a value and the flows of arcs, each with the number of its line
+pub record SolutionValue : Type 0 where
+  pub value : ℤ
+  pub value_line : ℕ
+  pub entries : List Entry
+
+-- what is claimed, in any room
+abbrev pub claimed : Solution → SolutionValue
+claimed s = record { value = s.value; value_line = s.value_line; entries = s.entries.items }
+
+abbrev pub entry_record : Entry → Record
+entry_record e = records.SolutionEntry e.tail e.head e.flow
+
+abbrev pub entry_line : Entry → LineRecord
+entry_line e = on_line e.line (entry_record e)
+
+-- one record stands somewhere among others
+pub record StandsAmong (r : LineRecord) (others all : List LineRecord) : Type 0 where
+  pub before : List LineRecord
+  pub after : List LineRecord
+  pub others_are : others ≡ before ++ after
+  pub all_are : all ≡ before ++ r ∷ after
+
+-- the value stands somewhere among the entries
+abbrev pub GivesSolution : List LineRecord → SolutionValue → Type 0
+GivesSolution rs s = StandsAmong (on_line s.value_line (records.SolutionValue s.value)) (map entry_line s.entries) rs
+
+-- the text spells this solution
+abbrev pub SpellsSolution : List ℕ → SolutionValue → Type 0
+SpellsSolution text s = SpellsValue kinds.Solution GivesSolution (lines text) s
+
+abbrev pub IsId : ℕ → Type 0
+IsId id = (1 ≤ id) × (id ≤ 134217728)
+
+-- the numbers of an entry lie in their ranges
+pub record IsLawfulEntry (e : Entry) : Type 0 where
+  pub tail : IsId e.tail
+  pub head : IsId e.head
+  pub flow : IsWithin (neg_ℤ (pos (2 ^ 63))) (pos (2 ^ 63 - 1)) e.flow
+
+-- the numbers lie in their ranges, and a text has room for the lines
+pub record IsLawful (s : SolutionValue) : Type 0 where
+  pub value : IsWithin (neg_ℤ (pos (10 ^ 30))) (pos (10 ^ 30)) s.value
+  pub entries : All IsLawfulEntry s.entries
+  pub few : length s.entries + 1 ≤ MAX_LINES
+
+-- the value, and then the entries
+abbrev pub solution_records : SolutionValue → List Record
+solution_records s = records.SolutionValue s.value ∷ map entry_record s.entries
+
+abbrev pub canonical_solution : SolutionValue → List ℕ
+canonical_solution s = canonical_text (solution_records s)
+
+-- the entries on one line after another from this one on
+abbrev pub on_lines_from : ℕ → List Entry → List Entry
+on_lines_from line [] = []
+on_lines_from line (e ∷ es) = record e { line = line } ∷ on_lines_from (suc line) es
+
+-- the value on line 1, and the entries on the lines behind it
+abbrev pub renumbered : SolutionValue → SolutionValue
+renumbered s = record { value = s.value; value_line = 1; entries = on_lines_from 2 s.entries }

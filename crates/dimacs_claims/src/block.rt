@@ -1,0 +1,92 @@
+//! The labels of one source.
+
+ghost use Rattle.std.specs.Prelude.{◌≡◌, [], IfOk, OnOk, OnErr, Option, None};
+ghost use Rattle.dimacs_claims.specs.Labels.{BlockValue, with_label};
+ghost use Rattle.dimacs_claims.specs.Labels as claims;
+
+use dimacs_lines::Memory;
+use std::alloc::Global;
+use std::collections::BTreeMap;
+use std::marker::Model;
+
+/// A claimed distance: `id` is reached at `dist`, by an arc from `pred`.
+#[derive(Clone, Copy, Debug, PartialEq, Eq)]
+pub struct Label {
+    pub dist: i128,
+    pub id: u32,
+    pub pred: u32,
+}
+
+/// The labels of the nodes that are claimed to be reached from a source.
+#[derive(Drop)]
+pub struct Block {
+    source: u32,
+    labels: Vec<Label>,
+    /// By node, that of the source too.
+    distances: BTreeMap<u32, i128>,
+}
+
+impl Model for Block {
+    ghost use Rattle.dimacs_claims.specs.Labels.{BlockValue};
+    ghost use Rattle.dimacs_claims.specs.Distances.{AreDistances};
+
+    ghost Value = { BlockValue };
+
+    ghost view = { λ b. record { source = b.source; labels = b.labels.items } };
+
+    ghost invariant = { λ b. AreDistances b.distances (record { source = b.source; labels = b.labels.items }) };
+}
+
+impl Block {
+    pub fn source(&self) -> u32
+        ensures { result ≡ self.now.source }
+    {
+        self.source
+    }
+
+    /// In the order of the text.
+    pub fn labels(&self) -> &[Label]
+        ensures { result.now ≡ self.now.labels }
+    {
+        &self.labels
+    }
+
+    /// The claimed distance of a node: 0 at the source, none where it has no label.
+    #[inline]
+    pub(crate) fn distance(&self, id: u32) -> Option<i128>
+        ensures { result ≡ claims.label self.now id }
+    {
+        self.distances.get(&id).copied()
+    }
+
+    /// The block of a source, without labels.
+    pub(crate) fn new(alloc: Global, source: u32) -> Result<Block, Memory>
+        ensures { IfOk result (λ block. block ≡ record { source = source; labels = [] }) }
+    {
+        let mut distances = BTreeMap::new(alloc);
+        let Ok(_) = distances.insert(source, 0) else {
+            return Err(Memory);
+        };
+        Ok(Block {
+            source,
+            labels: Vec::new(alloc),
+            distances,
+        })
+    }
+
+    /// Adds a label of a node that has none.
+    pub(crate) fn add(&mut self, label: Label) -> Result<(), Memory>
+        requires { claims.label self.old label.id ≡ None }
+        ensures added { OnOk result (self.new ≡ with_label self.old label) }
+        ensures unchanged { OnErr result (self.new ≡ self.old) }
+    {
+        let Ok(()) = self.labels.push(label) else {
+            return Err(Memory);
+        };
+        let Ok(_) = self.distances.insert(label.id, label.dist) else {
+            self.labels.pop();
+            return Err(Memory);
+        };
+        Ok(())
+    }
+}

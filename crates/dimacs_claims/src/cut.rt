@@ -1,0 +1,258 @@
+//! Sets of nodes: the source's side of a cut, or a set whose supply can't be met.
+
+ghost use Rattle.std.specs.Prelude.{◌≡◌, ◌≤◌, ◌++◌, ◌∷◌, [], ℕ, List, Option, None, Some, OnOk, OnErr, length, map};
+ghost use Rattle.std.specs.List.{filter};
+ghost use Rattle.std.specs.FinSet as set;
+ghost use Rattle.dimacs_lines.specs.Devices.{CountsFault};
+ghost use Rattle.dimacs_lines.specs.Lines.{lines};
+ghost use Rattle.dimacs_lines.specs.Pages.{IsWritten, FaultsAre};
+ghost use Rattle.dimacs_lines.specs.Puts.{Puts};
+ghost use Rattle.dimacs_records.specs.declared.kinds.TextKind.TheVariants as kinds;
+ghost use Rattle.dimacs_records.specs.declared.records.Record.TheVariants.{CutProblem, CutNode};
+ghost use Rattle.dimacs_records.specs.Canonical.{canonical_text};
+ghost use Rattle.dimacs_records.specs.Faults.{Fault};
+ghost use Rattle.dimacs_records.specs.Readings.{CountsRead, records_of};
+ghost use Rattle.dimacs_records.specs.Texts.{Reads};
+ghost use Rattle.dimacs_claims.specs.Takings.{StandsFor, Takes};
+ghost use Rattle.dimacs_claims.specs.Cuts.{CutValue, IsCut, IsNode, GivesCut, SpellsCut, canonical_cut, empty_cut, ids_in, with_node};
+ghost use Rattle.dimacs_claims.specs.CutReading.{IsCutBegunBy};
+
+use dimacs_lines::{DeviceFault, Memory, Page, Sink, Source};
+use dimacs_nodes::NodeSet;
+use dimacs_records::{
+    ReadError, Reading, Reason, Record, TakeError, TextKind, read_text, write_record,
+};
+use std::alloc::Global;
+use std::marker::Model;
+
+/// A set of nodes, by their IDs.
+#[derive(Drop)]
+pub struct Cut {
+    nodes: u32,
+    ids: NodeSet,
+    len: u32,
+}
+
+impl Model for Cut {
+    ghost use Rattle.std.specs.Prelude.{◌≡◌, length};
+    ghost use Rattle.dimacs_claims.specs.Cuts.{CutValue, IsCut, ids_in};
+    ghost use Rattle.dimacs_claims.specs.CutReading.{cut_code};
+
+    ghost Value = { CutValue };
+
+    ghost coded = { cut_code };
+
+    ghost view = { λ c. record { nodes = c.nodes; ids = c.ids } };
+
+    ghost invariant = { λ c. IsCut (record { nodes = c.nodes; ids = c.ids }) × (c.len ≡ length (ids_in (record { nodes = c.nodes; ids = c.ids }))) };
+}
+
+impl Cut {
+    /// The empty set, of so many nodes. Takes no memory.
+    pub fn new(alloc: Global, nodes: u32) -> Cut
+        requires { nodes ≤ 134217728 }
+        ensures { result ≡ empty_cut nodes }
+    {
+        Cut {
+            nodes,
+            ids: NodeSet::new(alloc),
+            len: 0,
+        }
+    }
+
+    #[inline]
+    pub fn nodes(&self) -> u32
+        ensures { result ≡ self.now.nodes }
+    {
+        self.nodes
+    }
+
+    /// The number of nodes in the set.
+    #[inline]
+    pub fn len(&self) -> u32
+        ensures count { result ≡ length (ids_in self.now) }
+        ensures lawful { IsCut self.now }
+    {
+        self.len
+    }
+
+    /// Whether the node of this ID is in the set; an ID of no node isn't. Takes no memory.
+    #[inline]
+    pub fn contains(&self, id: u32) -> bool
+        ensures { result ≡ set.contains self.now.ids id }
+    {
+        self.ids.contains(id)
+    }
+
+    /// Puts in a node, which may be in the set already.
+    pub fn add(&mut self, id: u32) -> Result<(), Memory>
+        requires { IsNode self.old.nodes id }
+        ensures added { OnOk result (self.new ≡ with_node self.old id) }
+        ensures unchanged { OnErr result (self.new ≡ self.old) }
+    {
+        if self.ids.contains(id) {
+            return Ok(());
+        }
+        self.ids.insert(id)?;
+        self.len += 1;
+        Ok(())
+    }
+}
+
+/// Makes a set of nodes of the records of a text.
+#[derive(Drop)]
+pub struct CutReading {
+    alloc: Global,
+    begun: Option<BegunCut>,
+}
+
+impl Model for CutReading {
+    ghost use Rattle.std.specs.Prelude.{Option};
+    ghost use Rattle.std.specs.Coded.{coded_option};
+    ghost use Rattle.dimacs_claims.specs.CutReading.{CutBegun, begun_code};
+
+    ghost Value = { Option CutBegun };
+
+    ghost coded = { coded_option begun_code };
+
+    ghost view = { λ reading. reading.begun };
+}
+
+/// The nodes that came behind the problem line.
+#[derive(Drop)]
+pub(crate) struct BegunCut {
+    declared: u32,
+    cut: Cut,
+}
+
+impl Model for BegunCut {
+    ghost use Rattle.dimacs_claims.specs.CutReading.{CutBegun, IsCutBegun, begun_code};
+
+    ghost Value = { CutBegun };
+
+    ghost coded = { begun_code };
+
+    ghost view = { λ b. record { declared = b.declared; cut = b.cut } };
+
+    ghost invariant = { λ b. IsCutBegun (record { declared = b.declared; cut = b.cut }) };
+}
+
+impl BegunCut {
+    fn add(&mut self, id: u32) -> Result<(), TakeError>
+        requires { 1 ≤ id }
+        ensures { Takes IsCutBegunBy (Some self.old) (CutNode id) result (Some self.new) }
+    {
+        if id > self.cut.nodes() {
+            return Err(TakeError::refused(2, Reason::NodeRange));
+        }
+        if self.cut.contains(id) {
+            return Err(TakeError::refused(2, Reason::NodeTwice));
+        }
+        if self.cut.len() == self.declared {
+            return Err(TakeError::refused(0, Reason::TooMany));
+        }
+        let Ok(()) = self.cut.add(id) else {
+            return Err(TakeError::Memory);
+        };
+        Ok(())
+    }
+}
+
+impl CutReading {
+    pub fn new(alloc: Global) -> CutReading
+        ensures { result ≡ None }
+    {
+        CutReading { alloc, begun: None }
+    }
+
+    fn start(&mut self, nodes: u32, declared: u32) -> Result<(), TakeError>
+        requires nodes { nodes ≤ 134217728 }
+        requires declared { declared ≤ 268435456 }
+        ensures { Takes IsCutBegunBy self.old (CutProblem nodes declared) result self.new }
+    {
+        if self.begun.is_some() {
+            return Err(TakeError::refused(0, Reason::ProblemTwice));
+        }
+        self.begun = Some(BegunCut {
+            declared,
+            cut: Cut::new(self.alloc, nodes),
+        });
+        Ok(())
+    }
+
+    #[inline(always)]
+    fn add(&mut self, id: u32) -> Result<(), TakeError>
+        requires { 1 ≤ id }
+        ensures { Takes IsCutBegunBy self.old (CutNode id) result self.new }
+    {
+        let Some(begun) = &mut self.begun else {
+            return Err(TakeError::refused(0, Reason::ProblemMissing));
+        };
+        begun.add(id)
+    }
+}
+
+impl Reading for CutReading {
+    type Value = Cut;
+
+    ghost kind = { λ reading. kinds.Cut };
+
+    ghost stands_for = { λ reading rs. StandsFor IsCutBegunBy reading (records_of rs) };
+
+    ghost gives = { λ rs c. GivesCut rs c };
+
+    #[inline(always)]
+    fn take(&mut self, _line: u64, said: Record) -> Result<(), TakeError> {
+        match said {
+            Record::CutProblem { nodes, count } => self.start(nodes, count),
+            Record::CutNode { id } => self.add(id),
+            _ => unreachable!(),
+        }
+    }
+
+    fn finish(self) -> Result<Cut, TakeError> {
+        let Some(begun) = self.begun else {
+            return Err(TakeError::refused(0, Reason::ProblemMissing));
+        };
+        if begun.cut.len() < begun.declared {
+            return Err(TakeError::refused(0, Reason::TooFew));
+        }
+        Ok(begun.cut)
+    }
+}
+
+/// Reads the text of a set of nodes.
+pub fn read_cut<S: Source>(alloc: Global, source: &mut S) -> Result<Cut, ReadError>
+    ensures reads { (text : List ℕ) → S.coming source.old ≡ Some text → Reads (SpellsCut text) (Fault kinds.Cut (lines text)) result }
+    ensures device { CountsRead result (S.faults source.old) (S.faults source.new) }
+{
+    read_text(alloc, TextKind::Cut, CutReading::new(alloc), source)
+}
+
+/// Writes the canonical text of a set of nodes.
+pub fn write_cut<S: Sink>(cut: &Cut, sink: &mut S) -> Result<(), DeviceFault>
+    ensures puts { Puts result (S.accepted sink.old) (canonical_cut cut.now) (S.accepted sink.new) }
+    ensures fault { CountsFault result (S.faults sink.old) (S.faults sink.new) }
+    ensures round_trip { SpellsCut (canonical_cut cut.now) cut.now }
+    ensures again { (read : CutValue) → SpellsCut (canonical_cut cut.now) read → canonical_cut read ≡ canonical_cut cut.now }
+{
+    let nodes = cut.nodes();
+    let count = cut.len();
+    let mut page = Page::new();
+    write_record(&mut page, sink, &Record::CutProblem { nodes, count });
+    for id in 1..nodes + 1 {
+        write_node(&mut page, sink, cut, id);
+    }
+    page.finish(sink)
+}
+
+/// Writes the line of a node, if it is in the set.
+#[inline(always)]
+fn write_node<S: Sink>(page: &mut Page, sink: &mut S, cut: &Cut, id: u32)
+    ensures written { (start : Option (List ℕ)) (text : List ℕ) → IsWritten start text (S.accepted sink.old) page.old → IsWritten start (text ++ canonical_text (map CutNode (filter (set.contains cut.now.ids) (id ∷ [])))) (S.accepted sink.new) page.new }
+    ensures faults { (start : ℕ) → FaultsAre start (S.faults sink.old) page.old → FaultsAre start (S.faults sink.new) page.new }
+{
+    if cut.contains(id) {
+        write_record(page, sink, &Record::CutNode { id });
+    }
+}

@@ -1,0 +1,335 @@
+//! Labels: claimed distances from sources.
+
+ghost use Rattle.std.specs.Prelude.{◌≡◌, ◌≤◌, ◌++◌, ◌∷◌, [], ℕ, List, Option, Some, None, OnOk, OnErr, length};
+ghost use Rattle.dimacs_lines.specs.Devices.{CountsFault};
+ghost use Rattle.dimacs_lines.specs.Lines.{lines};
+ghost use Rattle.dimacs_lines.specs.Pages.{FaultsAre, IsWritten};
+ghost use Rattle.dimacs_lines.specs.Puts.{Puts};
+ghost use Rattle.dimacs_records.specs.declared.kinds.TextKind.TheVariants as kinds;
+ghost use Rattle.dimacs_records.specs.declared.records.Record.TheVariants.{LabelsProblem, LabelsBlock, LabelsNode};
+ghost use Rattle.dimacs_records.specs.Canonical.{canonical_text};
+ghost use Rattle.dimacs_records.specs.Faults.{Fault};
+ghost use Rattle.dimacs_records.specs.Readings.{CountsRead, TakesRecord, records_of};
+ghost use Rattle.dimacs_records.specs.Texts.{Reads};
+ghost use Rattle.dimacs_claims.specs.Labels as claims;
+ghost use Rattle.dimacs_claims.specs.Labels.{BlockValue, LabelsValue, AreLabels, IsWide, label_at, with_label};
+ghost use Rattle.dimacs_claims.specs.LabelTexts.{FitText, GivesLabels, SpellsLabels, block_lines, canonical_labels, label_line};
+ghost use Rattle.dimacs_claims.specs.LabelsReading.{AreLabelsBegun, labels_begun_records, with_block};
+
+use crate::block::{Block, Label};
+use dimacs_lines::{DeviceFault, Memory, Page, Sink, Source};
+use dimacs_nodes::NodeSet;
+use dimacs_records::{
+    ReadError, Reading, Reason, Record, TakeError, TextKind, read_text, write_record,
+};
+use std::alloc::Global;
+use std::marker::Model;
+
+/// Claimed distances from sources, in blocks. In a block each label stands behind that of its predecessor.
+#[derive(Drop)]
+pub struct Labels {
+    nodes: u32,
+    blocks: Vec<Block>,
+}
+
+impl Model for Labels {
+    ghost use Rattle.dimacs_claims.specs.Labels.{LabelsValue, AreLabels};
+
+    ghost Value = { LabelsValue };
+
+    ghost view = { λ l. record { nodes = l.nodes; blocks = l.blocks.items } };
+
+    ghost invariant = { λ l. AreLabels (record { nodes = l.nodes; blocks = l.blocks.items }) };
+}
+
+impl Labels {
+    pub fn nodes(&self) -> u32
+        ensures { result ≡ self.now.nodes }
+    {
+        self.nodes
+    }
+
+    /// In the order of the text.
+    pub fn blocks(&self) -> &[Block]
+        ensures blocks { result.now ≡ self.now.blocks }
+        ensures lawful { AreLabels self.now }
+    {
+        &self.blocks
+    }
+
+    /// The distance that a block claims of a node: 0 at its source, none where it has no label. Blocks count from 0;
+    /// past the last one, and above the number of nodes, there is none. Takes no memory, and logarithmic time.
+    #[inline]
+    pub fn label(&self, block: usize, id: u32) -> Option<i128>
+        ensures { result ≡ label_at self.now.blocks block id }
+    {
+        self.blocks.get(block)?.distance(id)
+    }
+}
+
+/// Makes labels of the records of a text.
+#[derive(Drop)]
+pub struct LabelsReading {
+    alloc: Global,
+    begun: Option<BegunLabels>,
+}
+
+impl Model for LabelsReading {
+    ghost use Rattle.std.specs.Prelude.{List};
+    ghost use Rattle.dimacs_records.specs.declared.records.Record.{Record};
+    ghost use Rattle.dimacs_claims.specs.LabelsReading.{label_records_so_far};
+
+    ghost Value = { List Record };
+
+    ghost view = { λ reading. label_records_so_far reading.begun };
+}
+
+/// The blocks that came behind the problem line.
+#[derive(Drop)]
+pub(crate) struct BegunLabels {
+    nodes: u32,
+    declared: u32,
+    /// How many labels the last block lacks.
+    missing: u32,
+    sources: NodeSet,
+    blocks: Vec<Block>,
+}
+
+impl Model for BegunLabels {
+    ghost use Rattle.dimacs_claims.specs.LabelsReading.{LabelsBegun, AreLabelsBegun, AreSources};
+
+    ghost Value = { LabelsBegun };
+
+    ghost view = { λ b. record { nodes = b.nodes; declared = b.declared; missing = b.missing; blocks = b.blocks.items } };
+
+    ghost invariant = { λ b. AreLabelsBegun (record { nodes = b.nodes; declared = b.declared; missing = b.missing; blocks = b.blocks.items }) × AreSources b.sources b.blocks.items };
+}
+
+impl BegunLabels {
+    fn start_block(&mut self, source: u32, count: u32) -> Result<(), TakeError>
+        requires source { 1 ≤ source }
+        requires count { count ≤ 268435456 }
+        ensures { TakesRecord (labels_begun_records self.old) (LabelsBlock source count) result (labels_begun_records self.new) }
+    {
+        if source > self.nodes {
+            return Err(TakeError::refused(2, Reason::NodeRange));
+        }
+        if self.sources.contains(source) {
+            return Err(TakeError::refused(2, Reason::NodeTwice));
+        }
+        if self.blocks.len() >= self.declared as usize {
+            return Err(TakeError::refused(0, Reason::TooMany));
+        }
+        if self.missing > 0 {
+            return Err(TakeError::refused(0, Reason::TooFew));
+        }
+        let Ok(()) = self.open(source, count) else {
+            return Err(TakeError::Memory);
+        };
+        Ok(())
+    }
+
+    /// Opens a block behind the others.
+    fn open(&mut self, source: u32, count: u32) -> Result<(), Memory>
+        requires { AreLabelsBegun (with_block self.old source count) }
+        ensures opened { OnOk result (self.new ≡ with_block self.old source count) }
+        ensures unchanged { OnErr result (self.new ≡ self.old) }
+    {
+        let block = Block::new(*self.blocks.allocator(), source)?;
+        let Ok(()) = self.blocks.push(block) else {
+            return Err(Memory);
+        };
+        let Ok(()) = self.sources.insert(source) else {
+            self.blocks.pop();
+            return Err(Memory);
+        };
+        self.missing = count;
+        Ok(())
+    }
+
+    fn add_label(&mut self, label: Label) -> Result<(), TakeError>
+        requires id { 1 ≤ label.id }
+        requires pred { 1 ≤ label.pred }
+        requires dist { IsWide label.dist }
+        ensures { TakesRecord (labels_begun_records self.old) (label_line label) result (labels_begun_records self.new) }
+    {
+        let Some(block) = self.blocks.last() else {
+            return Err(TakeError::refused(0, Reason::RecordOrder));
+        };
+        if label.id > self.nodes {
+            return Err(TakeError::refused(2, Reason::NodeRange));
+        }
+        if label.pred > self.nodes {
+            return Err(TakeError::refused(4, Reason::NodeRange));
+        }
+        if block.distance(label.id).is_some() {
+            return Err(TakeError::refused(2, Reason::NodeTwice));
+        }
+        if self.missing == 0 {
+            return Err(TakeError::refused(0, Reason::TooMany));
+        }
+        if block.distance(label.pred).is_none() {
+            return Err(TakeError::refused(0, Reason::PredUnknown));
+        }
+        let Ok(()) = add_to_last(&mut self.blocks, label) else {
+            return Err(TakeError::Memory);
+        };
+        self.missing -= 1;
+        Ok(())
+    }
+}
+
+fn add_to_last(blocks: &mut Vec<Block>, label: Label) -> Result<(), Memory>
+    requires { (front : List BlockValue) × (b : BlockValue) × (blocks.old.items ≡ front ++ b ∷ []) × (claims.label b label.id ≡ None) }
+    ensures added { OnOk result ((front : List BlockValue) (b : BlockValue) → blocks.old.items ≡ front ++ b ∷ [] → blocks.new.items ≡ front ++ with_label b label ∷ []) }
+    ensures unchanged { OnErr result (blocks.new.items ≡ blocks.old.items) }
+{
+    let last = blocks.len() - 1;
+    blocks[last].add(label)
+}
+
+impl LabelsReading {
+    pub fn new(alloc: Global) -> LabelsReading
+        ensures { result ≡ [] }
+    {
+        LabelsReading { alloc, begun: None }
+    }
+
+    fn start(&mut self, nodes: u32, declared: u32) -> Result<(), TakeError>
+        requires nodes { nodes ≤ 134217728 }
+        requires declared { declared ≤ 268435456 }
+        ensures { TakesRecord self.old (LabelsProblem nodes declared) result self.new }
+    {
+        if self.begun.is_some() {
+            return Err(TakeError::refused(0, Reason::ProblemTwice));
+        }
+        self.begun = Some(BegunLabels {
+            nodes,
+            declared,
+            missing: 0,
+            sources: NodeSet::new(self.alloc),
+            blocks: Vec::new(self.alloc),
+        });
+        Ok(())
+    }
+
+    fn start_block(&mut self, source: u32, count: u32) -> Result<(), TakeError>
+        requires source { 1 ≤ source }
+        requires count { count ≤ 268435456 }
+        ensures { TakesRecord self.old (LabelsBlock source count) result self.new }
+    {
+        let Some(begun) = &mut self.begun else {
+            return Err(TakeError::refused(0, Reason::ProblemMissing));
+        };
+        begun.start_block(source, count)
+    }
+
+    #[inline(always)]
+    fn add_label(&mut self, label: Label) -> Result<(), TakeError>
+        requires id { 1 ≤ label.id }
+        requires pred { 1 ≤ label.pred }
+        requires dist { IsWide label.dist }
+        ensures { TakesRecord self.old (label_line label) result self.new }
+    {
+        let Some(begun) = &mut self.begun else {
+            return Err(TakeError::refused(0, Reason::ProblemMissing));
+        };
+        begun.add_label(label)
+    }
+}
+
+impl Reading for LabelsReading {
+    type Value = Labels;
+
+    ghost kind = { λ reading. kinds.Labels };
+
+    ghost stands_for = { λ reading rs. records_of rs ≡ reading };
+
+    ghost gives = { λ rs labels. GivesLabels rs labels };
+
+    #[inline(always)]
+    fn take(&mut self, _line: u64, said: Record) -> Result<(), TakeError> {
+        match said {
+            Record::LabelsProblem { nodes, blocks } => self.start(nodes, blocks),
+            Record::LabelsBlock { source, count } => self.start_block(source, count),
+            Record::LabelsNode { id, dist, pred } => self.add_label(Label { dist, id, pred }),
+            _ => unreachable!(),
+        }
+    }
+
+    fn finish(self) -> Result<Labels, TakeError> {
+        let Some(begun) = self.begun else {
+            return Err(TakeError::refused(0, Reason::ProblemMissing));
+        };
+        if begun.blocks.len() < begun.declared as usize {
+            return Err(TakeError::refused(0, Reason::TooFew));
+        }
+        if begun.missing > 0 {
+            return Err(TakeError::refused(0, Reason::TooFew));
+        }
+        Ok(Labels {
+            nodes: begun.nodes,
+            blocks: begun.blocks,
+        })
+    }
+}
+
+/// Reads a text of labels.
+pub fn read_labels<S: Source>(alloc: Global, source: &mut S) -> Result<Labels, ReadError>
+    ensures reads { (text : List ℕ) → S.coming source.old ≡ Some text → Reads (SpellsLabels text) (Fault kinds.Labels (lines text)) result }
+    ensures device { CountsRead result (S.faults source.old) (S.faults source.new) }
+{
+    read_text(alloc, TextKind::Labels, LabelsReading::new(alloc), source)
+}
+
+/// Writes the canonical text of labels.
+pub fn write_labels<S: Sink>(labels: &Labels, sink: &mut S) -> Result<(), DeviceFault>
+    ensures puts { Puts result (S.accepted sink.old) (canonical_labels labels.now) (S.accepted sink.new) }
+    ensures fault { CountsFault result (S.faults sink.old) (S.faults sink.new) }
+    ensures round_trip { FitText labels.now → SpellsLabels (canonical_labels labels.now) labels.now }
+    ensures again { FitText labels.now → (read : LabelsValue) → SpellsLabels (canonical_labels labels.now) read → canonical_labels read ≡ canonical_labels labels.now }
+{
+    let nodes = labels.nodes();
+    let blocks = labels.blocks();
+    let count = blocks.len() as u32;
+    let mut page = Page::new();
+    write_record(
+        &mut page,
+        sink,
+        &Record::LabelsProblem {
+            nodes,
+            blocks: count,
+        },
+    );
+    for block in blocks {
+        write_block(&mut page, sink, block);
+    }
+    page.finish(sink)
+}
+
+/// Writes the line of a block and those of its labels.
+fn write_block<S: Sink>(page: &mut Page, sink: &mut S, block: &Block)
+    requires { length block.now.labels ≤ 268435456 }
+    ensures written { (start : Option (List ℕ)) (text : List ℕ) → IsWritten start text (S.accepted sink.old) page.old → IsWritten start (text ++ canonical_text (block_lines block.now)) (S.accepted sink.new) page.new }
+    ensures faults { (start : ℕ) → FaultsAre start (S.faults sink.old) page.old → FaultsAre start (S.faults sink.new) page.new }
+{
+    let labels = block.labels();
+    let source = block.source();
+    let count = labels.len() as u32;
+    write_record(page, sink, &Record::LabelsBlock { source, count });
+    for label in labels {
+        write_record(page, sink, &label_record(*label));
+    }
+}
+
+/// The line of a label.
+#[inline(always)]
+fn label_record(label: Label) -> Record
+    ensures { result ≡ label_line label }
+{
+    Record::LabelsNode {
+        id: label.id,
+        dist: label.dist,
+        pred: label.pred,
+    }
+}

@@ -1,0 +1,14 @@
+//! Claims and certificates: solutions, cuts, potentials and labels, read from texts and written in the canonical form.
+#![tactic(auto)]
+
+mod block;
+mod cut;
+mod labels;
+mod potentials;
+mod solution;
+
+pub use block::{Block, Label};
+pub use cut::{Cut, CutReading, read_cut, write_cut};
+pub use labels::{Labels, LabelsReading, read_labels, write_labels};
+pub use potentials::{Potentials, PotentialsReading, read_potentials, write_potentials};
+pub use solution::{Entry, Solution, SolutionReading, read_solution, write_solution};

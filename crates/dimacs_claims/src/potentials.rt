@@ -1,0 +1,295 @@
+//! Potentials of nodes.
+
+ghost use Rattle.std.specs.Prelude.{◌≡◌, ◌≤◌, ◌<◌, ◌++◌, ◌∷◌, [], ℕ, List, Option, None, Some, OnOk, OnErr, length, map};
+ghost use Rattle.std.specs.List.{filter};
+ghost use Rattle.dimacs_lines.specs.Devices.{CountsFault};
+ghost use Rattle.dimacs_lines.specs.Lines.{lines};
+ghost use Rattle.dimacs_lines.specs.Pages.{IsWritten, FaultsAre};
+ghost use Rattle.dimacs_lines.specs.Puts.{Puts};
+ghost use Rattle.dimacs_records.specs.declared.kinds.TextKind.TheVariants as kinds;
+ghost use Rattle.dimacs_records.specs.declared.records.Record.TheVariants.{PotentialsProblem, PotentialsNode};
+ghost use Rattle.dimacs_records.specs.Canonical.{canonical_text};
+ghost use Rattle.dimacs_records.specs.Faults.{Fault};
+ghost use Rattle.dimacs_records.specs.Readings.{CountsRead, records_of};
+ghost use Rattle.dimacs_records.specs.Texts.{Reads};
+ghost use Rattle.dimacs_claims.specs.Takings.{StandsFor, Takes};
+ghost use Rattle.dimacs_claims.specs.Cuts.{IsNode};
+ghost use Rattle.dimacs_claims.specs.Potentials.{PotentialsValue, ArePotentials, GivesPotentials, IsWide, SpellsPotentials, canonical_potentials, is_nonzero, node_line, nonzero_ids, potential_of, with_potential, with_values, zero_potentials};
+ghost use Rattle.dimacs_claims.specs.PotentialsReading.{AreBegunBy, is_named, with_line};
+
+use dimacs_lines::{DeviceFault, Memory, Page, Sink, Source};
+use dimacs_nodes::{NodeMap, NodeSet};
+use dimacs_records::{
+    ReadError, Reading, Reason, Record, TakeError, TextKind, read_text, write_record,
+};
+use std::alloc::Global;
+use std::marker::Model;
+
+/// A potential for each node, which is 0 unless another is set.
+#[derive(Drop)]
+pub struct Potentials {
+    nodes: u32,
+    /// Those that were set, also to 0.
+    values: NodeMap<i128>,
+}
+
+impl Model for Potentials {
+    ghost use Rattle.dimacs_claims.specs.Potentials.{PotentialsValue, ArePotentials};
+    ghost use Rattle.dimacs_claims.specs.PotentialsReading.{potentials_code, without_zeros};
+
+    ghost Value = { PotentialsValue };
+
+    ghost coded = { potentials_code };
+
+    ghost view = { λ p. record { nodes = p.nodes; values = without_zeros p.values } };
+
+    ghost invariant = { λ p. ArePotentials (record { nodes = p.nodes; values = without_zeros p.values }) };
+}
+
+impl Potentials {
+    /// The potential 0 for each of so many nodes. Takes no memory.
+    pub fn new(alloc: Global, nodes: u32) -> Potentials
+        requires { nodes ≤ 134217728 }
+        ensures { result ≡ zero_potentials nodes }
+    {
+        Potentials {
+            nodes,
+            values: NodeMap::new(alloc),
+        }
+    }
+
+    #[inline]
+    pub fn nodes(&self) -> u32
+        ensures nodes { result ≡ self.now.nodes }
+        ensures lawful { ArePotentials self.now }
+    {
+        self.nodes
+    }
+
+    /// The potential of the node of this ID, and 0 of an ID of no node. Takes no memory.
+    #[inline]
+    pub fn of(&self, id: u32) -> i128
+        ensures { result ≡ potential_of self.now id }
+    {
+        self.values.get(id).unwrap_or(0)
+    }
+
+    /// Gives a node another potential.
+    pub fn set(&mut self, id: u32, value: i128) -> Result<(), Memory>
+        requires node { IsNode self.old.nodes id }
+        requires wide { IsWide value }
+        ensures set { OnOk result (self.new ≡ with_potential self.old id value) }
+        ensures unchanged { OnErr result (self.new ≡ self.old) }
+    {
+        self.values.set(id, value)
+    }
+
+    /// The number of nodes whose potential isn't 0.
+    pub fn count_nonzero(&self) -> u32
+        ensures { result ≡ length (nonzero_ids self.now) }
+    {
+        let mut count = 0;
+        for id in 1..self.nodes() + 1 {
+            if self.of(id) != 0 {
+                count += 1;
+            }
+        }
+        count
+    }
+}
+
+/// Makes potentials of the records of a text.
+#[derive(Drop)]
+pub struct PotentialsReading {
+    alloc: Global,
+    begun: Option<BegunPotentials>,
+}
+
+impl Model for PotentialsReading {
+    ghost use Rattle.std.specs.Prelude.{Option};
+    ghost use Rattle.std.specs.Coded.{coded_option};
+    ghost use Rattle.dimacs_claims.specs.PotentialsReading.{PotentialsBegun, begun_code};
+
+    ghost Value = { Option PotentialsBegun };
+
+    ghost coded = { coded_option begun_code };
+
+    ghost view = { λ reading. reading.begun };
+}
+
+/// The potentials that came behind the problem line.
+#[derive(Drop)]
+pub(crate) struct BegunPotentials {
+    declared: u32,
+    /// The number of lines that came.
+    taken: u32,
+    potentials: Potentials,
+    /// The nodes that are named with 0.
+    zeros: NodeSet,
+}
+
+impl Model for BegunPotentials {
+    ghost use Rattle.dimacs_claims.specs.PotentialsReading.{PotentialsBegun, AreBegun, begun_code};
+
+    ghost Value = { PotentialsBegun };
+
+    ghost coded = { begun_code };
+
+    ghost view = { λ b. record { declared = b.declared; taken = b.taken; potentials = b.potentials; zeros = b.zeros } };
+
+    ghost invariant = { λ b. AreBegun (record { declared = b.declared; taken = b.taken; potentials = b.potentials; zeros = b.zeros }) };
+}
+
+impl BegunPotentials {
+    /// Whether a line was taken for this node.
+    #[inline]
+    fn is_named(&self, id: u32) -> bool
+        ensures { result ≡ is_named self.now id }
+    {
+        self.potentials.of(id) != 0 || self.zeros.contains(id)
+    }
+
+    fn add(&mut self, id: u32, value: i128) -> Result<(), TakeError>
+        requires least { 1 ≤ id }
+        requires wide { IsWide value }
+        ensures { Takes AreBegunBy (Some self.old) (PotentialsNode id value) result (Some self.new) }
+    {
+        if id > self.potentials.nodes() {
+            return Err(TakeError::refused(2, Reason::NodeRange));
+        }
+        if self.is_named(id) {
+            return Err(TakeError::refused(2, Reason::NodeTwice));
+        }
+        if self.taken == self.declared {
+            return Err(TakeError::refused(0, Reason::TooMany));
+        }
+        let Ok(()) = self.keep(id, value) else {
+            return Err(TakeError::Memory);
+        };
+        Ok(())
+    }
+
+    fn keep(&mut self, id: u32, value: i128) -> Result<(), Memory>
+        requires room { self.old.taken < self.old.declared }
+        requires node { IsNode self.old.potentials.nodes id }
+        requires wide { IsWide value }
+        ensures kept { OnOk result (self.new ≡ with_line self.old id value) }
+        ensures unchanged { OnErr result (self.new ≡ self.old) }
+    {
+        if value == 0 {
+            self.zeros.insert(id)?;
+        } else {
+            self.potentials.set(id, value)?;
+        }
+        self.taken += 1;
+        Ok(())
+    }
+}
+
+impl PotentialsReading {
+    pub fn new(alloc: Global) -> PotentialsReading
+        ensures { result ≡ None }
+    {
+        PotentialsReading { alloc, begun: None }
+    }
+
+    fn start(&mut self, nodes: u32, declared: u32) -> Result<(), TakeError>
+        requires nodes { nodes ≤ 134217728 }
+        requires declared { declared ≤ 268435456 }
+        ensures { Takes AreBegunBy self.old (PotentialsProblem nodes declared) result self.new }
+    {
+        if self.begun.is_some() {
+            return Err(TakeError::refused(0, Reason::ProblemTwice));
+        }
+        self.begun = Some(BegunPotentials {
+            declared,
+            taken: 0,
+            potentials: Potentials::new(self.alloc, nodes),
+            zeros: NodeSet::new(self.alloc),
+        });
+        Ok(())
+    }
+
+    #[inline(always)]
+    fn add(&mut self, id: u32, value: i128) -> Result<(), TakeError>
+        requires least { 1 ≤ id }
+        requires wide { IsWide value }
+        ensures { Takes AreBegunBy self.old (PotentialsNode id value) result self.new }
+    {
+        let Some(begun) = &mut self.begun else {
+            return Err(TakeError::refused(0, Reason::ProblemMissing));
+        };
+        begun.add(id, value)
+    }
+}
+
+impl Reading for PotentialsReading {
+    type Value = Potentials;
+
+    ghost kind = { λ reading. kinds.Potentials };
+
+    ghost stands_for = { λ reading rs. StandsFor AreBegunBy reading (records_of rs) };
+
+    ghost gives = { λ rs p. GivesPotentials rs p };
+
+    #[inline(always)]
+    fn take(&mut self, _line: u64, said: Record) -> Result<(), TakeError> {
+        match said {
+            Record::PotentialsProblem { nodes, count } => self.start(nodes, count),
+            Record::PotentialsNode { id, value } => self.add(id, value),
+            _ => unreachable!(),
+        }
+    }
+
+    fn finish(self) -> Result<Potentials, TakeError> {
+        let Some(begun) = self.begun else {
+            return Err(TakeError::refused(0, Reason::ProblemMissing));
+        };
+        if begun.taken < begun.declared {
+            return Err(TakeError::refused(0, Reason::TooFew));
+        }
+        Ok(begun.potentials)
+    }
+}
+
+/// Reads a text of potentials.
+pub fn read_potentials<S: Source>(alloc: Global, source: &mut S) -> Result<Potentials, ReadError>
+    ensures reads { (text : List ℕ) → S.coming source.old ≡ Some text → Reads (SpellsPotentials text) (Fault kinds.Potentials (lines text)) result }
+    ensures device { CountsRead result (S.faults source.old) (S.faults source.new) }
+{
+    read_text(
+        alloc,
+        TextKind::Potentials,
+        PotentialsReading::new(alloc),
+        source,
+    )
+}
+
+/// Writes the canonical text of potentials.
+pub fn write_potentials<S: Sink>(potentials: &Potentials, sink: &mut S) -> Result<(), DeviceFault>
+    ensures puts { Puts result (S.accepted sink.old) (canonical_potentials potentials.now) (S.accepted sink.new) }
+    ensures fault { CountsFault result (S.faults sink.old) (S.faults sink.new) }
+    ensures round_trip { SpellsPotentials (canonical_potentials potentials.now) potentials.now }
+    ensures again { (read : PotentialsValue) → SpellsPotentials (canonical_potentials potentials.now) read → canonical_potentials read ≡ canonical_potentials potentials.now }
+{
+    let nodes = potentials.nodes();
+    let count = potentials.count_nonzero();
+    let mut page = Page::new();
+    write_record(&mut page, sink, &Record::PotentialsProblem { nodes, count });
+    for id in 1..nodes + 1 {
+        write_node(&mut page, sink, potentials, id);
+    }
+    page.finish(sink)
+}
+
+/// Writes the line of a node, if its potential isn't 0.
+#[inline(always)]
+fn write_node<S: Sink>(page: &mut Page, sink: &mut S, potentials: &Potentials, id: u32)
+    ensures written { (start : Option (List ℕ)) (text : List ℕ) → IsWritten start text (S.accepted sink.old) page.old → IsWritten start (text ++ canonical_text (map node_line (with_values potentials.now (filter (λ id. is_nonzero (potential_of potentials.now id)) (id ∷ []))))) (S.accepted sink.new) page.new }
+    ensures faults { (start : ℕ) → FaultsAre start (S.faults sink.old) page.old → FaultsAre start (S.faults sink.new) page.new }
+{
+    let value = potentials.of(id);
+    if value != 0 {
+        write_record(page, sink, &Record::PotentialsNode { id, value });
+    }
+}

@@ -1,0 +1,175 @@
+//! Solutions: a value, and the flows of arcs.
+
+ghost use Rattle.std.specs.Prelude.{◌≡◌, ℕ, List, [], Some, None, IfOk};
+ghost use Rattle.std.specs.Result.{result_map_both};
+ghost use Rattle.dimacs_lines.specs.Devices.{CountsFault};
+ghost use Rattle.dimacs_lines.specs.Lines.{lines};
+ghost use Rattle.dimacs_lines.specs.Puts.{Puts};
+ghost use Rattle.dimacs_records.specs.declared.kinds.TextKind.TheVariants as kinds;
+ghost use Rattle.dimacs_records.specs.declared.records.Record.TheVariants as records;
+ghost use Rattle.dimacs_records.specs.Faults.{Fault};
+ghost use Rattle.dimacs_records.specs.Readings.{CountsRead, on_line};
+ghost use Rattle.dimacs_records.specs.Texts.{Reads};
+ghost use Rattle.dimacs_claims.specs.SolutionTexts.{SolutionValue, GivesSolution, IsLawful, SpellsSolution, canonical_solution, claimed, entry_line, entry_record, renumbered};
+ghost use Rattle.dimacs_claims.specs.SolutionReading.{StandsFor, TakesLine};
+
+use dimacs_lines::{DeviceFault, Page, Sink, Source};
+use dimacs_records::{
+    ReadError, Reading, Reason, Record, TakeError, TextKind, read_text, write_record,
+};
+use std::alloc::Global;
+use std::marker::Model;
+
+/// A claimed flow: its value or its cost, and what arcs carry. The fields are open; what was read is lawful, and
+/// `read_solution` says so.
+#[derive(Drop)]
+pub struct Solution {
+    pub value: i128,
+    /// The line of the text that says the value.
+    pub value_line: u64,
+    /// The entries in the order of the text.
+    pub entries: Vec<Entry>,
+}
+
+/// The flow of the arc from one node to another.
+#[derive(Clone, Copy, Debug, PartialEq, Eq)]
+pub struct Entry {
+    pub tail: u32,
+    pub head: u32,
+    pub flow: i64,
+    /// The line of the text that says so.
+    pub line: u64,
+}
+
+impl Entry {
+    /// The line of an entry.
+    #[inline(always)]
+    fn record(&self) -> Record
+        ensures { result ≡ entry_record self.now }
+    {
+        Record::SolutionEntry {
+            tail: self.tail,
+            head: self.head,
+            flow: self.flow,
+        }
+    }
+}
+
+/// A value, and the line that says it.
+#[derive(Clone, Copy)]
+pub(crate) struct ValueLine {
+    value: i128,
+    line: u64,
+}
+
+/// Makes a solution of the records of a text. The value may come anywhere.
+#[derive(Drop)]
+pub struct SolutionReading {
+    value: Option<ValueLine>,
+    entries: Vec<Entry>,
+}
+
+impl Model for SolutionReading {
+    ghost use Rattle.dimacs_claims.specs.SolutionReading.{SolutionSoFar};
+
+    ghost Value = { SolutionSoFar };
+
+    ghost view = { λ reading. record { value = reading.value; entries = reading.entries.items } };
+}
+
+impl SolutionReading {
+    pub fn new(alloc: Global) -> SolutionReading
+        ensures { result ≡ record { value = None; entries = [] } }
+    {
+        SolutionReading {
+            value: None,
+            entries: Vec::new(alloc),
+        }
+    }
+
+    fn take_value(&mut self, said: ValueLine) -> Result<(), TakeError>
+        ensures { TakesLine self.old (on_line said.line (records.SolutionValue said.value)) result self.new }
+    {
+        if self.value.is_some() {
+            return Err(TakeError::refused(0, Reason::SolutionTwice));
+        }
+        self.value = Some(said);
+        Ok(())
+    }
+
+    #[inline(always)]
+    fn take_entry(&mut self, entry: Entry) -> Result<(), TakeError>
+        ensures { TakesLine self.old (entry_line entry) result self.new }
+    {
+        let Ok(()) = self.entries.push(entry) else {
+            return Err(TakeError::Memory);
+        };
+        Ok(())
+    }
+}
+
+impl Reading for SolutionReading {
+    type Value = Solution;
+
+    ghost kind = { λ reading. kinds.Solution };
+
+    ghost stands_for = { λ reading rs. StandsFor reading rs };
+
+    ghost gives = { λ rs solution. GivesSolution rs (claimed solution) };
+
+    #[inline(always)]
+    fn take(&mut self, line: u64, said: Record) -> Result<(), TakeError> {
+        match said {
+            Record::SolutionValue { value } => self.take_value(ValueLine { value, line }),
+            Record::SolutionEntry { tail, head, flow } => self.take_entry(Entry {
+                tail,
+                head,
+                flow,
+                line,
+            }),
+            _ => unreachable!(),
+        }
+    }
+
+    fn finish(self) -> Result<Solution, TakeError> {
+        let Some(said) = self.value else {
+            return Err(TakeError::refused(0, Reason::SolutionMissing));
+        };
+        Ok(Solution {
+            value: said.value,
+            value_line: said.line,
+            entries: self.entries,
+        })
+    }
+}
+
+/// Reads a text of a solution.
+pub fn read_solution<S: Source>(alloc: Global, source: &mut S) -> Result<Solution, ReadError>
+    ensures reads { (text : List ℕ) → S.coming source.old ≡ Some text → Reads (SpellsSolution text) (Fault kinds.Solution (lines text)) (result_map_both claimed (λ e. e) result) }
+    ensures lawful { (text : List ℕ) → S.coming source.old ≡ Some text → IfOk result (λ solution. IsLawful (claimed solution)) }
+    ensures device { CountsRead result (S.faults source.old) (S.faults source.new) }
+{
+    read_text(
+        alloc,
+        TextKind::Solution,
+        SolutionReading::new(alloc),
+        source,
+    )
+}
+
+/// Writes the canonical text of a solution. Read again, its value stands on line 1 and its entries on the lines
+/// behind it.
+pub fn write_solution<S: Sink>(solution: &Solution, sink: &mut S) -> Result<(), DeviceFault>
+    ensures puts { Puts result (S.accepted sink.old) (canonical_solution (claimed solution.now)) (S.accepted sink.new) }
+    ensures fault { CountsFault result (S.faults sink.old) (S.faults sink.new) }
+    ensures round_trip { IsLawful (claimed solution.now) → SpellsSolution (canonical_solution (claimed solution.now)) (renumbered (claimed solution.now)) }
+    ensures again { IsLawful (claimed solution.now) → (read : SolutionValue) → SpellsSolution (canonical_solution (claimed solution.now)) read → canonical_solution read ≡ canonical_solution (claimed solution.now) }
+{
+    let value = solution.value;
+    let mut page = Page::new();
+    write_record(&mut page, sink, &Record::SolutionValue { value });
+    for entry in &solution.entries {
+        write_record(&mut page, sink, &entry.record());
+    }
+    page.finish(sink)
+}
