@@ -1,0 +1,109 @@
+-- Labels whose tests all pass.
+use Rattle.std.proofs.Common.{◌≡◌, ◌≢◌, ◌⊎◌, inl, inr, ℕ, suc, zero, ◌+◌, ◌<◌, List, [], ◌∷◌, All, Contains, length, get_or, Option, Some, None, ℤ, ◌+ℤ◌, ◌≤ℤ◌, ◌<ℤ◌, refl, sym, subst, ◌∙◌, arith}
+use Rattle.std.specs.Int.Signed.{<ℤ_irrefl}
+use Rattle.std.proofs.lemmas.Int.{ints, by_lt_z}
+use Rattle.std.proofs.lemmas.Bool.Decides.{eqb_tells}
+use Rattle.std.proofs.lemmas.List.Elements.{All-nil, All-cons, All-head, All-tail, All-contains, Contains-get_or, Contains-append_right, Contains-append_cases}
+use Rattle.dimacs_instance.specs.declared.network.ArcView.{ArcView}
+use Rattle.dimacs_records.specs.declared.reasons.Reason.{Reason}
+use Rattle.dimacs_records.specs.declared.reasons.Reason.TheVariants as reasons
+use Rattle.dimacs_judge.specs.declared.labels.Label.{Label}
+use Rattle.dimacs_judge.specs.declared.verdict.Where.TheVariants as places
+use Rattle.dimacs_judge.specs.Labels.{BlockValue, label, HasArcOfWeight, HasTightArc, IsRelaxed, LabelsOk}
+use Rattle.dimacs_judge.specs.Tests.{Clear, AllClear}
+use Rattle.dimacs_judge.specs.Rows.{no_arc, arc_at}
+use Rattle.dimacs_judge.specs.CertificateTests.{no_label, support_row, RelaxFails, relax_row, label_rows}
+
+all_from : {A : Type 0} (P : A → Type 0) (xs : List A) (d : A) → ((k : ℕ) → k < length xs → P (get_or xs k d)) → All P xs
+all_from P [] d each = All-nil P
+all_from P (x ∷ xs) d each = All-cons P x xs (each zero (omega arith)) (all_from P xs d (λ k h. each (suc k) (omega (arith, h))))
+
+all_at : {A : Type 0} (P : A → Type 0) (xs : List A) (d : A) (k : ℕ) → k < length xs → All P xs → P (get_or xs k d)
+all_at P xs d k h all = All-contains P xs (get_or xs k d) all (Contains-get_or xs k d h)
+
+-- ---- whether an arc makes a label can be told
+same_or_not : (a b : ℤ) → (a ≡ b) ⊎ (a ≢ b)
+same_or_not a b = by_lt_z a b
+    (λ l. inr (λ e. <ℤ_irrefl (subst (λ (z : ℤ). z <ℤ b) e l)))
+    (λ m. by_lt_z b a (λ l. inr (λ e. <ℤ_irrefl (subst (λ (z : ℤ). b <ℤ z) e l))) (λ n. inl (omega (arith, ints, m, n))))
+
+the_only : {A : Type 0} (x y : A) → Contains (x ∷ []) y → x ≡ y
+the_only x y (zero, inside, is) = is
+the_only x y (suc k, inside, is) = absurd (omega (arith, inside))
+
+-- what can be told of each can be told of some
+some_or_none : {A : Type 0} (P : A → Type 0) → ((x : A) → P x ⊎ (¬ P x)) → (xs : List A) → ((x : A) × Contains xs x × P x) ⊎ (¬ ((x : A) × Contains xs x × P x))
+some_or_none P tell [] = inr (λ has. let (x, (k, inside, is), p) = has in absurd (omega (arith, inside)))
+some_or_none {A} P tell (x ∷ xs) = elim (tell x) [
+  | inl p ↦ inl (x, (zero, omega arith, refl), p)
+  | inr off ↦ elim (some_or_none P tell xs) [
+    | inl some ↦ inl (some.0, Contains-append_right (x ∷ []) xs some.0 some.1, some.2)
+    | inr none ↦ inr (λ has. elim (Contains-append_cases (x ∷ []) xs has.0 has.1) [
+      | inl one ↦ off (subst P (sym (the_only x has.0 one)) has.2)
+      | inr more ↦ none (has.0, more, has.2)
+    ])
+  ]
+]
+
+abbrev Makes : Label → ℤ → ArcView → Type 0
+Makes l base a = (a.tail ≡ l.pred) × (a.head ≡ l.id) × ((base +ℤ a.cost) ≡ l.dist)
+
+makes_or_not : (l : Label) (base : ℤ) (a : ArcView) → Makes l base a ⊎ (¬ Makes l base a)
+makes_or_not l base a = elim (eqb_tells a.tail l.pred) [
+  | inr off ↦ inr (λ m. off.1 m.0)
+  | inl tail ↦ elim (eqb_tells a.head l.id) [
+    | inr off ↦ inr (λ m. off.1 m.1)
+    | inl head ↦ elim (same_or_not (base +ℤ a.cost) l.dist) [ inr off ↦ inr (λ m. off m.2) | inl adds ↦ inl (tail.1, head.1, adds) ]
+  ]
+]
+
+abbrev as_record : (arcs : List ArcView) (l : Label) (base : ℤ) → ((a : ArcView) × Contains arcs a × Makes l base a) → HasArcOfWeight arcs l base
+as_record arcs l base m = record { arc = m.0; present = m.1; from = m.2.0; to = m.2.1; adds = m.2.2 }
+
+-- what cannot fail has an arc
+arc_where_not_none : (arcs : List ArcView) (l : Label) (pred : Option ℤ) → (¬ (¬ ((base : ℤ) × (pred ≡ Some base) × HasArcOfWeight arcs l base))) → (base : ℤ) × (pred ≡ Some base) × HasArcOfWeight arcs l base
+arc_where_not_none arcs l None h = absurd (h (λ has. let f = has.1 in cc))
+arc_where_not_none arcs l (Some base) h = elim (some_or_none (Makes l base) (makes_or_not l base) arcs) [
+  | inl some ↦ (base, refl, as_record arcs l base some)
+  | inr none ↦ absurd (h (λ has.
+      let (other, is, made) = has in
+      let same : base ≡ other = cc in
+      none (made.arc, made.present, (made.from, made.to, rw same made.adds))))
+]
+
+-- ---- one block
+supported : (arcs : List ArcView) (b : BlockValue) → Clear (support_row arcs b) → All (HasTightArc arcs b) b.labels
+supported arcs b clear = all_from (HasTightArc arcs b) b.labels no_label (λ k h.
+    arc_where_not_none arcs (get_or b.labels k no_label) (label b (get_or b.labels k no_label).pred) (λ off. clear k (places.Node (get_or b.labels k no_label).id) reasons.NoTightArc (h, refl, refl, off)))
+
+support_clear : (arcs : List ArcView) (b : BlockValue) → All (HasTightArc arcs b) b.labels → Clear (support_row arcs b)
+support_clear arcs b all k place reason f = f.3 (all_at (HasTightArc arcs b) b.labels no_label k f.0 all)
+
+relaxed_where_not_failed : (head : Option ℤ) (d w : ℤ) → ((reason : Reason) → ¬ RelaxFails (Some d) head w reason) → (e : ℤ) × (head ≡ Some e) × (e ≤ℤ (d +ℤ w))
+relaxed_where_not_failed None d w h = absurd (h reasons.Escapes (d, refl, inl (refl, refl)))
+relaxed_where_not_failed (Some e) d w h =
+    (e, refl, by_lt_z (d +ℤ w) e (λ l. absurd (h reasons.NotShortest (d, refl, inr (refl, (e, refl, l))))) (λ l. l))
+
+relaxed : (arcs : List ArcView) (b : BlockValue) → Clear (relax_row arcs b) → All (IsRelaxed b) arcs
+relaxed arcs b clear = all_from (IsRelaxed b) arcs no_arc (λ k h d is.
+    relaxed_where_not_failed (label b (arc_at arcs k).head) d (arc_at arcs k).cost (λ reason f. clear k (places.Arc (k + 1)) reason (h, refl, rw is f)))
+
+relax_clear : (arcs : List ArcView) (b : BlockValue) → All (IsRelaxed b) arcs → Clear (relax_row arcs b)
+relax_clear arcs b all k place reason f =
+    let (d, is, fails) = f.2 in
+    let (e, named, le) = all_at (IsRelaxed b) arcs no_arc k f.0 all d is in
+    elim fails [
+      | inl out ↦ (let both : None ≡ Some e = sym out.1 ∙ named in cc)
+      | inr far ↦ (let (g, also, less) = far.1 in let both : Some g ≡ Some e = sym also ∙ named in let same : g ≡ e = cc in omega (arith, ints, le, less, same))
+    ]
+
+-- ---- all blocks
+pub labels_hold : (arcs : List ArcView) (blocks : List BlockValue) → AllClear (label_rows arcs blocks) → All (LabelsOk arcs) blocks
+labels_hold arcs [] clear = All-nil (LabelsOk arcs)
+labels_hold arcs (b ∷ blocks) clear = All-cons (LabelsOk arcs) b blocks (record { tight = supported arcs b clear.0; relaxed = relaxed arcs b clear.1.0 }) (labels_hold arcs blocks clear.1.1)
+
+pub labels_clear : (arcs : List ArcView) (blocks : List BlockValue) → All (LabelsOk arcs) blocks → AllClear (label_rows arcs blocks)
+labels_clear arcs [] all = tt
+labels_clear arcs (b ∷ blocks) all =
+    let here = All-head (LabelsOk arcs) b blocks all in
+    (support_clear arcs b here.tight, (relax_clear arcs b here.relaxed, labels_clear arcs blocks (All-tail (LabelsOk arcs) b blocks all)))

@@ -1,0 +1,64 @@
+-- The tests of cuts, of potentials and of labels.
+use Rattle.std.specs.Prelude.{ℕ, ◌≡◌, ◌≢◌, ◌<◌, ◌⊎◌, Bool, true, false, List, [], ◌∷◌, length, get_or, Option, Some, None, ℤ, pos, ◌+ℤ◌, ◌<ℤ◌}
+use Rattle.dimacs_instance.specs.declared.network.ArcView.{ArcView}
+use Rattle.dimacs_records.specs.declared.reasons.Reason.{Reason}
+use Rattle.dimacs_records.specs.declared.reasons.Reason.TheVariants.{SourceOutside, SinkInside, NotSaturated, BackFlow, NotTight, NotViolated, NoTightArc, Escapes, NotShortest}
+use Rattle.dimacs_judge.specs.declared.verdict.Where.TheVariants.{Certificate, Node}
+use Rattle.dimacs_judge.specs.declared.labels.Label.{Label}
+use Rattle.dimacs_judge.specs.Feasible.{MinProblem}
+use Rattle.dimacs_judge.specs.ViolatedSets.{Violated}
+use Rattle.dimacs_judge.specs.Cuts.{leaves, enters}
+use Rattle.dimacs_judge.specs.Potentials.{reduced_cost}
+use Rattle.dimacs_judge.specs.Labels.{BlockValue, HasTightArc, label}
+use Rattle.dimacs_judge.specs.Rows.{arc_row, flow_row, one_test, arc_at}
+use Rattle.dimacs_judge.specs.Tests.{Row}
+
+-- an arc that leaves the set is not full, or one that enters it is not empty
+abbrev pub TightFails : (ℕ → Bool) → ArcView → ℤ → Reason → Type 0
+TightFails set a x reason = ((reason ≡ NotSaturated) × (leaves set a ≡ true) × (x ≢ a.cap)) ⊎ ((reason ≡ BackFlow) × (enters set a ≡ true) × (x ≢ pos 0))
+
+abbrev pub tight_row : List ArcView → (ℕ → Bool) → List ℤ → Row
+tight_row arcs set x = flow_row (TightFails set) arcs x
+
+-- the tests of a cut
+abbrev pub cut_rows : List ArcView → ℕ → ℕ → (ℕ → Bool) → List ℤ → List Row
+cut_rows arcs source sink set x =
+    one_test (Node source) SourceOutside (set source ≡ false)
+    ∷ one_test (Node sink) SinkInside (set sink ≡ true)
+    ∷ tight_row arcs set x ∷ []
+
+-- a positive reduced cost beside more than the lower bound, or a negative one beside less than the capacity
+abbrev pub SlackFails : ℤ → ArcView → ℤ → Reason → Type 0
+SlackFails reduced a x reason = (reason ≡ NotTight) × (((pos 0 <ℤ reduced) × (x ≢ a.low)) ⊎ ((reduced <ℤ pos 0) × (x ≢ a.cap)))
+
+abbrev pub slack_row : List ArcView → (ℕ → ℤ) → List ℤ → Row
+slack_row arcs p x = flow_row (λ a. SlackFails (reduced_cost p a) a) arcs x
+
+-- the test of a set of nodes
+abbrev pub violated_row : MinProblem → (ℕ → Bool) → Row
+violated_row i set = one_test Certificate NotViolated (¬ Violated i set)
+
+abbrev pub no_label : Label
+no_label = record { dist = pos 0; id = 0; pred = 0 }
+
+-- no arc makes the label
+abbrev pub support_row : List ArcView → BlockValue → Row
+support_row arcs b k place reason =
+    (k < length b.labels) × (place ≡ Node (get_or b.labels k no_label).id) × (reason ≡ NoTightArc) × (¬ HasTightArc arcs b (get_or b.labels k no_label))
+
+-- between these labels of its ends, the arc leads to a node without a label, or to one whose label is too great
+abbrev pub RelaxFails : Option ℤ → Option ℤ → ℤ → Reason → Type 0
+RelaxFails tail head weight reason =
+    (d : ℤ) × (tail ≡ Some d) × (((reason ≡ Escapes) × (head ≡ None)) ⊎ ((reason ≡ NotShortest) × ((e : ℤ) × (head ≡ Some e) × ((d +ℤ weight) <ℤ e))))
+
+abbrev pub relax_row : List ArcView → BlockValue → Row
+relax_row arcs b = arc_row arcs (λ k reason. RelaxFails (label b (arc_at arcs k).tail) (label b (arc_at arcs k).head) (arc_at arcs k).cost reason)
+
+-- the tests of one block
+abbrev pub block_rows : List ArcView → BlockValue → List Row
+block_rows arcs b = support_row arcs b ∷ relax_row arcs b ∷ []
+
+-- the tests of all blocks, one block after another
+abbrev pub label_rows : List ArcView → List BlockValue → List Row
+label_rows arcs [] = []
+label_rows arcs (b ∷ blocks) = support_row arcs b ∷ relax_row arcs b ∷ label_rows arcs blocks

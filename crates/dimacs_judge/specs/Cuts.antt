@@ -1,0 +1,23 @@
+-- Cuts: sets of nodes with the source inside and the sink outside.
+use Rattle.std.specs.Prelude.{ℕ, ◌≡◌, Bool, true, false, not, ◌&&◌, List, ℤ, pos}
+use Rattle.std.specs.List.{AllZip}
+use Rattle.dimacs_instance.specs.declared.network.ArcView.{ArcView}
+use Rattle.dimacs_judge.specs.Feasible.{MaxProblem}
+
+-- the tail is inside the set and the head is not
+abbrev pub leaves : (ℕ → Bool) → ArcView → Bool
+leaves set a = set a.tail && not (set a.head)
+
+-- the head is inside the set and the tail is not
+abbrev pub enters : (ℕ → Bool) → ArcView → Bool
+enters set a = set a.head && not (set a.tail)
+
+-- an arc that leaves the set is full, and one that enters it is empty
+abbrev pub IsTightAt : (ℕ → Bool) → ArcView → ℤ → Type 0
+IsTightAt set a x = (leaves set a ≡ true → x ≡ a.cap) × (enters set a ≡ true → x ≡ pos 0)
+
+-- the source is inside, the sink is outside, every arc that leaves is full and every arc that enters is empty
+pub record CutTight (i : MaxProblem) (x : List ℤ) (set : ℕ → Bool) : Type 0 where
+  pub source_inside : set i.source ≡ true
+  pub sink_outside : set i.sink ≡ false
+  pub tight : AllZip (IsTightAt set) i.arcs x

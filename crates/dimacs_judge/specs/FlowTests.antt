@@ -1,0 +1,60 @@
+-- The tests of a flow: its bounds, its balances, its cost.
+use Rattle.std.specs.Prelude.{ℕ, ◌≡◌, ◌≢◌, ◌+◌, ◌≤◌, ◌⊎◌, ◌==◌, if◌then◌else◌, List, [], ◌∷◌, take, length, get_or, Option, Some, None, Result, Ok, Err, ℤ, pos, ◌≤ℤ◌, ◌<ℤ◌}
+use Rattle.dimacs_instance.specs.declared.network.ArcView.{ArcView}
+use Rattle.dimacs_records.specs.declared.reasons.Reason.{Reason}
+use Rattle.dimacs_records.specs.declared.reasons.Reason.TheVariants.{BelowLow, AboveCap, Balance, CostRange}
+use Rattle.dimacs_judge.specs.Ranges.{IsWide}
+use Rattle.dimacs_judge.specs.Flows.{net, cost}
+use Rattle.dimacs_judge.specs.Rows.{arc_row, flow_row, node_row}
+use Rattle.dimacs_judge.specs.Tests.{Row, Clear, FirstOfRow, AllClear, First, Refuses}
+use Rattle.dimacs_judge.specs.Feasible.{MaxProblem, MinProblem}
+use Rattle.dimacs_judge.specs.declared.verdict.JudgeError.{JudgeError}
+use Rattle.dimacs_judge.specs.declared.verdict.Where.{Where}
+
+-- below the lower bound, which is 0 where a text names none; else above the capacity
+abbrev pub BoundFails : ArcView → ℤ → Reason → Type 0
+BoundFails a x reason = ((reason ≡ BelowLow) × (x <ℤ a.low)) ⊎ ((reason ≡ AboveCap) × (a.low ≤ℤ x) × (a.cap <ℤ x))
+
+abbrev pub bound_row : List ArcView → List ℤ → Row
+bound_row arcs x = flow_row BoundFails arcs x
+
+-- the balance differs from the one that is demanded
+abbrev pub BalanceFails : Option ℤ → ℤ → Reason → Type 0
+BalanceFails demand balance reason = (reason ≡ Balance) × ((d : ℤ) × (demand ≡ Some d) × (balance ≢ d))
+
+abbrev pub balance_row : ℕ → List ArcView → (ℕ → Option ℤ) → List ℤ → Row
+balance_row nodes arcs demand x = node_row nodes (λ v reason. BalanceFails (demand v) (net arcs x v) reason)
+
+-- the tests of a feasible flow
+abbrev pub feasible_rows : ℕ → List ArcView → (ℕ → Option ℤ) → List ℤ → List Row
+feasible_rows nodes arcs demand x = bound_row arcs x ∷ balance_row nodes arcs demand x ∷ []
+
+-- source and sink may have any balance, every other node must have 0
+abbrev pub max_demand : MaxProblem → ℕ → Option ℤ
+max_demand i v = if v == i.source then None else (if v == i.sink then None else Some (pos 0))
+
+-- every node must have its supply
+abbrev pub min_demand : MinProblem → ℕ → Option ℤ
+min_demand i v = Some (i.supply v)
+
+-- the cost of the arcs up to this one
+abbrev pub cost_through : List ArcView → List ℤ → ℕ → ℤ
+cost_through arcs x k = cost (take (k + 1) arcs) (take (k + 1) x)
+
+abbrev pub cost_row : List ArcView → List ℤ → Row
+cost_row arcs x = arc_row arcs (λ k reason. (reason ≡ CostRange) × (¬ IsWide (cost_through arcs x k)))
+
+-- the cost, where the costs so far stay within their range; else the first arc at which they leave it
+abbrev pub TellsCost : List ArcView → List ℤ → Result ℤ (Where × Reason) → Type 0
+TellsCost arcs x (Ok sum) = (sum ≡ cost arcs x) × Clear (cost_row arcs x)
+TellsCost arcs x (Err refusal) = FirstOfRow (cost_row arcs x) refusal.0 refusal.1
+
+-- the table of the balances of all nodes
+pub record AreBalances (nodes : ℕ) (arcs : List ArcView) (x : List ℤ) (sums : List ℤ) : Type 0 where
+  pub one_each : length sums ≡ nodes + 1
+  pub sums_are : (v : ℕ) → v ≤ nodes → get_or sums v (pos 0) ≡ net arcs x v
+
+-- the balances of a feasible flow, or the first test that fails
+abbrev pub TellsFeasible : ℕ → List ArcView → (ℕ → Option ℤ) → List ℤ → Result (List ℤ) JudgeError → Type 0
+TellsFeasible nodes arcs demand x (Ok sums) = AreBalances nodes arcs x sums × AllClear (feasible_rows nodes arcs demand x)
+TellsFeasible nodes arcs demand x (Err error) = Refuses (First (feasible_rows nodes arcs demand x)) error

@@ -1,0 +1,15 @@
+pub mod Ranges
+pub mod Flows
+pub mod Feasible
+pub mod Optimum
+pub mod Cuts
+pub mod Potentials
+pub mod ViolatedSets
+pub mod Walks
+pub mod Labels
+pub mod Laws
+pub mod Tests
+pub mod Rows
+pub mod FlowTests
+pub mod CertificateTests
+pub mod Agreement

@@ -1,0 +1,54 @@
+-- Rows of tests, in order, and the first test that fails.
+use Rattle.std.specs.Prelude.{ℕ, ◌<◌, ◌⊎◌, List, [], ◌∷◌, Option, None, Some, Result, Ok, Err}
+use Rattle.dimacs_records.specs.declared.reasons.Reason.{Reason}
+use Rattle.dimacs_judge.specs.declared.verdict.Where.{Where}
+use Rattle.dimacs_judge.specs.declared.verdict.JudgeError.{JudgeError}
+use Rattle.dimacs_judge.specs.declared.verdict.JudgeError.TheVariants.{Refused, Memory}
+
+-- a row of tests, by number: the test fails, at a place and for a reason
+abbrev pub Row : Type 1
+Row = ℕ → Where → Reason → Type 0
+
+-- no test of the row below n fails
+abbrev pub ClearBelow : Row → ℕ → Type 0
+ClearBelow row n = (k : ℕ) → k < n → (place : Where) (reason : Reason) → ¬ row k place reason
+
+-- no test of the row fails
+abbrev pub Clear : Row → Type 0
+Clear row = (k : ℕ) (place : Where) (reason : Reason) → ¬ row k place reason
+
+-- a test of the row fails, and none before it does
+pub record FirstOfRow (row : Row) (place : Where) (reason : Reason) : Type 0 where
+  pub number : ℕ
+  pub fails : row number place reason
+  pub earlier : ClearBelow row number
+
+-- no test of any row fails
+abbrev pub AllClear : List Row → Type 0
+AllClear [] = Unit {0}
+AllClear (row ∷ rows) = Clear row × AllClear rows
+
+-- the first test of the rows that fails, where every row before is clear
+abbrev pub First : List Row → Where → Reason → Type 0
+First [] place reason = ⊥
+First (row ∷ rows) place reason = FirstOfRow row place reason ⊎ (Clear row × First rows place reason)
+
+-- what the tests of a row answer: that all pass, or the first that fails
+abbrev pub TellsRow : Row → Result Unit (Where × Reason) → Type 0
+TellsRow row (Ok done) = Clear row
+TellsRow row (Err refusal) = FirstOfRow row refusal.0 refusal.1
+
+-- what the tests of rows answer: that all pass, or the first that fails
+abbrev pub Tells : List Row → Result Unit (Where × Reason) → Type 0
+Tells rows (Ok done) = AllClear rows
+Tells rows (Err refusal) = First rows refusal.0 refusal.1
+
+-- the reason for which a single test fails, where it does
+abbrev pub TellsReason : (Reason → Type 0) → Option Reason → Type 0
+TellsReason fails None = (reason : Reason) → ¬ fails reason
+TellsReason fails (Some reason) = fails reason
+
+-- what a judge's refusal names; want of memory says nothing of the tests
+abbrev pub Refuses : (Where → Reason → Type 0) → JudgeError → Type 0
+Refuses first (Refused place reason) = first place reason
+Refuses first Memory = Unit

@@ -1,0 +1,27 @@
+-- Sets of nodes whose supply cannot be met.
+use Rattle.std.specs.Prelude.{ℕ, ◌⊎◌, Bool, List, [], ◌∷◌, ℤ, pos, ◌+ℤ◌, ◌-ℤ◌, ◌<ℤ◌}
+use Rattle.dimacs_instance.specs.declared.network.ArcView.{ArcView}
+use Rattle.dimacs_judge.specs.Flows.{when, sum_nodes}
+use Rattle.dimacs_judge.specs.Cuts.{leaves, enters}
+use Rattle.dimacs_judge.specs.Feasible.{MinProblem}
+
+-- the sum of f over the arcs that pass the test
+abbrev pub sum_where : (ArcView → Bool) → (ArcView → ℤ) → List ArcView → ℤ
+sum_where test f [] = pos 0
+sum_where test f (a ∷ arcs) = when (test a) (f a) +ℤ sum_where test f arcs
+
+-- what the nodes of the set supply
+abbrev pub supply_in : ℕ → (ℕ → ℤ) → (ℕ → Bool) → ℤ
+supply_in nodes supply set = sum_nodes (λ v. when (set v) (supply v)) nodes
+
+-- the most that can leave the set, less what must enter it
+abbrev pub most_out : List ArcView → (ℕ → Bool) → ℤ
+most_out arcs set = sum_where (leaves set) (λ a. a.cap) arcs -ℤ sum_where (enters set) (λ a. a.low) arcs
+
+-- what must leave the set, less the most that can enter it
+abbrev pub least_out : List ArcView → (ℕ → Bool) → ℤ
+least_out arcs set = sum_where (leaves set) (λ a. a.low) arcs -ℤ sum_where (enters set) (λ a. a.cap) arcs
+
+-- more is supplied in the set than can leave it, or less than must
+abbrev pub Violated : MinProblem → (ℕ → Bool) → Type 0
+Violated i set = (most_out i.arcs set <ℤ supply_in i.nodes i.supply set) ⊎ (supply_in i.nodes i.supply set <ℤ least_out i.arcs set)

@@ -1,0 +1,99 @@
+//! Whether a flow keeps its bounds, and whether the nodes are in balance.
+
+ghost use Rattle.std.specs.Prelude.{◌≡◌, ◌+◌, ◌≤◌, ℕ, ℤ, List, Option, All, length};
+ghost use Rattle.dimacs_instance.specs.Arcs.{JoinsNodes};
+ghost use Rattle.dimacs_judge.specs.FlowTests.{BoundFails, BalanceFails, AreBalances, TellsFeasible, bound_row, balance_row};
+ghost use Rattle.dimacs_judge.specs.Tests.{TellsReason, TellsRow};
+
+use crate::balances::Balances;
+use crate::flow::Flow;
+use crate::verdict::{JudgeError, Where};
+use dimacs_instance::{ArcView, Network};
+use dimacs_records::Reason;
+use std::alloc::Global;
+
+/// The balances of a feasible flow; else the first test that fails: of the bounds, and then of the balances.
+pub(crate) fn feasible<N: Network, D: Demands>(
+    alloc: Global,
+    network: &N,
+    flow: &Flow,
+    demands: &D,
+) -> Result<Balances, JudgeError>
+    requires few_nodes { N.node_count network.now ≤ 134217728 }
+    requires few_arcs { length (N.list network.now) ≤ 268435456 }
+    requires joined { All (JoinsNodes (N.node_count network.now)) (N.list network.now) }
+    requires one_each { length flow.now ≡ length (N.list network.now) }
+    ensures { TellsFeasible (N.node_count network.now) (N.list network.now) (D.demand demands.now) flow.now result }
+{
+    if let Err((place, reason)) = bounds_hold(network, flow) {
+        return Err(JudgeError::Refused(place, reason));
+    }
+    let Ok(balances) = Balances::new(alloc, network, flow) else {
+        return Err(JudgeError::Memory);
+    };
+    if let Err((place, reason)) = balances_hold(network, &balances, demands) {
+        return Err(JudgeError::Refused(place, reason));
+    }
+    Ok(balances)
+}
+
+/// The first arc that carries less than its lower bound or more than its capacity.
+pub(crate) fn bounds_hold<N: Network>(network: &N, flow: &Flow) -> Result<(), (Where, Reason)>
+    requires one_each { length flow.now ≡ length (N.list network.now) }
+    ensures { TellsRow (bound_row (N.list network.now) flow.now) result }
+{
+    for i in 0..network.arcs() {
+        if let Some(reason) = bound_fault(network.arc(i), flow.amount(i)) {
+            return Err((Where::Arc(i + 1), reason));
+        }
+    }
+    Ok(())
+}
+
+fn bound_fault(arc: ArcView, amount: i64) -> Option<Reason>
+    ensures { TellsReason (BoundFails arc amount) result }
+{
+    if amount < arc.low {
+        Some(Reason::BelowLow)
+    } else if amount > arc.cap {
+        Some(Reason::AboveCap)
+    } else {
+        None
+    }
+}
+
+/// The balances that a problem demands of its nodes.
+pub(crate) trait Demands {
+    ghost demand: { Self → ℕ → Option ℤ };
+
+    /// The balance that the node must have; none where it may have any.
+    fn demand_at(&self, node: u32) -> Option<i64>
+        ensures { result ≡ demand self.now node };
+}
+
+/// The first node that has another balance than is demanded, whatever flow gives these balances.
+pub(crate) fn balances_hold<N: Network, D: Demands>(
+    network: &N,
+    balances: &Balances,
+    demands: &D,
+) -> Result<(), (Where, Reason)>
+    requires few_nodes { N.node_count network.now ≤ 134217728 }
+    requires one_each { length balances.now ≡ N.node_count network.now + 1 }
+    ensures { (x : List ℤ) → AreBalances (N.node_count network.now) (N.list network.now) x balances.now → TellsRow (balance_row (N.node_count network.now) (N.list network.now) (D.demand demands.now) x) result }
+{
+    for v in 1..network.nodes() + 1 {
+        if let Some(reason) = balance_fault(demands.demand_at(v), balances.of(v)) {
+            return Err((Where::Node(v), reason));
+        }
+    }
+    Ok(())
+}
+
+fn balance_fault(demand: Option<i64>, balance: i128) -> Option<Reason>
+    ensures { TellsReason (BalanceFails demand balance) result }
+{
+    match demand {
+        Some(amount) if i128::from(amount) != balance => Some(Reason::Balance),
+        _ => None,
+    }
+}

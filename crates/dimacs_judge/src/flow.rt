@@ -1,0 +1,56 @@
+//! Flows.
+
+ghost use Rattle.std.specs.Prelude.{◌≡◌, ◌<◌, ℤ, pos, List, Some, length, replicate, slice_get, slice_set, IfOk};
+
+use dimacs_lines::Memory;
+use std::alloc::Global;
+use std::marker::Model;
+
+/// An amount for each arc of a network, in the order of the arcs.
+#[derive(Drop)]
+pub struct Flow {
+    amounts: Vec<i64>,
+}
+
+impl Model for Flow {
+    ghost use Rattle.std.specs.Prelude.{List, ℤ};
+
+    ghost Value = { List ℤ };
+
+    ghost view = { λ f. f.amounts.items };
+}
+
+impl Flow {
+    /// The number of arcs.
+    pub fn len(&self) -> usize
+        ensures { result ≡ length self.now }
+    {
+        self.amounts.len()
+    }
+
+    /// The amount on an arc, counted from 0.
+    #[inline(always)]
+    pub fn amount(&self, arc: u32) -> i64
+        requires { arc < length self.now }
+        ensures { slice_get self.now arc ≡ Some result }
+    {
+        self.amounts[arc as usize]
+    }
+
+    /// The flow that carries nothing.
+    pub(crate) fn zero(alloc: Global, arcs: u32) -> Result<Flow, Memory>
+        ensures { IfOk result (λ flow. flow ≡ replicate arcs (pos 0)) }
+    {
+        Ok(Flow {
+            amounts: vec![in alloc; 0i64; arcs as usize]?,
+        })
+    }
+
+    /// Changes the amount on one arc.
+    pub(crate) fn set(&mut self, arc: u32, amount: i64)
+        requires { arc < length self.old }
+        ensures { self.new ≡ slice_set self.old arc amount }
+    {
+        self.amounts[arc as usize] = amount;
+    }
+}

@@ -1,0 +1,166 @@
+//! Whether labels are distances.
+
+ghost use Rattle.std.specs.Prelude.{◌≡◌, ◌<◌, ◌+ℤ◌, ◌<ℤ◌, ℕ, ℤ, List, Option, Contains, length, IsTrue, ◌↔◌, IfSome};
+ghost use Rattle.dimacs_judge.specs.CertificateTests.{RelaxFails, support_row, relax_row, block_rows, label_rows};
+ghost use Rattle.dimacs_judge.specs.Labels as theory;
+ghost use Rattle.dimacs_judge.specs.Labels.{BlockValue, HasTightArc, HasArcOfWeight, block_at};
+ghost use Rattle.dimacs_judge.specs.Ranges.{IsWide};
+ghost use Rattle.dimacs_judge.specs.Tests.{TellsReason, TellsRow, Tells};
+
+use crate::verdict::Where;
+use dimacs_instance::{ArcView, Network};
+use dimacs_records::Reason;
+
+/// A claimed distance: `id` is reached at `dist`, by an arc from `pred`.
+#[derive(Clone, Copy, Debug, PartialEq, Eq)]
+pub(crate) struct Label {
+    pub dist: i128,
+    pub id: u32,
+    pub pred: u32,
+}
+
+/// Blocks of labels, each with a source.
+pub(crate) trait LabelTable {
+    ghost blocks: { Self → List BlockValue };
+
+    /// The number of blocks.
+    fn count(&self) -> usize
+        ensures { result ≡ length (blocks self.now) };
+
+    /// The labels of a block, in order.
+    fn labels(&self, block: usize) -> &[Label]
+        requires { block < length (blocks self.now) }
+        ensures { result.now ≡ (block_at (blocks self.now) block).labels };
+
+    /// The distance that a block claims of a node; 0 at its source.
+    fn label(&self, block: usize, id: u32) -> Option<i128>
+        requires { block < length (blocks self.now) }
+        ensures label { result ≡ theory.label (block_at (blocks self.now) block) id }
+        ensures wide { IfSome result IsWide };
+}
+
+/// Whether all labels hold; else the first test that fails, block by block.
+pub(crate) fn labels_hold<N: Network, L: LabelTable>(
+    network: &N,
+    table: &L,
+) -> Result<(), (Where, Reason)>
+    ensures { Tells (label_rows (N.list network.now) (L.blocks table.now)) result }
+{
+    for block in 0..table.count() {
+        if let Err(refusal) = block_holds(network, table, block) {
+            return Err(refusal);
+        }
+    }
+    Ok(())
+}
+
+/// The tests of one block: first its labels, then the arcs.
+fn block_holds<N: Network, L: LabelTable>(
+    network: &N,
+    table: &L,
+    block: usize,
+) -> Result<(), (Where, Reason)>
+    requires { block < length (L.blocks table.now) }
+    ensures { Tells (block_rows (N.list network.now) (block_at (L.blocks table.now) block)) result }
+{
+    if let Err(refusal) = labels_supported(network, table, block) {
+        return Err(refusal);
+    }
+    arcs_relaxed(network, table, block)
+}
+
+/// The first label of the block that no arc makes.
+fn labels_supported<N: Network, L: LabelTable>(
+    network: &N,
+    table: &L,
+    block: usize,
+) -> Result<(), (Where, Reason)>
+    requires { block < length (L.blocks table.now) }
+    ensures { TellsRow (support_row (N.list network.now) (block_at (L.blocks table.now) block)) result }
+{
+    let labels = table.labels(block);
+    for k in 0..labels.len() {
+        let label = labels[k];
+        if !is_supported(network, label, table.label(block, label.pred)) {
+            return Err((Where::Node(label.id), Reason::NoTightArc));
+        }
+    }
+    Ok(())
+}
+
+/// Whether an arc from the predecessor at this distance makes the label.
+fn is_supported<N: Network>(network: &N, label: Label, pred: Option<i128>) -> bool
+    requires { IfSome pred IsWide }
+    ensures { IsTrue result ↔ ((base : ℤ) × (pred ≡ Some base) × HasArcOfWeight (N.list network.now) label base) }
+{
+    match pred {
+        Some(base) => has_arc_of_weight(network, label, base),
+        None => false,
+    }
+}
+
+/// Whether one of the arcs from the predecessor to the node leads from the one distance to the other.
+fn has_arc_of_weight<N: Network>(network: &N, label: Label, base: i128) -> bool
+    requires { IsWide base }
+    ensures { IsTrue result ↔ HasArcOfWeight (N.list network.now) label base }
+{
+    for k in 0..network.arcs() {
+        let Some(i) = network.find(label.pred, label.id, k) else {
+            return false;
+        };
+        if is_made(label, base, network.arc(i)) {
+            return true;
+        }
+    }
+    false
+}
+
+/// Whether the arc's weight leads from the one distance to the other.
+fn is_made(label: Label, base: i128, arc: ArcView) -> bool
+    requires { IsWide base }
+    ensures { IsTrue result ↔ ((base +ℤ arc.cost) ≡ label.dist) }
+{
+    base + i128::from(arc.cost) == label.dist
+}
+
+/// The first arc with a labelled tail whose head has no label, or a label that is too great.
+fn arcs_relaxed<N: Network, L: LabelTable>(
+    network: &N,
+    table: &L,
+    block: usize,
+) -> Result<(), (Where, Reason)>
+    requires { block < length (L.blocks table.now) }
+    ensures { TellsRow (relax_row (N.list network.now) (block_at (L.blocks table.now) block)) result }
+{
+    for i in 0..network.arcs() {
+        let arc = network.arc(i);
+        let tail = table.label(block, arc.tail);
+        let head = table.label(block, arc.head);
+        if let Some(reason) = relax_fault(tail, head, arc.cost) {
+            return Err((Where::Arc(i + 1), reason));
+        }
+    }
+    Ok(())
+}
+
+fn relax_fault(tail: Option<i128>, head: Option<i128>, weight: i64) -> Option<Reason>
+    requires { IfSome tail IsWide }
+    ensures { TellsReason (RelaxFails tail head weight) result }
+{
+    let Some(from) = tail else {
+        return None;
+    };
+    match head {
+        None => Some(Reason::Escapes),
+        Some(to) if is_beyond(to, from, weight) => Some(Reason::NotShortest),
+        Some(_) => None,
+    }
+}
+
+/// Whether `to` is further than the weight leads from `from`.
+fn is_beyond(to: i128, from: i128, weight: i64) -> bool
+    requires { IsWide from }
+    ensures { IsTrue result ↔ ((from +ℤ weight) <ℤ to) }
+{
+    to > from + i128::from(weight)
+}

@@ -1,0 +1,23 @@
+//! Judges of flows and distances: whether a claim with its certificate passes the tests, and what then holds.
+//!
+//! The optimality theory stands in `laws`: a tight cut proves a flow maximum, slack potentials prove it least, a
+//! violated set proves that there is none, and labels prove distances. Everything else tests, over any `Network`.
+#![tactic(auto)]
+
+mod agreement;
+mod balances;
+mod costs;
+mod crossing;
+mod cuts;
+mod feasible;
+mod flow;
+mod labels;
+mod laws;
+mod potentials;
+mod verdict;
+
+pub use flow::Flow;
+pub use laws::{
+    exchange, labels_give_distances, slack_is_least, tight_cut_is_maximum, violated_has_no_flow,
+};
+pub use verdict::{Answer, JudgeError, Verdict, Where};

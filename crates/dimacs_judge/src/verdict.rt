@@ -1,0 +1,44 @@
+//! What a judge says.
+
+use dimacs_records::Reason;
+
+/// The place that a refusal names. Arcs and nodes count from 1; field 0 is the whole line.
+#[derive(Clone, Copy, Debug, PartialEq, Eq)]
+pub enum Where {
+    Solution { line: u64, field: u32 },
+    Certificate,
+    Arc(u32),
+    Node(u32),
+}
+
+/// Why a judge does not say yes.
+#[derive(Clone, Copy, Debug, PartialEq, Eq)]
+pub enum JudgeError {
+    /// The first test that fails.
+    Refused(Where, Reason),
+    /// A growth was refused.
+    Memory,
+}
+
+/// What a judge says yes to.
+#[derive(Debug, PartialEq, Eq, Drop)]
+pub enum Verdict {
+    /// The flow is maximum, and this is its value.
+    Max(i128),
+    /// The flow is least, and this is its cost.
+    Min(i128),
+    /// There is no feasible flow.
+    Infeasible,
+    /// All labels are distances; so many sources were asked for.
+    Sources(u32),
+    /// The distances that were asked for.
+    Pairs(Vec<Answer>),
+}
+
+/// The distance between two nodes, or none where there is no walk.
+#[derive(Clone, Copy, Debug, PartialEq, Eq)]
+pub struct Answer {
+    pub from: u32,
+    pub to: u32,
+    pub distance: Option<i128>,
+}
