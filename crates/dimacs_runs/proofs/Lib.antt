@@ -1,0 +1,2 @@
+mod WordLemmas
+pub mod ReportLemmas

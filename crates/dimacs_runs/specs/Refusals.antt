@@ -1,0 +1,10 @@
+-- The lines of refusals.
+use Rattle.std.specs.Prelude.{ℕ, List, [], ◌∷◌, codes}
+use Rattle.std.specs.Fmt.{decimal}
+use Rattle.dimacs_records.specs.declared.reasons.Reason.{Reason}
+use Rattle.dimacs_records.specs.Names.{name_of}
+use Rattle.dimacs_records.specs.Printed.{spaced_line}
+
+-- the text, the line, the field and the reason
+abbrev pub refusal_line : List ℕ → ℕ → ℕ → Reason → List ℕ
+refusal_line text line field reason = spaced_line (codes "x") (text ∷ decimal line ∷ decimal field ∷ name_of reason ∷ [])

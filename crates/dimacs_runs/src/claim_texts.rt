@@ -1,0 +1,171 @@
+//! The texts of claims and certificates.
+
+ghost use Rattle.std.specs.Prelude.{◌≡◌, ℕ, List};
+ghost use Rattle.dimacs_records.specs.declared.kinds.TextKind.TheVariants as kinds;
+ghost use Rattle.dimacs_claims.specs.Cuts.{CutValue, SpellsCut, canonical_cut};
+ghost use Rattle.dimacs_claims.specs.Labels.{LabelsValue};
+ghost use Rattle.dimacs_claims.specs.LabelTexts.{SpellsLabels, canonical_labels};
+ghost use Rattle.dimacs_claims.specs.Potentials.{PotentialsValue, SpellsPotentials, canonical_potentials};
+ghost use Rattle.dimacs_claims.specs.SolutionTexts.{SolutionValue, SpellsSolution, canonical_solution, claimed};
+ghost use Rattle.dimacs_runs.specs.Shown.{shown_cut, shown_labels, shown_potentials, shown_solution};
+
+use crate::texts::Text;
+use dimacs_claims::{
+    Cut, Labels, Potentials, Solution, read_cut, read_labels, read_potentials, read_solution,
+    write_cut, write_labels, write_potentials, write_solution,
+};
+use dimacs_lines::{DeviceFault, Sink, Source};
+use dimacs_records::{Part, ReadError, put_line};
+use std::alloc::Global;
+
+impl Text for Solution {
+    ghost kind = { kinds.Solution };
+
+    ghost Said = { SolutionValue };
+
+    ghost said = { λ s. claimed s };
+
+    ghost spells = { λ text s. SpellsSolution text s };
+
+    ghost canonical = { λ s. canonical_solution s };
+
+    ghost shown = { λ s. shown_solution s };
+
+    fn name() -> &'static str {
+        "solution"
+    }
+
+    fn read<S: Source>(alloc: Global, source: &mut S) -> Result<Self, ReadError> {
+        read_solution(alloc, source)
+    }
+
+    fn write<K: Sink>(&self, sink: &mut K) -> Result<(), DeviceFault> {
+        write_solution(self, sink)
+    }
+
+    fn show<K: Sink>(&self, sink: &mut K) -> Result<(), DeviceFault> {
+        put_line(
+            sink,
+            b"i",
+            &[
+                Part::Word(b"solution"),
+                Part::Wide(self.value),
+                Part::Wide(self.entries.len() as i128),
+            ],
+        )
+    }
+}
+
+impl Text for Cut {
+    ghost kind = { kinds.Cut };
+
+    ghost Said = { CutValue };
+
+    ghost said = { λ c. c };
+
+    ghost spells = { λ text c. SpellsCut text c };
+
+    ghost canonical = { λ c. canonical_cut c };
+
+    ghost shown = { λ c. shown_cut c };
+
+    fn name() -> &'static str {
+        "certificate"
+    }
+
+    fn read<S: Source>(alloc: Global, source: &mut S) -> Result<Self, ReadError> {
+        read_cut(alloc, source)
+    }
+
+    fn write<K: Sink>(&self, sink: &mut K) -> Result<(), DeviceFault> {
+        write_cut(self, sink)
+    }
+
+    fn show<K: Sink>(&self, sink: &mut K) -> Result<(), DeviceFault> {
+        put_line(
+            sink,
+            b"i",
+            &[
+                Part::Word(b"cut"),
+                Part::Number(i64::from(self.nodes())),
+                Part::Number(i64::from(self.len())),
+            ],
+        )
+    }
+}
+
+impl Text for Potentials {
+    ghost kind = { kinds.Potentials };
+
+    ghost Said = { PotentialsValue };
+
+    ghost said = { λ p. p };
+
+    ghost spells = { λ text p. SpellsPotentials text p };
+
+    ghost canonical = { λ p. canonical_potentials p };
+
+    ghost shown = { λ p. shown_potentials p };
+
+    fn name() -> &'static str {
+        "certificate"
+    }
+
+    fn read<S: Source>(alloc: Global, source: &mut S) -> Result<Self, ReadError> {
+        read_potentials(alloc, source)
+    }
+
+    fn write<K: Sink>(&self, sink: &mut K) -> Result<(), DeviceFault> {
+        write_potentials(self, sink)
+    }
+
+    fn show<K: Sink>(&self, sink: &mut K) -> Result<(), DeviceFault> {
+        put_line(
+            sink,
+            b"i",
+            &[
+                Part::Word(b"pot"),
+                Part::Number(i64::from(self.nodes())),
+                Part::Number(i64::from(self.count_nonzero())),
+            ],
+        )
+    }
+}
+
+impl Text for Labels {
+    ghost kind = { kinds.Labels };
+
+    ghost Said = { LabelsValue };
+
+    ghost said = { λ l. l };
+
+    ghost spells = { λ text l. SpellsLabels text l };
+
+    ghost canonical = { λ l. canonical_labels l };
+
+    ghost shown = { λ l. shown_labels l };
+
+    fn name() -> &'static str {
+        "certificate"
+    }
+
+    fn read<S: Source>(alloc: Global, source: &mut S) -> Result<Self, ReadError> {
+        read_labels(alloc, source)
+    }
+
+    fn write<K: Sink>(&self, sink: &mut K) -> Result<(), DeviceFault> {
+        write_labels(self, sink)
+    }
+
+    fn show<K: Sink>(&self, sink: &mut K) -> Result<(), DeviceFault> {
+        put_line(
+            sink,
+            b"i",
+            &[
+                Part::Word(b"dist"),
+                Part::Number(i64::from(self.nodes())),
+                Part::Wide(self.blocks().len() as i128),
+            ],
+        )
+    }
+}

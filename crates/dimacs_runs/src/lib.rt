@@ -1,0 +1,19 @@
+//! The runs of the command, over any sources and sinks, and what the command's words mean.
+#![tactic(auto)]
+
+mod claim_texts;
+mod convert;
+mod ending;
+mod instance_texts;
+mod jobs;
+mod outcome;
+mod refusal;
+mod show;
+mod texts;
+mod words;
+
+pub use convert::run_convert;
+pub use jobs::Job;
+pub use outcome::{RunError, Status, exit_status};
+pub use show::run_show;
+pub use words::job;

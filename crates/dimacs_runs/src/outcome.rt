@@ -1,0 +1,34 @@
+//! How a run ends.
+
+ghost use Rattle.std.specs.Prelude.{◌≡◌};
+ghost use Rattle.dimacs_runs.specs.Outcomes.{status_number};
+
+/// What was put at the end of a run.
+#[derive(Clone, Copy, Debug, PartialEq, Eq)]
+pub enum Status {
+    /// What was asked for.
+    Done,
+    /// The line of a refusal.
+    Refused,
+}
+
+/// Why a run did not put all that it had to.
+#[derive(Clone, Copy, Debug, PartialEq, Eq)]
+pub enum RunError {
+    /// A pull or a put failed.
+    Device,
+    /// A growth was refused.
+    Memory,
+}
+
+/// The exit status of the command.
+pub fn exit_status(outcome: &Result<Status, RunError>) -> u8
+    ensures { result ≡ status_number outcome.now }
+{
+    match outcome {
+        Ok(Status::Done) => 0,
+        Ok(Status::Refused) => 1,
+        Err(RunError::Device) => 3,
+        Err(RunError::Memory) => 4,
+    }
+}

@@ -1,0 +1,30 @@
+//! The lines of refusals.
+
+ghost use Rattle.dimacs_lines.specs.Devices.{CountsFault};
+ghost use Rattle.dimacs_lines.specs.Puts.{Puts};
+ghost use Rattle.dimacs_runs.specs.Refusals.{refusal_line};
+
+use dimacs_lines::{DeviceFault, Sink};
+use dimacs_records::{At, Part, Reason, put_line};
+
+/// Puts the line of a text's fault.
+pub fn put_refusal<K: Sink>(
+    sink: &mut K,
+    text: &str,
+    place: At,
+    reason: Reason,
+) -> Result<(), DeviceFault>
+    ensures puts { Puts result (K.accepted sink.old) (refusal_line text.now place.line place.field reason) (K.accepted sink.new) }
+    ensures fault { CountsFault result (K.faults sink.old) (K.faults sink.new) }
+{
+    put_line(
+        sink,
+        b"x",
+        &[
+            Part::Word(text.as_bytes()),
+            Part::Wide(i128::from(place.line)),
+            Part::Number(i64::from(place.field)),
+            Part::Word(reason.name().as_bytes()),
+        ],
+    )
+}
