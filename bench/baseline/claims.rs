@@ -1,0 +1,397 @@
+//! Claims and certificates: queries, solutions, cuts, potentials and labels.
+
+use crate::network::NodeSet;
+use crate::text::{Reading, Record, Refusal, refuse};
+
+#[derive(Default)]
+pub struct Queries {
+    has_problem: bool,
+    declared: usize,
+    pub is_point_to_point: bool,
+    /// FROM and TO; of an `ss` text the source and 0.
+    pub list: Vec<(u32, u32)>,
+}
+
+impl Reading for Queries {
+    fn take(&mut self, record: &Record, _line: u64) -> Result<(), Refusal> {
+        let numbers = &record.numbers;
+        if record.letter == b'p' {
+            if self.has_problem {
+                return refuse(0, "ProblemTwice");
+            }
+            self.has_problem = true;
+            self.is_point_to_point = numbers[2] == 1;
+            self.declared = numbers[3] as usize;
+            return Ok(());
+        }
+        if !self.has_problem {
+            return refuse(0, "ProblemMissing");
+        }
+        if (record.letter == b'q') != self.is_point_to_point {
+            return refuse(0, "RecordOrder");
+        }
+        if self.list.len() == self.declared {
+            return refuse(0, "TooMany");
+        }
+        self.list.push((numbers[0] as u32, numbers[1] as u32));
+        Ok(())
+    }
+
+    fn finish(&self) -> Result<(), Refusal> {
+        if !self.has_problem {
+            return refuse(0, "ProblemMissing");
+        }
+        if self.list.len() < self.declared {
+            return refuse(0, "TooFew");
+        }
+        Ok(())
+    }
+}
+
+#[derive(Default)]
+pub struct Solution {
+    value: Option<(i128, u64)>,
+    pub entries: Vec<Entry>,
+    /// The line of each entry; empty while entry k, counted from 0, stands on line k + 2.
+    lines: Vec<u64>,
+}
+
+pub struct Entry {
+    pub ends: (u32, u32),
+    pub flow: i64,
+}
+
+impl Solution {
+    /// VALUE.
+    pub fn value(&self) -> i128 {
+        self.value.unwrap().0
+    }
+
+    /// The line of the VALUE.
+    pub fn value_line(&self) -> u64 {
+        self.value.unwrap().1
+    }
+
+    pub fn entry_line(&self, entry: usize) -> u64 {
+        self.lines.get(entry).copied().unwrap_or(usual_line(entry))
+    }
+}
+
+fn usual_line(entry: usize) -> u64 {
+    entry as u64 + 2
+}
+
+impl Reading for Solution {
+    #[inline(always)]
+    fn take(&mut self, record: &Record, line: u64) -> Result<(), Refusal> {
+        if record.letter == b's' {
+            if self.value.is_some() {
+                return refuse(0, "SolutionTwice");
+            }
+            self.value = Some((record.wide, line));
+            return Ok(());
+        }
+        let entry = self.entries.len();
+        if !self.lines.is_empty() || line != usual_line(entry) {
+            if self.lines.is_empty() {
+                self.lines = (0..entry).map(usual_line).collect();
+            }
+            self.lines.push(line);
+        }
+        let numbers = &record.numbers;
+        self.entries.push(Entry {
+            ends: (numbers[0] as u32, numbers[1] as u32),
+            flow: numbers[2],
+        });
+        Ok(())
+    }
+
+    fn finish(&self) -> Result<(), Refusal> {
+        if self.value.is_none() {
+            return refuse(0, "SolutionMissing");
+        }
+        Ok(())
+    }
+}
+
+/// The named nodes of a cut or of potentials.
+#[derive(Default)]
+pub struct Cut {
+    has_problem: bool,
+    pub nodes: u32,
+    declared: usize,
+    count: usize,
+    named: NodeSet,
+}
+
+impl Cut {
+    #[inline(always)]
+    pub fn contains(&self, node: u32) -> bool {
+        self.named.contains(node)
+    }
+}
+
+impl Reading for Cut {
+    #[inline(always)]
+    fn take(&mut self, record: &Record, _line: u64) -> Result<(), Refusal> {
+        let numbers = &record.numbers;
+        if record.letter == b'p' {
+            if self.has_problem {
+                return refuse(0, "ProblemTwice");
+            }
+            self.has_problem = true;
+            self.nodes = numbers[1] as u32;
+            self.declared = numbers[2] as usize;
+            self.named = NodeSet::new(self.nodes);
+            return Ok(());
+        }
+        if !self.has_problem {
+            return refuse(0, "ProblemMissing");
+        }
+        let node = numbers[0] as u32;
+        if node > self.nodes {
+            return refuse(2, "NodeRange");
+        }
+        if !self.named.insert(node) {
+            return refuse(2, "NodeTwice");
+        }
+        if self.count == self.declared {
+            return refuse(0, "TooMany");
+        }
+        self.count += 1;
+        Ok(())
+    }
+
+    fn finish(&self) -> Result<(), Refusal> {
+        if !self.has_problem {
+            return refuse(0, "ProblemMissing");
+        }
+        if self.count < self.declared {
+            return refuse(0, "TooFew");
+        }
+        Ok(())
+    }
+}
+
+#[derive(Default)]
+pub struct Potentials {
+    named: Cut,
+    values: Vec<i128>,
+}
+
+impl Potentials {
+    pub fn nodes(&self) -> u32 {
+        self.named.nodes
+    }
+
+    #[inline(always)]
+    pub fn of(&self, node: u32) -> i128 {
+        self.values[node as usize]
+    }
+}
+
+impl Reading for Potentials {
+    #[inline(always)]
+    fn take(&mut self, record: &Record, line: u64) -> Result<(), Refusal> {
+        self.named.take(record, line)?;
+        if record.letter == b'p' {
+            self.values = vec![0; self.named.nodes as usize + 1];
+        } else {
+            self.values[record.numbers[0] as usize] = record.wide;
+        }
+        Ok(())
+    }
+
+    fn finish(&self) -> Result<(), Refusal> {
+        self.named.finish()
+    }
+}
+
+/// The number of a label. Most labels fit 64 bits; a text in which one doesn't is read again with 128.
+pub trait Distance: Copy + PartialEq {
+    const ZERO: Self;
+    /// Of a node without a label.
+    const NONE: Self;
+    fn of(value: i128) -> Option<Self>;
+    fn wide(self) -> i128;
+}
+
+impl Distance for i64 {
+    const ZERO: i64 = 0;
+    const NONE: i64 = i64::MAX;
+
+    fn of(value: i128) -> Option<i64> {
+        (value.abs() < 1 << 61).then_some(value as i64)
+    }
+
+    #[inline(always)]
+    fn wide(self) -> i128 {
+        self as i128
+    }
+}
+
+impl Distance for i128 {
+    const ZERO: i128 = 0;
+    const NONE: i128 = i128::MAX;
+
+    fn of(value: i128) -> Option<i128> {
+        Some(value)
+    }
+
+    fn wide(self) -> i128 {
+        self
+    }
+}
+
+pub struct Label<D> {
+    pub distance: D,
+    pub id: u32,
+    pub pred: u32,
+}
+
+pub struct Block {
+    pub source: u32,
+    declared: usize,
+    first_label: usize,
+}
+
+pub struct Labels<D> {
+    has_problem: bool,
+    pub nodes: u32,
+    declared_blocks: usize,
+    pub blocks: Vec<Block>,
+    /// The labels of all blocks.
+    labels: Vec<Label<D>>,
+    sources: NodeSet,
+    /// By node, the last block that labels it, counted from 1.
+    labelled_in: Vec<u32>,
+    /// A label doesn't fit `D`.
+    pub is_too_wide: bool,
+}
+
+impl<D: Distance> Labels<D> {
+    pub fn new() -> Labels<D> {
+        Labels {
+            has_problem: false,
+            nodes: 0,
+            declared_blocks: 0,
+            blocks: Vec::new(),
+            labels: Vec::new(),
+            sources: NodeSet::default(),
+            labelled_in: Vec::new(),
+            is_too_wide: false,
+        }
+    }
+
+    /// The labels of a block. Every block is full, once a text is read.
+    pub fn labels_of(&self, block: &Block) -> &[Label<D>] {
+        &self.labels[block.first_label..block.first_label + block.declared]
+    }
+
+    /// Gives up what reading alone needed.
+    pub fn shrink(&mut self) {
+        self.labelled_in = Vec::new();
+        self.sources = NodeSet::default();
+    }
+
+    fn take_problem(&mut self, numbers: &[i64; 5]) -> Result<(), Refusal> {
+        if self.has_problem {
+            return refuse(0, "ProblemTwice");
+        }
+        self.has_problem = true;
+        self.nodes = numbers[1] as u32;
+        self.declared_blocks = numbers[2] as usize;
+        self.labelled_in = vec![0; self.nodes as usize + 1];
+        self.sources = NodeSet::new(self.nodes);
+        Ok(())
+    }
+
+    fn take_block(&mut self, numbers: &[i64; 5]) -> Result<(), Refusal> {
+        if !self.has_problem {
+            return refuse(0, "ProblemMissing");
+        }
+        let source = numbers[0] as u32;
+        if source > self.nodes {
+            return refuse(2, "NodeRange");
+        }
+        if !self.sources.insert(source) {
+            return refuse(2, "NodeTwice");
+        }
+        if self.blocks.len() == self.declared_blocks {
+            return refuse(0, "TooMany");
+        }
+        if self.last_block_is_short() {
+            return refuse(0, "TooFew");
+        }
+        self.blocks.push(Block {
+            source,
+            declared: numbers[1] as usize,
+            first_label: self.labels.len(),
+        });
+        self.labelled_in[source as usize] = self.blocks.len() as u32;
+        Ok(())
+    }
+
+    #[inline(always)]
+    fn take_label(&mut self, numbers: &[i64; 5], distance: i128) -> Result<(), Refusal> {
+        if !self.has_problem {
+            return refuse(0, "ProblemMissing");
+        }
+        let Some(block) = self.blocks.last() else {
+            return refuse(0, "RecordOrder");
+        };
+        let (id, pred) = (numbers[0] as u32, numbers[2] as u32);
+        if id > self.nodes {
+            return refuse(2, "NodeRange");
+        }
+        if pred > self.nodes {
+            return refuse(4, "NodeRange");
+        }
+        let this_block = self.blocks.len() as u32;
+        if self.labelled_in[id as usize] == this_block {
+            return refuse(2, "NodeTwice");
+        }
+        if self.labels.len() - block.first_label == block.declared {
+            return refuse(0, "TooMany");
+        }
+        if self.labelled_in[pred as usize] != this_block {
+            return refuse(0, "PredUnknown");
+        }
+        self.labelled_in[id as usize] = this_block;
+        match D::of(distance) {
+            Some(distance) => self.labels.push(Label { distance, id, pred }),
+            None => {
+                self.is_too_wide = true;
+                return refuse(0, "too wide for this pass");
+            }
+        }
+        Ok(())
+    }
+
+    fn last_block_is_short(&self) -> bool {
+        self.blocks
+            .last()
+            .is_some_and(|block| self.labels.len() - block.first_label < block.declared)
+    }
+}
+
+impl<D: Distance> Reading for Labels<D> {
+    #[inline(always)]
+    fn take(&mut self, record: &Record, _line: u64) -> Result<(), Refusal> {
+        match record.letter {
+            b'd' => self.take_label(&record.numbers, record.wide),
+            b'p' => self.take_problem(&record.numbers),
+            _ => self.take_block(&record.numbers),
+        }
+    }
+
+    fn finish(&self) -> Result<(), Refusal> {
+        if !self.has_problem {
+            return refuse(0, "ProblemMissing");
+        }
+        if self.blocks.len() < self.declared_blocks || self.last_block_is_short() {
+            return refuse(0, "TooFew");
+        }
+        Ok(())
+    }
+}

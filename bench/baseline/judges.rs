@@ -1,0 +1,338 @@
+//! The judges. A yes is what is printed, and so is a no: the line of the first fault or of the first test that fails.
+
+use crate::claims::{Cut, Distance, Labels, Potentials, Queries, Solution};
+use crate::network::{ArcIndex, Network, NetworkKind, read_flow_network, read_graph};
+use crate::text::{self, Fault, Reading};
+use std::collections::HashMap;
+use std::fmt::Write;
+
+/// What is printed: of a yes the lines of the verdict, of a no the line of the refusal.
+pub type Outcome = Result<String, String>;
+
+/// The line of a text's fault.
+pub fn refusal_line(text: &str, fault: Fault) -> String {
+    format!(
+        "x {} {} {} {}\n",
+        text, fault.line, fault.refusal.field, fault.refusal.reason
+    )
+}
+
+fn at_arc(arc: usize, reason: &str) -> String {
+    format!("x arc {} {}\n", arc + 1, reason)
+}
+
+fn at_node(node: u32, reason: &str) -> String {
+    format!("x node {node} {reason}\n")
+}
+
+fn at_solution(line: u64, field: u32, reason: &str) -> String {
+    format!("x solution {line} {field} {reason}\n")
+}
+
+fn at_certificate(reason: &str) -> String {
+    format!("x certificate 0 0 {reason}\n")
+}
+
+fn read<R: Reading>(
+    text: &str,
+    kind: &text::Kind,
+    path: &str,
+    mut reading: R,
+) -> Result<R, String> {
+    text::read(kind, path, &mut reading).map_err(|fault| refusal_line(text, fault))?;
+    Ok(reading)
+}
+
+pub fn judge_max(instance: &str, solution: &str, cut: &str) -> Outcome {
+    let (network, index) = read_flow_network(NetworkKind::Max, instance)
+        .map_err(|fault| refusal_line("instance", fault))?;
+    let solution = read("solution", &text::SOLUTION, solution, Solution::default())?;
+    let cut = read("certificate", &text::CUT, cut, Cut::default())?;
+    let flows = flows_of(&network, index, &solution)?;
+    test_capacities(&network, &flows)?;
+    let nets = nets_of(&network, &flows);
+    for node in 1..=network.nodes {
+        if node != network.source && node != network.sink && nets[node as usize] != 0 {
+            return Err(at_node(node, "Balance"));
+        }
+    }
+    if nets[network.source as usize] != solution.value() {
+        return Err(at_solution(solution.value_line(), 2, "ValueDiffers"));
+    }
+    test_cut(&network, &flows, &cut)?;
+    Ok(format!("v max {}\n", solution.value()))
+}
+
+fn test_capacities(network: &Network, flows: &[i64]) -> Result<(), String> {
+    for (arc, (&flow, &cap)) in flows.iter().zip(&network.values).enumerate() {
+        if flow < 0 {
+            return Err(at_arc(arc, "BelowLow"));
+        }
+        if flow > cap {
+            return Err(at_arc(arc, "AboveCap"));
+        }
+    }
+    Ok(())
+}
+
+fn test_cut(network: &Network, flows: &[i64], cut: &Cut) -> Result<(), String> {
+    if cut.nodes != network.nodes {
+        return Err(at_certificate("NodesDiffer"));
+    }
+    if !cut.contains(network.source) {
+        return Err(at_node(network.source, "SourceOutside"));
+    }
+    if cut.contains(network.sink) {
+        return Err(at_node(network.sink, "SinkInside"));
+    }
+    for (arc, &(tail, head)) in network.ends.iter().enumerate() {
+        match (cut.contains(tail), cut.contains(head)) {
+            (true, false) if flows[arc] != network.values[arc] => {
+                return Err(at_arc(arc, "NotSaturated"));
+            }
+            (false, true) if flows[arc] != 0 => return Err(at_arc(arc, "BackFlow")),
+            _ => {}
+        }
+    }
+    Ok(())
+}
+
+pub fn judge_min(instance: &str, solution: &str, potentials: &str) -> Outcome {
+    let (network, index) = read_flow_network(NetworkKind::Min, instance)
+        .map_err(|fault| refusal_line("instance", fault))?;
+    let solution = read("solution", &text::SOLUTION, solution, Solution::default())?;
+    let potentials = read(
+        "certificate",
+        &text::POTENTIALS,
+        potentials,
+        Potentials::default(),
+    )?;
+    let flows = flows_of(&network, index, &solution)?;
+    test_bounds(&network, &flows)?;
+    let nets = nets_of(&network, &flows);
+    for node in 1..=network.nodes {
+        if nets[node as usize] != network.supplies[node as usize] as i128 {
+            return Err(at_node(node, "Balance"));
+        }
+    }
+    test_cost(&network, &flows, &solution)?;
+    test_reduced_costs(&network, &flows, &potentials)?;
+    Ok(format!("v min {}\n", solution.value()))
+}
+
+fn test_bounds(network: &Network, flows: &[i64]) -> Result<(), String> {
+    for (arc, (&flow, &(low, cap))) in flows.iter().zip(&network.bounds).enumerate() {
+        if flow < low {
+            return Err(at_arc(arc, "BelowLow"));
+        }
+        if flow > cap {
+            return Err(at_arc(arc, "AboveCap"));
+        }
+    }
+    Ok(())
+}
+
+fn test_cost(network: &Network, flows: &[i64], solution: &Solution) -> Result<(), String> {
+    let mut cost = 0i128;
+    for (arc, (&flow, &unit_cost)) in flows.iter().zip(&network.values).enumerate() {
+        cost += unit_cost as i128 * flow as i128;
+        if cost.unsigned_abs() > 10u128.pow(30) {
+            return Err(at_arc(arc, "CostRange"));
+        }
+    }
+    if cost != solution.value() {
+        return Err(at_solution(solution.value_line(), 2, "ValueDiffers"));
+    }
+    Ok(())
+}
+
+fn test_reduced_costs(
+    network: &Network,
+    flows: &[i64],
+    potentials: &Potentials,
+) -> Result<(), String> {
+    if potentials.nodes() != network.nodes {
+        return Err(at_certificate("NodesDiffer"));
+    }
+    for (arc, &(tail, head)) in network.ends.iter().enumerate() {
+        let reduced_cost = network.values[arc] as i128 - potentials.of(tail) + potentials.of(head);
+        let (low, cap) = network.bounds[arc];
+        if reduced_cost > 0 && flows[arc] != low || reduced_cost < 0 && flows[arc] != cap {
+            return Err(at_arc(arc, "NotTight"));
+        }
+    }
+    Ok(())
+}
+
+/// The flow of each arc. Entries mostly follow the order of the arcs: the next few arcs are tried before the index,
+/// which nothing needs any longer then.
+fn flows_of(network: &Network, index: ArcIndex, solution: &Solution) -> Result<Vec<i64>, String> {
+    let mut flows = vec![0i64; network.ends.len()];
+    let mut is_named = vec![0u64; network.ends.len() / 64 + 1];
+    let mut next = 0;
+    for (k, entry) in solution.entries.iter().enumerate() {
+        let near = network.ends[next..]
+            .iter()
+            .take(8)
+            .position(|&ends| ends == entry.ends);
+        let found = near
+            .map(|places| next + places)
+            .or_else(|| index.find(network, entry.ends));
+        let Some(arc) = found else {
+            return Err(at_solution(solution.entry_line(k), 0, "UnknownArc"));
+        };
+        if is_named[arc / 64] >> (arc % 64) & 1 == 1 {
+            return Err(at_solution(solution.entry_line(k), 0, "ArcTwice"));
+        }
+        is_named[arc / 64] |= 1 << (arc % 64);
+        flows[arc] = entry.flow;
+        next = arc + 1;
+    }
+    Ok(flows)
+}
+
+/// What leaves each node, minus what enters it.
+fn nets_of(network: &Network, flows: &[i64]) -> Vec<i128> {
+    let mut nets = vec![0i128; network.nodes as usize + 1];
+    for (&(tail, head), &flow) in network.ends.iter().zip(flows) {
+        nets[tail as usize] += flow as i128;
+        nets[head as usize] -= flow as i128;
+    }
+    nets
+}
+
+pub fn judge_paths(graph: &str, queries: &str, labels: &str) -> Outcome {
+    let graph = read_graph(graph).map_err(|fault| refusal_line("instance", fault))?;
+    let queries = read("query", &text::QUERIES, queries, Queries::default())?;
+    let mut narrow = Labels::<i64>::new();
+    let outcome = text::read(&text::LABELS, labels, &mut narrow);
+    if narrow.is_too_wide {
+        let wide = read("certificate", &text::LABELS, labels, Labels::<i128>::new())?;
+        return judge_labels(&graph, &queries, wide);
+    }
+    outcome.map_err(|fault| refusal_line("certificate", fault))?;
+    judge_labels(&graph, &queries, narrow)
+}
+
+fn judge_labels<D: Distance>(graph: &Network, queries: &Queries, mut labels: Labels<D>) -> Outcome {
+    labels.shrink();
+    if labels.nodes != graph.nodes {
+        return Err(at_certificate("NodesDiffer"));
+    }
+    for &(from, to) in &queries.list {
+        for node in [from, to] {
+            if node > graph.nodes {
+                return Err(at_node(node, "QueryNode"));
+            }
+        }
+    }
+    let asked = queries_by_block(queries, &labels)?;
+    let mut answers = vec![D::NONE; queries.list.len()];
+    let mut nodes = vec![LabelledNode::NONE; graph.nodes as usize + 1];
+    for (block, asked) in asked.iter().enumerate() {
+        test_block(graph, &labels, block, &mut nodes)?;
+        for &query in asked {
+            let (_, to) = queries.list[query];
+            answers[query] = nodes[to as usize].distance;
+        }
+    }
+    Ok(paths_verdict(queries, &answers))
+}
+
+/// For each block the queries of its source.
+fn queries_by_block<D: Distance>(
+    queries: &Queries,
+    labels: &Labels<D>,
+) -> Result<Vec<Vec<usize>>, String> {
+    let block_of: HashMap<u32, usize> = labels
+        .blocks
+        .iter()
+        .enumerate()
+        .map(|(k, block)| (block.source, k))
+        .collect();
+    let mut asked = vec![Vec::new(); labels.blocks.len()];
+    for (query, &(from, _)) in queries.list.iter().enumerate() {
+        match block_of.get(&from) {
+            Some(&block) => asked[block].push(query),
+            None => return Err(at_node(from, "BlockMissing")),
+        }
+    }
+    Ok(asked)
+}
+
+#[derive(Clone, Copy)]
+struct LabelledNode<D> {
+    distance: D,
+    pred: u32,
+    /// Whether an arc from `pred` gives the distance.
+    has_arc: bool,
+}
+
+impl<D: Distance> LabelledNode<D> {
+    const NONE: LabelledNode<D> = LabelledNode {
+        distance: D::NONE,
+        pred: 0,
+        has_arc: false,
+    };
+}
+
+/// Tests a block in one pass over the arcs, and leaves its labels in the table of nodes.
+fn test_block<D: Distance>(
+    graph: &Network,
+    labels: &Labels<D>,
+    block: usize,
+    nodes: &mut [LabelledNode<D>],
+) -> Result<(), String> {
+    if block > 0 {
+        nodes.fill(LabelledNode::NONE);
+    }
+    let block = &labels.blocks[block];
+    nodes[block.source as usize].distance = D::ZERO;
+    for label in labels.labels_of(block) {
+        nodes[label.id as usize] = LabelledNode {
+            distance: label.distance,
+            pred: label.pred,
+            has_arc: false,
+        };
+    }
+    let mut failed = None; // told only where every label has its arc
+    for (arc, &(tail, head)) in graph.ends.iter().enumerate() {
+        let from = nodes[tail as usize].distance;
+        if from == D::NONE {
+            continue;
+        }
+        let through = from.wide() + graph.values[arc] as i128;
+        let node = &mut nodes[head as usize];
+        if node.distance == D::NONE {
+            failed = failed.or(Some((arc, "Escapes")));
+        } else if node.distance.wide() > through {
+            failed = failed.or(Some((arc, "NotShortest")));
+        } else if node.distance.wide() == through && node.pred == tail {
+            node.has_arc = true;
+        }
+    }
+    for label in labels.labels_of(block) {
+        if !nodes[label.id as usize].has_arc {
+            return Err(at_node(label.id, "NoTightArc"));
+        }
+    }
+    match failed {
+        Some((arc, reason)) => Err(at_arc(arc, reason)),
+        None => Ok(()),
+    }
+}
+
+fn paths_verdict<D: Distance>(queries: &Queries, answers: &[D]) -> String {
+    if !queries.is_point_to_point {
+        return format!("v sp ss {}\n", queries.list.len());
+    }
+    let mut lines = String::new();
+    for (&(from, to), &distance) in queries.list.iter().zip(answers) {
+        let _ = if distance == D::NONE {
+            writeln!(lines, "v {from} {to} unreachable")
+        } else {
+            writeln!(lines, "v {from} {to} {}", distance.wide())
+        };
+    }
+    lines
+}

@@ -1,0 +1,96 @@
+//! What a plain Rust program takes for the work of `dimacs`, without contracts and proofs: the measure of its speed.
+//!
+//! It reads with one window over the file, eight digits at a time, keeps 16 bytes for an arc of a graph, and makes
+//! all tests of `dimacs` in the same order, so that it prints the same lines. What it leaves out: it doesn't count
+//! lines against a limit; it takes the memory for a table by node as soon as NODES is declared; and where there is no
+//! memory, it is ended.
+//!
+//! ```text
+//! baseline convert max|min|gr FILE
+//! baseline show max|min|gr FILE
+//! baseline judge-max INSTANCE SOLUTION CUT
+//! baseline judge-min INSTANCE SOLUTION POTENTIALS
+//! baseline judge-paths GRAPH QUERY LABELS
+//! baseline read FILE..                       only pulls the bytes, in pieces of 64 KiB
+//! ```
+
+mod claims;
+mod judges;
+mod network;
+mod output;
+mod text;
+
+use judges::{Outcome, judge_max, judge_min, judge_paths, refusal_line};
+use network::{Network, NetworkKind, print, read_flow_network, read_graph, summary};
+use std::fs::File;
+use std::io::Read;
+
+fn main() {
+    let words: Vec<String> = std::env::args().skip(1).collect();
+    let words: Vec<&str> = words.iter().map(String::as_str).collect();
+    let outcome = match words[..] {
+        ["convert", kind, file] => convert(network_kind(kind), file),
+        ["show", kind, file] => show(network_kind(kind), file),
+        ["judge-max", instance, solution, cut] => judge_max(instance, solution, cut),
+        ["judge-min", instance, solution, potentials] => judge_min(instance, solution, potentials),
+        ["judge-paths", graph, queries, labels] => judge_paths(graph, queries, labels),
+        ["read", ref files @ ..] => pull(files),
+        _ => usage(),
+    };
+    match outcome {
+        Ok(lines) => print!("{lines}"),
+        Err(line) => {
+            print!("{line}");
+            std::process::exit(1);
+        }
+    }
+}
+
+fn usage() -> ! {
+    eprintln!("baseline: usage");
+    std::process::exit(2)
+}
+
+fn network_kind(word: &str) -> NetworkKind {
+    match word {
+        "max" => NetworkKind::Max,
+        "min" => NetworkKind::Min,
+        "gr" => NetworkKind::Graph,
+        _ => usage(),
+    }
+}
+
+fn instance(kind: NetworkKind, file: &str) -> Result<Network, String> {
+    let network = match kind {
+        NetworkKind::Graph => read_graph(file),
+        _ => read_flow_network(kind, file).map(|(network, _)| network),
+    };
+    network.map_err(|fault| refusal_line("instance", fault))
+}
+
+fn convert(kind: NetworkKind, file: &str) -> Outcome {
+    print(&instance(kind, file)?);
+    Ok(String::new())
+}
+
+fn show(kind: NetworkKind, file: &str) -> Outcome {
+    Ok(summary(&instance(kind, file)?) + "\n")
+}
+
+fn pull(files: &[&str]) -> Outcome {
+    let mut piece = vec![0u8; 64 * 1024];
+    let mut count = 0;
+    for file in files {
+        let mut file = File::open(file).unwrap_or_else(|_| text::device_fault());
+        loop {
+            let pulled = file
+                .read(&mut piece)
+                .unwrap_or_else(|_| text::device_fault());
+            if pulled == 0 {
+                break;
+            }
+            count += pulled;
+        }
+    }
+    Ok(format!("{count}\n"))
+}

@@ -1,0 +1,214 @@
+"""Generates texts, runs the programs on them in turn, and prints a table for each size. Called by run.sh:
+
+    bench.py DIR SIZES ROUNDS [BINARY]
+
+DIR has the built programs; the texts are kept there. Each program runs each work ROUNDS times, the programs taking
+turns, and its best time counts: others who use the machine can only make a run slower.
+"""
+
+import hashlib
+import os
+import re
+import shutil
+import subprocess
+import sys
+from dataclasses import dataclass
+
+NO_SUCH_WORK = 2  # the exit status of a command that doesn't have the work
+
+
+@dataclass
+class Size:
+    """How large the texts of a size are. 0 arcs: no such text at that size."""
+
+    junctions: int
+    degree: float
+    sources: int
+    max_arcs: int
+    min_arcs: int
+
+
+SIZES = {
+    1: Size(20_000, 2.44, 8, 60_000, 37_000),
+    20: Size(380_000, 2.44, 4, 1_050_000, 650_000),
+    200: Size(3_750_000, 2.44, 2, 9_600_000, 6_000_000),
+    # as many nodes as the ninth challenge's road graph of the USA has, and about as many arcs
+    1300: Size(23_947_347, 2.4361, 1, 0, 0),
+}
+
+
+@dataclass
+class Work:
+    """Words of the command, and the files that follow them."""
+
+    words: list
+    files: list
+    arcs: int
+
+    def name(self):
+        return " ".join(self.words)
+
+    def megabytes(self):
+        return sum(os.path.getsize(file) for file in self.files) / 1e6
+
+
+@dataclass
+class Taken:
+    """What a run took."""
+
+    wall: float
+    cpu: float
+    peak_bytes: int
+
+    def best(self, other):
+        return Taken(min(self.wall, other.wall), min(self.cpu, other.cpu), max(self.peak_bytes, other.peak_bytes))
+
+
+# ---- texts
+
+
+def generate(folder, *commands):
+    """Runs the commands in a new folder, once. A folder that isn't whole is never left under this name."""
+    if os.path.isdir(folder):
+        return
+    part = folder + ".part"
+    shutil.rmtree(part, ignore_errors=True)
+    os.mkdir(part)
+    for command in commands:
+        subprocess.run([os.path.abspath(command[0])] + [str(word) for word in command[1:]], cwd=part, check=True)
+    os.rename(part, folder)
+
+
+def declared_arcs(file):
+    with open(file) as text:
+        for line in text:
+            if line.startswith("p "):
+                return int(line.split()[3])
+    raise ValueError(f"{file} has no problem line")
+
+
+def road_works(size, megabytes):
+    folder = f"road-{megabytes}"
+    generate(
+        folder,
+        ["gen", "road", size.junctions, size.degree, 1, "road.gr"],
+        ["gen", "sources", size.junctions, size.sources, 1, "road.query"],
+        ["labels", "road.gr", "road.query", "road.dist"],
+    )
+    files = [f"{folder}/road.{end}" for end in ("gr", "query", "dist")]
+    arcs = declared_arcs(files[0])
+    yield Work(["show", "gr"], files[:1], arcs)
+    yield Work(["convert", "gr"], files[:1], arcs)
+    yield Work(["judge-paths"], files, arcs)
+
+
+def flow_works(kind, arcs_per_node, arc_count, certificate, megabytes):
+    folder = f"{kind}-{megabytes}"
+    generate(folder, ["gen", kind, arc_count // arcs_per_node, arc_count, 1, "flow"])
+    files = [f"{folder}/flow.{end}" for end in (kind, "solution", certificate)]
+    arcs = declared_arcs(files[0])
+    yield Work(["show", kind], files[:1], arcs)
+    yield Work(["convert", kind], files[:1], arcs)
+    yield Work([f"judge-{kind}"], files, arcs)
+
+
+def works(megabytes):
+    size = SIZES[megabytes]
+    yield from road_works(size, megabytes)
+    if size.max_arcs:
+        yield from flow_works("max", 6, size.max_arcs, "cut", megabytes)
+    if size.min_arcs:
+        yield from flow_works("min", 8, size.min_arcs, "pot", megabytes)
+
+
+# ---- runs
+
+
+def pinned(command):
+    core = os.environ.get("CORE")
+    return ["taskset", "-c", core] + command if core else command
+
+
+def measure(command):
+    subprocess.run(["./runner", "taken"] + pinned(command), stdout=subprocess.DEVNULL, stderr=subprocess.DEVNULL)
+    with open("taken") as line:
+        wall, cpu, kilobytes = line.read().split()
+    return Taken(float(wall), float(cpu), int(kilobytes) * 1024)
+
+
+def answer(command):
+    """Exit status, and a digest of what is printed."""
+    digest = hashlib.sha256()
+    with subprocess.Popen(command, stdout=subprocess.PIPE, stderr=subprocess.DEVNULL) as process:
+        while piece := process.stdout.read(1 << 20):
+            digest.update(piece)
+    return process.returncode, digest.hexdigest()
+
+
+def measure_in_turn(commands, rounds):
+    taken = {}
+    for _ in range(rounds):
+        for name, command in commands.items():
+            run = measure(command)
+            taken[name] = taken[name].best(run) if name in taken else run
+    return taken
+
+
+HEAD = """
+### {megabytes} MB
+
+| Work | Program | Wall s | CPU s | ns an arc | MB/s | Peak MB | Bytes an arc | CPU ratio |
+|---|---|---|---|---|---|---|---|---|"""
+
+
+def row(work, program, taken, baseline):
+    cells = [
+        f"{work.name()}, {work.megabytes():.1f} MB, {work.arcs:,} arcs",
+        program,
+        f"{taken.wall:.4f}",
+        f"{taken.cpu:.4f}",
+        f"{taken.cpu * 1e9 / work.arcs:.1f}",
+        f"{work.megabytes() / taken.cpu:.0f}",
+        f"{taken.peak_bytes / 1e6:.1f}",
+        f"{taken.peak_bytes / work.arcs:.1f}",
+        f"{taken.cpu / baseline.cpu:.2f}",
+    ]
+    return "| " + " | ".join(cells) + " |"
+
+
+def measure_work(work, binary, rounds):
+    """Prints the rows of a work. Whether `dimacs` prints what the baseline prints, as far as it has the work."""
+    commands = {
+        "reading alone": ["./baseline", "read"] + work.files,
+        "baseline": ["./baseline"] + work.words + work.files,
+    }
+    tested = [binary] + work.words + work.files if binary else commands["baseline"]
+    expected, got = answer(commands["baseline"]), answer(tested)
+    if binary and got == expected:
+        commands["dimacs"] = tested
+    taken = measure_in_turn(commands, rounds)
+    for program in commands:
+        print(row(work, program, taken[program], taken["baseline"]))
+    if got != expected:
+        note = "not in this build" if got[0] == NO_SUCH_WORK else f"PRINTS SOMETHING ELSE, with status {got[0]}"
+        print(f"| {work.name()} | dimacs | {note} | | | | | | |")
+    sys.stdout.flush()
+    return got == expected or got[0] == NO_SUCH_WORK
+
+
+def main():
+    folder, sizes, rounds = sys.argv[1], [int(size) for size in sys.argv[2].split(",")], int(sys.argv[3])
+    binary = os.path.abspath(sys.argv[4]) if len(sys.argv) > 4 else None
+    only = os.environ.get("ONLY", "")
+    os.chdir(folder)
+    all_agree = True
+    for megabytes in sizes:
+        print(HEAD.format(megabytes=megabytes))
+        for work in works(megabytes):
+            if re.search(only, work.name()):
+                # short runs need more rounds
+                all_agree &= measure_work(work, binary, rounds * 4 if megabytes == 1 else rounds)
+    sys.exit(0 if all_agree else 1)
+
+
+main()

@@ -1,0 +1,46 @@
+// Runs a program and tells what it took:
+//
+//   runner OUT PROGRAM WORD..
+//
+// OUT gets one line: the seconds that went by, the seconds of processor time, and the peak memory in kilobytes. The
+// exit status is the program's. The kernel counts the memory of the process that starts a program to the program's
+// peak; so this is a program of its own, and a small one.
+#include <stdio.h>
+#include <sys/resource.h>
+#include <sys/wait.h>
+#include <time.h>
+#include <unistd.h>
+
+static double seconds(struct timeval t) { return t.tv_sec + t.tv_usec * 1e-6; }
+
+int main(int count, char **words) {
+    if (count < 3) {
+        fprintf(stderr, "runner OUT PROGRAM WORD..\n");
+        return 2;
+    }
+    struct timespec start, end;
+    clock_gettime(CLOCK_MONOTONIC, &start);
+    pid_t child = fork();
+    if (child < 0) {
+        perror("fork");
+        return 126;
+    }
+    if (child == 0) {
+        execvp(words[2], words + 2);
+        perror(words[2]);
+        _exit(127);
+    }
+    int status;
+    struct rusage usage;
+    wait4(child, &status, 0, &usage);
+    clock_gettime(CLOCK_MONOTONIC, &end);
+    double wall = end.tv_sec - start.tv_sec + (end.tv_nsec - start.tv_nsec) * 1e-9;
+    FILE *out = fopen(words[1], "w");
+    if (!out) {
+        perror(words[1]);
+        return 126;
+    }
+    fprintf(out, "%.6f %.6f %ld\n", wall, seconds(usage.ru_utime) + seconds(usage.ru_stime), usage.ru_maxrss);
+    fclose(out);
+    return WIFEXITED(status) ? WEXITSTATUS(status) : 128 + WTERMSIG(status);
+}

@@ -1,0 +1,312 @@
+//! Labels: texts that are read and written again, look-ups, and texts that are refused.
+
+use dimacs_claims::{Label, Labels, LabelsReading, read_labels, write_labels};
+use dimacs_lines::{
+    CutSource, DeviceFault, FlakySink, FlakySource, MemorySink, MemorySource, Source,
+};
+use dimacs_records::{At, LineFault, ReadError, Reading, Reason, TakeError, TextKind, record};
+use std::alloc::Global;
+use std::test::Fail;
+
+const TWO_BLOCKS: &str = "p dist 4 2\nt 1 2\nd 2 5 1\nd 3 -7 2\nt 4 0\n";
+
+/// Puts the canonical text of the labels that a text spells.
+fn convert<S: Source>(alloc: Global, source: &mut S) -> Result<MemorySink, Fail> {
+    let labels = read_labels(alloc, source)?;
+    let mut sink = MemorySink::new(alloc);
+    write_labels(&labels, &mut sink)?;
+    Ok(sink)
+}
+
+#[test]
+fn labels_get_their_canonical_form(rt: HostRuntime) -> Result<(), Fail> {
+    for (name, text, canonical) in [
+        ("two blocks", TWO_BLOCKS, TWO_BLOCKS),
+        ("no block", "p dist 0 0", "p dist 0 0\n"),
+        (
+            "blocks and labels keep their order",
+            "p dist 3 2\nt 3 2\nd 2 0 3\nd 1 0 2\nt 1 1\nd 3 1 1\n",
+            "p dist 3 2\nt 3 2\nd 2 0 3\nd 1 0 2\nt 1 1\nd 3 1 1\n",
+        ),
+        (
+            "comment, blanks, CR, sign, zeros",
+            "c x\n p dist 02 +1\r\nt 1 1\nd 2 -0 01",
+            "p dist 2 1\nt 1 1\nd 2 0 1\n",
+        ),
+        (
+            "the greatest and the least distance, the greatest ID",
+            "p dist 134217728 1\nt 1 2\nd 134217728 1000000000000000000000000000000 1\nd 2 -1000000000000000000000000000000 134217728\n",
+            "p dist 134217728 1\nt 1 2\nd 134217728 1000000000000000000000000000000 1\nd 2 -1000000000000000000000000000000 134217728\n",
+        ),
+    ] {
+        let whole = convert(rt.alloc(), &mut MemorySource::new(text.as_bytes()))?;
+        assert!(rt; whole.bytes() == canonical.as_bytes(), "{name}");
+        let ones = Vec::from_elem(rt.alloc(), 1, text.len())?;
+        let pieces = convert(rt.alloc(), &mut CutSource::new(text.as_bytes(), &ones))?;
+        assert!(rt; pieces.bytes() == canonical.as_bytes(), "{name}, in pieces");
+        let again = convert(rt.alloc(), &mut MemorySource::new(canonical.as_bytes()))?;
+        assert!(rt; again.bytes() == canonical.as_bytes(), "{name}, once more");
+    }
+    Ok(())
+}
+
+#[test]
+fn labels_are_those_of_the_text(rt: HostRuntime) -> Result<(), Fail> {
+    let labels: Labels = read_labels(rt.alloc(), &mut MemorySource::new(TWO_BLOCKS.as_bytes()))?;
+    assert_eq!(rt; labels.nodes(), 4);
+    let blocks = labels.blocks();
+    assert_eq!(rt; blocks.len(), 2);
+    assert_eq!(rt; blocks[0].source(), 1);
+    assert_eq!(rt;
+        blocks[0].labels(),
+        [
+            Label {
+                dist: 5,
+                id: 2,
+                pred: 1
+            },
+            Label {
+                dist: -7,
+                id: 3,
+                pred: 2
+            },
+        ]
+        .as_slice()
+    );
+    assert_eq!(rt; blocks[1].source(), 4);
+    assert!(rt; blocks[1].labels().is_empty());
+    for (block, id, dist) in [
+        (0, 1, Some(0)),
+        (0, 2, Some(5)),
+        (0, 3, Some(-7)),
+        (0, 4, None),
+        (0, 0, None),
+        (0, u32::MAX, None),
+        (1, 4, Some(0)),
+        (1, 1, None),
+        (2, 4, None),
+        (usize::MAX, 1, None),
+    ] {
+        assert_eq!(rt; labels.label(block, id), dist, "block {block}, node {id}");
+    }
+    Ok(())
+}
+
+#[test]
+fn texts_are_refused_at_their_first_fault(rt: HostRuntime) -> Result<(), Fail> {
+    for (name, text, line, field, reason) in [
+        ("empty text", "", 1, 0, Reason::ProblemMissing),
+        (
+            "block before the problem",
+            "t 1 0\n",
+            1,
+            0,
+            Reason::ProblemMissing,
+        ),
+        (
+            "label before the problem",
+            "d 1 0 1\n",
+            1,
+            0,
+            Reason::ProblemMissing,
+        ),
+        (
+            "a second problem",
+            "p dist 1 0\np dist 1 0\n",
+            2,
+            0,
+            Reason::ProblemTwice,
+        ),
+        (
+            "label before a block",
+            "p dist 4 1\nd 2 5 1\n",
+            2,
+            0,
+            Reason::RecordOrder,
+        ),
+        (
+            "label before a block, of a node out of range",
+            "p dist 4 1\nd 5 5 1\n",
+            2,
+            0,
+            Reason::RecordOrder,
+        ),
+        (
+            "source out of range",
+            "p dist 4 1\nt 5 0\n",
+            2,
+            2,
+            Reason::NodeRange,
+        ),
+        (
+            "node out of range",
+            "p dist 4 1\nt 1 0\nd 5 5 9\n",
+            3,
+            2,
+            Reason::NodeRange,
+        ),
+        (
+            "predecessor out of range",
+            "p dist 4 1\nt 1 0\nd 1 5 5\n",
+            3,
+            4,
+            Reason::NodeRange,
+        ),
+        (
+            "a second block of a source",
+            "p dist 4 1\nt 1 1\nt 1 0\n",
+            3,
+            2,
+            Reason::NodeTwice,
+        ),
+        (
+            "label of the source",
+            "p dist 4 1\nt 1 0\nd 1 5 2\n",
+            3,
+            2,
+            Reason::NodeTwice,
+        ),
+        (
+            "a second label of a node",
+            "p dist 4 1\nt 1 1\nd 2 5 1\nd 2 5 3\n",
+            4,
+            2,
+            Reason::NodeTwice,
+        ),
+        (
+            "a second block behind an unfinished one",
+            "p dist 4 1\nt 1 1\nt 2 0\n",
+            3,
+            0,
+            Reason::TooMany,
+        ),
+        (
+            "one label more, of an unknown predecessor",
+            "p dist 4 1\nt 1 0\nd 2 5 3\n",
+            3,
+            0,
+            Reason::TooMany,
+        ),
+        (
+            "a block behind an unfinished one",
+            "p dist 4 2\nt 1 1\nt 2 0\n",
+            3,
+            0,
+            Reason::TooFew,
+        ),
+        (
+            "a block too few",
+            "p dist 4 2\nt 1 0\n",
+            3,
+            0,
+            Reason::TooFew,
+        ),
+        (
+            "a label too few at the end",
+            "p dist 4 1\nt 1 2\nd 2 5 1\n",
+            4,
+            0,
+            Reason::TooFew,
+        ),
+        (
+            "predecessor of a later line",
+            "p dist 4 1\nt 1 2\nd 2 5 3\nd 3 5 1\n",
+            3,
+            0,
+            Reason::PredUnknown,
+        ),
+        (
+            "a label that is its own predecessor",
+            "p dist 4 1\nt 1 1\nd 2 5 2\n",
+            3,
+            0,
+            Reason::PredUnknown,
+        ),
+        (
+            "predecessor of another block",
+            "p dist 4 2\nt 1 1\nd 2 5 1\nt 3 1\nd 4 1 2\n",
+            5,
+            0,
+            Reason::PredUnknown,
+        ),
+        (
+            "a distance that is too great",
+            "p dist 4 1\nt 1 1\nd 2 1000000000000000000000000000001 1\n",
+            3,
+            3,
+            Reason::NumberRange,
+        ),
+    ] {
+        let want = Some(ReadError::Refused(At { line, field }, reason));
+        let whole = read_labels(rt.alloc(), &mut MemorySource::new(text.as_bytes())).err();
+        assert_eq!(rt; whole, want, "{name}");
+        let ones = Vec::from_elem(rt.alloc(), 1, text.len())?;
+        let mut source = CutSource::new(text.as_bytes(), &ones);
+        let pieces = read_labels(rt.alloc(), &mut source).err();
+        assert_eq!(rt; pieces, want, "{name}, in pieces");
+    }
+    Ok(())
+}
+
+/// Gives a reading what a line says.
+fn take(reading: &mut LabelsReading, number: u64, line: &str) -> Result<(), TakeError> {
+    match record(TextKind::Labels, line.as_bytes()) {
+        Ok(Some(said)) => reading.take(number, said),
+        Ok(None) => Ok(()),
+        Err(LineFault { field, reason }) => Err(TakeError::refused(field, reason)),
+    }
+}
+
+fn refused(field: u32, reason: Reason) -> Result<(), TakeError> {
+    Err(TakeError::Refused(LineFault { field, reason }))
+}
+
+#[test]
+fn a_refused_record_leaves_the_reading_as_it_was(rt: HostRuntime) -> Result<(), Fail> {
+    let mut reading = LabelsReading::new(rt.alloc());
+    for (number, line, answer) in [
+        (1, "t 1 0", refused(0, Reason::ProblemMissing)),
+        (2, "p dist 4 2", Ok(())),
+        (3, "d 2 1 1", refused(0, Reason::RecordOrder)),
+        (4, "t 1 2", Ok(())),
+        (5, "d 2 1 3", refused(0, Reason::PredUnknown)),
+        (6, "d 2 1 1", Ok(())),
+        (7, "d 2 1 1", refused(2, Reason::NodeTwice)),
+        (8, "t 3 0", refused(0, Reason::TooFew)),
+        (9, "t 3 0", refused(0, Reason::TooFew)),
+        (10, "d 3 1 2", Ok(())),
+        (11, "d 4 1 2", refused(0, Reason::TooMany)),
+        (12, "t 1 0", refused(2, Reason::NodeTwice)),
+        (13, "t 3 0", Ok(())),
+        (14, "t 4 0", refused(0, Reason::TooMany)),
+        (15, "p dist 4 2", refused(0, Reason::ProblemTwice)),
+    ] {
+        assert_eq!(rt; take(&mut reading, number, line), answer, "line {number}");
+    }
+    let labels = reading.finish()?;
+    assert_eq!(rt; labels.blocks().len(), 2);
+    assert_eq!(rt; labels.label(0, 3), Some(1));
+    Ok(())
+}
+
+#[test]
+fn each_pull_and_each_put_that_fails_is_told(rt: HostRuntime) -> Result<(), Fail> {
+    let ones = Vec::from_elem(rt.alloc(), 1, TWO_BLOCKS.len())?;
+    for failing in 1..=TWO_BLOCKS.len() as u64 + 1 {
+        let fails = [failing];
+        let mut source = FlakySource::new(TWO_BLOCKS.as_bytes(), &ones, &fails);
+        let error = read_labels(rt.alloc(), &mut source).err();
+        assert_eq!(rt; error, Some(ReadError::Device), "at pull {failing}");
+    }
+    let labels = read_labels(rt.alloc(), &mut MemorySource::new(TWO_BLOCKS.as_bytes()))?;
+    for failing in 1..=TWO_BLOCKS.len() as u64 {
+        let fails = [failing];
+        let mut sink = FlakySink::new(rt.alloc(), &ones, &fails);
+        assert_eq!(rt;
+            write_labels(&labels, &mut sink),
+            Err(DeviceFault),
+            "at put {failing}"
+        );
+    }
+    Ok(())
+}

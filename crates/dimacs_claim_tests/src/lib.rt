@@ -1,0 +1,8 @@
+//! The tests of claims and certificates, a file for each kind of text. They say what no contract says, as those of the
+//! other test crates do.
+#![tactic(auto)]
+
+#[cfg(test)]
+mod labels;
+#[cfg(test)]
+mod solutions;

@@ -1,0 +1,297 @@
+//! Solutions: texts that are read and written again, and texts that are refused.
+
+use dimacs_claims::{Entry, Solution, SolutionReading, read_solution, write_solution};
+use dimacs_lines::{
+    CutSource, DeviceFault, FlakySink, FlakySource, MemorySink, MemorySource, Source,
+};
+use dimacs_records::{At, LineFault, ReadError, Reading, Reason, TakeError, TextKind, record};
+use std::alloc::Global;
+use std::test::Fail;
+
+const FLOW: &str = "s 6\nf 1 2 4\nf 1 3 2\nf 2 3 1\nf 2 4 3\nf 3 4 3\n";
+
+/// Puts the canonical text of the solution that a text spells.
+fn convert<S: Source>(alloc: Global, source: &mut S) -> Result<MemorySink, Fail> {
+    let solution = read_solution(alloc, source)?;
+    let mut sink = MemorySink::new(alloc);
+    write_solution(&solution, &mut sink)?;
+    Ok(sink)
+}
+
+#[test]
+fn texts_get_their_canonical_form(rt: HostRuntime) -> Result<(), Fail> {
+    for (name, text, canonical) in [
+        ("already canonical", FLOW, FLOW),
+        ("a value alone", "s 0", "s 0\n"),
+        (
+            "the value in the middle",
+            "f 1 2 4\ns 6\nf 1 3 2\n",
+            "s 6\nf 1 2 4\nf 1 3 2\n",
+        ),
+        (
+            "the value behind the entries",
+            "f 2 1 4\nf 1 2 -4\ns -9",
+            "s -9\nf 2 1 4\nf 1 2 -4\n",
+        ),
+        (
+            "comment, blanks, CR, empty line, signs, zeros, no last line end",
+            "c x\n  f 01\t+2  -0\r\n\ns +007",
+            "s 7\nf 1 2 0\n",
+        ),
+        (
+            "entries that are repeated, and loops",
+            "s 1\nf 2 2 0\nf 1 2 3\nf 1 2 3\nf 1 2 4\n",
+            "s 1\nf 2 2 0\nf 1 2 3\nf 1 2 3\nf 1 2 4\n",
+        ),
+        (
+            "the greatest numbers",
+            "s 1000000000000000000000000000000\nf 134217728 134217728 9223372036854775807\n",
+            "s 1000000000000000000000000000000\nf 134217728 134217728 9223372036854775807\n",
+        ),
+        (
+            "the least numbers",
+            "s -1000000000000000000000000000000\nf 1 1 -9223372036854775808\n",
+            "s -1000000000000000000000000000000\nf 1 1 -9223372036854775808\n",
+        ),
+        (
+            "comments that look like lines of a solution",
+            "cs 2\ns 1\nc s 3\ncf 1 2 3\n",
+            "s 1\n",
+        ),
+    ] {
+        let whole = convert(rt.alloc(), &mut MemorySource::new(text.as_bytes()))?;
+        assert!(rt; whole.bytes() == canonical.as_bytes(), "{name}");
+        let ones = Vec::from_elem(rt.alloc(), 1, text.len())?;
+        let pieces = convert(rt.alloc(), &mut CutSource::new(text.as_bytes(), &ones))?;
+        assert!(rt; pieces.bytes() == canonical.as_bytes(), "{name}, in pieces");
+        let again = convert(rt.alloc(), &mut MemorySource::new(canonical.as_bytes()))?;
+        assert!(rt; again.bytes() == canonical.as_bytes(), "{name}, once more");
+    }
+    Ok(())
+}
+
+fn entry(tail: u32, head: u32, flow: i64, line: u64) -> Entry {
+    Entry {
+        tail,
+        head,
+        flow,
+        line,
+    }
+}
+
+#[test]
+fn a_solution_knows_the_lines_of_its_text(rt: HostRuntime) -> Result<(), Fail> {
+    let text = b"c x\nf 1 2 4\n\ns 6\nf 3 4 -2\nf 1 2 4";
+    let solution = read_solution(rt.alloc(), &mut MemorySource::new(text))?;
+    assert_eq!(rt; solution.value, 6);
+    assert_eq!(rt; solution.value_line, 4);
+    assert_eq!(rt;
+        solution.entries.as_slice(),
+        [entry(1, 2, 4, 2), entry(3, 4, -2, 5), entry(1, 2, 4, 6)].as_slice()
+    );
+
+    let written = convert(rt.alloc(), &mut MemorySource::new(text))?;
+    let again = read_solution(rt.alloc(), &mut MemorySource::new(written.bytes()))?;
+    assert_eq!(rt; again.value, 6);
+    assert_eq!(rt; again.value_line, 1);
+    assert_eq!(rt;
+        again.entries.as_slice(),
+        [entry(1, 2, 4, 2), entry(3, 4, -2, 3), entry(1, 2, 4, 4)].as_slice()
+    );
+    Ok(())
+}
+
+#[test]
+fn open_solutions_are_written_as_they_are(rt: HostRuntime) -> Result<(), Fail> {
+    let solution = Solution {
+        value: i128::MIN,
+        value_line: 0,
+        entries: [entry(0, u32::MAX, i64::MIN, 0)].to_vec(rt.alloc())?,
+    };
+    let mut sink = MemorySink::new(rt.alloc());
+    write_solution(&solution, &mut sink)?;
+    let text = b"s -170141183460469231731687303715884105728\nf 0 4294967295 -9223372036854775808\n";
+    assert!(rt; sink.bytes() == text.as_slice());
+    Ok(())
+}
+
+#[test]
+fn texts_are_refused_at_their_first_fault(rt: HostRuntime) -> Result<(), Fail> {
+    for (name, text, line, field, reason) in [
+        ("empty text", "", 1, 0, Reason::SolutionMissing),
+        ("comments alone", "c x\n\n", 3, 0, Reason::SolutionMissing),
+        (
+            "entries alone",
+            "f 1 2 3\nf 1 2 4",
+            3,
+            0,
+            Reason::SolutionMissing,
+        ),
+        ("a second value", "s 1\ns 2\n", 2, 0, Reason::SolutionTwice),
+        (
+            "the same value twice",
+            "s 1\nf 1 2 3\nc\ns 1\n",
+            4,
+            0,
+            Reason::SolutionTwice,
+        ),
+        (
+            "a second value's own fault comes first",
+            "s 1\ns x\n",
+            2,
+            2,
+            Reason::BadNumber,
+        ),
+        (
+            "the greatest value and one",
+            "s 1000000000000000000000000000001\n",
+            1,
+            2,
+            Reason::NumberRange,
+        ),
+        (
+            "the least value less one",
+            "f 1 2 3\ns -1000000000000000000000000000001\n",
+            2,
+            2,
+            Reason::NumberRange,
+        ),
+        ("a problem line", "p max 1 0\n", 1, 1, Reason::UnknownLine),
+        ("a letter in capitals", "S 1\n", 1, 1, Reason::UnknownLine),
+        ("an arc line", "s 1\na 1 2 3\n", 2, 1, Reason::UnknownLine),
+        ("value without number", "s\n", 1, 0, Reason::FieldCount),
+        ("value and more", "s 1 2\n", 1, 0, Reason::FieldCount),
+        (
+            "entry without flow",
+            "s 1\nf 1 2\n",
+            2,
+            0,
+            Reason::FieldCount,
+        ),
+        (
+            "entry and more",
+            "s 1\nf 1 2 3 4\n",
+            2,
+            0,
+            Reason::FieldCount,
+        ),
+        ("tail zero", "s 1\nf 0 0 x\n", 2, 2, Reason::NumberRange),
+        (
+            "head past the range",
+            "f 1 134217729 x\n",
+            1,
+            3,
+            Reason::NumberRange,
+        ),
+        (
+            "flow past the range",
+            "s 1\nf 1 2 9223372036854775808\n",
+            2,
+            4,
+            Reason::NumberRange,
+        ),
+        ("flow no number", "f 1 2 1.5\n", 1, 4, Reason::BadNumber),
+        (
+            "nothing behind a refused line matters",
+            "s 1\ns 2\ns x\np\n",
+            2,
+            0,
+            Reason::SolutionTwice,
+        ),
+    ] {
+        let want = Some(ReadError::Refused(At { line, field }, reason));
+        let whole = read_solution(rt.alloc(), &mut MemorySource::new(text.as_bytes())).err();
+        assert_eq!(rt; whole, want, "{name}");
+        let ones = Vec::from_elem(rt.alloc(), 1, text.len())?;
+        let mut source = CutSource::new(text.as_bytes(), &ones);
+        let pieces = read_solution(rt.alloc(), &mut source).err();
+        assert_eq!(rt; pieces, want, "{name}, in pieces");
+    }
+    Ok(())
+}
+
+/// Gives a reading what a line says.
+fn take(reading: &mut SolutionReading, number: u64, line: &str) -> Result<(), TakeError> {
+    match record(TextKind::Solution, line.as_bytes()) {
+        Ok(Some(said)) => reading.take(number, said),
+        Ok(None) => Ok(()),
+        Err(LineFault { field, reason }) => Err(TakeError::refused(field, reason)),
+    }
+}
+
+fn refused(field: u32, reason: Reason) -> Result<(), TakeError> {
+    Err(TakeError::Refused(LineFault { field, reason }))
+}
+
+#[test]
+fn a_refused_record_leaves_the_reading_as_it_was(rt: HostRuntime) -> Result<(), Fail> {
+    let mut reading = SolutionReading::new(rt.alloc());
+    for (number, line, answer) in [
+        (1, "f 1 2 3", Ok(())),
+        (3, "s 5", Ok(())),
+        (4, "s 5", refused(0, Reason::SolutionTwice)),
+        (5, "s 5", refused(0, Reason::SolutionTwice)),
+        (7, "f 2 1 0", Ok(())),
+        (8, "s 6", refused(0, Reason::SolutionTwice)),
+    ] {
+        assert_eq!(rt; take(&mut reading, number, line), answer, "line {number}");
+    }
+    let solution = reading.finish()?;
+    assert_eq!(rt; solution.value, 5);
+    assert_eq!(rt; solution.value_line, 3);
+    assert_eq!(rt;
+        solution.entries.as_slice(),
+        [entry(1, 2, 3, 1), entry(2, 1, 0, 7)].as_slice()
+    );
+    Ok(())
+}
+
+#[test]
+fn a_reading_without_a_value_is_refused_at_its_end(rt: HostRuntime) -> Result<(), Fail> {
+    let missing = refused(0, Reason::SolutionMissing).err();
+    let reading = SolutionReading::new(rt.alloc());
+    assert_eq!(rt; reading.finish().err(), missing, "no record");
+
+    let mut reading = SolutionReading::new(rt.alloc());
+    take(&mut reading, 1, "f 1 2 3")?;
+    assert_eq!(rt; reading.finish().err(), missing, "an entry");
+    Ok(())
+}
+
+#[test]
+fn each_pull_that_fails_is_told(rt: HostRuntime) -> Result<(), Fail> {
+    let text = "f 1 2 3\ns 5";
+    let ones = Vec::from_elem(rt.alloc(), 1, text.len())?;
+    // One pull for each byte, and one that finds the end.
+    for failing in 1..=text.len() as u64 + 1 {
+        let fails = [failing];
+        let mut source = FlakySource::new(text.as_bytes(), &ones, &fails);
+        let error = read_solution(rt.alloc(), &mut source).err();
+        assert_eq!(rt; error, Some(ReadError::Device), "at pull {failing}");
+    }
+    Ok(())
+}
+
+#[test]
+fn each_put_that_fails_is_told(rt: HostRuntime) -> Result<(), Fail> {
+    let solution = read_solution(rt.alloc(), &mut MemorySource::new(FLOW.as_bytes()))?;
+    let ones = Vec::from_elem(rt.alloc(), 1, FLOW.len())?;
+    for failing in 1..=FLOW.len() as u64 {
+        let fails = [failing];
+        let mut sink = FlakySink::new(rt.alloc(), &ones, &fails);
+        assert_eq!(rt;
+            write_solution(&solution, &mut sink),
+            Err(DeviceFault),
+            "at put {failing}"
+        );
+        assert!(rt;
+            sink.bytes().len() as u64 == failing - 1,
+            "at put {failing}"
+        );
+        assert!(rt;
+            FLOW.as_bytes().starts_with(sink.bytes()),
+            "at put {failing}"
+        );
+    }
+    Ok(())
+}

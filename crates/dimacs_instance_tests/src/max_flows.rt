@@ -1,0 +1,427 @@
+//! Texts of maximum flow: read, written again, and refused.
+
+use dimacs_instance::{MaxReading, Network, read_max, write_max};
+use dimacs_lines::{CutSource, MemorySink, MemorySource, Source};
+use dimacs_records::{At, LineFault, ReadError, Reading, Reason, TakeError, TextKind, record};
+use std::alloc::Global;
+use std::process::Abort;
+use std::test::Fail;
+
+const DIAMOND: &str = "p max 4 5\nn 1 s\nn 4 t\na 1 2 4\na 1 3 2\na 2 3 2\na 2 4 3\na 3 4 5\n";
+
+/// Puts the canonical text of the instance that a text spells.
+fn convert<S: Source>(alloc: Global, source: &mut S) -> Result<MemorySink, Fail> {
+    let max = read_max(alloc, source)?;
+    let mut sink = MemorySink::new(alloc);
+    write_max(&max, &mut sink)?;
+    Ok(sink)
+}
+
+#[test]
+fn texts_get_their_canonical_form(rt: HostRuntime) -> Result<(), Fail> {
+    for (name, text, canonical) in [
+        ("already canonical", DIAMOND, DIAMOND),
+        (
+            "node lines stand by ID, the sink's line first",
+            "p max 2 1\nn 2 t\nn 1 s\na 1 2 1\n",
+            "p max 2 1\nn 1 s\nn 2 t\na 1 2 1\n",
+        ),
+        (
+            "node lines stand by ID, the sink having the lesser one",
+            "p max 3 0\nn 3 s\nn 2 t\n",
+            "p max 3 0\nn 2 t\nn 3 s\n",
+        ),
+        (
+            "loops, an arc back, no capacity and the greatest one",
+            "p max 2 4\nn 1 s\nn 2 t\na 1 1 0\na 2 1 9223372036854775807\na 1 2 0\na 2 2 1\n",
+            "p max 2 4\nn 1 s\nn 2 t\na 1 1 0\na 2 1 9223372036854775807\na 1 2 0\na 2 2 1\n",
+        ),
+        (
+            "comments, blanks, CR, empty line, signs, zeros, no last line end",
+            "c x\n  p  max 2 1\r\n\nn 2\tt\nc y\nn +01 s\na 1 2 -0",
+            "p max 2 1\nn 1 s\nn 2 t\na 1 2 0\n",
+        ),
+    ] {
+        let whole = convert(rt.alloc(), &mut MemorySource::new(text.as_bytes()))?;
+        assert!(rt; whole.bytes() == canonical.as_bytes(), "{name}");
+        let ones = Vec::from_elem(rt.alloc(), 1, text.len())?;
+        let pieces = convert(rt.alloc(), &mut CutSource::new(text.as_bytes(), &ones))?;
+        assert!(rt; pieces.bytes() == canonical.as_bytes(), "{name}, in pieces");
+        let again = convert(rt.alloc(), &mut MemorySource::new(canonical.as_bytes()))?;
+        assert!(rt; again.bytes() == canonical.as_bytes(), "{name}, once more");
+    }
+    Ok(())
+}
+
+#[test]
+fn an_instance_has_the_ends_and_arcs_of_its_text(rt: HostRuntime) -> Result<(), Fail> {
+    let max = read_max(rt.alloc(), &mut MemorySource::new(DIAMOND.as_bytes()))?;
+    assert_eq!(rt; max.source(), 1);
+    assert_eq!(rt; max.sink(), 4);
+    let network = max.network();
+    assert_eq!(rt; network.nodes(), 4);
+    assert_eq!(rt; network.arcs(), 5);
+    assert_eq!(rt; network.arc(3).tail, 2);
+    assert_eq!(rt; network.arc(3).head, 4);
+    assert_eq!(rt; network.arc(3).cap, 3);
+    assert_eq!(rt; network.arc(3).low, 0);
+    assert_eq!(rt; network.arc(3).cost, 0);
+    assert_eq!(rt; network.find(3, 4, 0), Some(4));
+    assert_eq!(rt; network.find(4, 3, 0), None);
+    Ok(())
+}
+
+/// Reads a text in one piece, and in pieces of one byte.
+fn refuses(
+    rt: &impl Abort,
+    alloc: Global,
+    name: &str,
+    text: &[u8],
+    at: At,
+    reason: Reason,
+) -> Result<(), Fail> {
+    let want = Some(ReadError::Refused(at, reason));
+    let whole = read_max(alloc, &mut MemorySource::new(text)).err();
+    assert_eq!(rt; whole, want, "{name}");
+    let ones = Vec::from_elem(alloc, 1, text.len())?;
+    let pieces = read_max(alloc, &mut CutSource::new(text, &ones)).err();
+    assert_eq!(rt; pieces, want, "{name}, in pieces");
+    Ok(())
+}
+
+#[test]
+fn texts_are_refused_at_their_first_fault(rt: HostRuntime) -> Result<(), Fail> {
+    for (name, text, line, field, reason) in [
+        ("empty text", "", 1, 0, Reason::ProblemMissing),
+        (
+            "node before the problem",
+            "n 1 s\n",
+            1,
+            0,
+            Reason::ProblemMissing,
+        ),
+        (
+            "arc before the problem",
+            "c\na 1 2 1\n",
+            2,
+            0,
+            Reason::ProblemMissing,
+        ),
+        ("another problem", "p min 2 1\n", 1, 2, Reason::BadWord),
+        (
+            "problem twice",
+            "p max 2 1\nn 1 s\np max 2 1\n",
+            3,
+            0,
+            Reason::ProblemTwice,
+        ),
+        (
+            "one node for both ends",
+            "p max 2 1\nn 1 s\nn 1 t\n",
+            3,
+            2,
+            Reason::NodeTwice,
+        ),
+        (
+            "two sources",
+            "p max 2 1\nn 1 s\nn 2 s\n",
+            3,
+            3,
+            Reason::EndTwice,
+        ),
+        (
+            "two sinks",
+            "p max 2 1\nn 2 t\nn 1 t\n",
+            3,
+            3,
+            Reason::EndTwice,
+        ),
+        (
+            "arc with no sink before",
+            "p max 2 1\nn 1 s\na 1 2 1\n",
+            3,
+            0,
+            Reason::EndMissing,
+        ),
+        (
+            "arc with no end before",
+            "p max 2 1\na 1 2 1\n",
+            2,
+            0,
+            Reason::EndMissing,
+        ),
+        (
+            "capacity past the range",
+            "p max 2 1\nn 1 s\nn 2 t\na 1 2 9223372036854775808\n",
+            4,
+            4,
+            Reason::NumberRange,
+        ),
+        (
+            "two arcs with the same ends",
+            "p max 2 2\nn 1 s\nn 2 t\na 1 2 1\na 1 2 1\n",
+            5,
+            0,
+            Reason::ParallelArc,
+        ),
+        (
+            "two loops at one node",
+            "p max 2 2\nn 1 s\nn 2 t\na 2 2 1\nc\na 2 2 3\n",
+            6,
+            0,
+            Reason::ParallelArc,
+        ),
+        ("no end", "p max 2 1\n", 2, 0, Reason::EndMissing),
+        (
+            "no end and no node",
+            "p max 0 0\n",
+            2,
+            0,
+            Reason::EndMissing,
+        ),
+        (
+            "no sink, and an arc too few",
+            "p max 2 1\nn 1 s\n",
+            3,
+            0,
+            Reason::EndMissing,
+        ),
+        (
+            "an arc too few",
+            "p max 2 1\nn 1 s\nn 2 t\nc\n",
+            5,
+            0,
+            Reason::TooFew,
+        ),
+    ] {
+        refuses(
+            &rt,
+            rt.alloc(),
+            name,
+            text.as_bytes(),
+            At { line, field },
+            reason,
+        )?;
+    }
+    Ok(())
+}
+
+#[test]
+fn one_line_tells_its_first_reason(rt: HostRuntime) -> Result<(), Fail> {
+    let source = "p max 3 1\nn 1 s\n";
+    let both = "p max 3 1\nn 1 s\nn 2 t\n";
+    let full = "p max 3 1\nn 1 s\nn 2 t\na 1 2 1\n";
+    for (name, before, said, line, field, reason) in [
+        (
+            "number before word",
+            source,
+            "n 0 x",
+            3,
+            2,
+            Reason::NumberRange,
+        ),
+        ("word", source, "n 1 x", 3, 3, Reason::BadWord),
+        (
+            "order before NODES",
+            full,
+            "n 4 s",
+            5,
+            0,
+            Reason::RecordOrder,
+        ),
+        (
+            "order before the node",
+            full,
+            "n 1 s",
+            5,
+            0,
+            Reason::RecordOrder,
+        ),
+        (
+            "NODES before the end",
+            source,
+            "n 4 s",
+            3,
+            2,
+            Reason::NodeRange,
+        ),
+        (
+            "the node before the end",
+            source,
+            "n 1 s",
+            3,
+            2,
+            Reason::NodeTwice,
+        ),
+        (
+            "third line, same node",
+            both,
+            "n 2 s",
+            4,
+            2,
+            Reason::NodeTwice,
+        ),
+        (
+            "third line, other node",
+            both,
+            "n 3 t",
+            4,
+            3,
+            Reason::EndTwice,
+        ),
+        (
+            "fields before NODES",
+            full,
+            "a 4 4 x",
+            5,
+            4,
+            Reason::BadNumber,
+        ),
+        (
+            "tail before head",
+            full,
+            "a 4 4 -1",
+            5,
+            2,
+            Reason::NodeRange,
+        ),
+        (
+            "head before the bound",
+            full,
+            "a 1 4 -1",
+            5,
+            3,
+            Reason::NodeRange,
+        ),
+        (
+            "NODES before the count",
+            full,
+            "a 1 4 1",
+            5,
+            3,
+            Reason::NodeRange,
+        ),
+        (
+            "NODES before the ends",
+            source,
+            "a 1 4 -1",
+            3,
+            3,
+            Reason::NodeRange,
+        ),
+        (
+            "the ends before the bound",
+            source,
+            "a 1 2 -1",
+            3,
+            0,
+            Reason::EndMissing,
+        ),
+        (
+            "the bound before the arc",
+            full,
+            "a 1 2 -1",
+            5,
+            4,
+            Reason::BoundOrder,
+        ),
+        (
+            "the arc before the count",
+            full,
+            "a 1 2 1",
+            5,
+            0,
+            Reason::ParallelArc,
+        ),
+        ("the count", full, "a 2 1 1", 5, 0, Reason::TooMany),
+    ] {
+        let text = format!(in rt.alloc(); "{before}{said}\n")?;
+        refuses(
+            &rt,
+            rt.alloc(),
+            name,
+            text.as_bytes(),
+            At { line, field },
+            reason,
+        )?;
+    }
+    Ok(())
+}
+
+/// Gives a reading what a line says.
+fn take(reading: &mut MaxReading, number: u64, line: &str) -> Result<(), TakeError> {
+    match record(TextKind::Max, line.as_bytes()) {
+        Ok(Some(said)) => reading.take(number, said),
+        Ok(None) => Ok(()),
+        Err(LineFault { field, reason }) => Err(TakeError::refused(field, reason)),
+    }
+}
+
+fn refused(field: u32, reason: Reason) -> Result<(), TakeError> {
+    Err(TakeError::Refused(LineFault { field, reason }))
+}
+
+#[test]
+fn a_refused_record_leaves_the_reading_as_it_was(rt: HostRuntime) -> Result<(), Fail> {
+    let mut reading = MaxReading::new(rt.alloc());
+    for (number, line, answer) in [
+        (1, "n 2 s", refused(0, Reason::ProblemMissing)),
+        (2, "p max 3 2", Ok(())),
+        (3, "n 4 s", refused(2, Reason::NodeRange)),
+        (4, "a 1 2 1", refused(0, Reason::EndMissing)),
+        (5, "n 3 t", Ok(())),
+        (6, "n 3 s", refused(2, Reason::NodeTwice)),
+        (7, "n 1 t", refused(3, Reason::EndTwice)),
+        (8, "a 1 2 1", refused(0, Reason::EndMissing)),
+        (9, "n 2 s", Ok(())),
+        (10, "n 1 s", refused(3, Reason::EndTwice)),
+        (11, "a 1 2 -1", refused(4, Reason::BoundOrder)),
+        (12, "a 1 2 5", Ok(())),
+        (13, "a 1 2 5", refused(0, Reason::ParallelArc)),
+        (14, "n 1 s", refused(0, Reason::RecordOrder)),
+        (15, "a 2 1 6", Ok(())),
+        (16, "a 2 1 6", refused(0, Reason::ParallelArc)),
+        (17, "a 2 2 6", refused(0, Reason::TooMany)),
+    ] {
+        assert_eq!(rt; take(&mut reading, number, line), answer, "line {number}");
+    }
+    let max = reading.finish()?;
+    assert_eq!(rt; max.source(), 2);
+    assert_eq!(rt; max.sink(), 3);
+    let network = max.network();
+    assert_eq!(rt; network.arcs(), 2);
+    assert_eq!(rt; network.arc(0).cap, 5);
+    assert_eq!(rt; network.arc(1).cap, 6);
+    Ok(())
+}
+
+/// All arcs among sixty nodes, from each to each.
+fn all_arcs(alloc: Global) -> Result<Vec<u8>, Fail> {
+    let mut text = b"p max 60 3600\nn 1 s\nn 2 t\n".to_vec(alloc)?;
+    for tail in 1..61 {
+        for head in 1..61 {
+            text.extend_from_slice(format!(in alloc; "a {tail} {head} {tail}\n")?.as_bytes())?;
+        }
+    }
+    Ok(text)
+}
+
+#[test]
+fn a_repeated_arc_is_found_among_many(rt: HostRuntime) -> Result<(), Fail> {
+    let mut text = all_arcs(rt.alloc())?;
+    let max = read_max(rt.alloc(), &mut MemorySource::new(&text))?;
+    assert_eq!(rt; max.network().arcs(), 3_600);
+    text.extend_from_slice(b"a 17 42 1\n")?;
+    refuses(
+        &rt,
+        rt.alloc(),
+        "an arc of the middle",
+        &text,
+        At {
+            line: 3_604,
+            field: 0,
+        },
+        Reason::ParallelArc,
+    )?;
+    Ok(())
+}

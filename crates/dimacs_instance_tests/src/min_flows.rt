@@ -1,0 +1,328 @@
+//! Minimum cost flow texts: read and written again, looked up, and refused.
+
+use dimacs_instance::{Network, SupplySums, read_min, write_min};
+use dimacs_lines::{CutSource, DeviceFault, FlakySink, MemorySink, MemorySource, Source};
+use dimacs_records::{At, ReadError, Reason};
+use std::alloc::Global;
+use std::test::Fail;
+
+const SHIPPING: &str =
+    "p min 4 5\nn 1 4\nn 4 -4\na 1 2 0 4 2\na 1 3 0 2 2\na 2 3 0 2 1\na 2 4 0 3 3\na 3 4 0 5 1\n";
+
+/// Puts the canonical text of the instance that a text spells.
+fn convert<S: Source>(alloc: Global, source: &mut S) -> Result<MemorySink, Fail> {
+    let instance = read_min(alloc, source)?;
+    let mut sink = MemorySink::new(alloc);
+    write_min(&instance, &mut sink)?;
+    Ok(sink)
+}
+
+#[test]
+fn texts_get_their_canonical_form(rt: HostRuntime) -> Result<(), Fail> {
+    for (name, text, canonical) in [
+        ("already canonical", SHIPPING, SHIPPING),
+        (
+            "a supply of zero is left out",
+            "p min 2 1\nn 2 -5\nn 1 0\na 1 2 0 2 -7\n",
+            "p min 2 1\nn 2 -5\na 1 2 0 2 -7\n",
+        ),
+        (
+            "node lines stand by ID",
+            "p min 300 0\nn 300 -1\nn 7 +02\nn 257 5\nn 1 -6\n",
+            "p min 300 0\nn 1 -6\nn 7 2\nn 257 5\nn 300 -1\n",
+        ),
+        ("no node", "p min 0 0\n", "p min 0 0\n"),
+        (
+            "no node line",
+            "p min 2 1\na 1 2 1 3 0",
+            "p min 2 1\na 1 2 1 3 0\n",
+        ),
+        (
+            "equal bounds",
+            "p min 1 1\na 1 1 7 7 0\n",
+            "p min 1 1\na 1 1 7 7 0\n",
+        ),
+        (
+            "an arc, the arc back and a loop",
+            "p min 2 3\na 1 2 0 1 0\na 2 1 0 1 0\na 1 1 0 1 0\n",
+            "p min 2 3\na 1 2 0 1 0\na 2 1 0 1 0\na 1 1 0 1 0\n",
+        ),
+        (
+            "the greatest numbers",
+            "p min 1 1\nn 1 9223372036854775807\na 1 1 9223372036854775807 9223372036854775807 9223372036854775807\n",
+            "p min 1 1\nn 1 9223372036854775807\na 1 1 9223372036854775807 9223372036854775807 9223372036854775807\n",
+        ),
+        (
+            "the least numbers",
+            "p min 1 1\nn 1 -9223372036854775808\na 1 1 -0 0 -9223372036854775808\n",
+            "p min 1 1\nn 1 -9223372036854775808\na 1 1 0 0 -9223372036854775808\n",
+        ),
+    ] {
+        let whole = convert(rt.alloc(), &mut MemorySource::new(text.as_bytes()))?;
+        assert!(rt; whole.bytes() == canonical.as_bytes(), "{name}");
+        let ones = Vec::from_elem(rt.alloc(), 1, text.len())?;
+        let pieces = convert(rt.alloc(), &mut CutSource::new(text.as_bytes(), &ones))?;
+        assert!(rt; pieces.bytes() == canonical.as_bytes(), "{name}, in pieces");
+        let again = convert(rt.alloc(), &mut MemorySource::new(canonical.as_bytes()))?;
+        assert!(rt; again.bytes() == canonical.as_bytes(), "{name}, once more");
+    }
+    Ok(())
+}
+
+#[test]
+fn an_instance_has_the_supplies_and_arcs_of_its_text(rt: HostRuntime) -> Result<(), Fail> {
+    let instance = read_min(rt.alloc(), &mut MemorySource::new(SHIPPING.as_bytes()))?;
+    assert_eq!(rt; instance.supply(1), 4);
+    assert_eq!(rt; instance.supply(2), 0);
+    assert_eq!(rt; instance.supply(4), -4);
+    assert_eq!(rt; instance.supply(0), 0);
+    assert_eq!(rt; instance.supply(4_000_000_000), 0);
+    let sums = instance.supply_sums();
+    assert_eq!(rt;
+        sums,
+        SupplySums {
+            supplied: 4,
+            demanded: 4
+        }
+    );
+    let network = instance.network();
+    assert_eq!(rt; network.nodes(), 4);
+    assert_eq!(rt; network.arcs(), 5);
+    assert_eq!(rt; network.arc(3).tail, 2);
+    assert_eq!(rt; network.arc(3).head, 4);
+    assert_eq!(rt; network.arc(3).low, 0);
+    assert_eq!(rt; network.arc(3).cap, 3);
+    assert_eq!(rt; network.arc(3).cost, 3);
+    assert_eq!(rt; network.find(3, 4, 0), Some(4));
+    Ok(())
+}
+
+#[test]
+fn sums_of_supplies_leave_64_bits(rt: HostRuntime) -> Result<(), Fail> {
+    let text =
+        "p min 5 0\nn 5 -9223372036854775808\nn 1 9223372036854775807\nn 2 9223372036854775807\nn 3 3\nn 4 -9223372036854775808\n";
+    let instance = read_min(rt.alloc(), &mut MemorySource::new(text.as_bytes()))?;
+    let sums = instance.supply_sums();
+    assert_eq!(rt; sums.supplied, 18_446_744_073_709_551_617);
+    assert_eq!(rt; sums.demanded, 18_446_744_073_709_551_616);
+    Ok(())
+}
+
+#[test]
+fn texts_are_refused_at_their_first_fault(rt: HostRuntime) -> Result<(), Fail> {
+    for (name, text, line, field, reason) in [
+        ("empty text", "", 1, 0, Reason::ProblemMissing),
+        (
+            "node line before the problem",
+            "n 1 0\n",
+            1,
+            0,
+            Reason::ProblemMissing,
+        ),
+        (
+            "arc before the problem",
+            "a 1 1 0 0 0\n",
+            1,
+            0,
+            Reason::ProblemMissing,
+        ),
+        (
+            "problem twice",
+            "p min 1 0\np min 1 0\n",
+            2,
+            0,
+            Reason::ProblemTwice,
+        ),
+        (
+            "problem of another kind",
+            "p max 1 0\n",
+            1,
+            2,
+            Reason::BadWord,
+        ),
+        (
+            "letter of another kind",
+            "p min 1 0\ns 1\n",
+            2,
+            1,
+            Reason::UnknownLine,
+        ),
+        (
+            "five fields of an arc",
+            "p min 1 1\na 1 1 0 1\n",
+            2,
+            0,
+            Reason::FieldCount,
+        ),
+        (
+            "a word for a supply",
+            "p min 1 0\nn 1 s\n",
+            2,
+            3,
+            Reason::BadNumber,
+        ),
+        ("node zero", "p min 1 0\nn 0 s\n", 2, 2, Reason::NumberRange),
+        (
+            "supply past the range",
+            "p min 1 0\nn 1 -9223372036854775809\n",
+            2,
+            3,
+            Reason::NumberRange,
+        ),
+        (
+            "cost past the range",
+            "p min 1 1\na 1 1 0 1 9223372036854775808\n",
+            2,
+            6,
+            Reason::NumberRange,
+        ),
+        (
+            "node line behind an arc",
+            "p min 2 1\na 1 2 0 1 0\nn 1 1\n",
+            3,
+            0,
+            Reason::RecordOrder,
+        ),
+        (
+            "its place before its node",
+            "p min 2 1\na 1 2 0 1 0\nn 3 1\n",
+            3,
+            0,
+            Reason::RecordOrder,
+        ),
+        (
+            "node above NODES",
+            "p min 2 0\nn 3 0\n",
+            2,
+            2,
+            Reason::NodeRange,
+        ),
+        (
+            "node twice",
+            "p min 2 0\nn 2 1\nn 2 1\n",
+            3,
+            2,
+            Reason::NodeTwice,
+        ),
+        (
+            "node twice, with a supply of zero first",
+            "p min 2 0\nn 2 0\nn 2 1\n",
+            3,
+            2,
+            Reason::NodeTwice,
+        ),
+        (
+            "node twice, with a supply of zero second",
+            "p min 2 0\nn 2 1\nn 2 0\n",
+            3,
+            2,
+            Reason::NodeTwice,
+        ),
+        (
+            "tail above NODES",
+            "p min 2 1\na 3 3 -1 -2 0\n",
+            2,
+            2,
+            Reason::NodeRange,
+        ),
+        (
+            "head above NODES",
+            "p min 2 1\na 1 3 -1 -2 0\n",
+            2,
+            3,
+            Reason::NodeRange,
+        ),
+        (
+            "an ID above NODES past ARCS",
+            "p min 2 0\na 1 3 0 0 0\n",
+            2,
+            3,
+            Reason::NodeRange,
+        ),
+        (
+            "capacity below the lower bound",
+            "p min 2 1\nn 1 0\na 1 2 3 2 0\n",
+            3,
+            5,
+            Reason::BoundOrder,
+        ),
+        (
+            "negative lower bound",
+            "p min 2 1\nn 1 0\na 1 2 -3 2 0\n",
+            3,
+            4,
+            Reason::BoundOrder,
+        ),
+        (
+            "both bounds out of order",
+            "p min 2 1\na 1 2 -3 -4 0\n",
+            2,
+            4,
+            Reason::BoundOrder,
+        ),
+        (
+            "bounds before ends",
+            "p min 2 2\na 1 2 0 1 0\na 1 2 1 0 0\n",
+            3,
+            5,
+            Reason::BoundOrder,
+        ),
+        (
+            "the same ends again",
+            "p min 2 2\na 1 2 0 1 0\na 1 2 0 2 5\n",
+            3,
+            0,
+            Reason::ParallelArc,
+        ),
+        (
+            "the same ends past ARCS",
+            "p min 2 1\na 1 2 0 1 0\na 1 2 0 1 0\n",
+            3,
+            0,
+            Reason::ParallelArc,
+        ),
+        (
+            "one more than declared",
+            "p min 2 1\na 1 2 0 1 0\na 2 1 0 1 0\n",
+            3,
+            0,
+            Reason::TooMany,
+        ),
+        (
+            "fewer than declared",
+            "p min 2 2\nn 1 1\na 1 2 0 1 0\n",
+            4,
+            0,
+            Reason::TooFew,
+        ),
+    ] {
+        let at = At { line, field };
+        let want = Some(ReadError::Refused(at, reason));
+        let whole = read_min(rt.alloc(), &mut MemorySource::new(text.as_bytes())).err();
+        assert_eq!(rt; whole, want, "{name}");
+        let ones = Vec::from_elem(rt.alloc(), 1, text.len())?;
+        let pieces = read_min(rt.alloc(), &mut CutSource::new(text.as_bytes(), &ones)).err();
+        assert_eq!(rt; pieces, want, "{name}, in pieces");
+    }
+    Ok(())
+}
+
+#[test]
+fn each_put_that_fails_is_told(rt: HostRuntime) -> Result<(), Fail> {
+    let instance = read_min(rt.alloc(), &mut MemorySource::new(SHIPPING.as_bytes()))?;
+    let ones = Vec::from_elem(rt.alloc(), 1, SHIPPING.len())?;
+    for failing in 1..=SHIPPING.len() as u64 {
+        let fails = [failing];
+        let mut sink = FlakySink::new(rt.alloc(), &ones, &fails);
+        assert_eq!(rt;
+            write_min(&instance, &mut sink),
+            Err(DeviceFault),
+            "at put {failing}"
+        );
+        assert!(rt;
+            SHIPPING.as_bytes().starts_with(sink.bytes()),
+            "at put {failing}"
+        );
+    }
+    Ok(())
+}

@@ -1,0 +1,165 @@
+//! Files and the standard output: what the system refuses is a fault, and an interruption is none.
+
+use crate::spelling::{spell_lines, spell_pulls};
+use dimacs_lines::{DeviceFault, FileSink, FileSource, Sink, StdoutSink, put_all};
+use std::io::{ErrorKind, Read, Write};
+use std::test::Fail;
+use std::{fs, io};
+
+/// Moves at most two bytes a call to or from another file. Its calls are interrupted in turn, and the listed ones,
+/// counted from 1, fail.
+#[derive(Drop)]
+struct Troubled<'a, T> {
+    inner: T,
+    fails: &'a [u8],
+    calls: u8,
+}
+
+impl<'a, T> Troubled<'a, T> {
+    fn new(inner: T, fails: &'a [u8]) -> Troubled<'a, T> {
+        Troubled {
+            inner,
+            fails,
+            calls: 0,
+        }
+    }
+
+    fn turn(&mut self) -> io::Result<()> {
+        self.calls = self.calls.wrapping_add(1);
+        if self.fails.contains(&self.calls) {
+            return Err(io::Error::from(ErrorKind::PermissionDenied));
+        }
+        if self.calls % 2 == 1 {
+            return Err(io::Error::from(ErrorKind::Interrupted));
+        }
+        Ok(())
+    }
+}
+
+impl<'a, T: Read> Read for Troubled<'a, T> {
+    fn read(&mut self, buf: &mut [u8]) -> io::Result<usize> {
+        self.turn()?;
+        let count = buf.len().min(2);
+        self.inner.read(&mut buf[..count])
+    }
+}
+
+impl<'a, T: Write> Write for Troubled<'a, T> {
+    fn write(&mut self, buf: &[u8]) -> io::Result<usize> {
+        self.turn()?;
+        let count = buf.len().min(2);
+        self.inner.write(&buf[..count])
+    }
+
+    fn flush(&mut self) -> io::Result<()> {
+        Ok(())
+    }
+}
+
+#[test]
+fn a_file_source_gives_what_the_file_gives(rt: HostRuntime) -> Result<(), Fail> {
+    let mut source = FileSource::new(b"a 1\nb".as_slice());
+    let spelled = spell_lines(&rt, rt.alloc(), &mut source)?;
+    assert_eq!(rt; spelled.as_str(), "1:a 1|2:b|end");
+    Ok(())
+}
+
+#[test]
+fn a_read_is_made_again_when_interrupted_and_not_when_refused(rt: HostRuntime) -> Result<(), Fail> {
+    let cases = [
+        ("no refusal", [].as_slice(), "ab|cd|e|"),
+        ("a refusal at once", [1].as_slice(), "fault|ab|cd|e|"),
+        ("a refusal in mid-stream", [4].as_slice(), "ab|fault|cd|e|"),
+        (
+            "a refusal in place of the end",
+            [8].as_slice(),
+            "ab|cd|e|fault|",
+        ),
+    ];
+    for (name, fails, wanted) in cases {
+        let mut source = FileSource::new(Troubled::new(b"abcde".as_slice(), fails));
+        let spelled = spell_pulls(&rt, rt.alloc(), &mut source, 9)?;
+        assert_eq!(rt; spelled.as_str(), wanted, "{name}");
+    }
+    Ok(())
+}
+
+#[test]
+fn a_write_is_made_again_when_interrupted_and_not_when_refused(
+    rt: HostRuntime,
+) -> Result<(), Fail> {
+    let cases = [
+        ("no refusal", [].as_slice(), Ok(()), "abcde"),
+        ("a refusal at once", [1].as_slice(), Err(DeviceFault), ""),
+        (
+            "a refusal in mid-stream",
+            [4].as_slice(),
+            Err(DeviceFault),
+            "ab",
+        ),
+        (
+            "a refusal behind the last byte",
+            [7].as_slice(),
+            Ok(()),
+            "abcde",
+        ),
+    ];
+    for (name, fails, wanted, taken) in cases {
+        let mut bytes = Vec::new(rt.alloc());
+        let mut sink = FileSink::new(Troubled::new(&mut bytes, fails));
+        assert_eq!(rt; put_all(&mut sink, b"abcde"), wanted, "{name}");
+        assert_eq!(rt; bytes.as_slice(), taken.as_bytes(), "{name}");
+    }
+    Ok(())
+}
+
+#[test]
+fn a_file_that_takes_no_more_is_a_fault(rt: HostRuntime) -> Result<(), Fail> {
+    let mut room = [0u8; 3];
+    let mut sink = FileSink::new(room.as_mut_slice());
+    assert_eq!(rt; sink.put(b"ab"), Ok(2));
+    assert_eq!(rt; sink.put(b"cd"), Ok(1));
+    assert_eq!(rt; sink.put(b""), Ok(0));
+    assert_eq!(rt; sink.put(b"d"), Err(DeviceFault));
+    assert_eq!(rt; put_all(&mut sink, b"d"), Err(DeviceFault));
+    Ok(())
+}
+
+#[test]
+fn a_real_file_is_read_and_written(rt: HostRuntime) -> Result<(), Fail> {
+    let mut source = FileSource::new(fs::open(&rt, "/dev/null")?);
+    let spelled = spell_lines(&rt, rt.alloc(), &mut source)?;
+    assert_eq!(rt; spelled.as_str(), "end", "an empty file");
+
+    let mut source = FileSource::new(fs::open(&rt, "/")?);
+    let spelled = spell_lines(&rt, rt.alloc(), &mut source)?;
+    assert_eq!(rt;
+        spelled.as_str(),
+        "Device",
+        "a folder, which cannot be read"
+    );
+
+    let mut sink = FileSink::new(fs::create(&rt, "/dev/null")?);
+    assert_eq!(rt;
+        put_all(&mut sink, b"gone"),
+        Ok(()),
+        "a file that takes all"
+    );
+
+    let mut sink = FileSink::new(fs::create(&rt, "/dev/full")?);
+    assert_eq!(rt;
+        put_all(&mut sink, b"gone"),
+        Err(DeviceFault),
+        "a full device"
+    );
+    Ok(())
+}
+
+#[test]
+fn the_standard_output_takes_all(rt: HostRuntime) {
+    let mut sink = StdoutSink::new(&rt);
+    assert_eq!(rt;
+        put_all(&mut sink, b"a line on the standard output\n"),
+        Ok(())
+    );
+}

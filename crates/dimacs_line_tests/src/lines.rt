@@ -1,0 +1,206 @@
+//! The lines of a text, however its source cuts it.
+
+ghost use Rattle.std.specs.Prelude.{◌≡◌, None};
+
+use crate::spelling::spell_lines;
+use dimacs_lines::{
+    CutSource, DeviceFault, FlakySource, Lines, MAX_HELD, MAX_LINE, MAX_LINES, MemorySource, Source,
+};
+use std::test::Fail;
+
+/// The greatest length of a line.
+const LONGEST: usize = 1_048_576;
+
+#[test]
+fn has_the_limits_of_the_texts(rt: HostRuntime) {
+    assert_eq!(rt; MAX_LINE, LONGEST, "bytes of a line");
+    assert_eq!(rt; MAX_LINES, 1_000_000_000_000, "lines of a text");
+    assert_eq!(rt; MAX_HELD, 1_114_112, "bytes held");
+}
+
+#[test]
+fn gives_the_lines_of_a_text(rt: HostRuntime) -> Result<(), Fail> {
+    let cases = [
+        ("the empty text", "", "end"),
+        ("a line end alone", "\n", "1:|end"),
+        ("two line ends", "\n\n", "1:|2:|end"),
+        ("a last line with its end", "a\nbc\n", "1:a|2:bc|end"),
+        ("a last line without its end", "a\nbc", "1:a|2:bc|end"),
+        ("a line alone, without its end", "a", "1:a|end"),
+        ("an empty line between two", "a\n\nb\n", "1:a|2:|3:b|end"),
+        ("CR LF", "a\r\nb\r\n", "1:a\r|2:b\r|end"),
+        ("CR LF and a CR behind", "a\r\n\r", "1:a\r|2:\r|end"),
+        ("CR alone, which ends no line", "a\rb\n", "1:a\rb|end"),
+        ("lines of blanks", " \n\t\n \t", "1: |2:\t|3: \t|end"),
+        ("comments", "c one\nc\n", "1:c one|2:c|end"),
+        ("bytes of several a character", "é\nß", "1:Ã©|2:Ã\u{9f}|end"),
+    ];
+    for (name, text, wanted) in cases {
+        let bytes = text.as_bytes();
+        let spelled = spell_lines(&rt, rt.alloc(), &mut MemorySource::new(bytes))?;
+        assert_eq!(rt; spelled.as_str(), wanted, "{name}, in one piece");
+        for size in [1, 2, 7] {
+            let sizes = Vec::from_elem(rt.alloc(), size, bytes.len())?;
+            let mut source = CutSource::new(bytes, sizes.as_slice());
+            let spelled = spell_lines(&rt, rt.alloc(), &mut source)?;
+            assert_eq!(rt; spelled.as_str(), wanted, "{name}, in pieces of {size}");
+        }
+    }
+    Ok(())
+}
+
+#[test]
+fn gives_the_same_lines_wherever_one_is_cut(rt: HostRuntime) -> Result<(), Fail> {
+    let text = "p sp 2 1\r\na 1 2 5\n\nc last";
+    let wanted = "1:p sp 2 1\r|2:a 1 2 5|3:|4:c last|end";
+    for cut in 0..=text.len() {
+        let sizes = [cut];
+        let mut source = CutSource::new(text.as_bytes(), &sizes);
+        let spelled = spell_lines(&rt, rt.alloc(), &mut source)?;
+        assert_eq!(rt; spelled.as_str(), wanted, "cut at {cut}");
+    }
+    Ok(())
+}
+
+#[test]
+fn tells_a_fault_and_not_the_end(rt: HostRuntime) -> Result<(), Fail> {
+    let text = "ab\ncd\nef";
+    let cases = [
+        ("at the first pull", 8, 1, "Device"),
+        ("within the first line", 1, 2, "Device"),
+        ("behind the first line", 3, 2, "1:ab|Device"),
+        ("within the second line", 4, 2, "1:ab|Device"),
+        ("within the last line", 7, 2, "1:ab|2:cd|Device"),
+        ("in place of the end", 8, 2, "1:ab|2:cd|Device"),
+        ("behind every pull", 8, 9, "1:ab|2:cd|3:ef|end"),
+    ];
+    for (name, size, fail, wanted) in cases {
+        let sizes = [size];
+        let fails = [fail];
+        let mut source = FlakySource::new(text.as_bytes(), &sizes, &fails);
+        let spelled = spell_lines(&rt, rt.alloc(), &mut source)?;
+        assert_eq!(rt; spelled.as_str(), wanted, "a fault {name}");
+    }
+    Ok(())
+}
+
+#[test]
+fn holds_what_was_pulled_and_not_given(rt: HostRuntime) -> Result<(), Fail> {
+    let sizes = [6, 1];
+    let mut source = CutSource::new(b"ab\ncd\nef\n", &sizes);
+    let mut lines = Lines::new(rt.alloc())?;
+    assert_eq!(rt; lines.held(), 0, "before the first pull");
+    for (number, line, held) in [(1, "ab", 3), (2, "cd", 0), (3, "ef", 0)] {
+        assert_eq!(rt; lines.next_line(&mut source), Ok(Some(number)));
+        assert_eq!(rt; lines.line(), line.as_bytes(), "line {number}");
+        assert_eq!(rt; lines.held(), held, "behind line {number}");
+    }
+    assert_eq!(rt; lines.next_line(&mut source), Ok(None));
+    assert_eq!(rt; lines.held(), 0, "behind the end");
+    Ok(())
+}
+
+#[test]
+fn holds_little_of_a_long_text(rt: HostRuntime) -> Result<(), Fail> {
+    let mut text = Vec::new(rt.alloc());
+    for _ in 0..400_000 {
+        text.extend_from_slice(b"a 1 2 3\n")?;
+    }
+    let mut source = MemorySource::new(text.as_slice());
+    let mut lines = Lines::new(rt.alloc())?;
+    for number in 1..=400_000 {
+        assert_eq!(rt; lines.next_line(&mut source), Ok(Some(number)));
+        assert!(rt; lines.line() == b"a 1 2 3".as_slice(), "line {number}");
+        assert!(rt; lines.held() <= 1_114_112, "behind line {number}");
+    }
+    assert_eq!(rt; lines.next_line(&mut source), Ok(None));
+    Ok(())
+}
+
+#[test]
+fn gives_a_line_of_the_greatest_length_and_no_longer_one(rt: HostRuntime) -> Result<(), Fail> {
+    let cases = [
+        ("the longest", LONGEST, "\nz", "1:(1048576 bytes)|2:z|end"),
+        (
+            "the longest, with its end alone",
+            LONGEST,
+            "\n",
+            "1:(1048576 bytes)|end",
+        ),
+        (
+            "the longest, without its end",
+            LONGEST,
+            "",
+            "1:(1048576 bytes)|end",
+        ),
+        ("a byte more", LONGEST + 1, "\nz", "TooLong(1)"),
+        (
+            "a byte more, without its end",
+            LONGEST + 1,
+            "",
+            "TooLong(1)",
+        ),
+        ("a CR more", LONGEST, "\r\n", "TooLong(1)"),
+    ];
+    for (name, length, behind, wanted) in cases {
+        let mut text = Vec::from_elem(rt.alloc(), b'x', length)?;
+        text.extend_from_slice(behind.as_bytes())?;
+        let spelled = spell_lines(&rt, rt.alloc(), &mut MemorySource::new(text.as_slice()))?;
+        assert_eq!(rt; spelled.as_str(), wanted, "{name}, in one piece");
+        for size in [7, 65_535] {
+            let sizes = Vec::from_elem(rt.alloc(), size, text.len() / size)?;
+            let mut source = CutSource::new(text.as_slice(), sizes.as_slice());
+            let spelled = spell_lines(&rt, rt.alloc(), &mut source)?;
+            assert_eq!(rt; spelled.as_str(), wanted, "{name}, in pieces of {size}");
+        }
+    }
+    Ok(())
+}
+
+#[test]
+fn gives_the_longest_line_a_byte_at_a_time(rt: HostRuntime) -> Result<(), Fail> {
+    let cases = [
+        ("the longest", LONGEST, "1:(1048576 bytes)|end"),
+        ("a byte more", LONGEST + 1, "TooLong(1)"),
+    ];
+    for (name, length, wanted) in cases {
+        let text = Vec::from_elem(rt.alloc(), b'x', length)?;
+        let sizes = Vec::from_elem(rt.alloc(), 1, length)?;
+        let mut source = CutSource::new(text.as_slice(), sizes.as_slice());
+        let spelled = spell_lines(&rt, rt.alloc(), &mut source)?;
+        assert_eq!(rt; spelled.as_str(), wanted, "{name}");
+    }
+    Ok(())
+}
+
+#[test]
+fn names_the_line_that_is_too_long(rt: HostRuntime) -> Result<(), Fail> {
+    let mut text = Vec::new(rt.alloc());
+    text.extend_from_slice(b"a\n\n")?;
+    text.resize(3 + LONGEST + 1, b'x')?;
+    let spelled = spell_lines(&rt, rt.alloc(), &mut MemorySource::new(text.as_slice()))?;
+    assert_eq!(rt; spelled.as_str(), "1:a|2:|TooLong(3)");
+    Ok(())
+}
+
+/// Gives blanks for ever, and tells nothing of them.
+#[derive(Drop)]
+struct EndlessBlanks;
+
+impl Source for EndlessBlanks {
+    ghost coming = { λ s. None };
+
+    ghost faults = { λ s. 0 };
+
+    fn pull(&mut self, into: &mut [u8]) -> Result<usize, DeviceFault> {
+        into.fill(b' ');
+        Ok(into.len())
+    }
+}
+
+#[test]
+fn refuses_a_line_without_end(rt: HostRuntime) -> Result<(), Fail> {
+    let spelled = spell_lines(&rt, rt.alloc(), &mut EndlessBlanks)?;
+    assert_eq!(rt; spelled.as_str(), "TooLong(1)");
+    Ok(())
+}

@@ -1,0 +1,88 @@
+//! Values and sets by node.
+
+use dimacs_nodes::{NodeMap, NodeSet};
+use std::test::Fail;
+
+/// The greatest ID of a node.
+const GREATEST: u32 = 134_217_728;
+
+#[test]
+fn nodes_have_the_values_that_were_set(rt: HostRuntime) -> Result<(), Fail> {
+    let mut nodes = NodeMap::new(rt.alloc());
+    for id in [0, 1, 255, 256, GREATEST, u32::MAX] {
+        assert_eq!(rt; nodes.get(id), None, "{id} before any is set");
+    }
+    // Neighbours, the ends of a page, other pages, and IDs that are alike in their low bits.
+    let all = [
+        (0, -7),
+        (1, 10),
+        (255, 11),
+        (256, 12),
+        (511, 13),
+        (65_792, 14),
+        (GREATEST, i64::MAX),
+        (257, 15),
+    ];
+    for (id, value) in all {
+        assert_eq!(rt; nodes.set(id, value), Ok(()), "{id}");
+    }
+    for (id, value) in all {
+        assert_eq!(rt; nodes.get(id), Some(value), "{id}");
+    }
+    for id in [
+        2,
+        254,
+        258,
+        510,
+        512,
+        65_536,
+        65_791,
+        65_793,
+        GREATEST - 1,
+        GREATEST + 1,
+        u32::MAX,
+    ] {
+        assert_eq!(rt; nodes.get(id), None, "{id} was never set");
+    }
+    Ok(())
+}
+
+#[test]
+fn the_last_value_of_a_node_stands(rt: HostRuntime) -> Result<(), Fail> {
+    let mut nodes = NodeMap::new(rt.alloc());
+    nodes.set(300, 'a').ok().ok_or("the first value")?;
+    nodes.set(301, 'b').ok().ok_or("the neighbour")?;
+    nodes.set(300, 'c').ok().ok_or("the second value")?;
+    assert_eq!(rt; nodes.get(300), Some('c'));
+    assert_eq!(rt; nodes.get(301), Some('b'));
+    Ok(())
+}
+
+#[test]
+fn values_may_be_set_from_the_last_page_to_the_first(rt: HostRuntime) -> Result<(), Fail> {
+    let mut nodes = NodeMap::new(rt.alloc());
+    for id in (0..2_000u32).rev() {
+        nodes.set(id, id % 7).ok().ok_or("a value")?;
+    }
+    for id in 0..2_000 {
+        assert_eq!(rt; nodes.get(id), Some(id % 7), "{id}");
+    }
+    assert_eq!(rt; nodes.get(2_000), None);
+    Ok(())
+}
+
+#[test]
+fn a_set_has_the_nodes_that_were_inserted(rt: HostRuntime) -> Result<(), Fail> {
+    let mut nodes = NodeSet::new(rt.alloc());
+    assert!(rt; !nodes.contains(0), "the empty set");
+    for id in [0, 255, 256, GREATEST, 255] {
+        assert_eq!(rt; nodes.insert(id), Ok(()), "{id}");
+    }
+    for id in [0, 255, 256, GREATEST] {
+        assert!(rt; nodes.contains(id), "{id}");
+    }
+    for id in [1, 254, 257, 511, 512, GREATEST - 1, GREATEST + 1, u32::MAX] {
+        assert!(rt; !nodes.contains(id), "{id} was never inserted");
+    }
+    Ok(())
+}

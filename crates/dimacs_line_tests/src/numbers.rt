@@ -1,0 +1,169 @@
+//! The numbers that fields spell.
+
+use dimacs_lines::NumberFault::{self, BadNumber, NumberRange};
+use dimacs_lines::{WIDE, number, wide};
+use std::test::Fail;
+
+const NO_NUMBERS: [(&str, &str); 14] = [
+    ("nothing", ""),
+    ("a minus alone", "-"),
+    ("a plus alone", "+"),
+    ("two minuses", "--1"),
+    ("two pluses", "++1"),
+    ("a plus and a minus", "+-1"),
+    ("a minus behind", "1-"),
+    ("a fraction", "1.0"),
+    ("an exponent", "1e3"),
+    ("a letter behind many digits", "12345678x"),
+    ("a letter in front", "x1"),
+    ("hexadecimal", "0x10"),
+    ("a separator", "1_000"),
+    ("a digit that is not ASCII", "١"),
+];
+
+#[test]
+fn refuses_what_spells_no_number(rt: HostRuntime) {
+    for (name, text) in NO_NUMBERS {
+        assert_eq!(rt; number(text.as_bytes()), Err(BadNumber), "{name}");
+        assert_eq!(rt; wide(text.as_bytes()), Err(BadNumber), "{name}, wide");
+    }
+}
+
+#[test]
+fn reads_numbers_of_64_bits(rt: HostRuntime) {
+    let cases: [(&str, &str, Result<i64, NumberFault>); 18] = [
+        ("nought", "0", Ok(0)),
+        ("a minus and nought", "-0", Ok(0)),
+        ("a plus and nought", "+0", Ok(0)),
+        ("a digit", "7", Ok(7)),
+        ("a plus", "+5", Ok(5)),
+        ("a minus", "-5", Ok(-5)),
+        ("leading noughts", "007", Ok(7)),
+        ("leading noughts behind a minus", "-007", Ok(-7)),
+        ("eight digits", "12345678", Ok(12_345_678)),
+        ("nine digits", "123456789", Ok(123_456_789)),
+        (
+            "nineteen digits",
+            "1234567890123456789",
+            Ok(1_234_567_890_123_456_789),
+        ),
+        (
+            "the greatest",
+            "9223372036854775807",
+            Ok(9_223_372_036_854_775_807),
+        ),
+        (
+            "one past the greatest",
+            "9223372036854775808",
+            Err(NumberRange),
+        ),
+        (
+            "the least",
+            "-9223372036854775808",
+            Ok(-9_223_372_036_854_775_808),
+        ),
+        (
+            "one past the least",
+            "-9223372036854775809",
+            Err(NumberRange),
+        ),
+        ("2^64", "18446744073709551616", Err(NumberRange)),
+        ("2^64 and 5", "+18446744073709551621", Err(NumberRange)),
+        ("10^30", "1000000000000000000000000000000", Err(NumberRange)),
+    ];
+    for (name, text, wanted) in cases {
+        assert_eq!(rt; number(text.as_bytes()), wanted, "{name}");
+    }
+}
+
+#[test]
+fn reads_wide_numbers(rt: HostRuntime) {
+    assert_eq!(rt; WIDE, 1_000_000_000_000_000_000_000_000_000_000);
+    let cases: [(&str, &str, Result<i128, NumberFault>); 12] = [
+        ("a minus and nought", "-0", Ok(0)),
+        ("a plus", "+5", Ok(5)),
+        ("leading noughts", "007", Ok(7)),
+        (
+            "past 64 bits",
+            "9223372036854775808",
+            Ok(9_223_372_036_854_775_808),
+        ),
+        (
+            "past 64 bits, negative",
+            "-9223372036854775809",
+            Ok(-9_223_372_036_854_775_809),
+        ),
+        (
+            "2^64",
+            "18446744073709551616",
+            Ok(18_446_744_073_709_551_616),
+        ),
+        (
+            "10^30",
+            "1000000000000000000000000000000",
+            Ok(1_000_000_000_000_000_000_000_000_000_000),
+        ),
+        (
+            "10^30 + 1",
+            "1000000000000000000000000000001",
+            Err(NumberRange),
+        ),
+        (
+            "-10^30",
+            "-1000000000000000000000000000000",
+            Ok(-1_000_000_000_000_000_000_000_000_000_000),
+        ),
+        (
+            "-10^30 - 1",
+            "-1000000000000000000000000000001",
+            Err(NumberRange),
+        ),
+        (
+            "2^128",
+            "340282366920938463463374607431768211456",
+            Err(NumberRange),
+        ),
+        (
+            "2^128 + 5",
+            "340282366920938463463374607431768211461",
+            Err(NumberRange),
+        ),
+    ];
+    for (name, text, wanted) in cases {
+        assert_eq!(rt; wide(text.as_bytes()), wanted, "{name}");
+    }
+}
+
+#[test]
+fn reads_any_number_of_digits(rt: HostRuntime) -> Result<(), Fail> {
+    let cases = [
+        ("a digit", "", "5", Ok(5), Ok(5)),
+        ("a digit behind a plus", "+", "5", Ok(5), Ok(5)),
+        ("a digit behind a minus", "-", "5", Ok(-5), Ok(-5)),
+        ("nothing", "", "", Ok(0), Ok(0)),
+        ("a letter", "", "x", Err(BadNumber), Err(BadNumber)),
+        (
+            "one past the greatest of 64 bits",
+            "",
+            "9223372036854775808",
+            Err(NumberRange),
+            Ok(9_223_372_036_854_775_808),
+        ),
+    ];
+    for (name, sign, digits, wanted, wanted_wide) in cases {
+        let mut text = Vec::new(rt.alloc());
+        text.extend_from_slice(sign.as_bytes())?;
+        text.resize(700, b'0')?;
+        text.extend_from_slice(digits.as_bytes())?;
+        assert_eq!(rt; number(&text), wanted, "hundreds of noughts and {name}");
+        assert_eq!(rt;
+            wide(&text),
+            wanted_wide,
+            "hundreds of noughts and {name}, wide"
+        );
+    }
+    let nines = Vec::from_elem(rt.alloc(), b'9', 700)?;
+    assert_eq!(rt; number(&nines), Err(NumberRange), "hundreds of nines");
+    assert_eq!(rt; wide(&nines), Err(NumberRange), "hundreds of nines, wide");
+    Ok(())
+}

@@ -1,0 +1,79 @@
+//! Answers spelled as one text, so that a case stands in one line with what is wanted of it.
+
+use dimacs_lines::{Lines, Source};
+use std::alloc::{AllocError, Global};
+use std::process::Abort;
+use std::test::Fail;
+
+/// The lines that a reader gives, each behind its number, and how the text ends, as in `1:first|2:second|end`.
+///
+/// On the way it tests what holds for every text: the reader holds no more than it may, its line is empty before the
+/// first and behind the last, and the last answer comes again at each later call.
+pub fn spell_lines<S: Source>(
+    rt: &impl Abort,
+    alloc: Global,
+    source: &mut S,
+) -> Result<String, Fail> {
+    let mut spelled = String::new(alloc);
+    let mut lines = Lines::new(alloc)?;
+    assert!(rt; lines.line().is_empty(), "a line before the first");
+    for _ in 0..u64::MAX {
+        let answer = lines.next_line(source);
+        assert!(rt; lines.held() <= 1_114_112, "too much is held");
+        match answer {
+            Ok(Some(number)) => {
+                write!(spelled, "{number}:")?;
+                spell_bytes(&mut spelled, lines.line())?;
+                spelled.push('|')?;
+                continue;
+            }
+            Ok(None) => spelled.push_str("end")?,
+            Err(error) => write!(spelled, "{error:?}")?,
+        }
+        for _ in 0..3 {
+            assert!(rt; lines.line().is_empty(), "a line behind the last");
+            assert_eq!(rt;
+                lines.next_line(source),
+                answer,
+                "another answer behind the last"
+            );
+        }
+        break;
+    }
+    Ok(spelled)
+}
+
+/// The pieces that a source gives where there is room for so many bytes, up to its end: `abc|fault|de|`.
+pub fn spell_pulls<S: Source>(
+    rt: &impl Abort,
+    alloc: Global,
+    source: &mut S,
+    room: usize,
+) -> Result<String, Fail> {
+    let mut spelled = String::new(alloc);
+    let mut into = Vec::from_elem(alloc, b'?', room)?;
+    for _ in 0..u64::MAX {
+        match source.pull(&mut into) {
+            Ok(0) => break,
+            Ok(count) => {
+                assert!(rt; count <= into.len(), "more than there is room for");
+                spell_bytes(&mut spelled, &into[..count])?;
+            }
+            Err(_) => spelled.push_str("fault")?,
+        }
+        spelled.push('|')?;
+    }
+    Ok(spelled)
+}
+
+/// Each byte as the character of its number, and many bytes as their number.
+pub fn spell_bytes(spelled: &mut String, bytes: &[u8]) -> Result<(), AllocError> {
+    let count = bytes.len();
+    if count > 100 {
+        return write!(spelled, "({count} bytes)");
+    }
+    for b in bytes {
+        spelled.push(char::from(*b))?;
+    }
+    Ok(())
+}

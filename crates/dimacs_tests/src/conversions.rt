@@ -1,0 +1,339 @@
+//! Texts that are converted: what is put, and how the run ends.
+
+use dimacs_lines::{CutSource, FlakySink, FlakySource, MemorySink, MemorySource};
+use dimacs_records::TextKind;
+use dimacs_runs::{RunError, Status, run_convert};
+use std::alloc::Global;
+use std::process::Abort;
+use std::test::Fail;
+
+/// Converts a text in one piece, and in pieces of 1, 2 and 7 bytes.
+fn converts(
+    rt: &impl Abort,
+    alloc: Global,
+    kind: TextKind,
+    name: &str,
+    text: &[u8],
+    status: Status,
+    output: &str,
+) -> Result<(), Fail> {
+    let mut sink = MemorySink::new(alloc);
+    let ended = run_convert(alloc, kind, &mut MemorySource::new(text), &mut sink);
+    assert_eq!(rt; ended, Ok(status), "{name}");
+    assert!(rt; sink.bytes() == output.as_bytes(), "{name}");
+    for size in [1, 2, 7] {
+        let sizes = Vec::from_elem(alloc, size, text.len())?;
+        let mut sink = MemorySink::new(alloc);
+        let ended = run_convert(alloc, kind, &mut CutSource::new(text, &sizes), &mut sink);
+        assert_eq!(rt; ended, Ok(status), "{name}, in pieces of {size}");
+        assert!(rt;
+            sink.bytes() == output.as_bytes(),
+            "{name}, in pieces of {size}"
+        );
+    }
+    Ok(())
+}
+
+#[test]
+fn graphs_get_their_canonical_text(rt: HostRuntime) -> Result<(), Fail> {
+    for (name, text, canonical) in [
+        (
+            "CR, comment, empty line, zeros in front, no last line end",
+            "c x\n  p  sp 2 1\r\n\na 1 2 +007",
+            "p sp 2 1\na 1 2 7\n",
+        ),
+        (
+            "the greatest weight",
+            "p sp 2 1\na 1 2 9223372036854775807\n",
+            "p sp 2 1\na 1 2 9223372036854775807\n",
+        ),
+        ("no node", "p sp 0 0\n", "p sp 0 0\n"),
+        (
+            "loops, parallel arcs and a negative weight",
+            "p sp 2 3\na 1 1 0\na 2 1 -5\na 2 1 -5\n",
+            "p sp 2 3\na 1 1 0\na 2 1 -5\na 2 1 -5\n",
+        ),
+    ] {
+        converts(
+            &rt,
+            rt.alloc(),
+            TextKind::Graph,
+            name,
+            text.as_bytes(),
+            Status::Done,
+            canonical,
+        )?;
+    }
+    Ok(())
+}
+
+#[test]
+fn faulty_graphs_get_one_line(rt: HostRuntime) -> Result<(), Fail> {
+    for (name, text, line) in [
+        ("the empty text", "", "x instance 1 0 ProblemMissing\n"),
+        (
+            "a weight one past the greatest",
+            "p sp 2 1\na 1 2 9223372036854775808\n",
+            "x instance 2 4 NumberRange\n",
+        ),
+        (
+            "an arc too few",
+            "p sp 3 2\na 1 2 5\n",
+            "x instance 3 0 TooFew\n",
+        ),
+        (
+            "an arc too many",
+            "p sp 3 0\na 1 2 5\n",
+            "x instance 2 0 TooMany\n",
+        ),
+        (
+            "a letter of no graph",
+            "p sp 1 1\ne 1 1 0\n",
+            "x instance 2 1 UnknownLine\n",
+        ),
+        (
+            "a field too few",
+            "p sp 1 1\na 1 1\n",
+            "x instance 2 0 FieldCount\n",
+        ),
+        (
+            "a head above NODES",
+            "p sp 1 1\na 1 2 0\n",
+            "x instance 2 3 NodeRange\n",
+        ),
+        (
+            "a tail of 0",
+            "p sp 1 1\na 0 1 0\n",
+            "x instance 2 2 NumberRange\n",
+        ),
+        (
+            "a weight that isn't whole",
+            "p sp 1 1\na 1 1 1.0\n",
+            "x instance 2 4 BadNumber\n",
+        ),
+    ] {
+        converts(
+            &rt,
+            rt.alloc(),
+            TextKind::Graph,
+            name,
+            text.as_bytes(),
+            Status::Refused,
+            line,
+        )?;
+    }
+    Ok(())
+}
+
+#[test]
+fn flow_instances_get_their_canonical_text(rt: HostRuntime) -> Result<(), Fail> {
+    for (name, kind, text, canonical) in [
+        (
+            "the node lines by ID",
+            TextKind::Max,
+            "p max 3 2\nn 3 s\nn 1 t\na 3 2 5\na 2 1 +05\n",
+            "p max 3 2\nn 1 t\nn 3 s\na 3 2 5\na 2 1 5\n",
+        ),
+        (
+            "no arc",
+            TextKind::Max,
+            "p max 2 0\nn 1 s\nn 2 t",
+            "p max 2 0\nn 1 s\nn 2 t\n",
+        ),
+        (
+            "a supply of 0 left out",
+            TextKind::Min,
+            "p min 2 1\nn 2 -5\nn 1 0\na 1 2 0 2 -7\n",
+            "p min 2 1\nn 2 -5\na 1 2 0 2 -7\n",
+        ),
+        (
+            "the supplies by ID, the arcs in their order",
+            TextKind::Min,
+            "p min 4 2\nn 4 -3\nn 1 3\na 3 4 0 1 1\na 1 3 1 1 -1\n",
+            "p min 4 2\nn 1 3\nn 4 -3\na 3 4 0 1 1\na 1 3 1 1 -1\n",
+        ),
+    ] {
+        converts(
+            &rt,
+            rt.alloc(),
+            kind,
+            name,
+            text.as_bytes(),
+            Status::Done,
+            canonical,
+        )?;
+    }
+    Ok(())
+}
+
+#[test]
+fn queries_get_their_canonical_text(rt: HostRuntime) -> Result<(), Fail> {
+    for (name, text, canonical) in [
+        (
+            "sources, one of them twice",
+            "p aux sp ss 2\ns 1\n s  1\n",
+            "p aux sp ss 2\ns 1\ns 1\n",
+        ),
+        (
+            "pairs",
+            "c\np aux sp p2p 2\nq 1 02\nq 2 1",
+            "p aux sp p2p 2\nq 1 2\nq 2 1\n",
+        ),
+        ("no query", "p aux sp p2p 0\n", "p aux sp p2p 0\n"),
+    ] {
+        converts(
+            &rt,
+            rt.alloc(),
+            TextKind::Queries,
+            name,
+            text.as_bytes(),
+            Status::Done,
+            canonical,
+        )?;
+    }
+    Ok(())
+}
+
+#[test]
+fn faulty_instances_and_queries_get_one_line(rt: HostRuntime) -> Result<(), Fail> {
+    for (name, kind, text, line) in [
+        (
+            "parallel arcs",
+            TextKind::Max,
+            "p max 2 2\nn 1 s\nn 2 t\na 1 2 1\na 1 2 1\n",
+            "x instance 5 0 ParallelArc\n",
+        ),
+        (
+            "a node named twice",
+            TextKind::Max,
+            "p max 2 1\nn 1 s\nn 1 t\n",
+            "x instance 3 2 NodeTwice\n",
+        ),
+        (
+            "two sources",
+            TextKind::Max,
+            "p max 2 1\nn 1 s\nn 2 s\n",
+            "x instance 3 3 EndTwice\n",
+        ),
+        (
+            "an arc before the sink",
+            TextKind::Max,
+            "p max 2 1\nn 1 s\na 1 2 1\n",
+            "x instance 3 0 EndMissing\n",
+        ),
+        (
+            "a capacity below the lower bound",
+            TextKind::Min,
+            "p min 2 1\nn 1 0\na 1 2 3 2 0\n",
+            "x instance 3 5 BoundOrder\n",
+        ),
+        (
+            "a negative lower bound",
+            TextKind::Min,
+            "p min 2 1\nn 1 0\na 1 2 -3 2 0\n",
+            "x instance 3 4 BoundOrder\n",
+        ),
+        (
+            "a node line behind an arc",
+            TextKind::Min,
+            "p min 2 1\na 1 2 0 1 0\nn 1 1\n",
+            "x instance 3 0 RecordOrder\n",
+        ),
+        (
+            "a source in a point-to-point text",
+            TextKind::Queries,
+            "p aux sp p2p 1\ns 1\n",
+            "x query 2 0 RecordOrder\n",
+        ),
+        (
+            "neither ss nor p2p",
+            TextKind::Queries,
+            "p aux sp foo 1\n",
+            "x query 1 4 BadWord\n",
+        ),
+        (
+            "no count",
+            TextKind::Queries,
+            "p aux sp ss\n",
+            "x query 1 0 FieldCount\n",
+        ),
+    ] {
+        converts(
+            &rt,
+            rt.alloc(),
+            kind,
+            name,
+            text.as_bytes(),
+            Status::Refused,
+            line,
+        )?;
+    }
+    Ok(())
+}
+
+#[test]
+fn a_long_line_is_refused_whatever_stands_in_it(rt: HostRuntime) -> Result<(), Fail> {
+    for (length, line) in [
+        (1_048_576, "x instance 2 0 ProblemMissing\n"),
+        (1_048_577, "x instance 1 0 LineTooLong\n"),
+    ] {
+        let blanks = Vec::from_elem(rt.alloc(), b' ', length)?;
+        let mut sink = MemorySink::new(rt.alloc());
+        let mut text = MemorySource::new(&blanks);
+        let ended = run_convert(rt.alloc(), TextKind::Graph, &mut text, &mut sink);
+        assert_eq!(rt; ended, Ok(Status::Refused), "{length} blanks");
+        assert!(rt; sink.bytes() == line.as_bytes(), "{length} blanks");
+    }
+    Ok(())
+}
+
+#[test]
+fn a_pull_that_fails_puts_nothing(rt: HostRuntime) -> Result<(), Fail> {
+    let text = b"p sp 2 1\na 1 2 7\n";
+    let sizes = [1; 17];
+    for pull in 1..=18 {
+        let fails = [pull];
+        let mut sink = MemorySink::new(rt.alloc());
+        let mut source = FlakySource::new(text, &sizes, &fails);
+        let ended = run_convert(rt.alloc(), TextKind::Graph, &mut source, &mut sink);
+        assert_eq!(rt; ended, Err(RunError::Device), "at pull {pull}");
+        assert!(rt; sink.bytes().is_empty(), "at pull {pull}");
+    }
+    Ok(())
+}
+
+#[test]
+fn a_slow_sink_gets_the_same_bytes(rt: HostRuntime) -> Result<(), Fail> {
+    let text = b"p sp 2 1\na 1 2 7\n";
+    let sizes = [1; 17];
+    let mut sink = FlakySink::new(rt.alloc(), &sizes, &[]);
+    let ended = run_convert(
+        rt.alloc(),
+        TextKind::Graph,
+        &mut MemorySource::new(text),
+        &mut sink,
+    );
+    assert_eq!(rt; ended, Ok(Status::Done));
+    assert!(rt; sink.bytes() == text.as_slice());
+    Ok(())
+}
+
+#[test]
+fn a_put_that_fails_leaves_a_beginning(rt: HostRuntime) -> Result<(), Fail> {
+    let text = b"p sp 2 1\na 1 2 7\n";
+    let sizes = [1; 17];
+    for put in 1..=17 {
+        let fails = [put];
+        let mut sink = FlakySink::new(rt.alloc(), &sizes, &fails);
+        let ended = run_convert(
+            rt.alloc(),
+            TextKind::Graph,
+            &mut MemorySource::new(text),
+            &mut sink,
+        );
+        assert_eq!(rt; ended, Err(RunError::Device), "at put {put}");
+        assert!(rt; text.starts_with(sink.bytes()), "at put {put}");
+        assert!(rt; sink.bytes().len() as u64 == put - 1, "at put {put}");
+    }
+    Ok(())
+}
