@@ -3,9 +3,14 @@
 
 mod usage;
 
-use dimacs_lines::{FileSource, StdoutSink};
+ghost use Rattle.std.specs.Prelude.{◌≡◌, length};
+ghost use Rattle.dimacs_runs.specs.Jobs.{file_count};
+
+use dimacs_lines::{FileSource, MemorySource, StdoutSink};
 use dimacs_records::TextKind;
-use dimacs_runs::{Job, RunError, Status, exit_status, job, run_convert, run_show};
+use dimacs_runs::{
+    Job, JudgeKind, RunError, Status, exit_status, job, run_convert, run_judge, run_show,
+};
 use std::fs::File;
 use std::io::ErrorKind;
 use std::process::ExitCode;
@@ -41,6 +46,8 @@ fn outcome(rt: &HostRuntime) -> Option<Result<Status, RunError>> {
     match job(words.get(1..).unwrap_or_default())? {
         Job::Convert(kind, file) => Some(convert(rt, kind, file)),
         Job::Show(kind, file) => Some(show(rt, kind, file)),
+        Job::Judge(JudgeKind::Infeasible, files) => Some(judge_set(rt, files)),
+        Job::Judge(kind, files) => Some(judge(rt, kind, files)),
     }
 }
 
@@ -56,6 +63,39 @@ fn convert(rt: &HostRuntime, kind: TextKind, file: &str) -> Result<Status, RunEr
 fn show(rt: &HostRuntime, kind: TextKind, file: &str) -> Result<Status, RunError> {
     let mut text = open(rt, file)?;
     run_show(rt.alloc(), kind, &mut text, &mut StdoutSink::new(rt))
+}
+
+/// Judges a claim, by the files of the instance, the claim and its certificate.
+fn judge(rt: &HostRuntime, kind: JudgeKind, files: &[String]) -> Result<Status, RunError>
+    requires { length files.now ≡ 3 }
+{
+    let mut instance = open(rt, files[0].as_str())?;
+    let mut claim = open(rt, files[1].as_str())?;
+    let mut certificate = open(rt, files[2].as_str())?;
+    run_judge(
+        rt.alloc(),
+        kind,
+        &mut instance,
+        &mut claim,
+        &mut certificate,
+        &mut StdoutSink::new(rt),
+    )
+}
+
+/// Judges a set of nodes by the files of the instance and the set; nothing is claimed.
+fn judge_set(rt: &HostRuntime, files: &[String]) -> Result<Status, RunError>
+    requires { length files.now ≡ 2 }
+{
+    let mut instance = open(rt, files[0].as_str())?;
+    let mut set = open(rt, files[1].as_str())?;
+    run_judge(
+        rt.alloc(),
+        JudgeKind::Infeasible,
+        &mut instance,
+        &mut MemorySource::new(&[]),
+        &mut set,
+        &mut StdoutSink::new(rt),
+    )
 }
 
 /// Opens a file to be read.

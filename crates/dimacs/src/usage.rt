@@ -24,6 +24,30 @@ fn usage_text(alloc: Global) -> Result<String, AllocError> {
             "show",
             "Prints a line about a text of kind max, min, gr or query",
         )?)?
+        .subcommand(about_claim(
+            alloc,
+            "judge-max",
+            "Says whether a flow is maximum, by a cut",
+            &["INSTANCE", "SOLUTION", "CUT"],
+        )?)?
+        .subcommand(about_claim(
+            alloc,
+            "judge-min",
+            "Says whether a flow costs least, by potentials",
+            &["INSTANCE", "SOLUTION", "POTENTIALS"],
+        )?)?
+        .subcommand(about_claim(
+            alloc,
+            "judge-infeasible",
+            "Says whether no flow is feasible, by a set of nodes",
+            &["INSTANCE", "CUT"],
+        )?)?
+        .subcommand(about_claim(
+            alloc,
+            "judge-paths",
+            "Answers queries by labels, if these are distances",
+            &["GRAPH", "QUERY", "LABELS"],
+        )?)?
         .disable_help_subcommand(true)
         .disable_help_flag(true)
         .render_help()
@@ -35,4 +59,18 @@ fn about_text<'a>(alloc: Global, verb: &'a str, about: &'a str) -> Result<Comman
         .about(about)
         .arg(Arg::new(alloc, "KIND").required(true))?
         .arg(Arg::new(alloc, "FILE").required(true))
+}
+
+/// A subcommand for an instance and what is claimed about it.
+fn about_claim<'a>(
+    alloc: Global,
+    verb: &'a str,
+    about: &'a str,
+    files: &'a [&'a str],
+) -> Result<Command<'a>, AllocError> {
+    let mut command = Command::new(alloc, verb).about(about);
+    for file in files {
+        command = command.arg(Arg::new(alloc, file).required(true))?;
+    }
+    Ok(command)
 }

@@ -1,5 +1,5 @@
 -- Rows of tests, in order, and the first test that fails.
-use Rattle.std.specs.Prelude.{ℕ, ◌<◌, ◌⊎◌, List, [], ◌∷◌, Option, None, Some, Result, Ok, Err}
+use Rattle.std.specs.Prelude.{ℕ, ◌≡◌, ◌<◌, ◌⊎◌, List, [], ◌∷◌, Option, None, Some, Result, Ok, Err}
 use Rattle.dimacs_records.specs.declared.reasons.Reason.{Reason}
 use Rattle.dimacs_judge.specs.declared.verdict.Where.{Where}
 use Rattle.dimacs_judge.specs.declared.verdict.JudgeError.{JudgeError}
@@ -47,6 +47,10 @@ Tells rows (Err refusal) = First rows refusal.0 refusal.1
 abbrev pub TellsReason : (Reason → Type 0) → Option Reason → Type 0
 TellsReason fails None = (reason : Reason) → ¬ fails reason
 TellsReason fails (Some reason) = fails reason
+
+-- this test is the first that fails, and no other is
+abbrev pub FirstAlone : List Row → Where → Reason → Type 0
+FirstAlone rows place reason = First rows place reason × ((other : Where) (why : Reason) → First rows other why → (other ≡ place) × (why ≡ reason))
 
 -- what a judge's refusal names; want of memory says nothing of the tests
 abbrev pub Refuses : (Where → Reason → Type 0) → JudgeError → Type 0

@@ -1,2 +1,3 @@
+pub mod JudgingLemmas
 mod WordLemmas
 pub mod ReportLemmas

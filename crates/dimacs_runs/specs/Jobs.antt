@@ -1,9 +1,12 @@
 -- What the words behind the program's name ask for.
-use Rattle.std.specs.Prelude.{ℕ, ◌≡◌, List, [], ◌∷◌, codes}
+use Rattle.std.specs.Prelude.{ℕ, ◌≡◌, List, [], ◌∷◌, codes, map, length}
+use Rattle.std.specs.String.{string_bytes}
 use Rattle.dimacs_records.specs.declared.kinds.TextKind.{TextKind}
 use Rattle.dimacs_records.specs.declared.kinds.TextKind.TheVariants.{Max, Min, Graph, Queries, Solution, Cut, Potentials, Labels}
 use Rattle.dimacs_runs.specs.declared.jobs.Job.{Job}
-use Rattle.dimacs_runs.specs.declared.jobs.Job.TheVariants.{Convert, Show}
+use Rattle.dimacs_runs.specs.declared.jobs.Job.TheVariants.{Convert, Show, Judge}
+use Rattle.dimacs_runs.specs.declared.jobs.JudgeKind.{JudgeKind}
+use Rattle.dimacs_runs.specs.declared.jobs.JudgeKind.TheVariants as judges
 
 abbrev pub kind_word : TextKind → List ℕ
 kind_word Max = codes "max"
@@ -15,6 +18,20 @@ kind_word Cut = codes "cut"
 kind_word Potentials = codes "pot"
 kind_word Labels = codes "dist"
 
+abbrev pub judge_word : JudgeKind → List ℕ
+judge_word judges.Max = codes "judge-max"
+judge_word judges.Min = codes "judge-min"
+judge_word judges.Infeasible = codes "judge-infeasible"
+judge_word judges.Paths = codes "judge-paths"
+
+-- an instance, a claim and a certificate; nothing is claimed where no flow is feasible
+abbrev pub file_count : JudgeKind → ℕ
+file_count judges.Max = 3
+file_count judges.Min = 3
+file_count judges.Infeasible = 2
+file_count judges.Paths = 3
+
 abbrev pub Asks : List (List ℕ) → Job → Type 0
 Asks words (Convert kind file) = words ≡ codes "convert" ∷ kind_word kind ∷ file.now ∷ []
 Asks words (Show kind file) = words ≡ codes "show" ∷ kind_word kind ∷ file.now ∷ []
+Asks words (Judge kind files) = (words ≡ judge_word kind ∷ map string_bytes files.now) × (length files.now ≡ file_count kind)

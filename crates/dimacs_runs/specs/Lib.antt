@@ -1,5 +1,9 @@
 pub mod Jobs
+pub mod Judged
+pub mod Judgings
 pub mod Outcomes
 pub mod Refusals
 pub mod Runs
 pub mod Shown
+pub mod Told
+pub mod Verdicts

@@ -1,0 +1,86 @@
+-- What is told of the bytes of an instance, a claim and a certificate.
+use Rattle.std.specs.Prelude.{ℕ, ◌≡◌, List, Option, None, Some, length, map}
+use Rattle.std.specs.List.{flat_map}
+use Rattle.dimacs_records.specs.declared.kinds.TextKind.{TextKind}
+use Rattle.dimacs_records.specs.declared.kinds.TextKind.TheVariants as kinds
+use Rattle.dimacs_claims.specs.Cuts.{SpellsCut}
+use Rattle.dimacs_claims.specs.LabelTexts.{SpellsLabels}
+use Rattle.dimacs_claims.specs.Labels.{BlockValue}
+use Rattle.dimacs_claims.specs.Potentials.{SpellsPotentials}
+use Rattle.dimacs_claims.specs.SolutionTexts.{SpellsSolution}
+use Rattle.dimacs_instance.specs.Graph.{SpellsGraph}
+use Rattle.dimacs_instance.specs.MaxTexts.{SpellsMax}
+use Rattle.dimacs_instance.specs.MinTexts.{SpellsMin}
+use Rattle.dimacs_instance.specs.QueryTexts.{QueriesValue, SpellsQueries, Sources, Pairs}
+use Rattle.dimacs_judge.specs.Answers.{answer_to}
+use Rattle.dimacs_judge.specs.InfeasibleJudge.{ShowsNoFlow, infeasible_rows}
+use Rattle.dimacs_judge.specs.MaxJudge.{ShowsMaximum, max_rows}
+use Rattle.dimacs_judge.specs.MinJudge.{ShowsLeast, min_rows}
+use Rattle.dimacs_judge.specs.PathsJudge.{ShowsDistances, paths_rows}
+use Rattle.dimacs_runs.specs.declared.jobs.JudgeKind.{JudgeKind}
+use Rattle.dimacs_runs.specs.declared.jobs.JudgeKind.TheVariants.{Max, Min, Infeasible, Paths}
+use Rattle.dimacs_runs.specs.declared.outcome.Status.{Status}
+use Rattle.dimacs_runs.specs.Judgings.{FaultOr, VerdictOr, says}
+use Rattle.dimacs_runs.specs.Verdicts.{max_line, min_line, infeasible_line, sources_line, answer_line}
+
+-- a maximum flow and its cut
+abbrev pub JudgedMax : List ℕ → List ℕ → List ℕ → Status → List ℕ → Type 0
+JudgedMax instance solution cut =
+    FaultOr (says kinds.Max SpellsMax instance) (λ i.
+    FaultOr (says kinds.Solution SpellsSolution solution) (λ s.
+    FaultOr (says kinds.Cut SpellsCut cut) (λ c.
+    VerdictOr (ShowsMaximum i s c) (max_rows i s c) (max_line s.value))))
+
+-- a flow of least cost and its potentials
+abbrev pub JudgedMin : List ℕ → List ℕ → List ℕ → Status → List ℕ → Type 0
+JudgedMin instance solution potentials =
+    FaultOr (says kinds.Min SpellsMin instance) (λ i.
+    FaultOr (says kinds.Solution SpellsSolution solution) (λ s.
+    FaultOr (says kinds.Potentials SpellsPotentials potentials) (λ p.
+    VerdictOr (ShowsLeast i s p) (min_rows i s p) (min_line s.value))))
+
+-- a set of nodes whose supply can't be met
+abbrev pub JudgedInfeasible : List ℕ → List ℕ → Status → List ℕ → Type 0
+JudgedInfeasible instance set =
+    FaultOr (says kinds.Min SpellsMin instance) (λ i.
+    FaultOr (says kinds.Cut SpellsCut set) (λ c.
+    VerdictOr (ShowsNoFlow i c) (infeasible_rows i c) infeasible_line))
+
+-- the number of sources, or the line of each pair
+abbrev pub paths_lines : List BlockValue → QueriesValue → List ℕ
+paths_lines blocks (Sources ids) = sources_line (length ids)
+paths_lines blocks (Pairs pairs) = flat_map answer_line (map (answer_to blocks) pairs)
+
+-- queries, and labels that answer them
+abbrev pub JudgedPaths : List ℕ → List ℕ → List ℕ → Status → List ℕ → Type 0
+JudgedPaths graph queries labels =
+    FaultOr (says kinds.Graph SpellsGraph graph) (λ g.
+    FaultOr (says kinds.Queries SpellsQueries queries) (λ q.
+    FaultOr (says kinds.Labels SpellsLabels labels) (λ l.
+    VerdictOr (ShowsDistances g q l) (paths_rows g q l) (paths_lines l.blocks q))))
+
+-- the report on three texts; nothing is claimed of an instance without a feasible flow
+abbrev pub Judged : JudgeKind → List ℕ → List ℕ → List ℕ → Status → List ℕ → Type 0
+Judged Max instance claim certificate = JudgedMax instance claim certificate
+Judged Min instance claim certificate = JudgedMin instance claim certificate
+Judged Infeasible instance claim certificate = JudgedInfeasible instance certificate
+Judged Paths instance claim certificate = JudgedPaths instance claim certificate
+
+-- the bytes of the claim, where there is one
+abbrev pub IsClaim : JudgeKind → Option (List ℕ) → List ℕ → Type 0
+IsClaim Max coming bytes = coming ≡ Some bytes
+IsClaim Min coming bytes = coming ≡ Some bytes
+IsClaim Infeasible coming bytes = Unit {0}
+IsClaim Paths coming bytes = coming ≡ Some bytes
+
+abbrev pub instance_kind : JudgeKind → TextKind
+instance_kind Max = kinds.Max
+instance_kind Min = kinds.Min
+instance_kind Infeasible = kinds.Min
+instance_kind Paths = kinds.Graph
+
+abbrev pub claim_kind : JudgeKind → Option TextKind
+claim_kind Max = Some kinds.Solution
+claim_kind Min = Some kinds.Solution
+claim_kind Infeasible = None
+claim_kind Paths = Some kinds.Queries

@@ -1,0 +1,104 @@
+-- What is told of an instance, a claim and a certificate.
+use Rattle.std.specs.Prelude.{ℕ, ◌≡◌, ◌⊎◌, List, [], ◌∷◌, Result, Ok, Err}
+use Rattle.dimacs_lines.specs.Devices.{one_more}
+use Rattle.dimacs_lines.specs.Lines.{lines}
+use Rattle.dimacs_records.specs.declared.faults.ReadError.{ReadError}
+use Rattle.dimacs_records.specs.declared.faults.ReadError.TheVariants as read_errors
+use Rattle.dimacs_records.specs.declared.kinds.TextKind.{TextKind}
+use Rattle.dimacs_records.specs.declared.reasons.Reason.{Reason}
+use Rattle.dimacs_records.specs.Faults.{Fault}
+use Rattle.dimacs_records.specs.Texts.{Reads}
+use Rattle.dimacs_judge.specs.declared.verdict.JudgeError.{JudgeError}
+use Rattle.dimacs_judge.specs.declared.verdict.JudgeError.TheVariants as judge_errors
+use Rattle.dimacs_judge.specs.declared.verdict.Verdict.{Verdict}
+use Rattle.dimacs_judge.specs.declared.verdict.Where.{Where}
+use Rattle.dimacs_judge.specs.Tests.{Row, First, FirstAlone, AllClear}
+use Rattle.dimacs_runs.specs.declared.outcome.Status.{Status}
+use Rattle.dimacs_runs.specs.declared.outcome.Status.TheVariants.{Done, Refused}
+use Rattle.dimacs_runs.specs.declared.outcome.RunError.{RunError}
+use Rattle.dimacs_runs.specs.declared.outcome.RunError.TheVariants.{Device, Memory}
+use Rattle.dimacs_runs.specs.declared.told.Told.{Told}
+use Rattle.dimacs_runs.specs.declared.told.Told.TheVariants as told
+use Rattle.dimacs_runs.specs.declared.unread.Unread.{Unread}
+use Rattle.dimacs_runs.specs.Refusals.{refusal_line}
+use Rattle.dimacs_runs.specs.Runs.{text_word}
+use Rattle.dimacs_runs.specs.Verdicts.{verdict_lines, failure_line}
+
+-- a text: its name in refusals, which value it spells, and its fault
+pub record TextSays (V : Type 0) : Type 1 where
+  pub name : List ℕ
+  pub spells : V → Type 0
+  pub fault : ℕ → ℕ → Reason → Type 0
+
+-- what the bytes of a text of this kind say
+abbrev pub says : {V : Type 0} → TextKind → (List ℕ → V → Type 0) → List ℕ → TextSays V
+says kind spells bytes = record { name = text_word kind; spells = spells bytes; fault = Fault kind (lines bytes) }
+
+-- the line of the text's fault is told; or the text spells a value, and what follows from it is told
+abbrev pub FaultOr : {V : Type 0} → TextSays V → (V → Status → List ℕ → Type 0) → Status → List ℕ → Type 0
+FaultOr text next status out =
+    ((l : ℕ) × (f : ℕ) × (r : Reason) × text.fault l f r × (status ≡ Refused) × (out ≡ refusal_line text.name l f r)) ⊎ ((v : _) × text.spells v × next v status out)
+
+-- this holds, and the verdict is told; or the line of the first test that fails
+abbrev pub VerdictOr : Type 0 → List Row → List ℕ → Status → List ℕ → Type 0
+VerdictOr holds rows verdict Done out = holds × (out ≡ verdict)
+VerdictOr holds rows verdict Refused out = (place : Where) × (reason : Reason) × First rows place reason × (out ≡ failure_line place reason)
+
+-- what a judge answers: that all tests pass, then this holds, and its verdict has these lines; else the first test that fails
+abbrev pub AnswersAs : Type 0 → List Row → List ℕ → Result Verdict JudgeError → Type 0
+AnswersAs holds rows lines (Ok verdict) = AllClear rows × holds × (verdict_lines verdict ≡ lines)
+AnswersAs holds rows lines (Err (judge_errors.Refused place reason)) = FirstAlone rows place reason × ¬ holds
+AnswersAs holds rows lines (Err judge_errors.Memory) = Unit {0}
+
+-- what is told of a judge's answer
+abbrev pub answer_told : Result Verdict JudgeError → Result Told RunError
+answer_told (Ok verdict) = Ok (told.Yes verdict)
+answer_told (Err (judge_errors.Refused place reason)) = Ok (told.No place reason)
+answer_told (Err judge_errors.Memory) = Err Memory
+
+-- what is told of a text that could not be read
+abbrev pub error_told : Unread → ReadError → Result Told RunError
+error_told unread (read_errors.Refused place reason) = Ok (told.Fault unread.text place reason)
+error_told unread read_errors.Device = Err Device
+error_told unread read_errors.Memory = Err Memory
+
+abbrev pub ReadsIn : {V : Type 0} → TextSays V → Result V ReadError → Type 0
+ReadsIn text answer = Reads text.spells text.fault answer
+
+-- this text is the one that could not be read
+abbrev pub StopsAt : {V : Type 0} → TextSays V → Unread → Type 0
+StopsAt text unread = (unread.text.now ≡ text.name) × ReadsIn text (Err unread.error)
+
+abbrev pub ReadsOne : {T V : Type 0} → (T → V) → TextSays V → Result T Unread → Type 0
+ReadsOne said text (Ok value) = ReadsIn text (Ok (said value))
+ReadsOne said text (Err unread) = StopsAt text unread
+
+-- the texts are read one after another, up to the first that can't be
+abbrev pub ReadsTwo : {T U V W : Type 0} → (T → V) → (U → W) → TextSays V → TextSays W → Result (T × U) Unread → Type 0
+ReadsTwo f g x y (Ok values) = ReadsIn x (Ok (f values.0)) × ReadsIn y (Ok (g values.1))
+ReadsTwo f g x y (Err unread) = StopsAt x unread ⊎ ((v : _) × ReadsIn x (Ok v) × StopsAt y unread)
+
+abbrev pub ReadsThree : {T U S V W X : Type 0} → (T → V) → (U → W) → (S → X) → TextSays V → TextSays W → TextSays X → Result (T × U × S) Unread → Type 0
+ReadsThree f g h x y z (Ok values) = ReadsIn x (Ok (f values.0)) × ReadsIn y (Ok (g values.1)) × ReadsIn z (Ok (h values.2))
+ReadsThree f g h x y z (Err unread) = StopsAt x unread ⊎ ((v : _) × ReadsIn x (Ok v) × (StopsAt y unread ⊎ ((w : _) × ReadsIn y (Ok w) × StopsAt z unread)))
+
+-- one count of faults is one more, and the others are as before
+abbrev pub OneMore : List ℕ → List ℕ → Type 0
+OneMore [] new = ⊥
+OneMore (faults ∷ old) [] = ⊥
+OneMore (faults ∷ old) (counted ∷ new) = ((counted ≡ one_more faults) × (new ≡ old)) ⊎ ((counted ≡ faults) × OneMore old new)
+
+-- one device has one more fault where a device is told of, and none has otherwise
+abbrev pub CountsDevices : {X : Type 0} → Result X RunError → List ℕ → List ℕ → Type 0
+CountsDevices (Ok x) old new = new ≡ old
+CountsDevices (Err Memory) old new = new ≡ old
+CountsDevices (Err Device) old new = OneMore old new
+
+abbrev pub CountsError : ReadError → List ℕ → List ℕ → Type 0
+CountsError (read_errors.Refused place reason) old new = new ≡ old
+CountsError read_errors.Device old new = OneMore old new
+CountsError read_errors.Memory old new = new ≡ old
+
+abbrev pub CountsUnread : {X : Type 0} → Result X Unread → List ℕ → List ℕ → Type 0
+CountsUnread (Ok x) old new = new ≡ old
+CountsUnread (Err unread) old new = CountsError unread.error old new

@@ -1,0 +1,54 @@
+-- The lines of verdicts, and of a judge's refusals.
+use Rattle.std.specs.Prelude.{ℕ, List, [], ◌∷◌, codes, Option, None, Some, ℤ}
+use Rattle.std.specs.List.{flat_map}
+use Rattle.std.specs.Fmt.{decimal, signed_decimal}
+use Rattle.dimacs_records.specs.declared.reasons.Reason.{Reason}
+use Rattle.dimacs_records.specs.Names.{name_of}
+use Rattle.dimacs_records.specs.Printed.{spaced_line}
+use Rattle.dimacs_judge.specs.declared.verdict.Answer.{Answer}
+use Rattle.dimacs_judge.specs.declared.verdict.Verdict.{Verdict}
+use Rattle.dimacs_judge.specs.declared.verdict.Verdict.TheVariants as verdicts
+use Rattle.dimacs_judge.specs.declared.verdict.Where.{Where}
+use Rattle.dimacs_judge.specs.declared.verdict.Where.TheVariants as places
+use Rattle.dimacs_runs.specs.Refusals.{refusal_line}
+
+abbrev pub yes_line : List (List ℕ) → List ℕ
+yes_line words = spaced_line (codes "v") words
+
+abbrev pub max_line : ℤ → List ℕ
+max_line value = yes_line (codes "max" ∷ signed_decimal value ∷ [])
+
+abbrev pub min_line : ℤ → List ℕ
+min_line cost = yes_line (codes "min" ∷ signed_decimal cost ∷ [])
+
+abbrev pub infeasible_line : List ℕ
+infeasible_line = yes_line (codes "infeasible" ∷ [])
+
+-- so many sources were asked about
+abbrev pub sources_line : ℕ → List ℕ
+sources_line count = yes_line (codes "sp" ∷ codes "ss" ∷ decimal count ∷ [])
+
+abbrev pub distance_word : Option ℤ → List ℕ
+distance_word None = codes "unreachable"
+distance_word (Some distance) = signed_decimal distance
+
+abbrev pub answer_line : Answer → List ℕ
+answer_line a = yes_line (decimal a.from ∷ decimal a.to ∷ distance_word a.distance ∷ [])
+
+abbrev pub verdict_lines : Verdict → List ℕ
+verdict_lines (verdicts.Max value) = max_line value
+verdict_lines (verdicts.Min cost) = min_line cost
+verdict_lines verdicts.Infeasible = infeasible_line
+verdict_lines (verdicts.Sources count) = sources_line count
+verdict_lines (verdicts.Pairs answers) = flat_map answer_line answers.items
+
+-- what fails, its number and the reason
+abbrev pub numbered_line : List ℕ → ℕ → Reason → List ℕ
+numbered_line what number reason = spaced_line (codes "x") (what ∷ decimal number ∷ name_of reason ∷ [])
+
+-- the line of a test that fails at this place
+abbrev pub failure_line : Where → Reason → List ℕ
+failure_line (places.Solution line field) reason = refusal_line (codes "solution") line field reason
+failure_line places.Certificate reason = refusal_line (codes "certificate") 0 0 reason
+failure_line (places.Arc number) reason = numbered_line (codes "arc") number reason
+failure_line (places.Node id) reason = numbered_line (codes "node") id reason

@@ -1,0 +1,142 @@
+//! Judging a claim about an instance.
+
+ghost use Rattle.std.specs.Prelude.{◌≡◌, ◌≢◌, ◌⊎◌, ℕ, List, [], ◌∷◌, Some, Err, IfOk};
+ghost use Rattle.dimacs_lines.specs.Lines.{lines};
+ghost use Rattle.dimacs_records.specs.declared.kinds.TextKind.{TextKind};
+ghost use Rattle.dimacs_records.specs.declared.kinds.TextKind.TheVariants as kinds;
+ghost use Rattle.dimacs_records.specs.declared.reasons.Reason.{Reason};
+ghost use Rattle.dimacs_records.specs.Faults.{Fault};
+ghost use Rattle.dimacs_runs.specs.declared.jobs.JudgeKind.TheVariants as judges;
+ghost use Rattle.dimacs_runs.specs.declared.outcome.RunError.TheVariants.{Memory};
+ghost use Rattle.dimacs_runs.specs.Judged.{IsClaim, Judged, JudgedInfeasible, JudgedMax, JudgedMin, JudgedPaths, claim_kind, instance_kind};
+ghost use Rattle.dimacs_runs.specs.Judgings.{CountsDevices};
+ghost use Rattle.dimacs_runs.specs.Runs.{Reports};
+ghost use Rattle.dimacs_runs.specs.Told.{ToldAlone};
+
+use crate::jobs::JudgeKind;
+use crate::outcome::{RunError, Status};
+use crate::told::{Told, answer_told, put_told};
+use crate::unread::{read_three, read_two};
+use dimacs_claims::{Cut, Labels, Potentials, Solution};
+use dimacs_instance::{
+    ArcView, CapacityArc, Graph, MaxInstance, MinInstance, PlainArcs, Queries, WeightArc,
+};
+use dimacs_judge::{judge_infeasible, judge_max, judge_min, judge_paths};
+use dimacs_lines::{Sink, Source};
+use std::alloc::Global;
+
+/// Reads an instance, a claim about it and a certificate, in this order, and puts the verdict of the judge, the line of
+/// the first test that fails, or the line of the first text's fault. No text is pulled behind one that has a fault; where
+/// no flow is feasible nothing is claimed, and the claim isn't pulled.
+pub fn run_judge<P: Source, Q: Source, R: Source, K: Sink>(
+    alloc: Global,
+    kind: JudgeKind,
+    instance: &mut P,
+    claim: &mut Q,
+    certificate: &mut R,
+    sink: &mut K,
+) -> Result<Status, RunError>
+    ensures reports { (a b c : List ℕ) → P.coming instance.old ≡ Some a → IsClaim kind (Q.coming claim.old) b → R.coming certificate.old ≡ Some c → Reports (Judged kind a b c) result (K.accepted sink.old) (K.accepted sink.new) }
+    ensures faults { CountsDevices result (P.faults instance.old ∷ Q.faults claim.old ∷ R.faults certificate.old ∷ K.faults sink.old ∷ []) (P.faults instance.new ∷ Q.faults claim.new ∷ R.faults certificate.new ∷ K.faults sink.new ∷ []) }
+    ensures silent { (P.faults instance.new ≢ P.faults instance.old) ⊎ (Q.faults claim.new ≢ Q.faults claim.old) ⊎ (R.faults certificate.new ≢ R.faults certificate.old) → K.accepted sink.new ≡ K.accepted sink.old }
+    ensures memory { result ≡ Err Memory → K.accepted sink.new ≡ K.accepted sink.old }
+    ensures instance_alone { (a : List ℕ) (l f : ℕ) (r : Reason) → P.coming instance.old ≡ Some a → Fault (instance_kind kind) (lines a) l f r → (claim.new ≡ claim.old) × (certificate.new ≡ certificate.old) }
+    ensures claim_alone { (claimed : TextKind) (b : List ℕ) (l f : ℕ) (r : Reason) → claim_kind kind ≡ Some claimed → Q.coming claim.old ≡ Some b → Fault claimed (lines b) l f r → certificate.new ≡ certificate.old }
+    ensures unclaimed { kind ≡ judges.Infeasible → claim.new ≡ claim.old }
+{
+    let told = match kind {
+        JudgeKind::Max => tell_max(alloc, instance, claim, certificate),
+        JudgeKind::Min => tell_min(alloc, instance, claim, certificate),
+        JudgeKind::Infeasible => tell_infeasible(alloc, instance, certificate),
+        JudgeKind::Paths => tell_paths(alloc, instance, claim, certificate),
+    };
+    put_told(told, sink)
+}
+
+/// What is told of a claimed maximum flow.
+fn tell_max<P: Source, Q: Source, R: Source>(
+    alloc: Global,
+    instance: &mut P,
+    claim: &mut Q,
+    certificate: &mut R,
+) -> Result<Told, RunError>
+    ensures told { (a b c : List ℕ) → P.coming instance.old ≡ Some a → Q.coming claim.old ≡ Some b → R.coming certificate.old ≡ Some c → ToldAlone (JudgedMax a b c) result }
+    ensures faults { CountsDevices result (P.faults instance.old ∷ Q.faults claim.old ∷ R.faults certificate.old ∷ []) (P.faults instance.new ∷ Q.faults claim.new ∷ R.faults certificate.new ∷ []) }
+    ensures instance_alone { (a : List ℕ) (l f : ℕ) (r : Reason) → P.coming instance.old ≡ Some a → Fault kinds.Max (lines a) l f r → (claim.new ≡ claim.old) × (certificate.new ≡ certificate.old) }
+    ensures claim_alone { (b : List ℕ) (l f : ℕ) (r : Reason) → Q.coming claim.old ≡ Some b → Fault kinds.Solution (lines b) l f r → certificate.new ≡ certificate.old }
+{
+    match read_three::<MaxInstance<PlainArcs<CapacityArc>>, Solution, Cut, P, Q, R>(
+        alloc,
+        instance,
+        claim,
+        certificate,
+    ) {
+        Ok((instance, solution, cut)) => {
+            answer_told(judge_max(alloc, &instance, &solution, &cut))
+        }
+        Err(unread) => unread.told(),
+    }
+}
+
+/// What is told of a claimed flow of least cost.
+fn tell_min<P: Source, Q: Source, R: Source>(
+    alloc: Global,
+    instance: &mut P,
+    claim: &mut Q,
+    certificate: &mut R,
+) -> Result<Told, RunError>
+    ensures told { (a b c : List ℕ) → P.coming instance.old ≡ Some a → Q.coming claim.old ≡ Some b → R.coming certificate.old ≡ Some c → ToldAlone (JudgedMin a b c) result }
+    ensures faults { CountsDevices result (P.faults instance.old ∷ Q.faults claim.old ∷ R.faults certificate.old ∷ []) (P.faults instance.new ∷ Q.faults claim.new ∷ R.faults certificate.new ∷ []) }
+    ensures instance_alone { (a : List ℕ) (l f : ℕ) (r : Reason) → P.coming instance.old ≡ Some a → Fault kinds.Min (lines a) l f r → (claim.new ≡ claim.old) × (certificate.new ≡ certificate.old) }
+    ensures claim_alone { (b : List ℕ) (l f : ℕ) (r : Reason) → Q.coming claim.old ≡ Some b → Fault kinds.Solution (lines b) l f r → certificate.new ≡ certificate.old }
+{
+    match read_three::<MinInstance<PlainArcs<ArcView>>, Solution, Potentials, P, Q, R>(
+        alloc,
+        instance,
+        claim,
+        certificate,
+    ) {
+        Ok((instance, solution, potentials)) => {
+            answer_told(judge_min(alloc, &instance, &solution, &potentials))
+        }
+        Err(unread) => unread.told(),
+    }
+}
+
+/// What is told of a set of nodes whose supply can't be met.
+fn tell_infeasible<P: Source, R: Source>(
+    alloc: Global,
+    instance: &mut P,
+    certificate: &mut R,
+) -> Result<Told, RunError>
+    ensures told { (a c : List ℕ) → P.coming instance.old ≡ Some a → R.coming certificate.old ≡ Some c → ToldAlone (JudgedInfeasible a c) result }
+    ensures faults { CountsDevices result (P.faults instance.old ∷ R.faults certificate.old ∷ []) (P.faults instance.new ∷ R.faults certificate.new ∷ []) }
+    ensures instance_alone { (a : List ℕ) (l f : ℕ) (r : Reason) → P.coming instance.old ≡ Some a → Fault kinds.Min (lines a) l f r → certificate.new ≡ certificate.old }
+{
+    match read_two::<MinInstance<PlainArcs<ArcView>>, Cut, P, R>(alloc, instance, certificate) {
+        Ok((instance, set)) => answer_told(judge_infeasible(&instance, &set)),
+        Err(unread) => unread.told(),
+    }
+}
+
+/// What is told of queries and labels.
+fn tell_paths<P: Source, Q: Source, R: Source>(
+    alloc: Global,
+    graph: &mut P,
+    queries: &mut Q,
+    labels: &mut R,
+) -> Result<Told, RunError>
+    ensures told { (a b c : List ℕ) → P.coming graph.old ≡ Some a → Q.coming queries.old ≡ Some b → R.coming labels.old ≡ Some c → ToldAlone (JudgedPaths a b c) result }
+    ensures faults { CountsDevices result (P.faults graph.old ∷ Q.faults queries.old ∷ R.faults labels.old ∷ []) (P.faults graph.new ∷ Q.faults queries.new ∷ R.faults labels.new ∷ []) }
+    ensures instance_alone { (a : List ℕ) (l f : ℕ) (r : Reason) → P.coming graph.old ≡ Some a → Fault kinds.Graph (lines a) l f r → (queries.new ≡ queries.old) × (labels.new ≡ labels.old) }
+    ensures claim_alone { (b : List ℕ) (l f : ℕ) (r : Reason) → Q.coming queries.old ≡ Some b → Fault kinds.Queries (lines b) l f r → labels.new ≡ labels.old }
+{
+    match read_three::<Graph<PlainArcs<WeightArc>>, Queries, Labels, P, Q, R>(
+        alloc, graph, queries, labels,
+    ) {
+        Ok((graph, queries, labels)) => {
+            answer_told(judge_paths(alloc, &graph, &queries, &labels))
+        }
+        Err(unread) => unread.told(),
+    }
+}

@@ -1,0 +1,75 @@
+//! What a judge's run tells, and how it is put.
+
+ghost use Rattle.std.specs.Prelude.{◌≡◌};
+ghost use Rattle.dimacs_lines.specs.Devices.{CountsFault};
+ghost use Rattle.dimacs_lines.specs.Puts.{Puts};
+ghost use Rattle.dimacs_runs.specs.Judgings as judgings;
+ghost use Rattle.dimacs_runs.specs.Told.{EndsAfter, told_lines, told_status};
+
+use crate::outcome::{RunError, Status};
+use crate::refusal::put_refusal;
+use crate::verdict::{put_failure, put_verdict};
+use dimacs_judge::{JudgeError, Verdict, Where};
+use dimacs_lines::{DeviceFault, Sink};
+use dimacs_records::{At, Reason};
+
+/// What is told of an instance and of what is claimed about it.
+#[derive(Drop)]
+pub(crate) enum Told {
+    /// The judge's yes.
+    Yes(Verdict),
+    /// The first test that fails.
+    No(Where, Reason),
+    /// The fault of a text.
+    Fault(&'static str, At, Reason),
+}
+
+impl Told {
+    fn status(&self) -> Status
+        ensures { result ≡ told_status self.now }
+    {
+        match self {
+            Told::Yes(_) => Status::Done,
+            Told::No(..) | Told::Fault(..) => Status::Refused,
+        }
+    }
+
+    fn put<K: Sink>(&self, sink: &mut K) -> Result<(), DeviceFault>
+        ensures puts { Puts result (K.accepted sink.old) (told_lines self.now) (K.accepted sink.new) }
+        ensures fault { CountsFault result (K.faults sink.old) (K.faults sink.new) }
+    {
+        match self {
+            Told::Yes(verdict) => put_verdict(sink, verdict),
+            Told::No(place, reason) => put_failure(sink, *place, *reason),
+            Told::Fault(text, place, reason) => put_refusal(sink, text, *place, *reason),
+        }
+    }
+}
+
+/// What is told of a judge's answer.
+pub(crate) fn answer_told(answer: Result<Verdict, JudgeError>) -> Result<Told, RunError>
+    ensures { result ≡ judgings.answer_told answer }
+{
+    match answer {
+        Ok(verdict) => Ok(Told::Yes(verdict)),
+        Err(JudgeError::Refused(place, reason)) => Ok(Told::No(place, reason)),
+        Err(JudgeError::Memory) => Err(RunError::Memory),
+    }
+}
+
+/// Puts what is told, where something is.
+pub(crate) fn put_told<K: Sink>(
+    told: Result<Told, RunError>,
+    sink: &mut K,
+) -> Result<Status, RunError>
+    ensures { EndsAfter told result (K.accepted sink.old) (K.accepted sink.new) (K.faults sink.old) (K.faults sink.new) }
+{
+    let told = match told {
+        Ok(told) => told,
+        Err(error) => return Err(error),
+    };
+    match told.put(sink) {
+        Ok(()) => Ok(told.status()),
+        Err(DeviceFault) => Err(RunError::Device),
+    }
+}

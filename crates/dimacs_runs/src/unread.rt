@@ -1,0 +1,93 @@
+//! Reading the texts of a claim, one after another.
+
+ghost use Rattle.std.specs.Prelude.{◌≡◌, ℕ, List, [], ◌∷◌, Some};
+ghost use Rattle.dimacs_lines.specs.Lines.{lines};
+ghost use Rattle.dimacs_records.specs.declared.reasons.Reason.{Reason};
+ghost use Rattle.dimacs_records.specs.Faults.{Fault};
+ghost use Rattle.dimacs_runs.specs.Judgings.{CountsUnread, ReadsOne, ReadsTwo, ReadsThree, error_told, says};
+
+use crate::outcome::RunError;
+use crate::texts::Text;
+use crate::told::Told;
+use dimacs_lines::Source;
+use dimacs_records::ReadError;
+use std::alloc::Global;
+
+/// A text that could not be read, by its name in refusals.
+#[derive(Clone, Copy)]
+pub(crate) struct Unread {
+    text: &'static str,
+    error: ReadError,
+}
+
+impl Unread {
+    /// What is told of it.
+    pub(crate) fn told(self) -> Result<Told, RunError>
+        ensures { result ≡ error_told self self.error }
+    {
+        match self.error {
+            ReadError::Refused(place, reason) => Ok(Told::Fault(self.text, place, reason)),
+            ReadError::Device => Err(RunError::Device),
+            ReadError::Memory => Err(RunError::Memory),
+        }
+    }
+}
+
+fn read<V: Text, P: Source>(alloc: Global, source: &mut P) -> Result<V, Unread>
+    ensures reads { (a : List ℕ) → P.coming source.old ≡ Some a → ReadsOne V.said (says V.kind V.spells a) result }
+    ensures faults { CountsUnread result (P.faults source.old ∷ []) (P.faults source.new ∷ []) }
+{
+    match V::read(alloc, source) {
+        Ok(value) => Ok(value),
+        Err(error) => Err(Unread {
+            text: V::name(),
+            error,
+        }),
+    }
+}
+
+/// Reads two texts. The second isn't pulled where the first has a fault.
+pub(crate) fn read_two<V: Text, W: Text, P: Source, Q: Source>(
+    alloc: Global,
+    first: &mut P,
+    second: &mut Q,
+) -> Result<(V, W), Unread>
+    ensures reads { (a b : List ℕ) → P.coming first.old ≡ Some a → Q.coming second.old ≡ Some b → ReadsTwo V.said W.said (says V.kind V.spells a) (says W.kind W.spells b) result }
+    ensures faults { CountsUnread result (P.faults first.old ∷ Q.faults second.old ∷ []) (P.faults first.new ∷ Q.faults second.new ∷ []) }
+    ensures first_alone { (a : List ℕ) (l f : ℕ) (r : Reason) → P.coming first.old ≡ Some a → Fault V.kind (lines a) l f r → second.new ≡ second.old }
+{
+    let value = match read(alloc, first) {
+        Ok(value) => value,
+        Err(unread) => return Err(unread),
+    };
+    match read(alloc, second) {
+        Ok(other) => Ok((value, other)),
+        Err(unread) => Err(unread),
+    }
+}
+
+/// Reads three texts. None is pulled behind one that has a fault.
+pub(crate) fn read_three<V: Text, W: Text, X: Text, P: Source, Q: Source, R: Source>(
+    alloc: Global,
+    first: &mut P,
+    second: &mut Q,
+    third: &mut R,
+) -> Result<(V, W, X), Unread>
+    ensures reads { (a b c : List ℕ) → P.coming first.old ≡ Some a → Q.coming second.old ≡ Some b → R.coming third.old ≡ Some c → ReadsThree V.said W.said X.said (says V.kind V.spells a) (says W.kind W.spells b) (says X.kind X.spells c) result }
+    ensures faults { CountsUnread result (P.faults first.old ∷ Q.faults second.old ∷ R.faults third.old ∷ []) (P.faults first.new ∷ Q.faults second.new ∷ R.faults third.new ∷ []) }
+    ensures first_alone { (a : List ℕ) (l f : ℕ) (r : Reason) → P.coming first.old ≡ Some a → Fault V.kind (lines a) l f r → (second.new ≡ second.old) × (third.new ≡ third.old) }
+    ensures second_alone { (b : List ℕ) (l f : ℕ) (r : Reason) → Q.coming second.old ≡ Some b → Fault W.kind (lines b) l f r → third.new ≡ third.old }
+{
+    let value = match read(alloc, first) {
+        Ok(value) => value,
+        Err(unread) => return Err(unread),
+    };
+    let other = match read(alloc, second) {
+        Ok(value) => value,
+        Err(unread) => return Err(unread),
+    };
+    match read(alloc, third) {
+        Ok(last) => Ok((value, other, last)),
+        Err(unread) => Err(unread),
+    }
+}

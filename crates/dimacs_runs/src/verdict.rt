@@ -1,0 +1,95 @@
+//! The lines of verdicts, and of a judge's refusals.
+
+ghost use Rattle.std.specs.Prelude.{◌++◌, ℕ, List, Option};
+ghost use Rattle.std.specs.List.{flat_map};
+ghost use Rattle.dimacs_lines.specs.Devices.{CountsFault};
+ghost use Rattle.dimacs_lines.specs.Pages.{FaultsAre, IsWritten};
+ghost use Rattle.dimacs_lines.specs.Puts.{Puts};
+ghost use Rattle.dimacs_runs.specs.Verdicts.{verdict_lines, failure_line, numbered_line, answer_line};
+
+use crate::refusal::put_refusal;
+use dimacs_judge::{Answer, Verdict, Where};
+use dimacs_lines::{DeviceFault, Page, Sink};
+use dimacs_records::{At, Part, Reason, put_line, write_line};
+
+/// Puts the lines of a verdict.
+pub(crate) fn put_verdict<K: Sink>(sink: &mut K, verdict: &Verdict) -> Result<(), DeviceFault>
+    ensures puts { Puts result (K.accepted sink.old) (verdict_lines verdict.now) (K.accepted sink.new) }
+    ensures fault { CountsFault result (K.faults sink.old) (K.faults sink.new) }
+{
+    match verdict {
+        Verdict::Max(value) => put_line(sink, b"v", &[Part::Word(b"max"), Part::Wide(*value)]),
+        Verdict::Min(cost) => put_line(sink, b"v", &[Part::Word(b"min"), Part::Wide(*cost)]),
+        Verdict::Infeasible => put_line(sink, b"v", &[Part::Word(b"infeasible")]),
+        Verdict::Sources(count) => put_line(
+            sink,
+            b"v",
+            &[
+                Part::Word(b"sp"),
+                Part::Word(b"ss"),
+                Part::Number(i64::from(*count)),
+            ],
+        ),
+        Verdict::Pairs(answers) => put_answers(sink, answers),
+    }
+}
+
+/// Puts a line for each answer.
+fn put_answers<K: Sink>(sink: &mut K, answers: &[Answer]) -> Result<(), DeviceFault>
+    ensures puts { Puts result (K.accepted sink.old) (flat_map answer_line answers.now) (K.accepted sink.new) }
+    ensures fault { CountsFault result (K.faults sink.old) (K.faults sink.new) }
+{
+    let mut page = Page::new();
+    for answer in answers {
+        write_answer(&mut page, sink, answer);
+    }
+    page.finish(sink)
+}
+
+fn write_answer<K: Sink>(page: &mut Page, sink: &mut K, answer: &Answer)
+    ensures written { (start : Option (List ℕ)) (text : List ℕ) → IsWritten start text (K.accepted sink.old) page.old → IsWritten start (text ++ answer_line answer.now) (K.accepted sink.new) page.new }
+    ensures faults { (start : ℕ) → FaultsAre start (K.faults sink.old) page.old → FaultsAre start (K.faults sink.new) page.new }
+{
+    let distance = match answer.distance {
+        Some(distance) => Part::Wide(distance),
+        None => Part::Word(b"unreachable"),
+    };
+    let from = Part::Number(i64::from(answer.from));
+    let to = Part::Number(i64::from(answer.to));
+    write_line(page, sink, b"v", &[from, to, distance]);
+}
+
+/// Puts the line of a test that fails.
+pub(crate) fn put_failure<K: Sink>(sink: &mut K, place: Where, reason: Reason) -> Result<(), DeviceFault>
+    ensures puts { Puts result (K.accepted sink.old) (failure_line place reason) (K.accepted sink.new) }
+    ensures fault { CountsFault result (K.faults sink.old) (K.faults sink.new) }
+{
+    match place {
+        Where::Solution { line, field } => {
+            put_refusal(sink, "solution", At { line, field }, reason)
+        }
+        Where::Certificate => put_refusal(sink, "certificate", At { line: 0, field: 0 }, reason),
+        Where::Arc(number) => put_numbered(sink, "arc", number, reason),
+        Where::Node(id) => put_numbered(sink, "node", id, reason),
+    }
+}
+
+fn put_numbered<K: Sink>(
+    sink: &mut K,
+    what: &str,
+    number: u32,
+    reason: Reason,
+) -> Result<(), DeviceFault>
+    ensures puts { Puts result (K.accepted sink.old) (numbered_line what.now number reason) (K.accepted sink.new) }
+    ensures fault { CountsFault result (K.faults sink.old) (K.faults sink.new) }
+{
+    put_line(
+        sink,
+        b"x",
+        &[
+            Part::Word(what.as_bytes()),
+            Part::Number(i64::from(number)),
+            Part::Word(reason.name().as_bytes()),
+        ],
+    )
+}
