@@ -8,7 +8,7 @@ use Rattle.std.proofs.lemmas.List.{take-take}
 use Rattle.std.proofs.lemmas.List.Sums.{count_by_more_yes, count_by-le-length, sum_by-take-le}
 use Rattle.dimacs_instance.specs.declared.network.ArcView.{ArcView}
 use Rattle.dimacs_instance.specs.Arcs.{joins, IsKthBetween}
-use Rattle.dimacs_judge.specs.declared.labels.Label.{Label}
+use Rattle.dimacs_claims.specs.declared.block.Label.{Label}
 use Rattle.dimacs_judge.specs.Labels.{HasArcOfWeight}
 
 joins_ends : (tail head : ℕ) (a : ArcView) → a.tail ≡ tail → a.head ≡ head → joins tail head a ≡ true

@@ -4,12 +4,13 @@ use Rattle.dimacs_instance.specs.declared.network.ArcView.{ArcView}
 use Rattle.dimacs_records.specs.declared.reasons.Reason.{Reason}
 use Rattle.dimacs_records.specs.declared.reasons.Reason.TheVariants.{SourceOutside, SinkInside, NotSaturated, BackFlow, NotTight, NotViolated, NoTightArc, Escapes, NotShortest}
 use Rattle.dimacs_judge.specs.declared.verdict.Where.TheVariants.{Certificate, Node}
-use Rattle.dimacs_judge.specs.declared.labels.Label.{Label}
-use Rattle.dimacs_judge.specs.Feasible.{MinProblem}
+use Rattle.dimacs_claims.specs.declared.block.Label.{Label}
+use Rattle.dimacs_instance.specs.MinFlows.{MinValue}
 use Rattle.dimacs_judge.specs.ViolatedSets.{Violated}
 use Rattle.dimacs_judge.specs.Cuts.{leaves, enters}
 use Rattle.dimacs_judge.specs.Potentials.{reduced_cost}
-use Rattle.dimacs_judge.specs.Labels.{BlockValue, HasTightArc, label}
+use Rattle.dimacs_claims.specs.Labels.{BlockValue, label}
+use Rattle.dimacs_judge.specs.Labels.{HasTightArc}
 use Rattle.dimacs_judge.specs.Rows.{arc_row, flow_row, one_test, arc_at}
 use Rattle.dimacs_judge.specs.Tests.{Row}
 
@@ -35,7 +36,7 @@ abbrev pub slack_row : List ArcView → (ℕ → ℤ) → List ℤ → Row
 slack_row arcs p x = flow_row (λ a. SlackFails (reduced_cost p a) a) arcs x
 
 -- the test of a set of nodes
-abbrev pub violated_row : MinProblem → (ℕ → Bool) → Row
+abbrev pub violated_row : MinValue → (ℕ → Bool) → Row
 violated_row i set = one_test Certificate NotViolated (¬ Violated i set)
 
 abbrev pub no_label : Label

@@ -2,13 +2,13 @@
 
 ghost use Rattle.std.specs.Prelude.{◌≡◌, ◌+◌, ◌≤◌, ℕ, ℤ, List, Option, All, length};
 ghost use Rattle.dimacs_instance.specs.Arcs.{JoinsNodes};
-ghost use Rattle.dimacs_judge.specs.FlowTests.{BoundFails, BalanceFails, AreBalances, TellsFeasible, bound_row, balance_row};
+ghost use Rattle.dimacs_judge.specs.FlowTests.{BoundFails, BalanceFails, AreBalances, TellsFeasible, bound_row, balance_row, max_demand, min_demand};
 ghost use Rattle.dimacs_judge.specs.Tests.{TellsReason, TellsRow};
 
 use crate::balances::Balances;
 use crate::flow::Flow;
 use crate::verdict::{JudgeError, Where};
-use dimacs_instance::{ArcView, Network};
+use dimacs_instance::{ArcView, MaxInstance, MinInstance, Network};
 use dimacs_records::Reason;
 use std::alloc::Global;
 
@@ -69,6 +69,26 @@ pub(crate) trait Demands {
     /// The balance that the node must have; none where it may have any.
     fn demand_at(&self, node: u32) -> Option<i64>
         ensures { result ≡ demand self.now node };
+}
+
+impl<N: Network> Demands for MaxInstance<N> {
+    ghost demand = { max_demand };
+
+    fn demand_at(&self, node: u32) -> Option<i64> {
+        if node == self.source() || node == self.sink() {
+            None
+        } else {
+            Some(0)
+        }
+    }
+}
+
+impl<N: Network> Demands for MinInstance<N> {
+    ghost demand = { min_demand };
+
+    fn demand_at(&self, node: u32) -> Option<i64> {
+        Some(self.supply(node))
+    }
 }
 
 /// The first node that has another balance than is demanded, whatever flow gives these balances.

@@ -5,4 +5,4 @@ use Rattle.dimacs_judge.proofs.labels.labels_hold.Given as goal
 
 -- all tests of the blocks so far pass
 abbrev pub invariant-loop-block : goal.invariant-loop-block
-invariant-loop-block g l = AllClear (label_rows (g.N.Network.list l.network) (take l.block (g.L.LabelTable.blocks l.table)))
+invariant-loop-block g l = AllClear (label_rows (g.N.Network.list l.network) (take l.block l.labels.blocks))
