@@ -8,6 +8,7 @@ mod CrossLemmas
 mod SupportLemmas
 mod BlockLemmas
 pub mod Firsts
+mod Settling
 pub mod Reasons
 pub mod Passing
 pub mod LabelsPassing

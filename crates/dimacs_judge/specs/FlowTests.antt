@@ -38,6 +38,12 @@ max_demand i v = if v == i.source then None else (if v == i.sink then None else 
 abbrev pub min_demand : MinValue → ℕ → Option ℤ
 min_demand i v = Some (supply_of i v)
 
+abbrev pub feasible_max_rows : MaxValue → List ℤ → List Row
+feasible_max_rows i x = feasible_rows i.nodes i.arcs (max_demand i) x
+
+abbrev pub feasible_min_rows : MinValue → List ℤ → List Row
+feasible_min_rows i x = feasible_rows i.nodes i.arcs (min_demand i) x
+
 -- the cost of the arcs up to this one
 abbrev pub cost_through : List ArcView → List ℤ → ℕ → ℤ
 cost_through arcs x k = cost (take (k + 1) arcs) (take (k + 1) x)

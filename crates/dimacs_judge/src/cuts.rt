@@ -2,34 +2,37 @@
 
 ghost use Rattle.std.specs.Prelude.{◌≡◌, length};
 ghost use Rattle.dimacs_judge.specs.CertificateTests.{TightFails, tight_row, cut_rows};
-ghost use Rattle.dimacs_judge.specs.Cuts.{members};
-ghost use Rattle.dimacs_judge.specs.Tests.{TellsReason, TellsRow, Tells};
+ghost use Rattle.dimacs_judge.specs.Cuts.{CutTight, members};
+ghost use Rattle.dimacs_judge.specs.Tests.{Decides, TellsReason, TellsRow};
 
 use crate::flow::Flow;
 use crate::verdict::Where;
 use dimacs_claims::Cut;
-use dimacs_instance::{ArcView, Network};
+use dimacs_instance::{ArcView, MaxInstance, Network};
 use dimacs_records::Reason;
 
-/// Whether the source is inside the cut, the sink outside, and every arc between them tight; else the first test
-/// that fails.
-pub(crate) fn cut_holds<N: Network>(
-    network: &N,
-    source: u32,
-    sink: u32,
+/// Whether the cut is tight: the source is inside and the sink outside, each arc that leaves the cut carries its
+/// capacity, and each arc that enters it carries nothing. Takes no memory.
+///
+/// The tests in their order: `SourceOutside`, at the source; `SinkInside`, at the sink; then each arc, from 1:
+/// `NotSaturated` where it leaves, `BackFlow` where it enters.
+pub fn cut_tests<N: Network>(
+    instance: &MaxInstance<N>,
     flow: &Flow,
     cut: &Cut,
 ) -> Result<(), (Where, Reason)>
-    requires one_each { length flow.now ≡ length (N.list network.now) }
-    ensures { Tells (cut_rows (N.list network.now) source sink (members cut.now) flow.now) result }
+    requires { length flow.now ≡ length instance.now.arcs }
+    ensures { Decides (CutTight instance.now flow.now (members cut.now)) (cut_rows instance.now (members cut.now) flow.now) result }
 {
+    let source = instance.source();
+    let sink = instance.sink();
     if !cut.contains(source) {
         return Err((Where::Node(source), Reason::SourceOutside));
     }
     if cut.contains(sink) {
         return Err((Where::Node(sink), Reason::SinkInside));
     }
-    arcs_tight(network, flow, cut)
+    arcs_tight(instance.network(), flow, cut)
 }
 
 /// The first arc that leaves the cut and is not full, or enters it and is not empty.

@@ -1,20 +1,29 @@
 //! Whether labels are distances.
 
-ghost use Rattle.std.specs.Prelude.{◌≡◌, ◌<◌, ◌+ℤ◌, ◌<ℤ◌, ℕ, ℤ, List, Option, Contains, length, IsTrue, ◌↔◌, IfSome};
+ghost use Rattle.std.specs.Prelude.{◌≡◌, ◌<◌, ◌+ℤ◌, ◌<ℤ◌, ℤ, Some, All, length, IsTrue, ◌↔◌, IfSome};
 ghost use Rattle.dimacs_judge.specs.CertificateTests.{RelaxFails, support_row, relax_row, block_rows, label_rows};
-ghost use Rattle.dimacs_judge.specs.Labels as theory;
-ghost use Rattle.dimacs_claims.specs.Labels.{BlockValue};
-ghost use Rattle.dimacs_judge.specs.Labels.{HasTightArc, HasArcOfWeight, block_at};
+ghost use Rattle.dimacs_judge.specs.Labels.{HasArcOfWeight, LabelsOk, block_at};
 ghost use Rattle.dimacs_judge.specs.Ranges.{IsWide};
-ghost use Rattle.dimacs_judge.specs.Tests.{TellsReason, TellsRow, Tells};
+ghost use Rattle.dimacs_judge.specs.Tests.{Decides, TellsReason, TellsRow, Tells};
 
 use crate::verdict::Where;
 use dimacs_claims::{Label, Labels};
-use dimacs_instance::{ArcView, Network};
+use dimacs_instance::{ArcView, Graph, Network};
 use dimacs_records::Reason;
 
-/// Whether all labels hold; else the first test that fails, block by block.
-pub(crate) fn labels_hold<N: Network>(network: &N, labels: &Labels) -> Result<(), (Where, Reason)>
+/// Whether all labels hold, in every block: an arc from the predecessor of each label makes it, and each arc with a
+/// labelled tail has a labelled head, whose label is at most the tail's and the weight. Takes no memory.
+///
+/// The tests of each block, in their order: each label, `NoTightArc` at its node; then each arc, from 1: `Escapes` where
+/// its head has no label, else `NotShortest`.
+pub fn label_tests<N: Network>(graph: &Graph<N>, labels: &Labels) -> Result<(), (Where, Reason)>
+    ensures { Decides (All (LabelsOk graph.now.arcs) labels.now.blocks) (label_rows graph.now.arcs labels.now.blocks) result }
+{
+    blocks_hold(graph.network(), labels)
+}
+
+/// The first test that fails, block by block.
+fn blocks_hold<N: Network>(network: &N, labels: &Labels) -> Result<(), (Where, Reason)>
     ensures { Tells (label_rows (N.list network.now) labels.now.blocks) result }
 {
     for block in 0..labels.blocks().len() {

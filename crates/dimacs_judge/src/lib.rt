@@ -16,8 +16,12 @@ mod laws;
 mod potentials;
 mod verdict;
 
+pub use cuts::cut_tests;
+pub use feasible::{feasible_max, feasible_min};
 pub use flow::Flow;
+pub use labels::label_tests;
 pub use laws::{
     exchange, labels_give_distances, slack_is_least, tight_cut_is_maximum, violated_has_no_flow,
 };
+pub use potentials::slack_tests;
 pub use verdict::{Answer, JudgeError, Verdict, Where};

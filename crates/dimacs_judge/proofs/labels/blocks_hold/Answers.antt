@@ -1,6 +1,6 @@
 use Rattle.std.proofs.Common.{◌<◌, length}
 use Rattle.dimacs_judge.proofs.BlockLemmas.{blocks_more, blocks_first}
-use Rattle.dimacs_judge.proofs.labels.labels_hold.Goals as goal
+use Rattle.dimacs_judge.proofs.labels.blocks_hold.Goals as goal
 
 pub returns-in-Err : goal.returns-in-Err
 returns-in-Err g c =

@@ -1,7 +1,7 @@
 use Rattle.std.proofs.Common.{take}
 use Rattle.dimacs_judge.specs.CertificateTests.{label_rows}
 use Rattle.dimacs_judge.specs.Tests.{AllClear}
-use Rattle.dimacs_judge.proofs.labels.labels_hold.Given as goal
+use Rattle.dimacs_judge.proofs.labels.blocks_hold.Given as goal
 
 -- all tests of the blocks so far pass
 abbrev pub invariant-loop-block : goal.invariant-loop-block
