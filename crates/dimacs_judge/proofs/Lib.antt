@@ -12,3 +12,4 @@ mod Settling
 pub mod Reasons
 pub mod Passing
 pub mod LabelsPassing
+pub mod InfeasibleJudge

@@ -13,3 +13,4 @@ pub mod Rows
 pub mod FlowTests
 pub mod CertificateTests
 pub mod Agreement
+pub mod InfeasibleJudge

@@ -11,6 +11,7 @@ mod crossing;
 mod cuts;
 mod feasible;
 mod flow;
+mod infeasible;
 mod labels;
 mod laws;
 mod potentials;
@@ -19,6 +20,7 @@ mod verdict;
 pub use cuts::cut_tests;
 pub use feasible::{feasible_max, feasible_min};
 pub use flow::Flow;
+pub use infeasible::judge_infeasible;
 pub use labels::label_tests;
 pub use laws::{
     exchange, labels_give_distances, slack_is_least, tight_cut_is_maximum, violated_has_no_flow,
