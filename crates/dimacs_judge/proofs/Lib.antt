@@ -11,3 +11,8 @@ pub mod Firsts
 pub mod Reasons
 pub mod Passing
 pub mod LabelsPassing
+mod CountLemmas
+mod PutLemmas
+mod EntryLemmas
+pub mod Claims
+pub mod RowLists

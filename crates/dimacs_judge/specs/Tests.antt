@@ -52,3 +52,14 @@ TellsReason fails (Some reason) = fails reason
 abbrev pub Refuses : (Where → Reason → Type 0) → JudgeError → Type 0
 Refuses first (Refused place reason) = first place reason
 Refuses first Memory = Unit
+
+-- yes exactly where this holds; else the first test that fails
+abbrev pub Decides : Type 0 → List Row → Result Unit (Where × Reason) → Type 0
+Decides holds rows (Ok done) = holds
+Decides holds rows (Err refusal) = First rows refusal.0 refusal.1 × ¬ holds
+
+-- yes with a value of which this holds; else the first test that fails, and it holds of none; want of memory says nothing
+abbrev pub Settles : {X : Type 0} → (X → Type 0) → List Row → Result X JudgeError → Type 0
+Settles holds rows (Ok x) = holds x
+Settles holds rows (Err (Refused place reason)) = First rows place reason × ((x : _) → ¬ holds x)
+Settles holds rows (Err Memory) = Unit

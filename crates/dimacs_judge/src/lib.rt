@@ -9,6 +9,7 @@ mod balances;
 mod costs;
 mod crossing;
 mod cuts;
+mod entries;
 mod feasible;
 mod flow;
 mod labels;
@@ -16,6 +17,7 @@ mod laws;
 mod potentials;
 mod verdict;
 
+pub use entries::flow_of;
 pub use flow::Flow;
 pub use laws::{
     exchange, labels_give_distances, slack_is_least, tight_cut_is_maximum, violated_has_no_flow,
