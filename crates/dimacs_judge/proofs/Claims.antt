@@ -57,12 +57,15 @@ module _ (arcs : List ArcView) (entries : List Entry) (clear : Clear (entry_row 
         | inr off ↦ (let same = rw add-one at (count_by_more_no (is_between tail head) entries n no_entry here off) in omega (arith, same, before))
       ]
 
-  pub clear_carries : Carries arcs entries (claimed_flow arcs entries)
-  clear_carries = record {
+  pub claims_carried : (x : List ℤ) → x ≡ claimed_flow arcs entries → Carries arcs entries x
+  claims_carried x is = record {
     known = All-from_get_or (IsKnown arcs) entries no_entry known_at;
     once = λ tail head. rw (take_all (length entries) entries (omega arith)) at (once_upto tail head (length entries) (omega arith));
-    amounts = refl;
+    amounts = is;
   }
+
+  pub clear_carries : Carries arcs entries (claimed_flow arcs entries)
+  clear_carries = claims_carried (claimed_flow arcs entries) refl
 
 -- ---- and those that carry one pass
 pub carries_clear : (arcs : List ArcView) (entries : List Entry) (x : List ℤ) → Carries arcs entries x → Clear (entry_row arcs entries)

@@ -5,7 +5,7 @@ use Rattle.std.specs.List.{list_any}
 use Rattle.std.proofs.lemmas.Bool.{cases_Bool, eq-eqb, ne_eqb}
 use Rattle.std.proofs.lemmas.Bool.Decides.{eqb_tells}
 use Rattle.std.proofs.lemmas.Option.{slice_get-get_or}
-use Rattle.std.proofs.lemmas.List.{take_all, get_or-map}
+use Rattle.std.proofs.lemmas.List.{take_all, get_or-map, length-map}
 use Rattle.dimacs_instance.specs.declared.network.ArcView.{ArcView}
 use Rattle.dimacs_instance.specs.Arcs.{joins, IsKthBetween}
 use Rattle.dimacs_claims.specs.declared.solution.Entry.{Entry}
@@ -35,6 +35,14 @@ none_claimed arcs n flow claimed one_each none unmarked = record {
   amounts = none ∙ rw one_each (replicate-map (pos 0) arcs);
   marks = unmarked ∙ rw one_each (replicate-map false arcs);
 }
+
+-- an amount and a mark for each arc
+module _ {arcs : List ArcView} {entries : List Entry} {flow : List ℤ} {claimed : List Bool} (claims : IsClaimedBy arcs entries flow claimed) where
+  pub one_amount_each : length flow ≡ length arcs
+  one_amount_each = rw claims.amounts (length-map arcs _)
+
+  pub one_mark_each : length claimed ≡ length arcs
+  one_mark_each = rw claims.marks (length-map arcs _)
 
 -- ---- an entry and an arc
 eqb_sym : (m n : ℕ) → (m == n) ≡ (n == m)
