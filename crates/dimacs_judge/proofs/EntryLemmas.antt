@@ -36,14 +36,6 @@ none_claimed arcs n flow claimed one_each none unmarked = record {
   marks = unmarked ∙ rw one_each (replicate-map false arcs);
 }
 
--- an amount and a mark for each arc
-module _ {arcs : List ArcView} {entries : List Entry} {flow : List ℤ} {claimed : List Bool} (claims : IsClaimedBy arcs entries flow claimed) where
-  pub one_amount_each : length flow ≡ length arcs
-  one_amount_each = rw claims.amounts (length-map arcs _)
-
-  pub one_mark_each : length claimed ≡ length arcs
-  one_mark_each = rw claims.marks (length-map arcs _)
-
 -- ---- an entry and an arc
 eqb_sym : (m n : ℕ) → (m == n) ≡ (n == m)
 eqb_sym m n = elim (eqb_tells m n) [ inl is ↦ is.0 ∙ sym (eq-eqb n m (sym is.1)) | inr off ↦ off.0 ∙ sym (ne_eqb n m (λ is. off.1 (sym is))) ]
@@ -100,9 +92,6 @@ module _ (arcs : List ArcView) (before : List Entry) (e : Entry) where
       let here = slice_get-get_or arcs i no_arc found.0 in
       let ends = ends_joined e.tail e.head (arc_at arcs i) (rw here at found.1) in
       rw claims.marks (get_or-map (is_claimed before) arcs i no_arc false found.0 ∙ rw (ends.0, ends.1) refl)
-
-  pub unknown_fails : count_by (joins e.tail e.head) arcs ≤ 0 → EntryFails arcs before e UnknownArc
-  unknown_fails none = inl (refl, λ known. absurd (omega (arith, none, known)))
 
   pub twice_fails : (flow : List ℤ) (claimed : List Bool) (i : ℕ) → IsClaimedBy arcs before flow claimed → IsKthBetween arcs e.tail e.head 0 (Some i) → get_or claimed i false ≡ true → EntryFails arcs before e ArcTwice
   twice_fails flow claimed i claims found marked =
