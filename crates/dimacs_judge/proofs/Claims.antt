@@ -1,5 +1,5 @@
 -- Entries that carry a flow, and the tests of the entries.
-use Rattle.std.proofs.Common.{◌≡◌, inl, inr, ℕ, suc, zero, ◌+◌, ◌<◌, ◌≤◌, Bool, true, ◌==◌, ◌&&◌, List, [], ◌∷◌, length, map, take, get_or, count_by, cond, ℤ, refl, sym, ◌∙◌, add-one, arith}
+use Rattle.std.proofs.Common.{◌≡◌, inl, inr, ℕ, suc, zero, ◌+◌, ◌<◌, ◌≤◌, true, ◌==◌, List, length, take, count_by, cond, ℤ, refl, sym, ◌∙◌, add-one, arith}
 use Rattle.std.proofs.lemmas.Bool.{cases_Bool, cases_lt, and_from, and_parts, eqb-true, eq-eqb}
 use Rattle.std.proofs.lemmas.List.{length-map, take_all}
 use Rattle.std.proofs.lemmas.List.Elements.{All-get_or, All-from_get_or}
@@ -12,7 +12,7 @@ use Rattle.dimacs_records.specs.declared.reasons.Reason.TheVariants.{UnknownArc,
 use Rattle.dimacs_judge.specs.declared.verdict.Where.{Where}
 use Rattle.dimacs_judge.specs.declared.verdict.Where.TheVariants.{Solution}
 use Rattle.dimacs_judge.specs.Claims.{is_between, claimed_flow, IsKnown, Carries, EntryFails, no_entry, entry_at, entry_row}
-use Rattle.dimacs_judge.specs.Tests.{Clear, FirstOfRow, First}
+use Rattle.dimacs_judge.specs.Tests.{Clear, FirstOfRow}
 use Rattle.dimacs_judge.proofs.Firsts.{OneWay}
 
 -- ---- the flow that entries carry
@@ -48,13 +48,13 @@ module _ (arcs : List ArcView) (entries : List Entry) (clear : Clear (entry_row 
       let before = once_upto tail head n (omega (arith, inside)) in
       elim (cases_Bool (is_between tail head e)) [
         | inl is ↦
-            (let more = rw add-one at (count_by_more_yes (is_between tail head) entries n no_entry here is) in
+            (let more = rw (add-one n) at (count_by_more_yes (is_between tail head) entries n no_entry here is) in
             let ends = between_ends tail head e is in
             elim (cases_lt 0 (count_by (is_between tail head) (take n entries))) [
               | inl some ↦ absurd (clear n (Solution e.line 0) ArcTwice (here, refl, inr (refl, known_at n here, rw (ends.0, ends.1) (omega (arith, some)))))
               | inr none ↦ omega (arith, more, none)
             ])
-        | inr off ↦ (let same = rw add-one at (count_by_more_no (is_between tail head) entries n no_entry here off) in omega (arith, same, before))
+        | inr off ↦ (let same = rw (add-one n) at (count_by_more_no (is_between tail head) entries n no_entry here off) in omega (arith, same, before))
       ]
 
   pub claims_carried : (x : List ℤ) → x ≡ claimed_flow arcs entries → Carries arcs entries x

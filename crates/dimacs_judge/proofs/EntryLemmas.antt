@@ -1,18 +1,18 @@
 -- Entries taken one after another.
-use Rattle.std.proofs.Common.{◌≡◌, inl, inr, ℕ, ◌+◌, ◌<◌, ◌≤◌, Bool, true, false, ◌&&◌, ◌||◌, cond, List, [], ◌∷◌, ◌++◌, length, map, replicate, take, get_or, slice_get, count_by, ℤ, pos, Some, refl, sym, ap, ◌∙◌, arith, below_more}
+use Rattle.std.proofs.Common.{◌≡◌, inl, inr, ℕ, ◌+◌, ◌<◌, ◌≤◌, Bool, true, false, List, [], ◌∷◌, ◌++◌, length, map, replicate, take, get_or, ℤ, pos, Some, refl, sym, ap, ◌∙◌, arith, below_more}
 use Rattle.std.specs.Prelude.{◌==◌, if◌then◌else◌}
 use Rattle.std.specs.List.{list_any}
 use Rattle.std.proofs.lemmas.Bool.{cases_Bool, eq-eqb, ne_eqb}
 use Rattle.std.proofs.lemmas.Bool.Decides.{eqb_tells}
 use Rattle.std.proofs.lemmas.Option.{slice_get-get_or}
-use Rattle.std.proofs.lemmas.List.{take_all, get_or-map, length-map}
+use Rattle.std.proofs.lemmas.List.{get_or-map}
 use Rattle.dimacs_instance.specs.declared.network.ArcView.{ArcView}
 use Rattle.dimacs_instance.specs.Arcs.{joins, IsKthBetween}
 use Rattle.dimacs_claims.specs.declared.solution.Entry.{Entry}
 use Rattle.dimacs_records.specs.declared.reasons.Reason.{Reason}
-use Rattle.dimacs_records.specs.declared.reasons.Reason.TheVariants.{UnknownArc, ArcTwice}
+use Rattle.dimacs_records.specs.declared.reasons.Reason.TheVariants.{ArcTwice}
 use Rattle.dimacs_judge.specs.declared.verdict.Where.TheVariants.{Solution}
-use Rattle.dimacs_judge.specs.Claims.{is_between, claimed_between, claimed_flow, IsKnown, EntryFails, entry_at, entry_row}
+use Rattle.dimacs_judge.specs.Claims.{is_between, claimed_between, IsKnown, EntryFails, entry_at, entry_row}
 use Rattle.dimacs_judge.specs.FlowSoFar.{is_claimed, IsClaimedBy, put_between}
 use Rattle.dimacs_judge.specs.Rows.{no_arc, arc_at}
 use Rattle.dimacs_judge.specs.Tests.{Clear, ClearBelow, FirstOfRow}

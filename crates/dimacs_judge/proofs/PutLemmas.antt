@@ -1,5 +1,5 @@
 -- A value beside the arcs between two ends, put beside one after another.
-use Rattle.std.proofs.Common.{◌≡◌, inl, inr, ℕ, suc, zero, pred, ◌+◌, ◌<◌, ◌≤◌, Bool, true, false, ◌&&◌, cond, List, [], ◌∷◌, length, map, take, get_or, count_by, slice_set, Some, None, refl, sym, ap, ◌∙◌, ltb, add-one, arith}
+use Rattle.std.proofs.Common.{◌≡◌, inl, inr, ℕ, suc, zero, pred, ◌+◌, ◌<◌, ◌≤◌, List, [], ◌∷◌, length, map, take, count_by, slice_set, Some, refl, sym, ap, ◌∙◌, add-one, arith}
 use Rattle.std.specs.Prelude.{if◌then◌else◌}
 use Rattle.std.proofs.lemmas.Bool.{cases_Bool}
 use Rattle.std.proofs.lemmas.List.Sums.{count_by-le-length}

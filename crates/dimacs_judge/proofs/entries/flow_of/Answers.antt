@@ -1,6 +1,6 @@
-use Rattle.std.proofs.Common.{◌≡◌, ◌<◌, ◌≤◌, inl, length, take, ℤ, arith}
+use Rattle.std.proofs.Common.{◌<◌, ◌≤◌, inl, length, take, arith}
 use Rattle.std.proofs.lemmas.List.{take_all, take_more}
-use Rattle.dimacs_judge.specs.Claims.{no_entry, claimed_flow}
+use Rattle.dimacs_judge.specs.Claims.{no_entry}
 use Rattle.dimacs_judge.proofs.Claims.{claims_carried, none_carried}
 use Rattle.dimacs_judge.proofs.EntryLemmas.{entry_clear_more, entry_clear_end, entry_first}
 use Rattle.dimacs_judge.proofs.entries.flow_of.Goals as goal

@@ -1,4 +1,4 @@
-use Rattle.std.proofs.Common.{rules, ◌≡◌, ◌<◌, Bool, true, false, length, get_or, sym, ◌∙◌, arith}
+use Rattle.std.proofs.Common.{rules, ◌≡◌, ◌<◌, true, false, length, get_or, sym, ◌∙◌, arith}
 use Rattle.std.proofs.lemmas.List.{get_or_read}
 use Rattle.dimacs_judge.proofs.EntryLemmas.{twice_fails, new_passes, new_claims}
 use Rattle.dimacs_judge.proofs.entries.FlowSoFar.take.Goals as goal
