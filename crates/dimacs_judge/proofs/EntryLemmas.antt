@@ -116,8 +116,8 @@ module _ (arcs : List ArcView) (entries : List Entry) (k : ℕ) (below : ClearBe
   pub entry_clear_more : ((reason : Reason) → ¬ EntryFails arcs (take k entries) (entry_at entries k) reason) → ClearBelow (entry_row arcs entries) (k + 1)
   entry_clear_more at = below_more (λ j. (place : _) (reason : Reason) → ¬ entry_row arcs entries j place reason) k below (λ place reason f. at reason f.2)
 
-  pub entry_first : (reason : Reason) → k < length entries → EntryFails arcs (take k entries) (entry_at entries k) reason → FirstOfRow (entry_row arcs entries) (Solution (entry_at entries k).line 0) reason
-  entry_first reason inside at = record { number = k; fails = (inside, refl, at); earlier = below }
+  pub entry_first : (reason : Reason) (e : Entry) → k < length entries → e ≡ entry_at entries k → EntryFails arcs (take k entries) e reason → FirstOfRow (entry_row arcs entries) (Solution e.line 0) reason
+  entry_first reason e inside is fails = record { number = k; fails = (inside, rw is refl, rw (← is) fails); earlier = below }
 
   pub entry_clear_end : length entries ≤ k → Clear (entry_row arcs entries)
   entry_clear_end all j place reason f = below j (omega (arith, all, f.0)) place reason f

@@ -1,5 +1,5 @@
 -- A value beside the arcs between two ends, put beside one after another.
-use Rattle.std.proofs.Common.{◌≡◌, inl, inr, ℕ, suc, zero, pred, ◌+◌, ◌<◌, ◌≤◌, List, [], ◌∷◌, length, map, take, count_by, slice_set, Some, refl, sym, ap, ◌∙◌, add-one, arith}
+use Rattle.std.proofs.Common.{◌≡◌, inl, inr, ℕ, suc, zero, pred, ◌+◌, ◌≤◌, List, [], ◌∷◌, length, map, take, count_by, slice_set, Some, refl, sym, ap, ◌∙◌, add-one, arith}
 use Rattle.std.specs.Prelude.{if◌then◌else◌}
 use Rattle.std.proofs.lemmas.Bool.{cases_Bool}
 use Rattle.std.proofs.lemmas.List.Sums.{count_by-le-length}
@@ -78,8 +78,8 @@ module _ {X : Type 0} {arcs : List ArcView} {tail head k : ℕ} {x : X} {old now
   pub has_more : (i : ℕ) (next : List X) → IsKthBetween arcs tail head k (Some i) → next ≡ slice_set now i x → HasFirst arcs tail head (k + 1) x old next
   has_more i next found set = record { one_each = has.one_each; now_is = set ∙ rw (has.now_is, add-one) (put_more_suc tail head x arcs old k i has.one_each found) }
 
-  pub has_inside : (i : ℕ) → IsKthBetween arcs tail head k (Some i) → i < length now
-  has_inside i found = rw (has.now_is, length-put_first tail head x arcs k old, has.one_each) found.0
+  pub has_length : length now ≡ length arcs
+  has_length = rw (has.now_is, length-put_first tail head x arcs k old) has.one_each
 
   -- beside all of them
   pub has_all : count_by (joins tail head) arcs ≤ k → now ≡ put_between arcs tail head x old

@@ -1,6 +1,6 @@
 use Rattle.std.proofs.Common.{rules, arith, true, w64, SFits}
 use Rattle.std.proofs.lemmas.Int.{to_z-of_z}
-use Rattle.dimacs_judge.proofs.PutLemmas.{has_none, has_more, has_inside, has_all, has_all_arcs}
+use Rattle.dimacs_judge.proofs.PutLemmas.{has_none, has_more, has_length, has_all, has_all_arcs}
 use Rattle.dimacs_judge.proofs.entries.FlowSoFar.put_from.Goals as goal
 
 pub loop-k-init : goal.loop-k-init
@@ -12,10 +12,10 @@ loop-k-init g c =
     }
 
 pub put-requires-in-loop-k-clause-flow : goal.put-requires-in-loop-k-clause-flow
-put-requires-in-loop-k-clause-flow g c = has_inside c.loop-k.invariant.flow _ c.in-Some.ensures
+put-requires-in-loop-k-clause-flow g c = omega (arith, has_length c.loop-k.invariant.flow, c.in-Some.ensures.0)
 
 pub put-requires-in-loop-k-clause-claimed : goal.put-requires-in-loop-k-clause-claimed
-put-requires-in-loop-k-clause-claimed g c = has_inside c.loop-k.invariant.claimed _ c.in-Some.ensures
+put-requires-in-loop-k-clause-claimed g c = omega (arith, has_length c.loop-k.invariant.claimed, c.in-Some.ensures.0)
 
 pub loop-k-preserved : goal.loop-k-preserved
 loop-k-preserved g c =
