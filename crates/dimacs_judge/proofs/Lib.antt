@@ -12,4 +12,9 @@ mod Settling
 pub mod Reasons
 pub mod Passing
 pub mod LabelsPassing
+mod CountLemmas
+mod PutLemmas
+mod EntryLemmas
+pub mod Claims
+pub mod RowLists
 pub mod InfeasibleJudge

@@ -9,6 +9,7 @@ mod balances;
 mod costs;
 mod crossing;
 mod cuts;
+mod entries;
 mod feasible;
 mod flow;
 mod infeasible;
@@ -18,6 +19,7 @@ mod potentials;
 mod verdict;
 
 pub use cuts::cut_tests;
+pub use entries::flow_of;
 pub use feasible::{feasible_max, feasible_min};
 pub use flow::Flow;
 pub use infeasible::judge_infeasible;
