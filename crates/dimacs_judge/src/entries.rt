@@ -24,9 +24,7 @@ pub fn flow_of<N: Network>(
 ) -> Result<Flow, JudgeError>
     ensures { Settles (Carries (N.list network.now) solution.now.entries.items) (entry_row (N.list network.now) solution.now.entries.items ∷ []) result }
 {
-    let Ok(mut so_far) = FlowSoFar::new(alloc, network) else {
-        return Err(JudgeError::Memory);
-    };
+    let mut so_far = FlowSoFar::new(alloc, network)?;
     for entry in &solution.entries {
         if let Err(reason) = so_far.take(network, *entry) {
             let place = Where::Solution {

@@ -25,9 +25,7 @@ pub fn feasible_max<N: Network>(
     requires { length flow.now ≡ length instance.now.arcs }
     ensures { Settles (λ done. FeasibleMax instance.now flow.now) (feasible_max_rows instance.now flow.now) result }
 {
-    if let Err(error) = feasible(alloc, instance.network(), flow, instance) {
-        return Err(error);
-    }
+    feasible(alloc, instance.network(), flow, instance)?;
     Ok(())
 }
 
@@ -43,9 +41,7 @@ pub fn feasible_min<N: Network>(
     requires { length flow.now ≡ length instance.now.arcs }
     ensures { Settles (λ done. FeasibleMin instance.now flow.now) (feasible_min_rows instance.now flow.now) result }
 {
-    if let Err(error) = feasible(alloc, instance.network(), flow, instance) {
-        return Err(error);
-    }
+    feasible(alloc, instance.network(), flow, instance)?;
     Ok(())
 }
 
@@ -62,15 +58,9 @@ pub(crate) fn feasible<N: Network, D: Demands>(
     requires one_each { length flow.now ≡ length (N.list network.now) }
     ensures { TellsFeasible (N.node_count network.now) (N.list network.now) (D.demand demands.now) flow.now result }
 {
-    if let Err((place, reason)) = bounds_hold(network, flow) {
-        return Err(JudgeError::Refused(place, reason));
-    }
-    let Ok(balances) = Balances::new(alloc, network, flow) else {
-        return Err(JudgeError::Memory);
-    };
-    if let Err((place, reason)) = balances_hold(network, &balances, demands) {
-        return Err(JudgeError::Refused(place, reason));
-    }
+    bounds_hold(network, flow)?;
+    let balances = Balances::new(alloc, network, flow)?;
+    balances_hold(network, &balances, demands)?;
     Ok(balances)
 }
 

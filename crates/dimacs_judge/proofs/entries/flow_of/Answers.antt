@@ -20,7 +20,7 @@ loop-entry-preserved g c =
     let entries = c.args.solution.now.entries.items in
     let k = c.loop-entry.entry-index in
     let inside : k < length entries = omega (arith, c.loop-entry-test.true, c.deref-entry-items.ensures.len) in
-    let takes = rw c.deref-entry-items.ensures.value at (c.in_default-take.ensures (take k entries) c.loop-entry.invariant.claims) in
+    let takes = rw c.deref-entry-items.ensures.value at (c.in_default.ensures (take k entries) c.loop-entry.invariant.claims) in
     record {
       clear = entry_clear_more (g.N.Network.list c.args.network.now) entries k c.loop-entry.invariant.clear takes.0;
       claims = rw (take_more entries k no_entry inside) takes.1;
