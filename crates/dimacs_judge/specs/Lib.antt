@@ -13,3 +13,6 @@ pub mod Rows
 pub mod FlowTests
 pub mod CertificateTests
 pub mod Agreement
+pub mod Claims
+pub mod FlowSoFar
+pub mod InfeasibleJudge

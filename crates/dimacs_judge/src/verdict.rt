@@ -1,5 +1,6 @@
 //! What a judge says.
 
+use dimacs_lines::Memory;
 use dimacs_records::Reason;
 
 /// The place that a refusal names. Arcs and nodes count from 1; field 0 is the whole line.
@@ -18,6 +19,28 @@ pub enum JudgeError {
     Refused(Where, Reason),
     /// A growth was refused.
     Memory,
+}
+
+impl From<(Where, Reason)> for JudgeError {
+    ghost use Rattle.std.specs.Prelude.{◌≡◌};
+    ghost use Rattle.dimacs_judge.specs.declared.verdict.JudgeError.TheVariants.{Refused};
+
+    ghost from_gives = { λ refusal error. error ≡ Refused refusal.0 refusal.1 };
+
+    fn from((place, reason): (Where, Reason)) -> JudgeError {
+        JudgeError::Refused(place, reason)
+    }
+}
+
+impl From<Memory> for JudgeError {
+    ghost use Rattle.std.specs.Prelude.{◌≡◌};
+    ghost use Rattle.dimacs_judge.specs.declared.verdict.JudgeError.TheVariants as errors;
+
+    ghost from_gives = { λ memory error. error ≡ errors.Memory };
+
+    fn from(_memory: Memory) -> JudgeError {
+        JudgeError::Memory
+    }
 }
 
 /// What a judge says yes to.
