@@ -9,14 +9,14 @@ use Rattle.dimacs_judge.specs.declared.verdict.JudgeError.{JudgeError}
 use Rattle.dimacs_judge.specs.declared.verdict.JudgeError.TheVariants as judge_errors
 use Rattle.dimacs_judge.specs.declared.verdict.Verdict.{Verdict}
 use Rattle.dimacs_judge.specs.declared.verdict.Where.{Where}
-use Rattle.dimacs_judge.specs.Tests.{Row, AllClear, First}
+use Rattle.dimacs_judge.specs.Tests.{Row, AllClear, First, Judges}
 use Rattle.dimacs_runs.specs.declared.outcome.Status.{Status}
 use Rattle.dimacs_runs.specs.declared.outcome.Status.TheVariants.{Done, Refused}
 use Rattle.dimacs_runs.specs.declared.outcome.RunError.{RunError}
 use Rattle.dimacs_runs.specs.declared.outcome.RunError.TheVariants.{Device, Memory}
 use Rattle.dimacs_runs.specs.declared.told.Told.{Told}
 use Rattle.dimacs_runs.specs.declared.unread.Unread.{Unread}
-use Rattle.dimacs_runs.specs.Judgings.{TextSays, FaultOr, VerdictOr, AnswersAs, ReadsIn, StopsAt, ReadsTwo, ReadsThree, CountsDevices, CountsUnread, CountsError, OneMore, answer_told, error_told}
+use Rattle.dimacs_runs.specs.Judgings.{TextSays, FaultOr, VerdictOr, ReadsIn, StopsAt, ReadsTwo, ReadsThree, CountsDevices, CountsUnread, CountsError, OneMore, answer_told, error_told}
 use Rattle.dimacs_runs.specs.Refusals.{refusal_line}
 use Rattle.dimacs_runs.specs.Runs.{TellsAlone, Reports, CountsRun}
 use Rattle.dimacs_runs.specs.Told.{EndsAfter, ToldAlone, told_lines, told_status}
@@ -69,18 +69,18 @@ none_first [] place reason clear f = f
 none_first (row ∷ rows) place reason clear (inl f) = clear.0 f.number place reason f.fails
 none_first (row ∷ rows) place reason clear (inr f) = none_first rows place reason clear.1 f.1
 
-module _ (holds : Type 0) (rows : List Row) (lines : List ℕ) where
+module _ (holds : Type 0) (rows : List Row) (says : Verdict → Type 0) (lines : List ℕ) (same : (verdict : Verdict) → says verdict → verdict_lines verdict ≡ lines) where
   abbrev judged : Status → List ℕ → Type 0
   judged = VerdictOr holds rows lines
 
-  yes_alone : (verdict : Verdict) → AnswersAs holds rows lines (Ok verdict) → TellsAlone judged Done (verdict_lines verdict)
-  yes_alone verdict answer = ((answer.1, answer.2), alone)
+  yes_alone : (verdict : Verdict) → Judges rows holds says (Ok verdict) → TellsAlone judged Done (verdict_lines verdict)
+  yes_alone verdict answer = ((answer.1, same verdict answer.2), alone)
     where
       alone : (s : Status) (other : List ℕ) → judged s other → (s ≡ Done) × (other ≡ verdict_lines verdict)
-      alone Done other h = (refl, h.1 ∙ sym answer.2)
+      alone Done other h = (refl, h.1 ∙ sym (same verdict answer.2))
       alone Refused other h = absurd (none_first rows h.0 h.1 answer.0 h.2)
 
-  no_alone : (place : Where) (reason : Reason) → AnswersAs holds rows lines (Err (judge_errors.Refused place reason)) → TellsAlone judged Refused (failure_line place reason)
+  no_alone : (place : Where) (reason : Reason) → Judges rows holds says (Err (judge_errors.Refused place reason)) → TellsAlone judged Refused (failure_line place reason)
   no_alone place reason answer = ((place, reason, answer.0.0, refl), alone)
     where
       alone : (s : Status) (other : List ℕ) → judged s other → (s ≡ Refused) × (other ≡ failure_line place reason)
@@ -88,7 +88,7 @@ module _ (holds : Type 0) (rows : List Row) (lines : List ℕ) where
       alone Refused other h = let same = answer.0.1 h.0 h.1 h.2 in (refl, h.3 ∙ rw (same.0, same.1) refl)
 
   -- the judge answered
-  pub answer_alone : (answer : Result Verdict JudgeError) → AnswersAs holds rows lines answer → ToldAlone judged (answer_told answer)
+  pub answer_alone : (answer : Result Verdict JudgeError) → Judges rows holds says answer → ToldAlone judged (answer_told answer)
   answer_alone (Ok verdict) answer = yes_alone verdict answer
   answer_alone (Err (judge_errors.Refused place reason)) answer = no_alone place reason answer
   answer_alone (Err judge_errors.Memory) answer = tt

@@ -12,7 +12,7 @@ use Rattle.dimacs_judge.specs.declared.verdict.JudgeError.{JudgeError}
 use Rattle.dimacs_judge.specs.declared.verdict.JudgeError.TheVariants as judge_errors
 use Rattle.dimacs_judge.specs.declared.verdict.Verdict.{Verdict}
 use Rattle.dimacs_judge.specs.declared.verdict.Where.{Where}
-use Rattle.dimacs_judge.specs.Tests.{Row, First, FirstAlone, AllClear}
+use Rattle.dimacs_judge.specs.Tests.{Row, First}
 use Rattle.dimacs_runs.specs.declared.outcome.Status.{Status}
 use Rattle.dimacs_runs.specs.declared.outcome.Status.TheVariants.{Done, Refused}
 use Rattle.dimacs_runs.specs.declared.outcome.RunError.{RunError}
@@ -43,12 +43,6 @@ FaultOr text next status out =
 abbrev pub VerdictOr : Type 0 → List Row → List ℕ → Status → List ℕ → Type 0
 VerdictOr holds rows verdict Done out = holds × (out ≡ verdict)
 VerdictOr holds rows verdict Refused out = (place : Where) × (reason : Reason) × First rows place reason × (out ≡ failure_line place reason)
-
--- what a judge answers: that all tests pass, then this holds, and its verdict has these lines; else the first test that fails
-abbrev pub AnswersAs : Type 0 → List Row → List ℕ → Result Verdict JudgeError → Type 0
-AnswersAs holds rows lines (Ok verdict) = AllClear rows × holds × (verdict_lines verdict ≡ lines)
-AnswersAs holds rows lines (Err (judge_errors.Refused place reason)) = FirstAlone rows place reason × ¬ holds
-AnswersAs holds rows lines (Err judge_errors.Memory) = Unit {0}
 
 -- what is told of a judge's answer
 abbrev pub answer_told : Result Verdict JudgeError → Result Told RunError
