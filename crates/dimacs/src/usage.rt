@@ -17,12 +17,12 @@ fn usage_text(alloc: Global) -> Result<String, AllocError> {
         .subcommand(about_text(
             alloc,
             "convert",
-            "Prints the canonical form of a text of kind max, min, gr or query",
+            "Prints the canonical form of a text of kind max, min, gr, query, solution, cut, pot or dist",
         )?)?
         .subcommand(about_text(
             alloc,
             "show",
-            "Prints a line about a text of kind max, min, gr or query",
+            "Prints a line about a text of kind max, min, gr, query, solution, cut, pot or dist",
         )?)?
         .subcommand(about_claim(
             alloc,
