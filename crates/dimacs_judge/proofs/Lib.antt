@@ -11,3 +11,6 @@ pub mod Firsts
 pub mod Reasons
 pub mod Passing
 pub mod LabelsPassing
+mod ListedRows
+mod BlockNumbers
+pub mod QueriesPassing

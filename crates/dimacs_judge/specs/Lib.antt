@@ -13,3 +13,5 @@ pub mod Rows
 pub mod FlowTests
 pub mod CertificateTests
 pub mod Agreement
+pub mod QueryTests
+pub mod Answers

@@ -14,6 +14,7 @@ mod flow;
 mod labels;
 mod laws;
 mod potentials;
+mod queries;
 mod verdict;
 
 pub use flow::Flow;
