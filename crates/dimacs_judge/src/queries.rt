@@ -1,6 +1,6 @@
 //! Whether queries ask for what is there, and what labels answer to them.
 
-ghost use Rattle.std.specs.Prelude.{◌≡◌, ◌<◌, ◌∷◌, [], List, Option, Some, IfOk, map, length, slice_get};
+ghost use Rattle.std.specs.Prelude.{◌≡◌, ◌<◌, List, Some, IfOk, map, length, slice_get};
 ghost use Rattle.dimacs_records.specs.declared.reasons.Reason.TheVariants as reasons;
 ghost use Rattle.dimacs_instance.specs.QueryTexts.{AreLawful, Pairs, asked};
 ghost use Rattle.dimacs_claims.specs.Labels.{BlockValue};

@@ -1,8 +1,7 @@
 use Rattle.std.proofs.Common.{List}
 use Rattle.dimacs_instance.specs.QueryTexts.{asked}
 use Rattle.dimacs_claims.specs.Labels.{BlockValue}
-use Rattle.dimacs_judge.specs.QueryTests.{AreNumbers}
-use Rattle.dimacs_judge.specs.QueryTests.{block_row}
+use Rattle.dimacs_judge.specs.QueryTests.{AreNumbers, block_row}
 use Rattle.dimacs_judge.specs.Tests.{ClearBelow}
 use Rattle.dimacs_judge.proofs.queries.sources_have_blocks.Given as goal
 
