@@ -10,10 +10,10 @@ use Rattle.std.proofs.lemmas.List.Elements.{Contains-get_or}
 use Rattle.std.proofs.lemmas.List.Folds.{find_at, position_or_len_push}
 use Rattle.std.proofs.lemmas.List.Quantifiers.{position-Some}
 use Rattle.std.proofs.lemmas.List.Sums.{position_or_len_is, fails_before_first, prefix_len-le-length}
-use Rattle.std.proofs.lemmas.Option.{slice_get_past}
+use Rattle.std.proofs.lemmas.Option.{slice_get_past, slice_get-get_or}
 use Rattle.dimacs_nodes.proofs.Nodes.{get-insert_same, get-insert_other}
 use Rattle.dimacs_claims.specs.Labels.{BlockValue, EachBehind, IsNewSource, label_at}
-use Rattle.dimacs_judge.specs.Answers.{distance_from}
+use Rattle.dimacs_judge.specs.Answers.{block_of, distance_from}
 use Rattle.dimacs_judge.specs.QueryTests.{HasBlock, is_of, AreNumbers}
 
 -- ---- the first place that passes a test
@@ -93,3 +93,15 @@ distance_none blocks from to none = rw (find-position (is_of from) blocks, none)
 
 pub distance_some : (blocks : List BlockValue) (from to i : ℕ) → position (is_of from) blocks ≡ Some i → label_at blocks i to ≡ distance_from blocks from to
 distance_some blocks from to i is = rw (find-position (is_of from) blocks, is) refl
+
+-- the block of a source that has one
+pub block_found : (blocks : List BlockValue) (source : ℕ) → HasBlock blocks source → (i : ℕ) × (b : BlockValue) × (i < length blocks) × (get_or blocks i b ≡ b) × (block_of blocks source ≡ Some b) × (b.source ≡ source)
+block_found blocks source has = by_number (position (is_of source) blocks) refl
+  where
+    by_number : (number : Option ℕ) → position (is_of source) blocks ≡ number → (i : ℕ) × (b : BlockValue) × (i < length blocks) × (get_or blocks i b ≡ b) × (block_of blocks source ≡ Some b) × (b.source ≡ source)
+    by_number None is = absurd (no_block blocks source is has)
+    by_number (Some i) is =
+        let d : BlockValue = record { source = 0; labels = [] } in
+        let found = position-Some (is_of source) blocks i d is in
+        let first : block_of blocks source ≡ slice_get blocks i = find-position (is_of source) blocks ∙ ap (option_and_then (slice_get blocks)) is in
+        (i, get_or blocks i d, found.0, get_or_default blocks i _ _ found.0, first ∙ slice_get-get_or blocks i d found.0, eqb-true _ _ found.1)

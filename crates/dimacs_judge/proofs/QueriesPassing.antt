@@ -13,8 +13,14 @@ use Rattle.dimacs_judge.specs.Tests.{Clear}
 use Rattle.dimacs_judge.proofs.BlockNumbers.{has_block, no_block}
 use Rattle.dimacs_judge.proofs.Firsts.{OneWay}
 
-pub listed_one_way : (ids : List ℕ) (why : Reason) (fails : ℕ → Type 0) → OneWay (listed_row ids why fails)
+listed_one_way : (ids : List ℕ) (why : Reason) (fails : ℕ → Type 0) → OneWay (listed_row ids why fails)
 listed_one_way ids why fails k p q r s f g = (f.1 ∙ sym g.1, f.2 ∙ sym g.2)
+
+pub query_node_one_way : (nodes : ℕ) (queries : QueriesValue) → OneWay (query_node_row nodes queries)
+query_node_one_way nodes queries = listed_one_way (nodes_asked queries) reasons.QueryNode (λ id. nodes < id)
+
+pub block_one_way : (blocks : List BlockValue) (queries : QueriesValue) → OneWay (block_row blocks queries)
+block_one_way blocks queries = listed_one_way (sources_asked queries) reasons.BlockMissing (λ source. ¬ HasBlock blocks source)
 
 -- where no test of a list fails each node has the property, and where each has it none fails
 listed_hold : (ids : List ℕ) (why : Reason) (fails holds : ℕ → Type 0) → ((id : ℕ) → (¬ fails id) → holds id) → Clear (listed_row ids why fails) → All holds ids
