@@ -1,17 +1,18 @@
 -- One label more in a block.
 use Rattle.std.proofs.Common.{◌≡◌, ℕ, zero, suc, ◌<◌, ◌∷◌, ◌++◌, [], List, Bool, true, false, cond, Option, Some, None, length, slice_index_or, refl, ap, sym, ◌∙◌, subst, arith, inl, inr, ◌⊎◌}
-use Rattle.std.specs.Prelude.{ℤ, pos, is_some, if◌then◌else◌, ◌==◌, ◌||◌, map}
-use Rattle.std.specs.List.{Contains, list_any}
+use Rattle.std.specs.Prelude.{ℤ, pos, IfSome, is_some, if◌then◌else◌, ◌==◌, ◌||◌, map}
+use Rattle.std.specs.List.{All, Contains, list_any}
 use Rattle.std.specs.Ordering.{nat_cmp}
 use Rattle.std.specs.Cmp.{unsigned_tied}
 use Rattle.std.specs.BTreeMap.{BTreeMap, get, is_at}
 use Rattle.std.proofs.lemmas.Bool.{eqb-true, eq-eqb}
 use Rattle.std.proofs.lemmas.List.{length-append}
-use Rattle.std.proofs.lemmas.List.Elements.{All-push}
+use Rattle.std.proofs.lemmas.Int.{ints}
+use Rattle.std.proofs.lemmas.List.Elements.{All-head, All-push, All-tail}
 use Rattle.dimacs_records.specs.Earlier.{or_else}
 use Rattle.dimacs_records.proofs.SplitLemmas.{two_places, same, sooner, later}
 use Rattle.dimacs_claims.specs.declared.block.Label.{Label}
-use Rattle.dimacs_claims.specs.Labels.{BlockValue, label, distance_in, with_label, EachBehind, IsFresh, HasPred, IsLabel, IsBlock}
+use Rattle.dimacs_claims.specs.Labels.{BlockValue, label, label_at, distance_in, with_label, EachBehind, IsFresh, HasPred, IsLabel, IsBlock, IsWide}
 use Rattle.dimacs_claims.specs.Distances.{AreDistances}
 
 -- a test before a choice
@@ -137,3 +138,20 @@ block_push nodes b l is label_is room fresh pred = record {
   fresh = each_behind_push (IsFresh b.source) b.labels l is.fresh (is_fresh b l fresh);
   preds = each_behind_push (HasPred b.source) b.labels l is.preds (has_pred b l pred);
 }
+
+-- ---- claimed distances lie in their range
+either_wide : (c : Bool) (d : ℤ) (x : Option ℤ) → IsWide d → IfSome x IsWide → IfSome (if c then Some d else x) IsWide
+either_wide true d x here rest = here
+either_wide false d x here rest = rest
+
+distance_wide : (nodes : ℕ) (ls : List Label) (v : ℕ) → All (IsLabel nodes) ls → IfSome (distance_in ls v) IsWide
+distance_wide nodes [] v all = tt
+distance_wide nodes (l ∷ ls) v all = either_wide (l.id == v) l.dist (distance_in ls v) (All-head (IsLabel nodes) l ls all).dist (distance_wide nodes ls v (All-tail (IsLabel nodes) l ls all))
+
+label_wide : (nodes : ℕ) (b : BlockValue) (v : ℕ) → IsBlock nodes b → IfSome (label b v) IsWide
+label_wide nodes b v is = either_wide (b.source == v) (pos 0) (distance_in b.labels v) (omega (arith, ints), omega (arith, ints)) (distance_wide nodes b.labels v is.within)
+
+pub label_at_wide : (nodes : ℕ) (blocks : List BlockValue) (k v : ℕ) → All (IsBlock nodes) blocks → IfSome (label_at blocks k v) IsWide
+label_at_wide nodes [] k v all = tt
+label_at_wide nodes (b ∷ blocks) zero v all = label_wide nodes b v (All-head (IsBlock nodes) b blocks all)
+label_at_wide nodes (b ∷ blocks) (suc k) v all = label_at_wide nodes blocks k v (All-tail (IsBlock nodes) b blocks all)

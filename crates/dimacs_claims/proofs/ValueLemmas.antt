@@ -1,13 +1,14 @@
 -- Maps of potentials, with and without those that are 0.
-use Rattle.std.proofs.Common.{◌≡◌, ◌≢◌, ◌≤◌, ℕ, ◌==◌, Bool, true, false, Option, Some, None, cond, refl, sym, ◌∙◌, ap}
+use Rattle.std.proofs.Common.{◌≡◌, ◌≢◌, ◌≤◌, ℕ, ◌==◌, Bool, true, false, Option, Some, None, cond, refl, sym, ◌∙◌, ap, arith}
 use Rattle.std.specs.Prelude.{ℤ, pos, not, unwrap_or, if◌then◌else◌, Result, Ok, Err, OnOk, OnErr}
 use Rattle.std.specs.Ordering.{nat_cmp, int_eq}
 use Rattle.std.specs.Cmp.{nat_cmp_total, unsigned_tied, signed_Decides}
 use Rattle.std.specs.FinMap.{FinMap, empty, get, insert, remove, same_map, get-empty, get-remove, get-retain_keys, nat_cmp-IsAntisymmetric}
 use Rattle.std.proofs.lemmas.Bool.{eqb-true}
+use Rattle.std.proofs.lemmas.Int.{ints}
 use Rattle.dimacs_nodes.proofs.Nodes.{get-insert}
 use Rattle.dimacs_claims.specs.Cuts.{IsNode}
-use Rattle.dimacs_claims.specs.Potentials.{PotentialsValue, ArePotentials, IsPotential, IsWide, is_nonzero, with_potential, zero_potentials}
+use Rattle.dimacs_claims.specs.Potentials.{PotentialsValue, ArePotentials, IsPotential, IsWide, is_nonzero, potential_of, with_potential, zero_potentials}
 use Rattle.dimacs_claims.specs.PotentialsReading.{without_zeros}
 
 -- what is found, unless it is 0
@@ -103,3 +104,10 @@ pub set_potential : {E : Type 0} (nodes : ℕ) (old new : FinMap nat_cmp ℤ) (i
     → OnOk r ((record { nodes = nodes; values = without_zeros new }) ≡ with_potential (record { nodes = nodes; values = without_zeros old }) id n)
 set_potential nodes old new id n (Ok done) set = ap (λ m. record { nodes = nodes; values = m }) (ap without_zeros set ∙ without_zeros-insert old id n)
 set_potential nodes old new id n (Err error) set = tt
+
+pub potential_wide : (p : PotentialsValue) → ArePotentials p → (id : ℕ) → IsWide (potential_of p id)
+potential_wide p law id = by_found (get p.values id) refl
+  where
+    by_found : (found : Option ℤ) → get p.values id ≡ found → IsWide (unwrap_or found (pos 0))
+    by_found None e = (omega (arith, ints), omega (arith, ints))
+    by_found (Some n) e = (law.within id n e).2

@@ -1,6 +1,6 @@
 //! Labels: claimed distances from sources.
 
-ghost use Rattle.std.specs.Prelude.{◌≡◌, ◌≤◌, ◌++◌, ◌∷◌, [], ℕ, List, Option, Some, None, OnOk, OnErr, length};
+ghost use Rattle.std.specs.Prelude.{◌≡◌, ◌≤◌, ◌++◌, ◌∷◌, [], ℕ, List, Option, Some, None, OnOk, OnErr, IfSome, length};
 ghost use Rattle.dimacs_lines.specs.Devices.{CountsFault};
 ghost use Rattle.dimacs_lines.specs.Lines.{lines};
 ghost use Rattle.dimacs_lines.specs.Pages.{FaultsAre, IsWritten};
@@ -61,7 +61,8 @@ impl Labels {
     /// past the last one, and above the number of nodes, there is none. Takes no memory, and logarithmic time.
     #[inline]
     pub fn label(&self, block: usize, id: u32) -> Option<i128>
-        ensures { result ≡ label_at self.now.blocks block id }
+        ensures label { result ≡ label_at self.now.blocks block id }
+        ensures wide { IfSome result IsWide }
     {
         self.blocks.get(block)?.distance(id)
     }

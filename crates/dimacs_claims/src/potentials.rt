@@ -69,7 +69,8 @@ impl Potentials {
     /// The potential of the node of this ID, and 0 of an ID of no node. Takes no memory.
     #[inline]
     pub fn of(&self, id: u32) -> i128
-        ensures { result ≡ potential_of self.now id }
+        ensures value { result ≡ potential_of self.now id }
+        ensures wide { IsWide result }
     {
         self.values.get(id).unwrap_or(0)
     }

@@ -1,9 +1,11 @@
 -- Blocks of labels, one after another.
-use Rattle.std.proofs.Common.{inl, inr, ℕ, suc, zero, ◌+◌, ◌<◌, List, [], ◌∷◌, length, take, add-one, arith}
+use Rattle.std.proofs.Common.{◌≡◌, ◌∙◌, ap, get_or, refl, inl, inr, ℕ, suc, zero, ◌+◌, ◌<◌, List, [], ◌∷◌, length, take, add-one, arith}
 use Rattle.dimacs_instance.specs.declared.network.ArcView.{ArcView}
 use Rattle.dimacs_records.specs.declared.reasons.Reason.{Reason}
 use Rattle.dimacs_judge.specs.declared.verdict.Where.{Where}
-use Rattle.dimacs_judge.specs.Labels.{BlockValue, block_at}
+use Rattle.dimacs_claims.specs.declared.block.Label.{Label}
+use Rattle.dimacs_claims.specs.Labels.{BlockValue, label, label_at}
+use Rattle.dimacs_judge.specs.Labels.{block_at}
 use Rattle.dimacs_judge.specs.CertificateTests.{block_rows, label_rows}
 use Rattle.dimacs_judge.specs.Tests.{AllClear, First}
 
@@ -22,3 +24,18 @@ blocks_first arcs (b ∷ blocks) zero place reason inside before (inl here) = in
 blocks_first arcs (b ∷ blocks) zero place reason inside before (inr (clear, inl here)) = inr (clear, inl here)
 blocks_first arcs (b ∷ blocks) zero place reason inside before (inr (clear, inr (also, none))) = absurd none
 blocks_first arcs (b ∷ blocks) (suc k) place reason inside before here = inr (before.0, inr (before.1.0, blocks_first arcs blocks k place reason (omega arith) before.1.1 here))
+
+-- the label in a block, by the number of the block
+pub label_at-block : (blocks : List BlockValue) (k v : ℕ) → k < length blocks → label_at blocks k v ≡ label (block_at blocks k) v
+label_at-block [] k v inside = absurd (omega arith)
+label_at-block (b ∷ blocks) zero v inside = refl
+label_at-block (b ∷ blocks) (suc k) v inside = label_at-block blocks k v (omega arith)
+
+the_element : {X : Type 0} (xs : List X) (k : ℕ) (d e : X) → k < length xs → get_or xs k d ≡ get_or xs k e
+the_element [] k d e inside = absurd (omega arith)
+the_element (x ∷ xs) zero d e inside = refl
+the_element (x ∷ xs) (suc k) d e inside = the_element xs k d e (omega arith)
+
+-- the labels of the block of this number
+pub labels_of_block : (blocks : List BlockValue) (k : ℕ) (b : BlockValue) (labels : List Label) → k < length blocks → b ≡ get_or blocks k b → labels ≡ b.labels → labels ≡ (block_at blocks k).labels
+labels_of_block blocks k b labels inside is labels_are = labels_are ∙ ap (λ (d : BlockValue). d.labels) (is ∙ the_element blocks k b _ inside)

@@ -5,9 +5,10 @@ use Rattle.std.proofs.lemmas.List.{append_assoc, append-nil}
 use Rattle.std.proofs.lemmas.List.Elements.{Contains-append_right, All-contains, All-nil, All-cons, All-weaker}
 use Rattle.std.proofs.lemmas.Bool.Decides.{eqb_tells}
 use Rattle.dimacs_instance.specs.declared.network.ArcView.{ArcView}
-use Rattle.dimacs_judge.specs.declared.labels.Label.{Label}
+use Rattle.dimacs_claims.specs.declared.block.Label.{Label}
 use Rattle.dimacs_judge.specs.Walks.{IsWalk, weight, Dist, Unreachable, IsDistance}
-use Rattle.dimacs_judge.specs.Labels.{BlockValue, distance_in, label, PredsAreEarlier, HasTightArc, IsRelaxed, LabelsOk}
+use Rattle.dimacs_claims.specs.Labels.{BlockValue, distance_in, label, PredsAreEarlier}
+use Rattle.dimacs_judge.specs.Labels.{HasTightArc, IsRelaxed, LabelsOk}
 
 -- ---- no walk weighs less
 walk_bound : (g : List ArcView) (b : BlockValue) → All (IsRelaxed b) g → (walk : List ArcView) (u t : ℕ) (d : ℤ) → IsWalk g u t walk → label b u ≡ Some d

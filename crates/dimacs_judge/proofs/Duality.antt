@@ -5,7 +5,9 @@ use Rattle.std.specs.List.{All, AllZip}
 use Rattle.dimacs_instance.specs.declared.network.ArcView.{ArcView}
 use Rattle.dimacs_instance.specs.Arcs.{JoinsNodes}
 use Rattle.dimacs_judge.specs.Flows.{sum_arcs, sum_nodes, when, net}
-use Rattle.dimacs_judge.specs.Feasible.{MaxProblem, MinProblem, IsNode, FeasibleMax, FeasibleMin, value}
+use Rattle.dimacs_instance.specs.Flows.{MaxValue, IsNode}
+use Rattle.dimacs_instance.specs.MinFlows.{MinValue, supply_of}
+use Rattle.dimacs_judge.specs.Feasible.{FeasibleMax, FeasibleMin, value}
 use Rattle.dimacs_judge.specs.Optimum.{Maximum, Least, NoFlow}
 use Rattle.dimacs_judge.specs.Cuts.{CutTight}
 use Rattle.dimacs_judge.specs.Potentials.{reduced_cost, Slack}
@@ -31,7 +33,7 @@ across_is c n arcs y ends =
     sum_nodes-same (λ v. when (c v) (net arcs y v)) (λ v. one_in c v *ℤ net arcs y v) n (λ v h. sym (inside (c v) _)) ∙ sums_exchange (one_in c) n arcs y ends
 
 -- the value is what crosses a set with the source and not the sink
-pub value_across : (i : MaxProblem) (c : ℕ → Bool) (y : List ℤ) → All (JoinsNodes i.nodes) i.arcs → IsNode i.nodes i.source → c i.source ≡ true → c i.sink ≡ false → FeasibleMax i y → value i y ≡ across c i.arcs y
+pub value_across : (i : MaxValue) (c : ℕ → Bool) (y : List ℤ) → All (JoinsNodes i.nodes) i.arcs → IsNode i.nodes i.source → c i.source ≡ true → c i.sink ≡ false → FeasibleMax i y → value i y ≡ across c i.arcs y
 value_across i c y ends source here there f =
     sym (rw here at (sum_nodes-one (λ v. when (c v) (net i.arcs y v)) i.source i.nodes source (λ v h ne. go v h ne (c v) refl))) ∙ across_is c i.nodes i.arcs y ends
   where
@@ -46,7 +48,7 @@ tight_term true false x z cap h k = omega (arith, ints, k.0 refl)
 tight_term false true x z cap h k = omega (arith, ints, k.1 refl)
 tight_term false false x z cap h k = omega (arith, ints)
 
-pub tight_is_maximum : (i : MaxProblem) → All (JoinsNodes i.nodes) i.arcs → IsNode i.nodes i.source → (x : List ℤ) (c : ℕ → Bool) → FeasibleMax i x → CutTight i x c → Maximum i x
+pub tight_is_maximum : (i : MaxValue) → All (JoinsNodes i.nodes) i.arcs → IsNode i.nodes i.source → (x : List ℤ) (c : ℕ → Bool) → FeasibleMax i x → CutTight i x c → Maximum i x
 tight_is_maximum i ends source x c f cut = record {
   feasible = f;
   greatest = λ y g.
@@ -58,7 +60,7 @@ tight_is_maximum i ends source x c f cut = record {
 abbrev pub priced : (ℕ → ℤ) → List ArcView → List ℤ → ℤ
 priced p arcs y = sum_arcs (λ a x. x *ℤ (p a.tail -ℤ p a.head)) arcs y
 
-priced_is : (i : MinProblem) (p : ℕ → ℤ) (y : List ℤ) → All (JoinsNodes i.nodes) i.arcs → FeasibleMin i y → priced p i.arcs y ≡ sum_nodes (λ v. p v *ℤ i.supply v) i.nodes
+priced_is : (i : MinValue) (p : ℕ → ℤ) (y : List ℤ) → All (JoinsNodes i.nodes) i.arcs → FeasibleMin i y → priced p i.arcs y ≡ sum_nodes (λ v. p v *ℤ supply_of i v) i.nodes
 priced_is i p y ends f = sym (sums_exchange p i.nodes i.arcs y ends) ∙ sum_nodes-same _ _ i.nodes (λ v h. ap (λ (z : ℤ). p v *ℤ z) (f.balanced v h))
 
 priced_term : (x c s t : ℤ) → c *ℤ x ≡ ((c -ℤ s) +ℤ t) *ℤ x +ℤ x *ℤ (s -ℤ t)
@@ -73,7 +75,7 @@ slack_term r x z low cap s w =
     by_lt_z r (pos 0) (λ k. mul_ge r z x (omega (arith, ints)) (omega (arith, ints, s.1 k))) (λ k.
     let e : r ≡ pos 0 = omega (arith, ints) in rw e (omega (arith, ints))))
 
-pub slack_is_least : (i : MinProblem) → All (JoinsNodes i.nodes) i.arcs → (x : List ℤ) (p : ℕ → ℤ) → FeasibleMin i x → Slack i.arcs x p → Least i x
+pub slack_is_least : (i : MinValue) → All (JoinsNodes i.nodes) i.arcs → (x : List ℤ) (p : ℕ → ℤ) → FeasibleMin i x → Slack i.arcs x p → Least i x
 slack_is_least i ends x p f slack = record {
   feasible = f;
   least = λ y g.
@@ -108,12 +110,12 @@ across_least c [] (x ∷ y) w = absurd w
 across_least c (a ∷ arcs) [] w = absurd w
 across_least c (a ∷ arcs) (x ∷ y) w = omega (arith, ints, lower_term (c a.tail) (c a.head) x a.low a.cap w.0, across_least c arcs y w.1)
 
-pub violated_has_no_flow : (i : MinProblem) → All (JoinsNodes i.nodes) i.arcs → (c : ℕ → Bool) → Violated i c → NoFlow i
+pub violated_has_no_flow : (i : MinValue) → All (JoinsNodes i.nodes) i.arcs → (c : ℕ → Bool) → Violated i c → NoFlow i
 violated_has_no_flow i ends c bad y f = go bad
   where
-    supplied : supply_in i.nodes i.supply c ≡ across c i.arcs y
+    supplied : supply_in i.nodes (supply_of i) c ≡ across c i.arcs y
     supplied =
-        sum_nodes-same (λ v. when (c v) (i.supply v)) (λ v. when (c v) (net i.arcs y v)) i.nodes (λ v h. ap (λ (z : ℤ). when (c v) z) (sym (f.balanced v h)))
+        sum_nodes-same (λ v. when (c v) (supply_of i v)) (λ v. when (c v) (net i.arcs y v)) i.nodes (λ v h. ap (λ (z : ℤ). when (c v) z) (sym (f.balanced v h)))
         ∙ across_is c i.nodes i.arcs y ends
 
     go : Violated i c → ⊥

@@ -7,9 +7,10 @@ use Rattle.std.proofs.lemmas.List.Elements.{All-nil, All-cons, All-head, All-tai
 use Rattle.dimacs_instance.specs.declared.network.ArcView.{ArcView}
 use Rattle.dimacs_records.specs.declared.reasons.Reason.{Reason}
 use Rattle.dimacs_records.specs.declared.reasons.Reason.TheVariants as reasons
-use Rattle.dimacs_judge.specs.declared.labels.Label.{Label}
+use Rattle.dimacs_claims.specs.declared.block.Label.{Label}
 use Rattle.dimacs_judge.specs.declared.verdict.Where.TheVariants as places
-use Rattle.dimacs_judge.specs.Labels.{BlockValue, label, HasArcOfWeight, HasTightArc, IsRelaxed, LabelsOk}
+use Rattle.dimacs_claims.specs.Labels.{BlockValue, label}
+use Rattle.dimacs_judge.specs.Labels.{HasArcOfWeight, HasTightArc, IsRelaxed, LabelsOk}
 use Rattle.dimacs_judge.specs.Tests.{Clear, AllClear}
 use Rattle.dimacs_judge.specs.Rows.{no_arc, arc_at}
 use Rattle.dimacs_judge.specs.CertificateTests.{no_label, support_row, RelaxFails, relax_row, label_rows}

@@ -8,9 +8,16 @@ mod CrossLemmas
 mod SupportLemmas
 mod BlockLemmas
 pub mod Firsts
+mod Settling
 pub mod Reasons
 pub mod Passing
 pub mod LabelsPassing
+mod CountLemmas
+mod PutLemmas
+mod EntryLemmas
+pub mod Claims
+pub mod RowLists
+pub mod InfeasibleJudge
 mod ListedRows
 mod BlockNumbers
 pub mod QueriesPassing

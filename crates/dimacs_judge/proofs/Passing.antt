@@ -1,9 +1,9 @@
 -- Tests that all pass, and the properties that they test.
-use Rattle.std.proofs.Common.{◌≡◌, ◌≢◌, ◌==◌, ◌⊎◌, inl, inr, ℕ, suc, zero, ◌+◌, ◌<◌, Bool, true, false, List, [], ◌∷◌, All, length, get_or, Option, Some, ℤ, pos, ◌≤ℤ◌, ◌<ℤ◌, refl, sym, subst, ◌∙◌, arith}
+use Rattle.std.proofs.Common.{◌≡◌, ◌≢◌, ◌==◌, ◌⊎◌, inl, inr, ℕ, suc, zero, ◌+◌, ◌<◌, Bool, true, false, List, [], ◌∷◌, All, length, get_or, Option, Some, Result, Ok, Err, ℤ, pos, ◌≤ℤ◌, ◌<ℤ◌, refl, sym, subst, ◌∙◌, arith}
 use Rattle.std.specs.List.{AllZip}
 use Rattle.std.specs.Int.Signed.{<ℤ_irrefl}
 use Rattle.std.proofs.lemmas.Int.{ints, by_lt_z}
-use Rattle.std.proofs.lemmas.List.Elements.{All-head, All-tail}
+use Rattle.std.proofs.lemmas.List.Elements.{All-head, All-tail, All-weaker}
 use Rattle.std.proofs.lemmas.Bool.{ne_eqb}
 use Rattle.std.proofs.lemmas.Bool.Decides.{eqb_tells}
 use Rattle.dimacs_instance.specs.declared.network.ArcView.{ArcView}
@@ -12,15 +12,17 @@ use Rattle.dimacs_records.specs.declared.reasons.Reason.TheVariants as reasons
 use Rattle.dimacs_judge.specs.declared.verdict.Where.{Where}
 use Rattle.dimacs_judge.specs.declared.verdict.Where.TheVariants as places
 use Rattle.dimacs_judge.specs.Flows.{net}
-use Rattle.dimacs_judge.specs.Feasible.{MaxProblem, MinProblem, IsNode, FeasibleMax, FeasibleMin}
+use Rattle.dimacs_instance.specs.Flows.{MaxValue, IsMax, IsNode, HasCapacityAlone}
+use Rattle.dimacs_instance.specs.MinFlows.{MinValue, supply_of}
+use Rattle.dimacs_judge.specs.Feasible.{FeasibleMax, FeasibleMin}
 use Rattle.dimacs_judge.specs.Cuts.{IsTightAt, CutTight}
 use Rattle.dimacs_judge.specs.Potentials.{IsSlackAt, Slack, reduced_cost}
 use Rattle.dimacs_judge.specs.ViolatedSets.{most_out, least_out, supply_in, Violated}
 use Rattle.dimacs_judge.specs.Agreement.{value_row, nodes_row}
-use Rattle.dimacs_judge.specs.Tests.{Clear, AllClear}
+use Rattle.dimacs_judge.specs.Tests.{Clear, AllClear, TellsRow, Tells}
 use Rattle.dimacs_judge.specs.Rows.{one_test, no_arc, arc_at, amount_at, flow_row}
-use Rattle.dimacs_judge.specs.FlowTests.{BoundFails, bound_row, balance_row, feasible_rows, max_demand, min_demand}
-use Rattle.dimacs_judge.specs.CertificateTests.{TightFails, cut_rows, SlackFails, slack_row, violated_row}
+use Rattle.dimacs_judge.specs.FlowTests.{BoundFails, bound_row, balance_row, feasible_max_rows, feasible_min_rows, max_demand, min_demand}
+use Rattle.dimacs_judge.specs.CertificateTests.{TightFails, tight_row, cut_rows, SlackFails, slack_row, violated_row}
 
 -- numbers that cannot differ are equal
 pub same_number : (a b : ℤ) → (¬ (a ≢ b)) → a ≡ b
@@ -99,14 +101,14 @@ tight_kept : (set : ℕ → Bool) (a : ArcView) (x : ℤ) (reason : Reason) → 
 tight_kept set a x reason tight (inl f) = f.2 (tight.0 f.1)
 tight_kept set a x reason tight (inr f) = f.2 (tight.1 f.1)
 
-pub cut_is_tight : (i : MaxProblem) (set : ℕ → Bool) (x : List ℤ) → length x ≡ length i.arcs → AllClear (cut_rows i.arcs i.source i.sink set x) → CutTight i x set
+pub cut_is_tight : (i : MaxValue) (set : ℕ → Bool) (x : List ℤ) → length x ≡ length i.arcs → AllClear (cut_rows i set x) → CutTight i x set
 cut_is_tight i set x long clear = record {
   source_inside = is_true (set i.source) (λ out. clear.0 0 (places.Node i.source) reasons.SourceOutside (refl, refl, refl, out));
   sink_outside = is_false (set i.sink) (λ inside. clear.1.0 0 (places.Node i.sink) reasons.SinkInside (refl, refl, refl, inside));
   tight = flow_row_holds (IsTightAt set) (TightFails set) (keeps_tight set) i.arcs x long clear.1.1.0;
 }
 
-pub tight_cut_clear : (i : MaxProblem) (set : ℕ → Bool) (x : List ℤ) → CutTight i x set → AllClear (cut_rows i.arcs i.source i.sink set x)
+pub tight_cut_clear : (i : MaxValue) (set : ℕ → Bool) (x : List ℤ) → CutTight i x set → AllClear (cut_rows i set x)
 tight_cut_clear i set x cut = (
   (λ k place reason f. not_both (set i.source) cut.source_inside f.3),
   (
@@ -133,22 +135,22 @@ pub slack_clear : (arcs : List ArcView) (p : ℕ → ℤ) (x : List ℤ) → Sla
 slack_clear arcs p x = flow_row_clear (IsSlackAt p) (slack_fails p) (slack_kept p) arcs x
 
 -- ---- feasible flows
-pub feasible_min_holds : (i : MinProblem) (x : List ℤ) → length x ≡ length i.arcs → AllClear (feasible_rows i.nodes i.arcs (min_demand i) x) → FeasibleMin i x
+pub feasible_min_holds : (i : MinValue) (x : List ℤ) → length x ≡ length i.arcs → AllClear (feasible_min_rows i x) → FeasibleMin i x
 feasible_min_holds i x long clear = record {
   within = bounds_hold i.arcs x long clear.0;
-  balanced = λ v node. balances_hold i.nodes i.arcs (min_demand i) x clear.1.0 v (i.supply v) node refl;
+  balanced = λ v node. balances_hold i.nodes i.arcs (min_demand i) x clear.1.0 v (supply_of i v) node refl;
 }
 
-pub feasible_min_clear : (i : MinProblem) (x : List ℤ) → FeasibleMin i x → AllClear (feasible_rows i.nodes i.arcs (min_demand i) x)
+pub feasible_min_clear : (i : MinValue) (x : List ℤ) → FeasibleMin i x → AllClear (feasible_min_rows i x)
 feasible_min_clear i x feasible = (bounds_clear i.arcs x feasible.within, (balances_clear i.nodes i.arcs (min_demand i) x (λ v d node is. feasible.balanced v node ∙ (cc)), tt))
 
-max_demanded : (i : MaxProblem) (v : ℕ) → v ≢ i.source → v ≢ i.sink → max_demand i v ≡ Some (pos 0)
+max_demanded : (i : MaxValue) (v : ℕ) → v ≢ i.source → v ≢ i.sink → max_demand i v ≡ Some (pos 0)
 max_demanded i v s t =
     let not_source : (v == i.source) ≡ false = ne_eqb v i.source s in
     let not_sink : (v == i.sink) ≡ false = ne_eqb v i.sink t in
     rw (not_source, not_sink) refl
 
-demands_zero : (i : MaxProblem) (v : ℕ) (d : ℤ) → max_demand i v ≡ Some d → (v ≢ i.source) × (v ≢ i.sink) × (d ≡ pos 0)
+demands_zero : (i : MaxValue) (v : ℕ) (d : ℤ) → max_demand i v ≡ Some d → (v ≢ i.source) × (v ≢ i.sink) × (d ≡ pos 0)
 demands_zero i v d is = elim (eqb_tells v i.source) [
   | inl s ↦ absurd (let f = rw s.0 at is in cc)
   | inr s ↦ elim (eqb_tells v i.sink) [ inl t ↦ absurd (let f = rw (s.0, t.0) at is in cc) | inr t ↦ (s.1, t.1, let f = rw (s.0, t.0) at is in cc) ]
@@ -157,6 +159,9 @@ demands_zero i v d is = elim (eqb_tells v i.source) [
 -- an arc of a problem of maximum flow has no lower bound
 abbrev pub HasNoLow : ArcView → Type 0
 HasNoLow a = a.low ≡ pos 0
+
+no_lows : (i : MaxValue) → IsMax i → All HasNoLow i.arcs
+no_lows i law = All-weaker HasCapacityAlone HasNoLow (λ a alone. alone.0) i.arcs law.capacities
 
 no_low : (arcs : List ArcView) (x : List ℤ) → All HasNoLow arcs → AllZip IsWithinBounds arcs x → AllZip (λ a z. (pos 0 ≤ℤ z) × (z ≤ℤ a.cap)) arcs x
 no_low [] [] lows all = tt
@@ -170,15 +175,15 @@ with_low [] (z ∷ x) lows all = absurd all
 with_low (a ∷ arcs) [] lows all = absurd all
 with_low (a ∷ arcs) (z ∷ x) lows all = ((rw (All-head HasNoLow a arcs lows) all.0.0, all.0.1), with_low arcs x (All-tail HasNoLow a arcs lows) all.1)
 
-pub feasible_max_holds : (i : MaxProblem) (x : List ℤ) → All HasNoLow i.arcs → length x ≡ length i.arcs → AllClear (feasible_rows i.nodes i.arcs (max_demand i) x) → FeasibleMax i x
-feasible_max_holds i x lows long clear = record {
-  within = no_low i.arcs x lows (bounds_hold i.arcs x long clear.0);
+pub feasible_max_holds : (i : MaxValue) (x : List ℤ) → IsMax i → length x ≡ length i.arcs → AllClear (feasible_max_rows i x) → FeasibleMax i x
+feasible_max_holds i x law long clear = record {
+  within = no_low i.arcs x (no_lows i law) (bounds_hold i.arcs x long clear.0);
   balanced = λ v node s t. balances_hold i.nodes i.arcs (max_demand i) x clear.1.0 v (pos 0) node (max_demanded i v s t);
 }
 
-pub feasible_max_clear : (i : MaxProblem) (x : List ℤ) → All HasNoLow i.arcs → FeasibleMax i x → AllClear (feasible_rows i.nodes i.arcs (max_demand i) x)
-feasible_max_clear i x lows feasible = (
-  bounds_clear i.arcs x (with_low i.arcs x lows feasible.within),
+pub feasible_max_clear : (i : MaxValue) (x : List ℤ) → IsMax i → FeasibleMax i x → AllClear (feasible_max_rows i x)
+feasible_max_clear i x law feasible = (
+  bounds_clear i.arcs x (with_low i.arcs x (no_lows i law) feasible.within),
   (balances_clear i.nodes i.arcs (max_demand i) x (λ v d node is. let (s, t, zero_is) = demands_zero i v d is in feasible.balanced v node s t ∙ sym zero_is), tt),
 )
 
@@ -201,15 +206,26 @@ nodes_are nodes claimed clear = elim (eqb_tells claimed nodes) [ inl is ↦ is.1
 pub nodes_clear : (nodes claimed : ℕ) → claimed ≡ nodes → Clear (nodes_row nodes claimed)
 nodes_clear nodes claimed is = one_clear places.Certificate reasons.NodesDiffer (claimed ≢ nodes) (λ off. off is)
 
+source_clear : (i : MaxValue) (set : ℕ → Bool) → set i.source ≡ true → Clear (one_test (places.Node i.source) reasons.SourceOutside (set i.source ≡ false))
+source_clear i set inside = one_clear (places.Node i.source) reasons.SourceOutside (set i.source ≡ false) (not_both (set i.source) inside)
+
+sink_clear : (i : MaxValue) (set : ℕ → Bool) → set i.sink ≡ false → Clear (one_test (places.Node i.sink) reasons.SinkInside (set i.sink ≡ true))
+sink_clear i set outside = one_clear (places.Node i.sink) reasons.SinkInside (set i.sink ≡ true) (λ within. not_both (set i.sink) within outside)
+
+-- the tests of a cut with the source inside and the sink outside
+pub cut_told : (i : MaxValue) (set : ℕ → Bool) (x : List ℤ) (told : Result Unit (Where × Reason)) → set i.source ≡ true → set i.sink ≡ false → TellsRow (tight_row i.arcs set x) told → Tells (cut_rows i set x) told
+cut_told i set x (Ok done) inside outside clear = (source_clear i set inside, (sink_clear i set outside, (clear, tt)))
+cut_told i set x (Err refusal) inside outside first = inr (source_clear i set inside, inr (sink_clear i set outside, inl first))
+
 -- ---- sets
-violated_or_not : (i : MinProblem) (set : ℕ → Bool) → Violated i set ⊎ (¬ Violated i set)
+violated_or_not : (i : MinValue) (set : ℕ → Bool) → Violated i set ⊎ (¬ Violated i set)
 violated_or_not i set =
-    by_lt_z (most_out i.arcs set) (supply_in i.nodes i.supply set) (λ above. inl (inl above)) (λ most.
-    by_lt_z (supply_in i.nodes i.supply set) (least_out i.arcs set) (λ below. inl (inr below)) (λ least.
+    by_lt_z (most_out i.arcs set) (supply_in i.nodes (supply_of i) set) (λ above. inl (inl above)) (λ most.
+    by_lt_z (supply_in i.nodes (supply_of i) set) (least_out i.arcs set) (λ below. inl (inr below)) (λ least.
     inr (λ violated. elim violated [ inl above ↦ omega (arith, ints, most, above) | inr below ↦ omega (arith, ints, least, below) ])))
 
-pub set_violated : (i : MinProblem) (set : ℕ → Bool) → Clear (violated_row i set) → Violated i set
+pub set_violated : (i : MinValue) (set : ℕ → Bool) → Clear (violated_row i set) → Violated i set
 set_violated i set clear = elim (violated_or_not i set) [ inl is ↦ is | inr off ↦ absurd (one_holds places.Certificate reasons.NotViolated (¬ Violated i set) clear off) ]
 
-pub violated_clear : (i : MinProblem) (set : ℕ → Bool) → Violated i set → Clear (violated_row i set)
+pub violated_clear : (i : MinValue) (set : ℕ → Bool) → Violated i set → Clear (violated_row i set)
 violated_clear i set is = one_clear places.Certificate reasons.NotViolated (¬ Violated i set) (λ off. off is)

@@ -5,7 +5,8 @@ use Rattle.dimacs_instance.specs.declared.network.ArcView.{ArcView}
 use Rattle.dimacs_records.specs.declared.reasons.Reason.{Reason}
 use Rattle.dimacs_judge.specs.declared.verdict.Where.TheVariants.{Node}
 use Rattle.dimacs_records.specs.declared.reasons.Reason.TheVariants.{SourceOutside, SinkInside}
-use Rattle.dimacs_judge.specs.Labels.{BlockValue}
+use Rattle.dimacs_instance.specs.Flows.{MaxValue}
+use Rattle.dimacs_claims.specs.Labels.{BlockValue}
 use Rattle.dimacs_judge.specs.Rows.{arc_at, amount_at}
 use Rattle.dimacs_judge.specs.FlowTests.{BoundFails, bound_row, balance_row, cost_row}
 use Rattle.dimacs_judge.specs.CertificateTests.{TightFails, cut_rows, slack_row, support_row, RelaxFails, label_rows}
@@ -38,9 +39,9 @@ one_tight set a x r s (inl f) (inr g) = absurd (not_both (set a.tail) (set a.hea
 one_tight set a x r s (inr f) (inl g) = absurd (not_both (set a.tail) (set a.head) g.1 f.1)
 one_tight set a x r s (inr f) (inr g) = f.0 ∙ sym g.0
 
-pub cut_one_way : (arcs : List ArcView) (source sink : ℕ) (set : ℕ → Bool) (x : List ℤ) → AllOneWay (cut_rows arcs source sink set x)
-cut_one_way arcs source sink set x =
-    (one_test_one_way (Node source) SourceOutside (set source ≡ false), (one_test_one_way (Node sink) SinkInside (set sink ≡ true), (arc_one_way arcs _ (λ k r s f g. one_tight set (arc_at arcs k) (amount_at x k) r s f g), tt)))
+pub cut_one_way : (i : MaxValue) (set : ℕ → Bool) (x : List ℤ) → AllOneWay (cut_rows i set x)
+cut_one_way i set x =
+    (one_test_one_way (Node i.source) SourceOutside (set i.source ≡ false), (one_test_one_way (Node i.sink) SinkInside (set i.sink ≡ true), (arc_one_way i.arcs _ (λ k r s f g. one_tight set (arc_at i.arcs k) (amount_at x k) r s f g), tt)))
 
 pub slack_one_way : (arcs : List ArcView) (p : ℕ → ℤ) (x : List ℤ) → OneWay (slack_row arcs p x)
 slack_one_way arcs p x = arc_one_way arcs _ (λ k r s f g. f.0 ∙ sym g.0)

@@ -8,13 +8,13 @@ use Rattle.std.proofs.lemmas.List.{take-take}
 use Rattle.std.proofs.lemmas.List.Sums.{count_by_more_yes, count_by-le-length, sum_by-take-le}
 use Rattle.dimacs_instance.specs.declared.network.ArcView.{ArcView}
 use Rattle.dimacs_instance.specs.Arcs.{joins, IsKthBetween}
-use Rattle.dimacs_judge.specs.declared.labels.Label.{Label}
+use Rattle.dimacs_claims.specs.declared.block.Label.{Label}
 use Rattle.dimacs_judge.specs.Labels.{HasArcOfWeight}
 
 joins_ends : (tail head : ℕ) (a : ArcView) → a.tail ≡ tail → a.head ≡ head → joins tail head a ≡ true
 joins_ends tail head a t h = and_from (a.tail == tail) (a.head == head) (eq-eqb a.tail tail t) (eq-eqb a.head head h)
 
-ends_joined : (tail head : ℕ) (a : ArcView) → joins tail head a ≡ true → (a.tail ≡ tail) × (a.head ≡ head)
+pub ends_joined : (tail head : ℕ) (a : ArcView) → joins tail head a ≡ true → (a.tail ≡ tail) × (a.head ≡ head)
 ends_joined tail head a e = elim (eqb_tells a.tail tail) [
   | inl p ↦ elim (eqb_tells a.head head) [ inl q ↦ (p.1, q.1) | inr q ↦ absurd (let f = rw (p.0, q.0) at e in cc) ]
   | inr p ↦ absurd (let f = rw p.0 at e in cc)
@@ -27,7 +27,7 @@ counted_before p arcs i j a here passes before =
     let some = rw (take-take (i + 1) j arcs (omega (arith, before))) at (sum_by-take-le (λ b. cond (p b) 1 0) (take j arcs) (i + 1)) in
     omega (arith, next, some)
 
-counted_in_all : (p : ArcView → Bool) (arcs : List ArcView) (i : ℕ) (a : ArcView) → slice_get arcs i ≡ Some a → p a ≡ true → count_by p (take i arcs) < count_by p arcs
+pub counted_in_all : (p : ArcView → Bool) (arcs : List ArcView) (i : ℕ) (a : ArcView) → slice_get arcs i ≡ Some a → p a ≡ true → count_by p (take i arcs) < count_by p arcs
 counted_in_all p arcs i a here passes =
     let next = count_by_more_yes p arcs i a (slice_get_within arcs i a here) (rw (get_or_from_slice_get arcs i a a here) passes) in
     omega (arith, next, sum_by-take-le (λ b. cond (p b) 1 0) arcs (i + 1))

@@ -4,12 +4,14 @@ use Rattle.dimacs_instance.specs.declared.network.ArcView.{ArcView}
 use Rattle.dimacs_records.specs.declared.reasons.Reason.{Reason}
 use Rattle.dimacs_records.specs.declared.reasons.Reason.TheVariants.{SourceOutside, SinkInside, NotSaturated, BackFlow, NotTight, NotViolated, NoTightArc, Escapes, NotShortest}
 use Rattle.dimacs_judge.specs.declared.verdict.Where.TheVariants.{Certificate, Node}
-use Rattle.dimacs_judge.specs.declared.labels.Label.{Label}
-use Rattle.dimacs_judge.specs.Feasible.{MinProblem}
+use Rattle.dimacs_claims.specs.declared.block.Label.{Label}
+use Rattle.dimacs_instance.specs.Flows.{MaxValue}
+use Rattle.dimacs_instance.specs.MinFlows.{MinValue}
 use Rattle.dimacs_judge.specs.ViolatedSets.{Violated}
 use Rattle.dimacs_judge.specs.Cuts.{leaves, enters}
 use Rattle.dimacs_judge.specs.Potentials.{reduced_cost}
-use Rattle.dimacs_judge.specs.Labels.{BlockValue, HasTightArc, label}
+use Rattle.dimacs_claims.specs.Labels.{BlockValue, label}
+use Rattle.dimacs_judge.specs.Labels.{HasTightArc}
 use Rattle.dimacs_judge.specs.Rows.{arc_row, flow_row, one_test, arc_at}
 use Rattle.dimacs_judge.specs.Tests.{Row}
 
@@ -21,11 +23,11 @@ abbrev pub tight_row : List ArcView → (ℕ → Bool) → List ℤ → Row
 tight_row arcs set x = flow_row (TightFails set) arcs x
 
 -- the tests of a cut
-abbrev pub cut_rows : List ArcView → ℕ → ℕ → (ℕ → Bool) → List ℤ → List Row
-cut_rows arcs source sink set x =
-    one_test (Node source) SourceOutside (set source ≡ false)
-    ∷ one_test (Node sink) SinkInside (set sink ≡ true)
-    ∷ tight_row arcs set x ∷ []
+abbrev pub cut_rows : MaxValue → (ℕ → Bool) → List ℤ → List Row
+cut_rows i set x =
+    one_test (Node i.source) SourceOutside (set i.source ≡ false)
+    ∷ one_test (Node i.sink) SinkInside (set i.sink ≡ true)
+    ∷ tight_row i.arcs set x ∷ []
 
 -- a positive reduced cost beside more than the lower bound, or a negative one beside less than the capacity
 abbrev pub SlackFails : ℤ → ArcView → ℤ → Reason → Type 0
@@ -35,7 +37,7 @@ abbrev pub slack_row : List ArcView → (ℕ → ℤ) → List ℤ → Row
 slack_row arcs p x = flow_row (λ a. SlackFails (reduced_cost p a) a) arcs x
 
 -- the test of a set of nodes
-abbrev pub violated_row : MinProblem → (ℕ → Bool) → Row
+abbrev pub violated_row : MinValue → (ℕ → Bool) → Row
 violated_row i set = one_test Certificate NotViolated (¬ Violated i set)
 
 abbrev pub no_label : Label

@@ -1,8 +1,14 @@
 -- Cuts: sets of nodes with the source inside and the sink outside.
 use Rattle.std.specs.Prelude.{ℕ, ◌≡◌, Bool, true, false, not, ◌&&◌, List, ℤ, pos}
 use Rattle.std.specs.List.{AllZip}
+use Rattle.std.specs.FinSet.{contains}
 use Rattle.dimacs_instance.specs.declared.network.ArcView.{ArcView}
-use Rattle.dimacs_judge.specs.Feasible.{MaxProblem}
+use Rattle.dimacs_instance.specs.Flows.{MaxValue}
+use Rattle.dimacs_claims.specs.Cuts.{CutValue}
+
+-- whether a node is in the set
+abbrev pub members : CutValue → ℕ → Bool
+members c = contains c.ids
 
 -- the tail is inside the set and the head is not
 abbrev pub leaves : (ℕ → Bool) → ArcView → Bool
@@ -17,7 +23,7 @@ abbrev pub IsTightAt : (ℕ → Bool) → ArcView → ℤ → Type 0
 IsTightAt set a x = (leaves set a ≡ true → x ≡ a.cap) × (enters set a ≡ true → x ≡ pos 0)
 
 -- the source is inside, the sink is outside, every arc that leaves is full and every arc that enters is empty
-pub record CutTight (i : MaxProblem) (x : List ℤ) (set : ℕ → Bool) : Type 0 where
+pub record CutTight (i : MaxValue) (x : List ℤ) (set : ℕ → Bool) : Type 0 where
   pub source_inside : set i.source ≡ true
   pub sink_outside : set i.sink ≡ false
   pub tight : AllZip (IsTightAt set) i.arcs x

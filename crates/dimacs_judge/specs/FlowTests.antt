@@ -7,7 +7,8 @@ use Rattle.dimacs_judge.specs.Ranges.{IsWide}
 use Rattle.dimacs_judge.specs.Flows.{net, cost}
 use Rattle.dimacs_judge.specs.Rows.{arc_row, flow_row, node_row}
 use Rattle.dimacs_judge.specs.Tests.{Row, Clear, FirstOfRow, AllClear, First, Refuses}
-use Rattle.dimacs_judge.specs.Feasible.{MaxProblem, MinProblem}
+use Rattle.dimacs_instance.specs.Flows.{MaxValue}
+use Rattle.dimacs_instance.specs.MinFlows.{MinValue, supply_of}
 use Rattle.dimacs_judge.specs.declared.verdict.JudgeError.{JudgeError}
 use Rattle.dimacs_judge.specs.declared.verdict.Where.{Where}
 
@@ -30,12 +31,18 @@ abbrev pub feasible_rows : ℕ → List ArcView → (ℕ → Option ℤ) → Lis
 feasible_rows nodes arcs demand x = bound_row arcs x ∷ balance_row nodes arcs demand x ∷ []
 
 -- source and sink may have any balance, every other node must have 0
-abbrev pub max_demand : MaxProblem → ℕ → Option ℤ
+abbrev pub max_demand : MaxValue → ℕ → Option ℤ
 max_demand i v = if v == i.source then None else (if v == i.sink then None else Some (pos 0))
 
 -- every node must have its supply
-abbrev pub min_demand : MinProblem → ℕ → Option ℤ
-min_demand i v = Some (i.supply v)
+abbrev pub min_demand : MinValue → ℕ → Option ℤ
+min_demand i v = Some (supply_of i v)
+
+abbrev pub feasible_max_rows : MaxValue → List ℤ → List Row
+feasible_max_rows i x = feasible_rows i.nodes i.arcs (max_demand i) x
+
+abbrev pub feasible_min_rows : MinValue → List ℤ → List Row
+feasible_min_rows i x = feasible_rows i.nodes i.arcs (min_demand i) x
 
 -- the cost of the arcs up to this one
 abbrev pub cost_through : List ArcView → List ℤ → ℕ → ℤ

@@ -3,13 +3,16 @@ use Rattle.std.specs.Prelude.{ℕ, ◌≡◌, Bool, List, All, ℤ, ◌-ℤ◌, 
 use Rattle.dimacs_instance.specs.declared.network.ArcView.{ArcView}
 use Rattle.dimacs_instance.specs.Arcs.{JoinsNodes}
 use Rattle.dimacs_judge.specs.Flows.{net, sum_arcs, sum_nodes}
-use Rattle.dimacs_judge.specs.Feasible.{MaxProblem, MinProblem, IsNode, FeasibleMax, FeasibleMin}
+use Rattle.dimacs_instance.specs.Flows.{MaxValue, IsNode}
+use Rattle.dimacs_instance.specs.MinFlows.{MinValue}
+use Rattle.dimacs_judge.specs.Feasible.{FeasibleMax, FeasibleMin}
 use Rattle.dimacs_judge.specs.Optimum.{Maximum, Least, NoFlow}
 use Rattle.dimacs_judge.specs.Cuts.{CutTight}
 use Rattle.dimacs_judge.specs.Potentials.{Slack}
 use Rattle.dimacs_judge.specs.ViolatedSets.{Violated}
 use Rattle.dimacs_judge.specs.Walks.{IsDistance}
-use Rattle.dimacs_judge.specs.Labels.{BlockValue, PredsAreEarlier, LabelsOk, label}
+use Rattle.dimacs_claims.specs.Labels.{BlockValue, PredsAreEarlier, label}
+use Rattle.dimacs_judge.specs.Labels.{LabelsOk}
 
 -- for every flow and every weighting of the nodes: the balances by their weights are the amounts by the differences of the weights
 abbrev pub ExchangeLaw : Type 0
@@ -20,15 +23,15 @@ ExchangeLaw =
 -- a feasible flow with a tight cut is maximum
 abbrev pub TightCutLaw : Type 0
 TightCutLaw =
-    (i : MaxProblem) → All (JoinsNodes i.nodes) i.arcs → IsNode i.nodes i.source → (x : List ℤ) (set : ℕ → Bool) → FeasibleMax i x → CutTight i x set → Maximum i x
+    (i : MaxValue) → All (JoinsNodes i.nodes) i.arcs → IsNode i.nodes i.source → (x : List ℤ) (set : ℕ → Bool) → FeasibleMax i x → CutTight i x set → Maximum i x
 
 -- a feasible flow with slack potentials is least
 abbrev pub SlacknessLaw : Type 0
-SlacknessLaw = (i : MinProblem) → All (JoinsNodes i.nodes) i.arcs → (x : List ℤ) (p : ℕ → ℤ) → FeasibleMin i x → Slack i.arcs x p → Least i x
+SlacknessLaw = (i : MinValue) → All (JoinsNodes i.nodes) i.arcs → (x : List ℤ) (p : ℕ → ℤ) → FeasibleMin i x → Slack i.arcs x p → Least i x
 
 -- where a set is violated there is no feasible flow
 abbrev pub ViolatedSetLaw : Type 0
-ViolatedSetLaw = (i : MinProblem) → All (JoinsNodes i.nodes) i.arcs → (set : ℕ → Bool) → Violated i set → NoFlow i
+ViolatedSetLaw = (i : MinValue) → All (JoinsNodes i.nodes) i.arcs → (set : ℕ → Bool) → Violated i set → NoFlow i
 
 -- labels that pass are distances, and nodes without a label are unreachable
 abbrev pub LabelsLaw : Type 0

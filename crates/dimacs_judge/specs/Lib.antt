@@ -13,5 +13,8 @@ pub mod Rows
 pub mod FlowTests
 pub mod CertificateTests
 pub mod Agreement
+pub mod Claims
+pub mod FlowSoFar
+pub mod InfeasibleJudge
 pub mod QueryTests
 pub mod Answers

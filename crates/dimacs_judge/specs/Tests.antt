@@ -1,9 +1,10 @@
 -- Rows of tests, in order, and the first test that fails.
-use Rattle.std.specs.Prelude.{ℕ, ◌<◌, ◌⊎◌, List, [], ◌∷◌, Option, None, Some, Result, Ok, Err}
+use Rattle.std.specs.Prelude.{ℕ, ◌≡◌, ◌<◌, ◌⊎◌, List, [], ◌∷◌, Option, None, Some, Result, Ok, Err}
 use Rattle.dimacs_records.specs.declared.reasons.Reason.{Reason}
 use Rattle.dimacs_judge.specs.declared.verdict.Where.{Where}
 use Rattle.dimacs_judge.specs.declared.verdict.JudgeError.{JudgeError}
 use Rattle.dimacs_judge.specs.declared.verdict.JudgeError.TheVariants.{Refused, Memory}
+use Rattle.dimacs_judge.specs.declared.verdict.Verdict.{Verdict}
 
 -- a row of tests, by number: the test fails, at a place and for a reason
 abbrev pub Row : Type 1
@@ -42,6 +43,27 @@ TellsRow row (Err refusal) = FirstOfRow row refusal.0 refusal.1
 abbrev pub Tells : List Row → Result Unit (Where × Reason) → Type 0
 Tells rows (Ok done) = AllClear rows
 Tells rows (Err refusal) = First rows refusal.0 refusal.1
+
+-- yes exactly where this holds; else the first test that fails
+abbrev pub Decides : Type 0 → List Row → Result Unit (Where × Reason) → Type 0
+Decides holds rows (Ok done) = holds
+Decides holds rows (Err refusal) = First rows refusal.0 refusal.1 × ¬ holds
+
+-- yes with a value of which this holds; else the first test that fails, and it holds of none; want of memory says nothing
+abbrev pub Settles : {X : Type 0} → (X → Type 0) → List Row → Result X JudgeError → Type 0
+Settles holds rows (Ok x) = holds x
+Settles holds rows (Err (Refused place reason)) = First rows place reason × ((x : _) → ¬ holds x)
+Settles holds rows (Err Memory) = Unit
+
+-- this test is the first that fails, and no other is
+abbrev pub FirstAlone : List Row → Where → Reason → Type 0
+FirstAlone rows place reason = First rows place reason × ((other : Where) (why : Reason) → First rows other why → (other ≡ place) × (why ≡ reason))
+
+-- all tests pass, and this holds of the verdict; else the first test that fails, and it holds of none; want of memory says nothing
+abbrev pub Judges : List Row → (Verdict → Type 0) → Result Verdict JudgeError → Type 0
+Judges rows holds (Ok verdict) = AllClear rows × holds verdict
+Judges rows holds (Err (Refused place reason)) = FirstAlone rows place reason × ((verdict : Verdict) → ¬ holds verdict)
+Judges rows holds (Err Memory) = Unit
 
 -- the reason for which a single test fails, where it does
 abbrev pub TellsReason : (Reason → Type 0) → Option Reason → Type 0

@@ -3,7 +3,7 @@ use Rattle.std.specs.Prelude.{ℕ, ◌⊎◌, Bool, List, [], ◌∷◌, ℤ, po
 use Rattle.dimacs_instance.specs.declared.network.ArcView.{ArcView}
 use Rattle.dimacs_judge.specs.Flows.{when, sum_nodes}
 use Rattle.dimacs_judge.specs.Cuts.{leaves, enters}
-use Rattle.dimacs_judge.specs.Feasible.{MinProblem}
+use Rattle.dimacs_instance.specs.MinFlows.{MinValue, supply_of}
 
 -- the sum of f over the arcs that pass the test
 abbrev pub sum_where : (ArcView → Bool) → (ArcView → ℤ) → List ArcView → ℤ
@@ -23,5 +23,5 @@ abbrev pub least_out : List ArcView → (ℕ → Bool) → ℤ
 least_out arcs set = sum_where (leaves set) (λ a. a.low) arcs -ℤ sum_where (enters set) (λ a. a.cap) arcs
 
 -- more is supplied in the set than can leave it, or less than must
-abbrev pub Violated : MinProblem → (ℕ → Bool) → Type 0
-Violated i set = (most_out i.arcs set <ℤ supply_in i.nodes i.supply set) ⊎ (supply_in i.nodes i.supply set <ℤ least_out i.arcs set)
+abbrev pub Violated : MinValue → (ℕ → Bool) → Type 0
+Violated i set = (most_out i.arcs set <ℤ supply_in i.nodes (supply_of i) set) ⊎ (supply_in i.nodes (supply_of i) set <ℤ least_out i.arcs set)

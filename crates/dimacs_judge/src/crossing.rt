@@ -1,25 +1,19 @@
 //! Whether a set of nodes is violated.
 
-ghost use Rattle.std.specs.Prelude.{◌≡◌, ◌≤◌, ◌*◌, ◌^◌, ◌+ℤ◌, ◌-ℤ◌, ◌<ℤ◌, ◌⊎◌, ◌↔◌, IsTrue, ℕ, ℤ, length};
+ghost use Rattle.std.specs.Prelude.{◌≡◌, ◌≤◌, ◌^◌, ◌+ℤ◌, ◌-ℤ◌, ◌<ℤ◌, ◌⊎◌, ◌↔◌, IsTrue, length};
+ghost use Rattle.dimacs_instance.specs.MinFlows.{supply_of};
 ghost use Rattle.dimacs_judge.specs.CertificateTests.{violated_row};
-ghost use Rattle.dimacs_judge.specs.Cuts.{leaves, enters};
+ghost use Rattle.dimacs_judge.specs.Cuts.{members, leaves, enters};
 ghost use Rattle.dimacs_judge.specs.Flows.{when};
 ghost use Rattle.dimacs_judge.specs.Ranges.{IsOfSize};
 ghost use Rattle.dimacs_judge.specs.Tests.{TellsRow};
-ghost use Rattle.dimacs_judge.specs.ViolatedSets.{most_out, least_out, supply_in};
+ghost use Rattle.dimacs_judge.specs.ViolatedSets as theory;
+ghost use Rattle.dimacs_judge.specs.ViolatedSets.{most_out, least_out};
 
-use crate::cuts::NodeSet;
 use crate::verdict::Where;
-use dimacs_instance::{ArcView, Network};
+use dimacs_claims::Cut;
+use dimacs_instance::{ArcView, MinInstance, Network};
 use dimacs_records::Reason;
-
-/// What each node supplies.
-pub(crate) trait Supplies {
-    ghost supplied: { Self → ℕ → ℤ };
-
-    fn supply(&self, id: u32) -> i64
-        ensures { result ≡ supplied self.now id };
-}
 
 /// The bounds of what leaves a set, less what enters it.
 #[derive(Clone, Copy)]
@@ -29,17 +23,14 @@ struct Crossing {
 }
 
 /// Whether more is supplied in the set than can leave it, or less than must.
-pub(crate) fn set_is_violated<N: Network, S: Supplies, C: NodeSet>(
-    network: &N,
-    supplies: &S,
-    set: &C,
+pub(crate) fn set_is_violated<N: Network>(
+    instance: &MinInstance<N>,
+    set: &Cut,
 ) -> Result<(), (Where, Reason)>
-    requires few_nodes { N.node_count network.now ≤ 134217728 }
-    requires few_arcs { length (N.list network.now) ≤ 268435456 }
-    ensures { TellsRow (violated_row (record { nodes = N.node_count network.now; arcs = N.list network.now; supply = S.supplied supplies.now }) (C.set set.now)) result }
+    ensures { TellsRow (violated_row instance.now (members set.now)) result }
 {
-    let crossing = bounds_across(network, set);
-    let supply = supply_of(network.nodes(), supplies, set);
+    let crossing = bounds_across(instance.network(), set);
+    let supply = supply_in(instance, set);
     if crossing.excludes(supply) {
         Ok(())
     } else {
@@ -47,32 +38,32 @@ pub(crate) fn set_is_violated<N: Network, S: Supplies, C: NodeSet>(
     }
 }
 
-fn supply_of<S: Supplies, C: NodeSet>(nodes: u32, supplies: &S, set: &C) -> i128
-    requires few_nodes { nodes ≤ 134217728 }
-    ensures { result ≡ supply_in nodes (S.supplied supplies.now) (C.set set.now) }
+/// What the nodes of the set supply together.
+fn supply_in<N: Network>(instance: &MinInstance<N>, set: &Cut) -> i128
+    ensures { result ≡ theory.supply_in instance.now.nodes (supply_of instance.now) (members set.now) }
 {
     let mut sum: i128 = 0;
-    for v in 1..nodes + 1 {
-        sum += i128::from(supply_at(v, supplies, set));
+    for v in 1..instance.network().nodes() + 1 {
+        sum += i128::from(supply_at(v, instance, set));
     }
     sum
 }
 
 /// What the node supplies to the set.
-fn supply_at<S: Supplies, C: NodeSet>(node: u32, supplies: &S, set: &C) -> i64
-    ensures { result ≡ when (C.set set.now node) (S.supplied supplies.now node) }
+fn supply_at<N: Network>(node: u32, instance: &MinInstance<N>, set: &Cut) -> i64
+    ensures { result ≡ when (members set.now node) (supply_of instance.now node) }
 {
     if set.contains(node) {
-        supplies.supply(node)
+        instance.supply(node)
     } else {
         0
     }
 }
 
-fn bounds_across<N: Network, C: NodeSet>(network: &N, set: &C) -> Crossing
+fn bounds_across<N: Network>(network: &N, set: &Cut) -> Crossing
     requires few_arcs { length (N.list network.now) ≤ 268435456 }
-    ensures most { result.most ≡ most_out (N.list network.now) (C.set set.now) }
-    ensures least { result.least ≡ least_out (N.list network.now) (C.set set.now) }
+    ensures most { result.most ≡ most_out (N.list network.now) (members set.now) }
+    ensures least { result.least ≡ least_out (N.list network.now) (members set.now) }
 {
     let mut crossing = Crossing { most: 0, least: 0 };
     for i in 0..network.arcs() {
@@ -91,11 +82,11 @@ impl Crossing {
 
     /// The bounds with one more arc.
     #[inline(always)]
-    fn with<C: NodeSet>(self, arc: ArcView, set: &C) -> Crossing
+    fn with(self, arc: ArcView, set: &Cut) -> Crossing
         requires most { IsOfSize (2 ^ 120) self.most }
         requires least { IsOfSize (2 ^ 120) self.least }
-        ensures most { result.most ≡ (self.most +ℤ when (leaves (C.set set.now) arc) arc.cap) -ℤ when (enters (C.set set.now) arc) arc.low }
-        ensures least { result.least ≡ (self.least +ℤ when (leaves (C.set set.now) arc) arc.low) -ℤ when (enters (C.set set.now) arc) arc.cap }
+        ensures most { result.most ≡ (self.most +ℤ when (leaves (members set.now) arc) arc.cap) -ℤ when (enters (members set.now) arc) arc.low }
+        ensures least { result.least ≡ (self.least +ℤ when (leaves (members set.now) arc) arc.low) -ℤ when (enters (members set.now) arc) arc.cap }
     {
         match (set.contains(arc.tail), set.contains(arc.head)) {
             (true, false) => Crossing {

@@ -1,51 +1,44 @@
 //! Whether a cut is tight.
 
-ghost use Rattle.std.specs.Prelude.{◌≡◌, ℕ, Bool, length};
+ghost use Rattle.std.specs.Prelude.{◌≡◌, length};
 ghost use Rattle.dimacs_judge.specs.CertificateTests.{TightFails, tight_row, cut_rows};
-ghost use Rattle.dimacs_judge.specs.Tests.{TellsReason, TellsRow, Tells};
+ghost use Rattle.dimacs_judge.specs.Cuts.{CutTight, members};
+ghost use Rattle.dimacs_judge.specs.Tests.{Decides, TellsReason, TellsRow};
 
 use crate::flow::Flow;
 use crate::verdict::Where;
-use dimacs_instance::{ArcView, Network};
+use dimacs_claims::Cut;
+use dimacs_instance::{ArcView, MaxInstance, Network};
 use dimacs_records::Reason;
 
-/// A set of nodes.
-pub(crate) trait NodeSet {
-    ghost set: { Self → ℕ → Bool };
-
-    fn contains(&self, id: u32) -> bool
-        ensures { result ≡ set self.now id };
-}
-
-/// Whether the source is inside the cut, the sink outside, and every arc between them tight; else the first test
-/// that fails.
-pub(crate) fn cut_holds<N: Network, C: NodeSet>(
-    network: &N,
-    source: u32,
-    sink: u32,
+/// Whether the cut is tight: the source is inside and the sink outside, each arc that leaves the cut carries its
+/// capacity, and each arc that enters it carries nothing. Takes no memory.
+///
+/// The tests in their order: `SourceOutside`, at the source; `SinkInside`, at the sink; then each arc, from 1:
+/// `NotSaturated` where it leaves, `BackFlow` where it enters.
+pub fn cut_tests<N: Network>(
+    instance: &MaxInstance<N>,
     flow: &Flow,
-    cut: &C,
+    cut: &Cut,
 ) -> Result<(), (Where, Reason)>
-    requires one_each { length flow.now ≡ length (N.list network.now) }
-    ensures { Tells (cut_rows (N.list network.now) source sink (C.set cut.now) flow.now) result }
+    requires { length flow.now ≡ length instance.now.arcs }
+    ensures { Decides (CutTight instance.now flow.now (members cut.now)) (cut_rows instance.now (members cut.now) flow.now) result }
 {
+    let source = instance.source();
+    let sink = instance.sink();
     if !cut.contains(source) {
         return Err((Where::Node(source), Reason::SourceOutside));
     }
     if cut.contains(sink) {
         return Err((Where::Node(sink), Reason::SinkInside));
     }
-    arcs_tight(network, flow, cut)
+    arcs_tight(instance.network(), flow, cut)
 }
 
 /// The first arc that leaves the cut and is not full, or enters it and is not empty.
-fn arcs_tight<N: Network, C: NodeSet>(
-    network: &N,
-    flow: &Flow,
-    cut: &C,
-) -> Result<(), (Where, Reason)>
+fn arcs_tight<N: Network>(network: &N, flow: &Flow, cut: &Cut) -> Result<(), (Where, Reason)>
     requires one_each { length flow.now ≡ length (N.list network.now) }
-    ensures { TellsRow (tight_row (N.list network.now) (C.set cut.now) flow.now) result }
+    ensures { TellsRow (tight_row (N.list network.now) (members cut.now) flow.now) result }
 {
     for i in 0..network.arcs() {
         if let Some(reason) = tight_fault(network.arc(i), flow.amount(i), cut) {
@@ -55,8 +48,8 @@ fn arcs_tight<N: Network, C: NodeSet>(
     Ok(())
 }
 
-fn tight_fault<C: NodeSet>(arc: ArcView, amount: i64, cut: &C) -> Option<Reason>
-    ensures { TellsReason (TightFails (C.set cut.now) arc amount) result }
+fn tight_fault(arc: ArcView, amount: i64, cut: &Cut) -> Option<Reason>
+    ensures { TellsReason (TightFails (members cut.now) arc amount) result }
 {
     match (cut.contains(arc.tail), cut.contains(arc.head)) {
         (true, false) if amount != arc.cap => Some(Reason::NotSaturated),

@@ -2,15 +2,52 @@
 
 ghost use Rattle.std.specs.Prelude.{◌≡◌, ◌+◌, ◌≤◌, ℕ, ℤ, List, Option, All, length};
 ghost use Rattle.dimacs_instance.specs.Arcs.{JoinsNodes};
-ghost use Rattle.dimacs_judge.specs.FlowTests.{BoundFails, BalanceFails, AreBalances, TellsFeasible, bound_row, balance_row};
-ghost use Rattle.dimacs_judge.specs.Tests.{TellsReason, TellsRow};
+ghost use Rattle.dimacs_judge.specs.Feasible.{FeasibleMax, FeasibleMin};
+ghost use Rattle.dimacs_judge.specs.FlowTests.{BoundFails, BalanceFails, AreBalances, TellsFeasible, bound_row, balance_row, feasible_max_rows, feasible_min_rows, max_demand, min_demand};
+ghost use Rattle.dimacs_judge.specs.Tests.{Settles, TellsReason, TellsRow};
 
 use crate::balances::Balances;
 use crate::flow::Flow;
 use crate::verdict::{JudgeError, Where};
-use dimacs_instance::{ArcView, Network};
+use dimacs_instance::{ArcView, MaxInstance, MinInstance, Network};
 use dimacs_records::Reason;
 use std::alloc::Global;
+
+/// Whether the flow is feasible: each arc carries from 0 to its capacity, and each node but source and sink is in
+/// balance. Takes a table of the nodes.
+///
+/// Arcs are tested first, from 1: `BelowLow` below 0, else `AboveCap`. Then nodes, by ID: `Balance`.
+pub fn feasible_max<N: Network>(
+    alloc: Global,
+    instance: &MaxInstance<N>,
+    flow: &Flow,
+) -> Result<(), JudgeError>
+    requires { length flow.now ≡ length instance.now.arcs }
+    ensures { Settles (λ done. FeasibleMax instance.now flow.now) (feasible_max_rows instance.now flow.now) result }
+{
+    if let Err(error) = feasible(alloc, instance.network(), flow, instance) {
+        return Err(error);
+    }
+    Ok(())
+}
+
+/// Whether the flow is feasible: each arc carries from its lower bound to its capacity, and the balance of each node
+/// is its supply. Takes a table of the nodes.
+///
+/// Arcs are tested first, from 1: `BelowLow`, else `AboveCap`. Then nodes, by ID: `Balance`.
+pub fn feasible_min<N: Network>(
+    alloc: Global,
+    instance: &MinInstance<N>,
+    flow: &Flow,
+) -> Result<(), JudgeError>
+    requires { length flow.now ≡ length instance.now.arcs }
+    ensures { Settles (λ done. FeasibleMin instance.now flow.now) (feasible_min_rows instance.now flow.now) result }
+{
+    if let Err(error) = feasible(alloc, instance.network(), flow, instance) {
+        return Err(error);
+    }
+    Ok(())
+}
 
 /// The balances of a feasible flow; else the first test that fails: of the bounds, and then of the balances.
 pub(crate) fn feasible<N: Network, D: Demands>(
@@ -69,6 +106,26 @@ pub(crate) trait Demands {
     /// The balance that the node must have; none where it may have any.
     fn demand_at(&self, node: u32) -> Option<i64>
         ensures { result ≡ demand self.now node };
+}
+
+impl<N: Network> Demands for MaxInstance<N> {
+    ghost demand = { max_demand };
+
+    fn demand_at(&self, node: u32) -> Option<i64> {
+        if node == self.source() || node == self.sink() {
+            None
+        } else {
+            Some(0)
+        }
+    }
+}
+
+impl<N: Network> Demands for MinInstance<N> {
+    ghost demand = { min_demand };
+
+    fn demand_at(&self, node: u32) -> Option<i64> {
+        Some(self.supply(node))
+    }
 }
 
 /// The first node that has another balance than is demanded, whatever flow gives these balances.

@@ -1,53 +1,33 @@
 //! Whether labels are distances.
 
-ghost use Rattle.std.specs.Prelude.{◌≡◌, ◌<◌, ◌+ℤ◌, ◌<ℤ◌, ℕ, ℤ, List, Option, Contains, length, IsTrue, ◌↔◌, IfSome};
+ghost use Rattle.std.specs.Prelude.{◌≡◌, ◌<◌, ◌+ℤ◌, ◌<ℤ◌, ℤ, Some, All, length, IsTrue, ◌↔◌, IfSome};
 ghost use Rattle.dimacs_judge.specs.CertificateTests.{RelaxFails, support_row, relax_row, block_rows, label_rows};
-ghost use Rattle.dimacs_judge.specs.Labels as theory;
-ghost use Rattle.dimacs_judge.specs.Labels.{BlockValue, HasTightArc, HasArcOfWeight, block_at};
+ghost use Rattle.dimacs_judge.specs.Labels.{HasArcOfWeight, LabelsOk, block_at};
 ghost use Rattle.dimacs_judge.specs.Ranges.{IsWide};
-ghost use Rattle.dimacs_judge.specs.Tests.{TellsReason, TellsRow, Tells};
+ghost use Rattle.dimacs_judge.specs.Tests.{Decides, TellsReason, TellsRow, Tells};
 
 use crate::verdict::Where;
-use dimacs_instance::{ArcView, Network};
+use dimacs_claims::{Label, Labels};
+use dimacs_instance::{ArcView, Graph, Network};
 use dimacs_records::Reason;
 
-/// A claimed distance: `id` is reached at `dist`, by an arc from `pred`.
-#[derive(Clone, Copy, Debug, PartialEq, Eq)]
-pub(crate) struct Label {
-    pub dist: i128,
-    pub id: u32,
-    pub pred: u32,
-}
-
-/// Blocks of labels, each with a source.
-pub(crate) trait LabelTable {
-    ghost blocks: { Self → List BlockValue };
-
-    /// The number of blocks.
-    fn count(&self) -> usize
-        ensures { result ≡ length (blocks self.now) };
-
-    /// The labels of a block, in order.
-    fn labels(&self, block: usize) -> &[Label]
-        requires { block < length (blocks self.now) }
-        ensures { result.now ≡ (block_at (blocks self.now) block).labels };
-
-    /// The distance that a block claims of a node; 0 at its source.
-    fn label(&self, block: usize, id: u32) -> Option<i128>
-        requires { block < length (blocks self.now) }
-        ensures label { result ≡ theory.label (block_at (blocks self.now) block) id }
-        ensures wide { IfSome result IsWide };
-}
-
-/// Whether all labels hold; else the first test that fails, block by block.
-pub(crate) fn labels_hold<N: Network, L: LabelTable>(
-    network: &N,
-    table: &L,
-) -> Result<(), (Where, Reason)>
-    ensures { Tells (label_rows (N.list network.now) (L.blocks table.now)) result }
+/// Whether all labels hold, in every block: an arc from the predecessor of each label makes it, and each arc with a
+/// labelled tail has a labelled head, whose label is at most the tail's and the weight. Takes no memory.
+///
+/// The tests of each block, in their order: each label, `NoTightArc` at its node; then each arc, from 1: `Escapes` where
+/// its head has no label, else `NotShortest`.
+pub fn label_tests<N: Network>(graph: &Graph<N>, labels: &Labels) -> Result<(), (Where, Reason)>
+    ensures { Decides (All (LabelsOk graph.now.arcs) labels.now.blocks) (label_rows graph.now.arcs labels.now.blocks) result }
 {
-    for block in 0..table.count() {
-        if let Err(refusal) = block_holds(network, table, block) {
+    blocks_hold(graph.network(), labels)
+}
+
+/// The first test that fails, block by block.
+fn blocks_hold<N: Network>(network: &N, labels: &Labels) -> Result<(), (Where, Reason)>
+    ensures { Tells (label_rows (N.list network.now) labels.now.blocks) result }
+{
+    for block in 0..labels.blocks().len() {
+        if let Err(refusal) = block_holds(network, labels, block) {
             return Err(refusal);
         }
     }
@@ -55,37 +35,43 @@ pub(crate) fn labels_hold<N: Network, L: LabelTable>(
 }
 
 /// The tests of one block: first its labels, then the arcs.
-fn block_holds<N: Network, L: LabelTable>(
+fn block_holds<N: Network>(
     network: &N,
-    table: &L,
+    labels: &Labels,
     block: usize,
 ) -> Result<(), (Where, Reason)>
-    requires { block < length (L.blocks table.now) }
-    ensures { Tells (block_rows (N.list network.now) (block_at (L.blocks table.now) block)) result }
+    requires { block < length labels.now.blocks }
+    ensures { Tells (block_rows (N.list network.now) (block_at labels.now.blocks block)) result }
 {
-    if let Err(refusal) = labels_supported(network, table, block) {
+    if let Err(refusal) = labels_supported(network, labels, block) {
         return Err(refusal);
     }
-    arcs_relaxed(network, table, block)
+    arcs_relaxed(network, labels, block)
 }
 
 /// The first label of the block that no arc makes.
-fn labels_supported<N: Network, L: LabelTable>(
+fn labels_supported<N: Network>(
     network: &N,
-    table: &L,
+    labels: &Labels,
     block: usize,
 ) -> Result<(), (Where, Reason)>
-    requires { block < length (L.blocks table.now) }
-    ensures { TellsRow (support_row (N.list network.now) (block_at (L.blocks table.now) block)) result }
+    requires { block < length labels.now.blocks }
+    ensures { TellsRow (support_row (N.list network.now) (block_at labels.now.blocks block)) result }
 {
-    let labels = table.labels(block);
-    for k in 0..labels.len() {
-        let label = labels[k];
-        if !is_supported(network, label, table.label(block, label.pred)) {
+    for label in labels_in(labels, block) {
+        if !is_supported(network, *label, labels.label(block, label.pred)) {
             return Err((Where::Node(label.id), Reason::NoTightArc));
         }
     }
     Ok(())
+}
+
+/// The labels of a block, in order.
+fn labels_in(labels: &Labels, block: usize) -> &[Label]
+    requires { block < length labels.now.blocks }
+    ensures { result.now ≡ (block_at labels.now.blocks block).labels }
+{
+    labels.blocks()[block].labels()
 }
 
 /// Whether an arc from the predecessor at this distance makes the label.
@@ -124,18 +110,18 @@ fn is_made(label: Label, base: i128, arc: ArcView) -> bool
 }
 
 /// The first arc with a labelled tail whose head has no label, or a label that is too great.
-fn arcs_relaxed<N: Network, L: LabelTable>(
+fn arcs_relaxed<N: Network>(
     network: &N,
-    table: &L,
+    labels: &Labels,
     block: usize,
 ) -> Result<(), (Where, Reason)>
-    requires { block < length (L.blocks table.now) }
-    ensures { TellsRow (relax_row (N.list network.now) (block_at (L.blocks table.now) block)) result }
+    requires { block < length labels.now.blocks }
+    ensures { TellsRow (relax_row (N.list network.now) (block_at labels.now.blocks block)) result }
 {
     for i in 0..network.arcs() {
         let arc = network.arc(i);
-        let tail = table.label(block, arc.tail);
-        let head = table.label(block, arc.head);
+        let tail = labels.label(block, arc.tail);
+        let head = labels.label(block, arc.head);
         if let Some(reason) = relax_fault(tail, head, arc.cost) {
             return Err((Where::Arc(i + 1), reason));
         }

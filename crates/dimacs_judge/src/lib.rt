@@ -9,16 +9,24 @@ mod balances;
 mod costs;
 mod crossing;
 mod cuts;
+mod entries;
 mod feasible;
 mod flow;
+mod infeasible;
 mod labels;
 mod laws;
 mod potentials;
 mod queries;
 mod verdict;
 
+pub use cuts::cut_tests;
+pub use entries::flow_of;
+pub use feasible::{feasible_max, feasible_min};
 pub use flow::Flow;
+pub use infeasible::judge_infeasible;
+pub use labels::label_tests;
 pub use laws::{
     exchange, labels_give_distances, slack_is_least, tight_cut_is_maximum, violated_has_no_flow,
 };
+pub use potentials::slack_tests;
 pub use verdict::{Answer, JudgeError, Verdict, Where};

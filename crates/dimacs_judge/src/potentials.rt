@@ -1,34 +1,44 @@
 //! Whether potentials are slack.
 
-ghost use Rattle.std.specs.Prelude.{◌≡◌, ◌*◌, ◌^◌, ℕ, ℤ, length};
+ghost use Rattle.std.specs.Prelude.{◌≡◌, ◌*◌, ◌^◌, [], ◌∷◌, length};
+ghost use Rattle.dimacs_claims.specs.Potentials.{potential_of};
 ghost use Rattle.dimacs_judge.specs.Potentials as theory;
+ghost use Rattle.dimacs_judge.specs.Potentials.{Slack};
 ghost use Rattle.dimacs_judge.specs.CertificateTests.{SlackFails, slack_row};
-ghost use Rattle.dimacs_judge.specs.Ranges.{IsOfSize, IsWide};
-ghost use Rattle.dimacs_judge.specs.Tests.{TellsReason, TellsRow};
+ghost use Rattle.dimacs_judge.specs.Ranges.{IsOfSize};
+ghost use Rattle.dimacs_judge.specs.Tests.{Decides, TellsReason, TellsRow};
 
 use crate::flow::Flow;
 use crate::verdict::Where;
-use dimacs_instance::{ArcView, Network};
+use dimacs_claims::Potentials;
+use dimacs_instance::{ArcView, MinInstance, Network};
 use dimacs_records::Reason;
 
-/// A number in the wide range for each node.
-pub(crate) trait NodePotentials {
-    ghost potential: { Self → ℕ → ℤ };
-
-    fn of(&self, id: u32) -> i128
-        ensures value { result ≡ potential self.now id }
-        ensures wide { IsWide result };
+/// Whether the potentials are slack: each arc of positive reduced cost carries its lower bound, and each of negative
+/// reduced cost its capacity. The reduced cost is the arc's cost, less the potential of its tail, and with that of its
+/// head. Takes no memory.
+///
+/// Arcs are tested from 1: `NotTight`.
+pub fn slack_tests<N: Network>(
+    instance: &MinInstance<N>,
+    flow: &Flow,
+    potentials: &Potentials,
+) -> Result<(), (Where, Reason)>
+    requires { length flow.now ≡ length instance.now.arcs }
+    ensures { Decides (Slack instance.now.arcs flow.now (potential_of potentials.now)) (slack_row instance.now.arcs (potential_of potentials.now) flow.now ∷ []) result }
+{
+    arcs_slack(instance.network(), flow, potentials)
 }
 
 /// The first arc whose reduced cost is positive while it carries more than its lower bound, or negative while it
 /// carries less than its capacity.
-pub(crate) fn arcs_slack<N: Network, P: NodePotentials>(
+fn arcs_slack<N: Network>(
     network: &N,
     flow: &Flow,
-    potentials: &P,
+    potentials: &Potentials,
 ) -> Result<(), (Where, Reason)>
     requires one_each { length flow.now ≡ length (N.list network.now) }
-    ensures { TellsRow (slack_row (N.list network.now) (P.potential potentials.now) flow.now) result }
+    ensures { TellsRow (slack_row (N.list network.now) (potential_of potentials.now) flow.now) result }
 {
     for i in 0..network.arcs() {
         let arc = network.arc(i);
@@ -50,8 +60,8 @@ fn slack_fault(reduced: i128, arc: ArcView, amount: i64) -> Option<Reason>
     }
 }
 
-fn reduced_cost<P: NodePotentials>(arc: ArcView, potentials: &P) -> i128
-    ensures value { result ≡ theory.reduced_cost (P.potential potentials.now) arc }
+fn reduced_cost(arc: ArcView, potentials: &Potentials) -> i128
+    ensures value { result ≡ theory.reduced_cost (potential_of potentials.now) arc }
     ensures size { IsOfSize (3 * 10 ^ 30) result }
 {
     i128::from(arc.cost) - potentials.of(arc.tail) + potentials.of(arc.head)

@@ -20,6 +20,17 @@ pub enum JudgeError {
     Memory,
 }
 
+impl From<(Where, Reason)> for JudgeError {
+    ghost use Rattle.std.specs.Prelude.{◌≡◌};
+    ghost use Rattle.dimacs_judge.specs.declared.verdict.JudgeError.TheVariants.{Refused};
+
+    ghost from_gives = { λ refusal error. error ≡ Refused refusal.0 refusal.1 };
+
+    fn from((place, reason): (Where, Reason)) -> JudgeError {
+        JudgeError::Refused(place, reason)
+    }
+}
+
 /// What a judge says yes to.
 #[derive(Debug, PartialEq, Eq, Drop)]
 pub enum Verdict {

@@ -2,6 +2,7 @@ use Rattle.std.proofs.Common.{rules, ◌^◌, arith, w64, SFits}
 use Rattle.std.proofs.lemmas.Int.{ints}
 use Rattle.dimacs_judge.specs.Ranges.{IsOfSize}
 use Rattle.dimacs_judge.proofs.CrossLemmas.{bound_more}
+use Rattle.dimacs_judge.specs.Cuts.{members}
 use Rattle.dimacs_judge.proofs.crossing.bounds_across.Goals as goal
 
 pub loop-i-preserved : goal.loop-i-preserved
@@ -11,6 +12,6 @@ loop-i-preserved g c =
     let cap : IsOfSize (2 ^ 63) c.arc.result.cap = omega (arith, ints) in
     let low : IsOfSize (2 ^ 63) c.arc.result.low = omega (arith, ints) in
     record {
-      most = bound_more (λ a. a.cap) (λ a. a.low) _ (g.C.NodeSet.set c.args.set.now) c.loop-i.i c.arc.result _ _ c.arc.ensures cap low c.loop-i.invariant.most c.with-crossing.ensures.most;
-      least = bound_more (λ a. a.low) (λ a. a.cap) _ (g.C.NodeSet.set c.args.set.now) c.loop-i.i c.arc.result _ _ c.arc.ensures low cap c.loop-i.invariant.least c.with-crossing.ensures.least;
+      most = bound_more (λ a. a.cap) (λ a. a.low) _ (members c.args.set.now) c.loop-i.i c.arc.result _ _ c.arc.ensures cap low c.loop-i.invariant.most c.with-crossing.ensures.most;
+      least = bound_more (λ a. a.low) (λ a. a.cap) _ (members c.args.set.now) c.loop-i.i c.arc.result _ _ c.arc.ensures low cap c.loop-i.invariant.least c.with-crossing.ensures.least;
     }

@@ -4,4 +4,4 @@ use Rattle.dimacs_judge.specs.Tests.{ClearBelow}
 use Rattle.dimacs_judge.proofs.labels.arcs_relaxed.Given as goal
 
 abbrev pub invariant-loop-i : goal.invariant-loop-i
-invariant-loop-i g l = ClearBelow (relax_row (g.N.Network.list l.network) (block_at (g.L.LabelTable.blocks l.table) l.block)) l.i
+invariant-loop-i g l = ClearBelow (relax_row (g.N.Network.list l.network) (block_at l.labels.blocks l.block)) l.i

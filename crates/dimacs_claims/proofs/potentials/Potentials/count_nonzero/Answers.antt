@@ -17,9 +17,9 @@ loop-id-preserved c =
     let fits : SFits w128 c.of.result = search rules in
     elim c.if-of-ne0.branch [
       | then-of-ne0 w ↦
-          let some : potential_of c.args.self.now c.loop-id.id ≢ pos 0 = λ e. w.if-of-ne0.true (ap (of_z w128) (c.of.ensures ∙ e)) in
+          let some : potential_of c.args.self.now c.loop-id.id ≢ pos 0 = λ e. w.if-of-ne0.true (ap (of_z w128) (c.of.ensures.value ∙ e)) in
           record { least = omega (arith, least); counted = omega (arith, w.count-is, c.loop-id.invariant.counted, count_below_in c.args.self.now c.loop-id.id least some) }
       | else-of-ne0 w ↦
-          let none : potential_of c.args.self.now c.loop-id.id ≡ pos 0 = sym c.of.ensures ∙ sym (to_z-of_z w128 c.of.result fits) ∙ ap (to_z w128) w.if-of-ne0.false in
+          let none : potential_of c.args.self.now c.loop-id.id ≡ pos 0 = sym c.of.ensures.value ∙ sym (to_z-of_z w128 c.of.result fits) ∙ ap (to_z w128) w.if-of-ne0.false in
           record { least = omega (arith, least); counted = omega (arith, w.count-is, c.loop-id.invariant.counted, count_below_out c.args.self.now c.loop-id.id least none) }
     ]

@@ -1,0 +1,28 @@
+-- What tests decide, settle and judge, where all of them pass exactly where something holds.
+use Rattle.std.proofs.Common.{inl, List, [], ◌∷◌, Result, Ok, Err}
+use Rattle.dimacs_records.specs.declared.reasons.Reason.{Reason}
+use Rattle.dimacs_judge.specs.declared.verdict.Where.{Where}
+use Rattle.dimacs_judge.specs.declared.verdict.JudgeError.{JudgeError}
+use Rattle.dimacs_judge.specs.declared.verdict.JudgeError.TheVariants.{Refused, Memory}
+use Rattle.dimacs_judge.specs.declared.verdict.Verdict.{Verdict}
+use Rattle.dimacs_judge.specs.Tests.{Row, AllClear, First, TellsRow, Tells, Decides, Settles, Judges, Refuses}
+use Rattle.dimacs_judge.proofs.Firsts.{AllOneWay, one_first, none_first}
+
+pub decided : (holds : Type 0) (rows : List Row) → (AllClear rows → holds) → (holds → AllClear rows) → (told : Result Unit (Where × Reason)) → Tells rows told → Decides holds rows told
+decided holds rows passing needed (Ok done) clear = passing clear
+decided holds rows passing needed (Err refusal) first = (first, λ h. none_first rows refusal.0 refusal.1 (needed h) first)
+
+-- a refusal settles what holds only where all tests pass
+pub refusal_settles : {X : Type 0} (holds : X → Type 0) (rows : List Row) → ((x : X) → holds x → AllClear rows) → (error : JudgeError) → Refuses (First rows) error → Settles holds rows (Err error)
+refusal_settles holds rows needed (Refused place reason) first = (first, λ x h. none_first rows place reason (needed x h) first)
+refusal_settles holds rows needed Memory first = tt
+
+-- a single row
+pub last_row : (row : Row) (told : Result Unit (Where × Reason)) → TellsRow row told → Tells (row ∷ []) told
+last_row row (Ok done) clear = (clear, tt)
+last_row row (Err refusal) first = inl first
+
+-- a judge's refusal, where each test fails in one way and a yes needs all tests to pass
+pub refusal_judges : (rows : List Row) (holds : Verdict → Type 0) → AllOneWay rows → ((verdict : Verdict) → holds verdict → AllClear rows) → (error : JudgeError) → Refuses (First rows) error → Judges rows holds (Err error)
+refusal_judges rows holds one needed (Refused place reason) first = ((first, λ other why also. one_first rows other place why reason one also first), λ verdict h. none_first rows place reason (needed verdict h) first)
+refusal_judges rows holds one needed Memory first = tt

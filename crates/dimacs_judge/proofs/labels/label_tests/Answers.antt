@@ -1,0 +1,10 @@
+use Rattle.dimacs_judge.specs.CertificateTests.{label_rows}
+use Rattle.dimacs_judge.proofs.LabelsPassing.{labels_hold, labels_clear}
+use Rattle.dimacs_judge.proofs.Settling.{decided}
+use Rattle.dimacs_judge.proofs.labels.label_tests.Goals as goal
+
+pub returns : goal.returns
+returns g c =
+    let arcs = c.args.graph.now.arcs in
+    let blocks = c.args.labels.now.blocks in
+    decided _ (label_rows arcs blocks) (labels_hold arcs blocks) (labels_clear arcs blocks) c.blocks_hold.result (rw c.network.ensures.arcs at c.blocks_hold.ensures)

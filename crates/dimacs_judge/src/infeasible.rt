@@ -1,0 +1,31 @@
+//! Judging that an instance has no feasible flow.
+
+ghost use Rattle.std.specs.Prelude.{◌≡◌, ◌≢◌, Err};
+ghost use Rattle.dimacs_judge.specs.declared.verdict.JudgeError.TheVariants.{Memory};
+ghost use Rattle.dimacs_judge.specs.declared.verdict.Verdict.TheVariants.{Infeasible};
+ghost use Rattle.dimacs_judge.specs.InfeasibleJudge.{PassesInfeasible, infeasible_rows};
+ghost use Rattle.dimacs_judge.specs.Optimum.{NoFlow};
+ghost use Rattle.dimacs_judge.specs.Tests.{Judges};
+
+use crate::agreement::nodes_agree;
+use crate::crossing::set_is_violated;
+use crate::verdict::{JudgeError, Verdict};
+use dimacs_claims::Cut;
+use dimacs_instance::{MinInstance, Network};
+
+/// Whether the set shows that no flow is feasible. A yes, `Infeasible`, means that there is none, of whole numbers of
+/// any size and sign. Takes no memory, so it never answers `Memory`.
+///
+/// The tests in their order: `NodesDiffer`, where the set isn't of as many nodes as the instance; `NotViolated`, where
+/// what the set supplies could flow out of it.
+pub fn judge_infeasible<N: Network>(
+    instance: &MinInstance<N>,
+    set: &Cut,
+) -> Result<Verdict, JudgeError>
+    ensures judges { Judges (infeasible_rows instance.now set.now) (λ verdict. (verdict ≡ Infeasible) × PassesInfeasible instance.now set.now × NoFlow instance.now) result }
+    ensures memoryless { result ≢ Err Memory }
+{
+    nodes_agree(instance.network().nodes(), set.nodes())?;
+    set_is_violated(instance, set)?;
+    Ok(Verdict::Infeasible)
+}
