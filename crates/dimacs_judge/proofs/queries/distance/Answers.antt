@@ -8,4 +8,4 @@ returns-in_err-number c =
 
 pub returns : goal.returns
 returns c =
-    c.label.ensures ∙ distance_some _ c.args.from c.args.to c.in_ok-number.number (sym (c.requires c.args.from) ∙ sym c.get.ensures ∙ c.in_ok-number.was)
+    c.label.ensures.label ∙ distance_some _ c.args.from c.args.to c.in_ok-number.number (sym (c.requires c.args.from) ∙ sym c.get.ensures ∙ c.in_ok-number.was)
