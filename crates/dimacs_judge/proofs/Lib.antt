@@ -21,3 +21,4 @@ pub mod InfeasibleJudge
 mod ListedRows
 mod BlockNumbers
 pub mod QueriesPassing
+pub mod PathsPassing

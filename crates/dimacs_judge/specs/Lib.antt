@@ -18,3 +18,4 @@ pub mod FlowSoFar
 pub mod InfeasibleJudge
 pub mod QueryTests
 pub mod Answers
+pub mod PathsJudge
