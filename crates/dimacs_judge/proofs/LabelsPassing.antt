@@ -1,6 +1,7 @@
 -- Labels whose tests all pass.
-use Rattle.std.proofs.Common.{◌≡◌, ◌≢◌, ◌⊎◌, inl, inr, ℕ, suc, zero, ◌+◌, ◌<◌, List, [], ◌∷◌, All, Contains, length, get_or, Option, Some, None, ℤ, ◌+ℤ◌, ◌≤ℤ◌, ◌<ℤ◌, refl, sym, subst, ◌∙◌, arith}
+use Rattle.std.proofs.Common.{◌≡◌, ◌≢◌, ◌⊎◌, inl, inr, ℕ, suc, zero, ◌+◌, ◌<◌, List, [], ◌∷◌, All, Contains, length, get_or, Option, Some, None, Result, Ok, Err, ℤ, ◌+ℤ◌, ◌≤ℤ◌, ◌<ℤ◌, refl, sym, subst, ◌∙◌, arith}
 use Rattle.std.specs.Int.Signed.{<ℤ_irrefl}
+use Rattle.std.specs.Result.{OnOk}
 use Rattle.std.proofs.lemmas.Int.{ints, by_lt_z}
 use Rattle.std.proofs.lemmas.Bool.Decides.{eqb_tells}
 use Rattle.std.proofs.lemmas.List.Elements.{All-nil, All-cons, All-head, All-tail, All-contains, Contains-get_or, Contains-append_right, Contains-append_cases}
@@ -8,12 +9,14 @@ use Rattle.dimacs_instance.specs.declared.network.ArcView.{ArcView}
 use Rattle.dimacs_records.specs.declared.reasons.Reason.{Reason}
 use Rattle.dimacs_records.specs.declared.reasons.Reason.TheVariants as reasons
 use Rattle.dimacs_claims.specs.declared.block.Label.{Label}
+use Rattle.dimacs_judge.specs.declared.verdict.Where.{Where}
 use Rattle.dimacs_judge.specs.declared.verdict.Where.TheVariants as places
-use Rattle.dimacs_claims.specs.Labels.{BlockValue, label}
-use Rattle.dimacs_judge.specs.Labels.{HasArcOfWeight, HasTightArc, IsRelaxed, LabelsOk}
-use Rattle.dimacs_judge.specs.Tests.{Clear, AllClear}
+use Rattle.dimacs_claims.specs.Labels.{BlockValue, LabelsValue, AreLabels, label}
+use Rattle.dimacs_judge.specs.Labels.{HasArcOfWeight, HasTightArc, IsRelaxed, LabelsOk, AreDistances}
+use Rattle.dimacs_judge.specs.Tests.{Clear, AllClear, Tells}
 use Rattle.dimacs_judge.specs.Rows.{no_arc, arc_at}
 use Rattle.dimacs_judge.specs.CertificateTests.{no_label, support_row, RelaxFails, relax_row, label_rows}
+use Rattle.dimacs_judge.proofs.Distances.{labels_are_distances}
 
 all_from : {A : Type 0} (P : A → Type 0) (xs : List A) (d : A) → ((k : ℕ) → k < length xs → P (get_or xs k d)) → All P xs
 all_from P [] d each = All-nil P
@@ -108,3 +111,10 @@ labels_clear arcs [] all = tt
 labels_clear arcs (b ∷ blocks) all =
     let here = All-head (LabelsOk arcs) b blocks all in
     (support_clear arcs b here.tight, (relax_clear arcs b here.relaxed, labels_clear arcs blocks (All-tail (LabelsOk arcs) b blocks all)))
+
+passing_are_distances : (arcs : List ArcView) (l : LabelsValue) → AreLabels l → All (LabelsOk arcs) l.blocks → AreDistances arcs l.blocks
+passing_are_distances arcs l are all k d inside = labels_are_distances arcs (get_or l.blocks k d) (are.blocks k d inside).preds (all k d inside)
+
+pub told_distances : (arcs : List ArcView) (l : LabelsValue) → AreLabels l → (told : Result Unit (Where × Reason)) → Tells (label_rows arcs l.blocks) told → OnOk told (AreDistances arcs l.blocks)
+told_distances arcs l are (Ok done) clear = passing_are_distances arcs l are (labels_hold arcs l.blocks clear)
+told_distances arcs l are (Err refusal) first = tt

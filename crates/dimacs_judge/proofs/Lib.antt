@@ -18,3 +18,7 @@ mod EntryLemmas
 pub mod Claims
 pub mod RowLists
 pub mod InfeasibleJudge
+mod ListedRows
+mod BlockNumbers
+pub mod QueriesPassing
+pub mod PathsPassing

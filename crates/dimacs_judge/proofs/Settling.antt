@@ -1,5 +1,7 @@
 -- What tests decide, settle and judge, where all of them pass exactly where something holds.
-use Rattle.std.proofs.Common.{inl, List, [], ◌∷◌, Result, Ok, Err}
+use Rattle.std.proofs.Common.{◌≡◌, inl, List, [], ◌∷◌, Result, Ok, Err}
+use Rattle.std.specs.Prelude.{IsErrAnd}
+use Rattle.std.proofs.lemmas.Result.{err_from_is_err_and}
 use Rattle.dimacs_records.specs.declared.reasons.Reason.{Reason}
 use Rattle.dimacs_judge.specs.declared.verdict.Where.{Where}
 use Rattle.dimacs_judge.specs.declared.verdict.JudgeError.{JudgeError}
@@ -23,6 +25,11 @@ last_row row (Ok done) clear = (clear, tt)
 last_row row (Err refusal) first = inl first
 
 -- a judge's refusal, where each test fails in one way and a yes needs all tests to pass
-pub refusal_judges : (rows : List Row) (holds : Verdict → Type 0) → AllOneWay rows → ((verdict : Verdict) → holds verdict → AllClear rows) → (error : JudgeError) → Refuses (First rows) error → Judges rows holds (Err error)
-refusal_judges rows holds one needed (Refused place reason) first = ((first, λ other why also. one_first rows other place why reason one also first), λ verdict h. none_first rows place reason (needed verdict h) first)
-refusal_judges rows holds one needed Memory first = tt
+refusal_judges : (rows : List Row) (holds : Type 0) (says : Verdict → Type 0) → AllOneWay rows → (holds → AllClear rows) → (error : JudgeError) → Refuses (First rows) error → Judges rows holds says (Err error)
+refusal_judges rows holds says one needed (Refused place reason) first = ((first, λ other why also. one_first rows other place why reason one also first), λ h. none_first rows place reason (needed h) first)
+refusal_judges rows holds says one needed Memory first = tt
+
+-- and where the judge passes it up as its own
+pub error_judges : (rows : List Row) (holds : Type 0) (says : Verdict → Type 0) → AllOneWay rows → (holds → AllClear rows) → (error : JudgeError) → Refuses (First rows) error
+    → (result : Result Verdict JudgeError) → IsErrAnd result (λ e. e ≡ error) → Judges rows holds says result
+error_judges rows holds says one needed error first result is = let p = err_from_is_err_and result is in rw (p.1, p.2) (refusal_judges rows holds says one needed error first)

@@ -5,6 +5,7 @@ use Rattle.dimacs_instance.specs.MinFlows.{MinValue}
 use Rattle.dimacs_judge.specs.Agreement.{nodes_row}
 use Rattle.dimacs_judge.specs.CertificateTests.{violated_row}
 use Rattle.dimacs_judge.specs.Cuts.{members}
+use Rattle.dimacs_judge.specs.Optimum.{NoFlow}
 use Rattle.dimacs_judge.specs.Tests.{Row}
 use Rattle.dimacs_judge.specs.ViolatedSets.{Violated}
 
@@ -16,3 +17,7 @@ infeasible_rows i c = nodes_row i.nodes c.nodes ∷ violated_row i (members c) �
 pub record PassesInfeasible (i : MinValue) (c : CutValue) : Type 0 where
   pub nodes_are : c.nodes ≡ i.nodes
   pub violated : Violated i (members c)
+
+-- the set passes, and no flow is feasible
+abbrev pub ShowsNoFlow : MinValue → CutValue → Type 0
+ShowsNoFlow i c = PassesInfeasible i c × NoFlow i

@@ -3,6 +3,7 @@ use Rattle.std.specs.Prelude.{ℕ, ◌≡◌, List, [], All, Contains, get_or, S
 use Rattle.dimacs_instance.specs.declared.network.ArcView.{ArcView}
 use Rattle.dimacs_claims.specs.declared.block.Label.{Label}
 use Rattle.dimacs_claims.specs.Labels.{BlockValue, label}
+use Rattle.dimacs_judge.specs.Walks.{IsDistance}
 
 -- the block of this number, from 0
 abbrev pub block_at : List BlockValue → ℕ → BlockValue
@@ -27,3 +28,7 @@ IsRelaxed b a = (d : ℤ) → label b a.tail ≡ Some d → (e : ℤ) × (label 
 pub record LabelsOk (g : List ArcView) (b : BlockValue) : Type 0 where
   pub tight : All (HasTightArc g b) b.labels
   pub relaxed : All (IsRelaxed b) g
+
+-- in every block each label is the distance from the source, and each node without a label is unreachable
+abbrev pub AreDistances : List ArcView → List BlockValue → Type 0
+AreDistances g blocks = All (λ b. (v : ℕ) → IsDistance g b.source v (label b v)) blocks

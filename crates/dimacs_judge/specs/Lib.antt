@@ -16,3 +16,6 @@ pub mod Agreement
 pub mod Claims
 pub mod FlowSoFar
 pub mod InfeasibleJudge
+pub mod QueryTests
+pub mod Answers
+pub mod PathsJudge

@@ -59,11 +59,11 @@ Settles holds rows (Err Memory) = Unit
 abbrev pub FirstAlone : List Row → Where → Reason → Type 0
 FirstAlone rows place reason = First rows place reason × ((other : Where) (why : Reason) → First rows other why → (other ≡ place) × (why ≡ reason))
 
--- all tests pass, and this holds of the verdict; else the first test that fails, and it holds of none; want of memory says nothing
-abbrev pub Judges : List Row → (Verdict → Type 0) → Result Verdict JudgeError → Type 0
-Judges rows holds (Ok verdict) = AllClear rows × holds verdict
-Judges rows holds (Err (Refused place reason)) = FirstAlone rows place reason × ((verdict : Verdict) → ¬ holds verdict)
-Judges rows holds (Err Memory) = Unit
+-- all tests pass, this holds, and the verdict says so; else the first test that fails, and it doesn't hold; want of memory says nothing
+abbrev pub Judges : List Row → Type 0 → (Verdict → Type 0) → Result Verdict JudgeError → Type 0
+Judges rows holds says (Ok verdict) = AllClear rows × holds × says verdict
+Judges rows holds says (Err (Refused place reason)) = FirstAlone rows place reason × ¬ holds
+Judges rows holds says (Err Memory) = Unit
 
 -- the reason for which a single test fails, where it does
 abbrev pub TellsReason : (Reason → Type 0) → Option Reason → Type 0

@@ -3,8 +3,7 @@
 ghost use Rattle.std.specs.Prelude.{◌≡◌, ◌≢◌, Err};
 ghost use Rattle.dimacs_judge.specs.declared.verdict.JudgeError.TheVariants.{Memory};
 ghost use Rattle.dimacs_judge.specs.declared.verdict.Verdict.TheVariants.{Infeasible};
-ghost use Rattle.dimacs_judge.specs.InfeasibleJudge.{PassesInfeasible, infeasible_rows};
-ghost use Rattle.dimacs_judge.specs.Optimum.{NoFlow};
+ghost use Rattle.dimacs_judge.specs.InfeasibleJudge.{ShowsNoFlow, infeasible_rows};
 ghost use Rattle.dimacs_judge.specs.Tests.{Judges};
 
 use crate::agreement::nodes_agree;
@@ -22,7 +21,7 @@ pub fn judge_infeasible<N: Network>(
     instance: &MinInstance<N>,
     set: &Cut,
 ) -> Result<Verdict, JudgeError>
-    ensures judges { Judges (infeasible_rows instance.now set.now) (λ verdict. (verdict ≡ Infeasible) × PassesInfeasible instance.now set.now × NoFlow instance.now) result }
+    ensures judges { Judges (infeasible_rows instance.now set.now) (ShowsNoFlow instance.now set.now) (λ verdict. verdict ≡ Infeasible) result }
     ensures memoryless { result ≢ Err Memory }
 {
     nodes_agree(instance.network().nodes(), set.nodes())?;

@@ -1,8 +1,9 @@
 //! Whether labels are distances.
 
-ghost use Rattle.std.specs.Prelude.{◌≡◌, ◌<◌, ◌+ℤ◌, ◌<ℤ◌, ℤ, Some, All, length, IsTrue, ◌↔◌, IfSome};
+ghost use Rattle.std.specs.Prelude.{◌≡◌, ◌<◌, ◌+ℤ◌, ◌<ℤ◌, ℤ, Some, All, length, IsTrue, ◌↔◌, IfSome, OnOk};
+ghost use Rattle.dimacs_claims.specs.Labels.{AreLabels, label_at};
 ghost use Rattle.dimacs_judge.specs.CertificateTests.{RelaxFails, support_row, relax_row, block_rows, label_rows};
-ghost use Rattle.dimacs_judge.specs.Labels.{HasArcOfWeight, LabelsOk, block_at};
+ghost use Rattle.dimacs_judge.specs.Labels.{AreDistances, HasArcOfWeight, LabelsOk, block_at};
 ghost use Rattle.dimacs_judge.specs.Ranges.{IsWide};
 ghost use Rattle.dimacs_judge.specs.Tests.{Decides, TellsReason, TellsRow, Tells};
 
@@ -12,19 +13,22 @@ use dimacs_instance::{ArcView, Graph, Network};
 use dimacs_records::Reason;
 
 /// Whether all labels hold, in every block: an arc from the predecessor of each label makes it, and each arc with a
-/// labelled tail has a labelled head, whose label is at most the tail's and the weight. Takes no memory.
+/// labelled tail has a labelled head, whose label is at most the tail's and the weight. Then they are the distances over
+/// all walks from the block's source, and no walk leads to a node without a label. Takes no memory.
 ///
 /// The tests of each block, in their order: each label, `NoTightArc` at its node; then each arc, from 1: `Escapes` where
 /// its head has no label, else `NotShortest`.
 pub fn label_tests<N: Network>(graph: &Graph<N>, labels: &Labels) -> Result<(), (Where, Reason)>
-    ensures { Decides (All (LabelsOk graph.now.arcs) labels.now.blocks) (label_rows graph.now.arcs labels.now.blocks) result }
+    ensures decides { Decides (All (LabelsOk graph.now.arcs) labels.now.blocks) (label_rows graph.now.arcs labels.now.blocks) result }
+    ensures distances { OnOk result (AreDistances graph.now.arcs labels.now.blocks) }
 {
     blocks_hold(graph.network(), labels)
 }
 
 /// The first test that fails, block by block.
 fn blocks_hold<N: Network>(network: &N, labels: &Labels) -> Result<(), (Where, Reason)>
-    ensures { Tells (label_rows (N.list network.now) labels.now.blocks) result }
+    ensures tests { Tells (label_rows (N.list network.now) labels.now.blocks) result }
+    ensures lawful { AreLabels labels.now }
 {
     for block in 0..labels.blocks().len() {
         if let Err(refusal) = block_holds(network, labels, block) {
@@ -119,26 +123,22 @@ fn arcs_relaxed<N: Network>(
     ensures { TellsRow (relax_row (N.list network.now) (block_at labels.now.blocks block)) result }
 {
     for i in 0..network.arcs() {
-        let arc = network.arc(i);
-        let tail = labels.label(block, arc.tail);
-        let head = labels.label(block, arc.head);
-        if let Some(reason) = relax_fault(tail, head, arc.cost) {
+        if let Some(reason) = relax_fault(labels, block, network.arc(i)) {
             return Err((Where::Arc(i + 1), reason));
         }
     }
     Ok(())
 }
 
-fn relax_fault(tail: Option<i128>, head: Option<i128>, weight: i64) -> Option<Reason>
-    requires { IfSome tail IsWide }
-    ensures { TellsReason (RelaxFails tail head weight) result }
+/// Looks the head up only where the tail has a label.
+#[inline(always)]
+fn relax_fault(labels: &Labels, block: usize, arc: ArcView) -> Option<Reason>
+    ensures { TellsReason (RelaxFails (label_at labels.now.blocks block arc.tail) (label_at labels.now.blocks block arc.head) arc.cost) result }
 {
-    let Some(from) = tail else {
-        return None;
-    };
-    match head {
+    let from = labels.label(block, arc.tail)?;
+    match labels.label(block, arc.head) {
         None => Some(Reason::Escapes),
-        Some(to) if is_beyond(to, from, weight) => Some(Reason::NotShortest),
+        Some(to) if is_beyond(to, from, arc.cost) => Some(Reason::NotShortest),
         Some(_) => None,
     }
 }

@@ -15,7 +15,9 @@ mod flow;
 mod infeasible;
 mod labels;
 mod laws;
+mod paths;
 mod potentials;
+mod queries;
 mod verdict;
 
 pub use cuts::cut_tests;
@@ -27,5 +29,6 @@ pub use labels::label_tests;
 pub use laws::{
     exchange, labels_give_distances, slack_is_least, tight_cut_is_maximum, violated_has_no_flow,
 };
+pub use paths::judge_paths;
 pub use potentials::slack_tests;
 pub use verdict::{Answer, JudgeError, Verdict, Where};

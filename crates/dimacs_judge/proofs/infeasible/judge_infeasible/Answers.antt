@@ -12,4 +12,4 @@ returns-clause-judges g c =
     let set = c.args.set.now in
     let clear : AllClear (infeasible_rows i set) = (rw (c.nodes.ensures, c.network.ensures.nodes, c.nodes-2.ensures) at c.in_ok-nodes_agree.ensures, (c.in_ok-set_is_violated.ensures, tt)) in
     let passes = infeasible_passes i set clear in
-    (clear, (refl, passes, violated_has_no_flow i c.network.ensures.lawful.joined (members set) passes.violated))
+    (clear, (passes, violated_has_no_flow i c.network.ensures.lawful.joined (members set) passes.violated), refl)

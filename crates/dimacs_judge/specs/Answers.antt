@@ -1,0 +1,27 @@
+-- What labels answer to queries.
+use Rattle.std.specs.Prelude.{ℕ, ◌≡◌, List, map, length, Option, ℤ}
+use Rattle.std.specs.List.{find}
+use Rattle.dimacs_instance.specs.QueryTexts.{QueriesValue}
+use Rattle.dimacs_instance.specs.QueryTexts as queries
+use Rattle.dimacs_claims.specs.Labels.{BlockValue, label_in}
+use Rattle.dimacs_judge.specs.declared.verdict.Answer.{Answer}
+use Rattle.dimacs_judge.specs.declared.verdict.Verdict.{Verdict}
+use Rattle.dimacs_judge.specs.declared.verdict.Verdict.TheVariants as verdicts
+use Rattle.dimacs_judge.specs.QueryTests.{is_of}
+
+-- the first block of this source
+abbrev pub block_of : List BlockValue → ℕ → Option BlockValue
+block_of blocks source = find (is_of source) blocks
+
+-- the label of one node in the block of another; none where it has no label, and where there is no block
+abbrev pub distance_from : List BlockValue → ℕ → ℕ → Option ℤ
+distance_from blocks from to = label_in (block_of blocks from) to
+
+abbrev pub answer_to : List BlockValue → ℕ × ℕ → Answer
+answer_to blocks pair = record { from = pair.0; to = pair.1; distance = distance_from blocks pair.0 pair.1 }
+
+-- the verdict tells the number of sources, or the answer to each pair in order
+abbrev pub AnswersQueries : List BlockValue → QueriesValue → Verdict → Type 0
+AnswersQueries blocks (queries.Sources ids) (verdicts.Sources count) = count ≡ length ids
+AnswersQueries blocks (queries.Pairs pairs) (verdicts.Pairs answers) = answers.items ≡ map (answer_to blocks) pairs
+AnswersQueries blocks asked verdict = ⊥

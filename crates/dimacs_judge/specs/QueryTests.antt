@@ -1,0 +1,54 @@
+-- The tests of queries: their nodes, and the blocks of their sources.
+use Rattle.std.specs.Prelude.{ℕ, ◌≡◌, ◌<◌, ◌==◌, Bool, List, [], ◌∷◌, map, length, get_or, Result, Ok, Err}
+use Rattle.std.specs.List.{Any, flat_map, position}
+use Rattle.std.specs.Ordering.{nat_cmp}
+use Rattle.std.specs.FinMap.{FinMap, get}
+use Rattle.dimacs_instance.specs.QueryTexts.{QueriesValue, Sources, Pairs}
+use Rattle.dimacs_claims.specs.Labels.{BlockValue}
+use Rattle.dimacs_records.specs.declared.reasons.Reason.{Reason}
+use Rattle.dimacs_records.specs.declared.reasons.Reason.TheVariants.{QueryNode, BlockMissing}
+use Rattle.dimacs_judge.specs.declared.verdict.Where.TheVariants.{Node}
+use Rattle.dimacs_judge.specs.declared.verdict.JudgeError.{JudgeError}
+use Rattle.dimacs_judge.specs.Tests.{Row, Clear, FirstOfRow, Refuses}
+
+-- FROM before TO
+abbrev pub ends_of : ℕ × ℕ → List ℕ
+ends_of pair = pair.0 ∷ pair.1 ∷ []
+
+-- the nodes that are named, one query after another
+abbrev pub nodes_asked : QueriesValue → List ℕ
+nodes_asked (Sources ids) = ids
+nodes_asked (Pairs pairs) = flat_map ends_of pairs
+
+-- the source of each query: its node, or FROM
+abbrev pub sources_asked : QueriesValue → List ℕ
+sources_asked (Sources ids) = ids
+sources_asked (Pairs pairs) = map (λ pair. pair.0) pairs
+
+-- some block has this source
+abbrev pub HasBlock : List BlockValue → ℕ → Type 0
+HasBlock blocks source = Any (λ b. b.source ≡ source) blocks
+
+-- a test of each node of a list, in order
+abbrev pub listed_row : List ℕ → Reason → (ℕ → Type 0) → Row
+listed_row ids why fails k place reason = (k < length ids) × (place ≡ Node (get_or ids k 0)) × (reason ≡ why) × fails (get_or ids k 0)
+
+-- a query names a node above the number of nodes
+abbrev pub query_node_row : ℕ → QueriesValue → Row
+query_node_row nodes queries = listed_row (nodes_asked queries) QueryNode (λ id. nodes < id)
+
+-- no block has the source of a query
+abbrev pub block_row : List BlockValue → QueriesValue → Row
+block_row blocks queries = listed_row (sources_asked queries) BlockMissing (λ source. ¬ HasBlock blocks source)
+
+abbrev pub is_of : ℕ → BlockValue → Bool
+is_of source b = b.source == source
+
+-- each source has the number of its first block, from 0; a node without a block has none
+abbrev pub AreNumbers : List BlockValue → FinMap nat_cmp ℕ → Type 0
+AreNumbers blocks numbers = (source : ℕ) → get numbers source ≡ position (is_of source) blocks
+
+-- the numbers of the blocks, where every query has one; else the first query that has none
+abbrev pub TellsBlocks : List BlockValue → QueriesValue → Result (FinMap nat_cmp ℕ) JudgeError → Type 0
+TellsBlocks blocks queries (Ok numbers) = AreNumbers blocks numbers × Clear (block_row blocks queries)
+TellsBlocks blocks queries (Err error) = Refuses (FirstOfRow (block_row blocks queries)) error

@@ -1,0 +1,153 @@
+//! Whether queries ask for what is there, and what labels answer to them.
+
+ghost use Rattle.std.specs.Prelude.{◌≡◌, ◌<◌, List, Some, IfOk, map, length, slice_get};
+ghost use Rattle.dimacs_records.specs.declared.reasons.Reason.TheVariants as reasons;
+ghost use Rattle.dimacs_instance.specs.QueryTexts.{AreLawful, Pairs, asked};
+ghost use Rattle.dimacs_claims.specs.Labels.{BlockValue};
+ghost use Rattle.dimacs_judge.specs.Answers.{AnswersQueries, answer_to, distance_from};
+ghost use Rattle.dimacs_judge.specs.QueryTests.{AreNumbers, TellsBlocks, block_row, listed_row, query_node_row, sources_asked};
+ghost use Rattle.dimacs_judge.specs.Tests.{TellsRow};
+
+use crate::verdict::{Answer, JudgeError, Verdict, Where};
+use dimacs_claims::Labels;
+use dimacs_instance::Queries;
+use dimacs_lines::Memory;
+use dimacs_nodes::NodeMap;
+use dimacs_records::Reason;
+use std::alloc::Global;
+
+/// Whether the queries name nodes of the instance; else the first ID that is too great, FROM before TO.
+pub(crate) fn query_nodes_hold(nodes: u32, queries: &Queries) -> Result<(), (Where, Reason)>
+    ensures { TellsRow (query_node_row nodes (asked queries.now)) result }
+{
+    match queries {
+        Queries::Sources(ids) => sources_are_nodes(nodes, ids),
+        Queries::Pairs(pairs) => pairs_are_nodes(nodes, pairs),
+    }
+}
+
+fn sources_are_nodes(nodes: u32, ids: &[u32]) -> Result<(), (Where, Reason)>
+    ensures { TellsRow (listed_row ids.now reasons.QueryNode (λ id. nodes < id)) result }
+{
+    for id in ids {
+        if *id > nodes {
+            return Err((Where::Node(*id), Reason::QueryNode));
+        }
+    }
+    Ok(())
+}
+
+fn pairs_are_nodes(nodes: u32, pairs: &[(u32, u32)]) -> Result<(), (Where, Reason)>
+    ensures { TellsRow (query_node_row nodes (Pairs pairs.now)) result }
+{
+    for (from, to) in pairs {
+        if *from > nodes {
+            return Err((Where::Node(*from), Reason::QueryNode));
+        }
+        if *to > nodes {
+            return Err((Where::Node(*to), Reason::QueryNode));
+        }
+    }
+    Ok(())
+}
+
+/// The number of each source's block, where every query has a block; else the first query that has none.
+pub(crate) fn blocks_exist(
+    alloc: Global,
+    labels: &Labels,
+    queries: &Queries,
+) -> Result<NodeMap<u32>, JudgeError>
+    ensures { TellsBlocks labels.now.blocks (asked queries.now) result }
+{
+    let Ok(numbers) = block_numbers(alloc, labels) else {
+        return Err(JudgeError::Memory);
+    };
+    if let Err((place, reason)) = sources_have_blocks(&numbers, queries) {
+        return Err(JudgeError::Refused(place, reason));
+    }
+    Ok(numbers)
+}
+
+/// The number of each source's block, from 0.
+fn block_numbers(alloc: Global, labels: &Labels) -> Result<NodeMap<u32>, Memory>
+    ensures { IfOk result (AreNumbers labels.now.blocks) }
+{
+    let mut numbers = NodeMap::new(alloc);
+    for (i, block) in labels.blocks().iter().enumerate() {
+        numbers.set(block.source(), i as u32)?;
+    }
+    Ok(numbers)
+}
+
+fn sources_have_blocks(numbers: &NodeMap<u32>, queries: &Queries) -> Result<(), (Where, Reason)>
+    ensures { (blocks : List BlockValue) → AreNumbers blocks numbers.now → TellsRow (block_row blocks (asked queries.now)) result }
+{
+    for i in 0..queries.len() {
+        let source = source_asked(queries, i);
+        if numbers.get(source).is_none() {
+            return Err((Where::Node(source), Reason::BlockMissing));
+        }
+    }
+    Ok(())
+}
+
+/// The source of a query: its node, or FROM.
+fn source_asked(queries: &Queries, i: usize) -> u32
+    requires { i < length (sources_asked (asked queries.now)) }
+    ensures { slice_get (sources_asked (asked queries.now)) i ≡ Some result }
+{
+    match queries {
+        Queries::Sources(ids) => ids[i],
+        Queries::Pairs(pairs) => pairs[i].0,
+    }
+}
+
+/// What the labels answer to queries, by the numbers of the blocks.
+pub(crate) fn answers(
+    alloc: Global,
+    queries: &Queries,
+    labels: &Labels,
+    numbers: &NodeMap<u32>,
+) -> Result<Verdict, Memory>
+    requires lawful { AreLawful (asked queries.now) }
+    requires numbers { AreNumbers labels.now.blocks numbers.now }
+    ensures { IfOk result (AnswersQueries labels.now.blocks (asked queries.now)) }
+{
+    match queries {
+        Queries::Sources(ids) => Ok(Verdict::Sources(ids.len() as u32)),
+        Queries::Pairs(pairs) => {
+            let answers = pair_answers(alloc, pairs, labels, numbers)?;
+            Ok(Verdict::Pairs(answers))
+        }
+    }
+}
+
+/// The answer to each pair.
+fn pair_answers(
+    alloc: Global,
+    pairs: &[(u32, u32)],
+    labels: &Labels,
+    numbers: &NodeMap<u32>,
+) -> Result<Vec<Answer>, Memory>
+    requires { AreNumbers labels.now.blocks numbers.now }
+    ensures { IfOk result (λ answers. answers.items ≡ map (answer_to labels.now.blocks) pairs.now) }
+{
+    let mut answers = Vec::new(alloc);
+    for pair in pairs {
+        let (from, to) = *pair;
+        let distance = distance(labels, numbers, from, to);
+        let Ok(()) = answers.push(Answer { from, to, distance }) else {
+            return Err(Memory);
+        };
+    }
+    Ok(answers)
+}
+
+/// The label of a node in the block of a source.
+fn distance(labels: &Labels, numbers: &NodeMap<u32>, from: u32, to: u32) -> Option<i128>
+    requires { AreNumbers labels.now.blocks numbers.now }
+    ensures { result ≡ distance_from labels.now.blocks from to }
+{
+    let number = numbers.get(from)?;
+    labels.label(number as usize, to)
+}
