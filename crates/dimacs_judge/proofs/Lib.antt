@@ -8,6 +8,7 @@ mod CrossLemmas
 mod SupportLemmas
 mod BlockLemmas
 pub mod Firsts
+pub mod RowLists
 mod Settling
 pub mod Reasons
 pub mod Passing
@@ -16,5 +17,5 @@ mod CountLemmas
 mod PutLemmas
 mod EntryLemmas
 pub mod Claims
-pub mod RowLists
 pub mod InfeasibleJudge
+pub mod MaxJudge

@@ -16,3 +16,4 @@ pub mod Agreement
 pub mod Claims
 pub mod FlowSoFar
 pub mod InfeasibleJudge
+pub mod MaxJudge
