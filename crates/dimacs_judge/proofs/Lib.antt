@@ -8,6 +8,7 @@ mod CrossLemmas
 mod SupportLemmas
 mod BlockLemmas
 pub mod Firsts
+pub mod RowLists
 mod Settling
 pub mod Reasons
 pub mod Passing
@@ -16,9 +17,9 @@ mod CountLemmas
 mod PutLemmas
 mod EntryLemmas
 pub mod Claims
-pub mod RowLists
 pub mod InfeasibleJudge
 mod ListedRows
 mod BlockNumbers
 pub mod QueriesPassing
 pub mod PathsPassing
+pub mod MaxJudge

@@ -1,14 +1,18 @@
 -- What tests decide, settle and judge, where all of them pass exactly where something holds.
-use Rattle.std.proofs.Common.{◌≡◌, inl, List, [], ◌∷◌, Result, Ok, Err}
+use Rattle.std.proofs.Common.{◌≡◌, inl, subst, List, [], ◌∷◌, ◌++◌, Result, Ok, Err, ℤ}
 use Rattle.std.specs.Prelude.{IsErrAnd}
 use Rattle.std.proofs.lemmas.Result.{err_from_is_err_and}
+use Rattle.dimacs_instance.specs.declared.network.ArcView.{ArcView}
+use Rattle.dimacs_claims.specs.declared.solution.Entry.{Entry}
 use Rattle.dimacs_records.specs.declared.reasons.Reason.{Reason}
 use Rattle.dimacs_judge.specs.declared.verdict.Where.{Where}
 use Rattle.dimacs_judge.specs.declared.verdict.JudgeError.{JudgeError}
 use Rattle.dimacs_judge.specs.declared.verdict.JudgeError.TheVariants.{Refused, Memory}
 use Rattle.dimacs_judge.specs.declared.verdict.Verdict.{Verdict}
+use Rattle.dimacs_judge.specs.Claims.{Carries, entry_row}
 use Rattle.dimacs_judge.specs.Tests.{Row, AllClear, First, TellsRow, Tells, Decides, Settles, Judges, Refuses}
 use Rattle.dimacs_judge.proofs.Firsts.{AllOneWay, one_first, none_first}
+use Rattle.dimacs_judge.proofs.RowLists.{first_in_front, first_behind}
 
 pub decided : (holds : Type 0) (rows : List Row) → (AllClear rows → holds) → (holds → AllClear rows) → (told : Result Unit (Where × Reason)) → Tells rows told → Decides holds rows told
 decided holds rows passing needed (Ok done) clear = passing clear
@@ -23,6 +27,20 @@ refusal_settles holds rows needed Memory first = tt
 pub last_row : (row : Row) (told : Result Unit (Where × Reason)) → TellsRow row told → Tells (row ∷ []) told
 last_row row (Ok done) clear = (clear, tt)
 last_row row (Err refusal) first = inl first
+
+-- ---- judges
+settled_refuses : {X : Type 0} (holds : X → Type 0) (rows : List Row) (error : JudgeError) → Settles holds rows (Err error) → Refuses (First rows) error
+settled_refuses holds rows (Refused place reason) told = told.0
+settled_refuses holds rows Memory told = tt
+
+-- the first entry that fails
+pub entries_refuse : (arcs : List ArcView) (entries : List Entry) (told : Result (List ℤ) JudgeError) (error : JudgeError) → told ≡ Err error → Settles (Carries arcs entries) (entry_row arcs entries ∷ []) told → Refuses (First (entry_row arcs entries ∷ [])) error
+entries_refuse arcs entries told error is settles = settled_refuses (Carries arcs entries) (entry_row arcs entries ∷ []) error (subst (λ (r : Result (List ℤ) JudgeError). Settles (Carries arcs entries) (entry_row arcs entries ∷ []) r) is settles)
+
+-- the first test that fails, behind rows that pass
+pub refused_behind : (front rows more : List Row) (error : JudgeError) → AllClear front → Refuses (First rows) error → Refuses (First (front ++ (rows ++ more))) error
+refused_behind front rows more (Refused place reason) clear first = first_behind front (rows ++ more) place reason clear (first_in_front rows more place reason first)
+refused_behind front rows more Memory clear first = tt
 
 -- a judge's refusal, where each test fails in one way and a yes needs all tests to pass
 refusal_judges : (rows : List Row) (holds : Type 0) (says : Verdict → Type 0) → AllOneWay rows → (holds → AllClear rows) → (error : JudgeError) → Refuses (First rows) error → Judges rows holds says (Err error)

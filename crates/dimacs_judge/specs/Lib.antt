@@ -19,3 +19,4 @@ pub mod InfeasibleJudge
 pub mod QueryTests
 pub mod Answers
 pub mod PathsJudge
+pub mod MaxJudge

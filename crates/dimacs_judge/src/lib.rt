@@ -15,6 +15,7 @@ mod flow;
 mod infeasible;
 mod labels;
 mod laws;
+mod maximum;
 mod paths;
 mod potentials;
 mod queries;
@@ -29,6 +30,7 @@ pub use labels::label_tests;
 pub use laws::{
     exchange, labels_give_distances, slack_is_least, tight_cut_is_maximum, violated_has_no_flow,
 };
+pub use maximum::judge_max;
 pub use paths::judge_paths;
 pub use potentials::slack_tests;
 pub use verdict::{Answer, JudgeError, Verdict, Where};

@@ -1,0 +1,36 @@
+-- Judging that a flow is maximum.
+use Rattle.std.specs.Prelude.{◌≡◌, List, ◌∷◌, ℤ}
+use Rattle.dimacs_claims.specs.Cuts.{CutValue}
+use Rattle.dimacs_claims.specs.SolutionTexts.{SolutionValue}
+use Rattle.dimacs_instance.specs.Flows.{MaxValue}
+use Rattle.dimacs_judge.specs.Agreement.{value_row, nodes_row}
+use Rattle.dimacs_judge.specs.CertificateTests.{cut_rows}
+use Rattle.dimacs_judge.specs.Claims.{Carries, claimed_flow, entry_row}
+use Rattle.dimacs_judge.specs.Cuts.{CutTight, members}
+use Rattle.dimacs_judge.specs.Feasible.{FeasibleMax, value}
+use Rattle.dimacs_judge.specs.FlowTests.{bound_row, balance_row, max_demand}
+use Rattle.dimacs_judge.specs.Optimum.{Maximum}
+use Rattle.dimacs_judge.specs.Tests.{Row}
+
+-- the tests of a solution and a cut, in order
+abbrev pub max_rows : MaxValue → SolutionValue → CutValue → List Row
+max_rows i s c =
+    let x = claimed_flow i.arcs s.entries in
+    entry_row i.arcs s.entries
+    ∷ bound_row i.arcs x
+    ∷ balance_row i.nodes i.arcs (max_demand i) x
+    ∷ value_row (value i x) s.value s.value_line
+    ∷ nodes_row i.nodes c.nodes
+    ∷ cut_rows i (members c) x
+
+-- the flow that the solution carries is feasible and has the claimed value, and the cut is tight for it
+pub record PassesMax (i : MaxValue) (s : SolutionValue) (c : CutValue) (x : List ℤ) : Type 0 where
+  pub carries : Carries i.arcs s.entries x
+  pub feasible : FeasibleMax i x
+  pub value_is : value i x ≡ s.value
+  pub nodes_are : c.nodes ≡ i.nodes
+  pub tight : CutTight i x (members c)
+
+-- a flow passes, and so it is maximum
+abbrev pub ShowsMaximum : MaxValue → SolutionValue → CutValue → Type 0
+ShowsMaximum i s c = (x : List ℤ) × PassesMax i s c x × Maximum i x
