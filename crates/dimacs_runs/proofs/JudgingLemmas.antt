@@ -8,7 +8,14 @@ use Rattle.dimacs_records.specs.declared.reasons.Reason.{Reason}
 use Rattle.dimacs_judge.specs.declared.verdict.JudgeError.{JudgeError}
 use Rattle.dimacs_judge.specs.declared.verdict.JudgeError.TheVariants as judge_errors
 use Rattle.dimacs_judge.specs.declared.verdict.Verdict.{Verdict}
+use Rattle.dimacs_judge.specs.declared.verdict.Verdict.TheVariants as verdicts
 use Rattle.dimacs_judge.specs.declared.verdict.Where.{Where}
+use Rattle.dimacs_judge.specs.Answers.{AnswersQueries}
+use Rattle.dimacs_claims.specs.Labels.{BlockValue}
+use Rattle.dimacs_instance.specs.QueryTexts as queries
+use Rattle.dimacs_instance.specs.QueryTexts.{QueriesValue}
+use Rattle.std.specs.List.{flat_map}
+use Rattle.dimacs_runs.specs.Judged.{paths_lines}
 use Rattle.dimacs_judge.specs.Tests.{Row, AllClear, First, Judges}
 use Rattle.dimacs_runs.specs.declared.outcome.Status.{Status}
 use Rattle.dimacs_runs.specs.declared.outcome.Status.TheVariants.{Done, Refused}
@@ -16,11 +23,11 @@ use Rattle.dimacs_runs.specs.declared.outcome.RunError.{RunError}
 use Rattle.dimacs_runs.specs.declared.outcome.RunError.TheVariants.{Device, Memory}
 use Rattle.dimacs_runs.specs.declared.told.Told.{Told}
 use Rattle.dimacs_runs.specs.declared.unread.Unread.{Unread}
-use Rattle.dimacs_runs.specs.Judgings.{TextSays, FaultOr, VerdictOr, ReadsIn, StopsAt, ReadsTwo, ReadsThree, CountsDevices, CountsUnread, CountsError, OneMore, answer_told, error_told}
+use Rattle.dimacs_runs.specs.Judgings.{TextSays, FaultOr, VerdictOr, ReadsIn, StopsAt, CountsDevices, CountsUnread, CountsError, OneMore, answer_told, error_told}
 use Rattle.dimacs_runs.specs.Refusals.{refusal_line}
 use Rattle.dimacs_runs.specs.Runs.{TellsAlone, Reports, CountsRun}
 use Rattle.dimacs_runs.specs.Told.{EndsAfter, ToldAlone, told_lines, told_status}
-use Rattle.dimacs_runs.specs.Verdicts.{verdict_lines, failure_line}
+use Rattle.dimacs_runs.specs.Verdicts.{answer_line, failure_line, sources_line, verdict_lines}
 
 module _ {V : Type 0} (text : TextSays V) (next : V → Status → List ℕ → Type 0) where
   value_alone : (v : V) (status : Status) (out : List ℕ) → ReadsIn text (Ok v) → TellsAlone (next v) status out → TellsAlone (FaultOr text next) status out
@@ -51,17 +58,35 @@ module _ {V : Type 0} (text : TextSays V) (next : V → Status → List ℕ → 
   pub stop_told : (unread : Unread) → StopsAt text unread → ToldAlone (FaultOr text next) (error_told unread unread.error)
   stop_told unread stop = error_alone unread unread.error stop.0 stop.1
 
-pub two_told : {T U V W : Type 0} (f : T → V) (g : U → W) (x : TextSays V) (y : TextSays W) (next : V → W → Status → List ℕ → Type 0) (unread : Unread) → ReadsTwo f g x y (Err unread)
-    → ToldAlone (FaultOr x (λ v. FaultOr y (next v))) (error_told unread unread.error)
-two_told f g x y next unread (inl first) = stop_told x _ unread first
-two_told f g x y next unread (inr (v, read, second)) = value_told x _ v (error_told unread unread.error) read (stop_told y (next v) unread second)
+module _ {V W : Type 0} (x : TextSays V) (y : TextSays W) (next : V → W → Status → List ℕ → Type 0) where
+  abbrev after_first : V → Status → List ℕ → Type 0
+  after_first v = FaultOr y (next v)
 
-pub three_told : {T U S V W X : Type 0} (f : T → V) (g : U → W) (h : S → X) (x : TextSays V) (y : TextSays W) (z : TextSays X) (next : V → W → X → Status → List ℕ → Type 0) (unread : Unread) → ReadsThree f g h x y z (Err unread)
-    → ToldAlone (FaultOr x (λ v. FaultOr y (λ w. FaultOr z (next v w)))) (error_told unread unread.error)
-three_told f g h x y z next unread (inl first) = stop_told x _ unread first
-three_told f g h x y z next unread (inr (v, read, inl second)) = value_told x _ v (error_told unread unread.error) read (stop_told y _ unread second)
-three_told f g h x y z next unread (inr (v, read, inr (w, also, third))) =
-    value_told x _ v (error_told unread unread.error) read (value_told y _ w (error_told unread unread.error) also (stop_told z (next v w) unread third))
+  -- two texts were read
+  pub two_values : (v : V) (w : W) (told : Result Told RunError) → ReadsIn x (Ok v) → ReadsIn y (Ok w) → ToldAlone (next v w) told → ToldAlone (FaultOr x after_first) told
+  two_values v w told read also follows = value_told x after_first v told read (value_told y (next v) w told also follows)
+
+  -- one of two texts could not be read
+  pub two_told : (unread : Unread) → StopsAt x unread ⊎ ((v : V) × ReadsIn x (Ok v) × StopsAt y unread) → ToldAlone (FaultOr x after_first) (error_told unread unread.error)
+  two_told unread (inl first) = stop_told x after_first unread first
+  two_told unread (inr (v, read, second)) = value_told x after_first v (error_told unread unread.error) read (stop_told y (next v) unread second)
+
+module _ {V W X : Type 0} (x : TextSays V) (y : TextSays W) (z : TextSays X) (next : V → W → X → Status → List ℕ → Type 0) where
+  abbrev after_second : V → W → Status → List ℕ → Type 0
+  after_second v w = FaultOr z (next v w)
+
+  abbrev three : Status → List ℕ → Type 0
+  three = FaultOr x (λ v. FaultOr y (after_second v))
+
+  -- three texts were read
+  pub three_values : (v : V) (w : W) (u : X) (told : Result Told RunError) → ReadsIn x (Ok v) → ReadsIn y (Ok w) → ReadsIn z (Ok u) → ToldAlone (next v w u) told → ToldAlone three told
+  three_values v w u told first second third follows = two_values x y after_second v w told first second (value_told z (next v w) u told third follows)
+
+  -- one of three texts could not be read
+  pub three_told : (unread : Unread) → StopsAt x unread ⊎ ((v : V) × ReadsIn x (Ok v) × (StopsAt y unread ⊎ ((w : W) × ReadsIn y (Ok w) × StopsAt z unread))) → ToldAlone three (error_told unread unread.error)
+  three_told unread (inl first) = stop_told x (λ v. FaultOr y (after_second v)) unread first
+  three_told unread (inr (v, read, inl second)) = value_told x (λ v. FaultOr y (after_second v)) v (error_told unread unread.error) read (stop_told y (after_second v) unread second)
+  three_told unread (inr (v, read, inr (w, also, third))) = two_values x y after_second v w (error_told unread unread.error) read also (stop_told z (next v w) unread third)
 
 -- where all tests pass, none is the first that fails
 none_first : (rows : List Row) (place : Where) (reason : Reason) → AllClear rows → ¬ First rows place reason
@@ -92,6 +117,19 @@ module _ (holds : Type 0) (rows : List Row) (says : Verdict → Type 0) (lines :
   answer_alone (Ok verdict) answer = yes_alone verdict answer
   answer_alone (Err (judge_errors.Refused place reason)) answer = no_alone place reason answer
   answer_alone (Err judge_errors.Memory) answer = tt
+
+-- the verdict of queries has these lines
+pub paths_said : (blocks : List BlockValue) (q : QueriesValue) (verdict : Verdict) → AnswersQueries blocks q verdict → verdict_lines verdict ≡ paths_lines blocks q
+paths_said blocks (queries.Sources ids) (verdicts.Sources count) is = ap sources_line is
+paths_said blocks (queries.Pairs pairs) (verdicts.Pairs answers) is = ap (flat_map answer_line) is
+paths_said blocks (queries.Sources ids) (verdicts.Max value) is = absurd is
+paths_said blocks (queries.Sources ids) (verdicts.Min cost) is = absurd is
+paths_said blocks (queries.Sources ids) verdicts.Infeasible is = absurd is
+paths_said blocks (queries.Sources ids) (verdicts.Pairs answers) is = absurd is
+paths_said blocks (queries.Pairs pairs) (verdicts.Max value) is = absurd is
+paths_said blocks (queries.Pairs pairs) (verdicts.Min cost) is = absurd is
+paths_said blocks (queries.Pairs pairs) verdicts.Infeasible is = absurd is
+paths_said blocks (queries.Pairs pairs) (verdicts.Sources count) is = absurd is
 
 -- what is told alone is reported
 pub told_reports : (tells : Status → List ℕ → Type 0) (told : Result Told RunError) (result : Result Status RunError) (old new : Option (List ℕ)) (faults counted : ℕ)

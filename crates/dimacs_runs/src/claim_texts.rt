@@ -27,6 +27,8 @@ impl Text for Solution {
 
     ghost spells = { λ text s. SpellsSolution text s };
 
+    ghost lawful = { λ v. Unit {0} };
+
     ghost canonical = { λ s. canonical_solution s };
 
     ghost shown = { λ s. shown_solution s };
@@ -64,6 +66,8 @@ impl Text for Cut {
     ghost said = { λ c. c };
 
     ghost spells = { λ text c. SpellsCut text c };
+
+    ghost lawful = { λ v. Unit {0} };
 
     ghost canonical = { λ c. canonical_cut c };
 
@@ -103,6 +107,8 @@ impl Text for Potentials {
 
     ghost spells = { λ text p. SpellsPotentials text p };
 
+    ghost lawful = { λ v. Unit {0} };
+
     ghost canonical = { λ p. canonical_potentials p };
 
     ghost shown = { λ p. shown_potentials p };
@@ -140,6 +146,8 @@ impl Text for Labels {
     ghost said = { λ l. l };
 
     ghost spells = { λ text l. SpellsLabels text l };
+
+    ghost lawful = { λ v. Unit {0} };
 
     ghost canonical = { λ l. canonical_labels l };
 

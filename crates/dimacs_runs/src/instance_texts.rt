@@ -10,7 +10,7 @@ ghost use Rattle.dimacs_instance.specs.Graph.{GraphValue, SpellsGraph, canonical
 ghost use Rattle.dimacs_instance.specs.MaxTexts.{SpellsMax, canonical_max};
 ghost use Rattle.dimacs_instance.specs.MinFlows.{MinValue};
 ghost use Rattle.dimacs_instance.specs.MinTexts.{SpellsMin, canonical_min};
-ghost use Rattle.dimacs_instance.specs.QueryTexts.{QueriesValue, SpellsQueries, asked, canonical_queries};
+ghost use Rattle.dimacs_instance.specs.QueryTexts.{AreLawful, QueriesValue, SpellsQueries, asked, canonical_queries};
 ghost use Rattle.dimacs_runs.specs.Shown.{shown, shown_max, shown_min, shown_graph, shown_queries};
 
 use crate::texts::Text;
@@ -30,6 +30,8 @@ impl Text for MaxInstance<PlainArcs<CapacityArc>> {
     ghost said = { λ m. m };
 
     ghost spells = { λ text m. SpellsMax text m };
+
+    ghost lawful = { λ v. Unit {0} };
 
     ghost canonical = { λ m. canonical_max m };
 
@@ -71,6 +73,8 @@ impl Text for MinInstance<PlainArcs<ArcView>> {
     ghost said = { λ m. m };
 
     ghost spells = { λ text m. SpellsMin text m };
+
+    ghost lawful = { λ v. Unit {0} };
 
     ghost canonical = { λ m. canonical_min m };
 
@@ -114,6 +118,8 @@ impl Text for Graph<PlainArcs<WeightArc>> {
 
     ghost spells = { λ text g. SpellsGraph text g };
 
+    ghost lawful = { λ v. Unit {0} };
+
     ghost canonical = { λ g. canonical_graph g };
 
     ghost shown = { λ g. shown_graph g };
@@ -152,6 +158,8 @@ impl Text for Queries {
     ghost said = { λ q. asked q };
 
     ghost spells = { λ text q. SpellsQueries text q };
+
+    ghost lawful = { λ queries. AreLawful queries };
 
     ghost canonical = { λ q. canonical_queries q };
 

@@ -1,6 +1,6 @@
 //! What each kind of text has in common: it is read, written and shown.
 
-ghost use Rattle.std.specs.Prelude.{◌≡◌, ℕ, List, Some};
+ghost use Rattle.std.specs.Prelude.{◌≡◌, ℕ, List, Some, IfOk};
 ghost use Rattle.dimacs_lines.specs.Devices.{CountsFault};
 ghost use Rattle.dimacs_lines.specs.Lines.{lines};
 ghost use Rattle.dimacs_lines.specs.Puts.{Puts};
@@ -24,6 +24,9 @@ pub(crate) trait Text: Drop {
 
     ghost spells: { List ℕ → Said → Type 0 };
 
+    /// What holds of every value that was read.
+    ghost lawful: { Said → Type 0 };
+
     ghost canonical: { Said → List ℕ };
 
     ghost shown: { Said → List ℕ };
@@ -34,7 +37,8 @@ pub(crate) trait Text: Drop {
 
     fn read<S: Source>(alloc: Global, source: &mut S) -> Result<Self, ReadError>
         ensures reads { (bytes : List ℕ) → S.coming source.old ≡ Some bytes → ReadsAs said (spells bytes) (Fault kind (lines bytes)) result }
-        ensures device { CountsRead result (S.faults source.old) (S.faults source.new) };
+        ensures device { CountsRead result (S.faults source.old) (S.faults source.new) }
+        ensures lawful { IfOk result (λ value. lawful (said value)) };
 
     /// Puts the canonical text.
     fn write<K: Sink>(&self, sink: &mut K) -> Result<(), DeviceFault>

@@ -1,6 +1,6 @@
 //! Reading the texts of a claim, one after another.
 
-ghost use Rattle.std.specs.Prelude.{◌≡◌, ℕ, List, [], ◌∷◌, Some};
+ghost use Rattle.std.specs.Prelude.{◌≡◌, ℕ, List, [], ◌∷◌, Some, IfOk};
 ghost use Rattle.dimacs_lines.specs.Lines.{lines};
 ghost use Rattle.dimacs_records.specs.declared.reasons.Reason.{Reason};
 ghost use Rattle.dimacs_records.specs.Faults.{Fault};
@@ -36,6 +36,7 @@ impl Unread {
 fn read<V: Text, P: Source>(alloc: Global, source: &mut P) -> Result<V, Unread>
     ensures reads { (a : List ℕ) → P.coming source.old ≡ Some a → ReadsOne V.said (says V.kind V.spells a) result }
     ensures faults { CountsUnread result (P.faults source.old ∷ []) (P.faults source.new ∷ []) }
+    ensures lawful { IfOk result (λ value. V.lawful (V.said value)) }
 {
     match V::read(alloc, source) {
         Ok(value) => Ok(value),
@@ -77,6 +78,7 @@ pub(crate) fn read_three<V: Text, W: Text, X: Text, P: Source, Q: Source, R: Sou
     ensures faults { CountsUnread result (P.faults first.old ∷ Q.faults second.old ∷ R.faults third.old ∷ []) (P.faults first.new ∷ Q.faults second.new ∷ R.faults third.new ∷ []) }
     ensures first_alone { (a : List ℕ) (l f : ℕ) (r : Reason) → P.coming first.old ≡ Some a → Fault V.kind (lines a) l f r → (second.new ≡ second.old) × (third.new ≡ third.old) }
     ensures second_alone { (b : List ℕ) (l f : ℕ) (r : Reason) → Q.coming second.old ≡ Some b → Fault W.kind (lines b) l f r → third.new ≡ third.old }
+    ensures lawful { IfOk result (λ values. V.lawful (V.said values.0) × W.lawful (W.said values.1) × X.lawful (X.said values.2)) }
 {
     let value = match read(alloc, first) {
         Ok(value) => value,
