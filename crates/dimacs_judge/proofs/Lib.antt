@@ -19,3 +19,4 @@ mod EntryLemmas
 pub mod Claims
 pub mod InfeasibleJudge
 pub mod MaxJudge
+pub mod MinJudge

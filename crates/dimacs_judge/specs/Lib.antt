@@ -17,3 +17,4 @@ pub mod Claims
 pub mod FlowSoFar
 pub mod InfeasibleJudge
 pub mod MaxJudge
+pub mod MinJudge
