@@ -23,3 +23,4 @@ mod BlockNumbers
 pub mod QueriesPassing
 pub mod PathsPassing
 pub mod MaxJudge
+pub mod MinJudge

@@ -1,5 +1,5 @@
 -- A solution and a cut that pass their tests, and the first test that they fail.
-use Rattle.std.proofs.Common.{◌≡◌, inl, List, [], ◌∷◌, Result, ℤ, subst, sym, ap, refl, ◌∙◌, ◌++◌}
+use Rattle.std.proofs.Common.{◌≡◌, inl, List, [], ◌∷◌, Result, ℤ, subst, sym, refl, ◌++◌}
 use Rattle.std.specs.Prelude.{IsErrAnd}
 use Rattle.dimacs_claims.specs.Cuts.{CutValue}
 use Rattle.dimacs_claims.specs.SolutionTexts.{SolutionValue}
@@ -25,7 +25,7 @@ use Rattle.dimacs_judge.proofs.Duality.{tight_is_maximum}
 use Rattle.dimacs_judge.proofs.Firsts.{AllOneWay, one_test_one_way}
 use Rattle.dimacs_judge.proofs.Passing.{feasible_max_holds, feasible_max_clear, value_is, value_clear, nodes_are, nodes_clear, cut_is_tight, tight_cut_clear}
 use Rattle.dimacs_judge.proofs.Reasons.{bound_one_way, balance_one_way, cut_one_way}
-use Rattle.dimacs_judge.proofs.Settling.{refused_behind, error_judges}
+use Rattle.dimacs_judge.proofs.Settling.{refused_behind, refused_among, error_judges}
 
 module _ (i : MaxValue) (s : SolutionValue) (c : CutValue) where
   max_one_way : AllOneWay (max_rows i s c)
@@ -82,7 +82,7 @@ module _ (i : MaxValue) (s : SolutionValue) (c : CutValue) where
   -- the first test that fails, behind those that pass, for the flow that the solution carries
   module _ (x : List ℤ) (carries : Carries i.arcs s.entries x) where
     refused : (front rows more : List Row) → front ++ (rows ++ more) ≡ all_tests x → (error : JudgeError) → AllClear front → Refuses (First rows) error → Refuses (First (max_rows i s c)) error
-    refused front rows more are error clear first = subst (λ (all : List Row). Refuses (First all) error) (are ∙ ap all_tests carries.amounts) (refused_behind front rows more error clear first)
+    refused = refused_among all_tests x (claimed_flow i.arcs s.entries) carries.amounts
 
     entries_clear : Clear (entry_row i.arcs s.entries)
     entries_clear = carries_clear i.arcs s.entries x carries

@@ -1,5 +1,5 @@
 -- Tests that all pass, and the properties that they test.
-use Rattle.std.proofs.Common.{◌≡◌, ◌≢◌, ◌==◌, ◌⊎◌, inl, inr, ℕ, suc, zero, ◌+◌, ◌<◌, Bool, true, false, List, [], ◌∷◌, All, length, get_or, Option, Some, Result, Ok, Err, ℤ, pos, ◌≤ℤ◌, ◌<ℤ◌, refl, sym, subst, ◌∙◌, arith}
+use Rattle.std.proofs.Common.{◌≡◌, ◌≢◌, ◌==◌, ◌⊎◌, inl, inr, ℕ, suc, zero, ◌+◌, ◌^◌, ◌<◌, Bool, true, false, List, [], ◌∷◌, All, length, get_or, Option, Some, Result, Ok, Err, ℤ, pos, neg_ℤ, ◌≤ℤ◌, ◌<ℤ◌, refl, sym, subst, ◌∙◌, arith}
 use Rattle.std.specs.List.{AllZip}
 use Rattle.std.specs.Int.Signed.{<ℤ_irrefl}
 use Rattle.std.proofs.lemmas.Int.{ints, by_lt_z}
@@ -19,9 +19,10 @@ use Rattle.dimacs_judge.specs.Cuts.{IsTightAt, CutTight}
 use Rattle.dimacs_judge.specs.Potentials.{IsSlackAt, Slack, reduced_cost}
 use Rattle.dimacs_judge.specs.ViolatedSets.{most_out, least_out, supply_in, Violated}
 use Rattle.dimacs_judge.specs.Agreement.{value_row, nodes_row}
+use Rattle.dimacs_judge.specs.Ranges.{IsOfSize, IsWide}
 use Rattle.dimacs_judge.specs.Tests.{Clear, AllClear, TellsRow, Tells}
 use Rattle.dimacs_judge.specs.Rows.{one_test, no_arc, arc_at, amount_at, flow_row}
-use Rattle.dimacs_judge.specs.FlowTests.{BoundFails, bound_row, balance_row, feasible_max_rows, feasible_min_rows, max_demand, min_demand}
+use Rattle.dimacs_judge.specs.FlowTests.{BoundFails, bound_row, balance_row, cost_through, cost_row, feasible_max_rows, feasible_min_rows, max_demand, min_demand}
 use Rattle.dimacs_judge.specs.CertificateTests.{TightFails, tight_row, cut_rows, SlackFails, slack_row, violated_row}
 
 -- numbers that cannot differ are equal
@@ -92,6 +93,18 @@ balances_hold nodes arcs demand x clear v d node is = same_number (net arcs x v)
 
 pub balances_clear : (nodes : ℕ) (arcs : List ArcView) (demand : ℕ → Option ℤ) (x : List ℤ) → ((v : ℕ) (d : ℤ) → IsNode nodes v → demand v ≡ Some d → net arcs x v ≡ d) → Clear (balance_row nodes arcs demand x)
 balances_clear nodes arcs demand x hold v place reason f = let (d, is, off) = f.2.1 in off (hold v d f.0 is)
+
+-- ---- costs
+-- a number that cannot be off its range is in it
+is_of_size : (h : ℕ) (z : ℤ) → (¬ (¬ IsOfSize h z)) → IsOfSize h z
+is_of_size h z inside =
+    (not_below z (neg_ℤ (pos h)) (λ l. inside (λ is. omega (arith, ints, l, is.0))), not_below (pos h) z (λ l. inside (λ is. omega (arith, ints, l, is.1))))
+
+pub costs_wide : (arcs : List ArcView) (x : List ℤ) → Clear (cost_row arcs x) → (k : ℕ) → k < length arcs → IsWide (cost_through arcs x k)
+costs_wide arcs x clear k inside = is_of_size (10 ^ 30) (cost_through arcs x k) (λ off. clear k (places.Arc (k + 1)) reasons.CostRange (inside, refl, (refl, off)))
+
+pub costs_clear : (arcs : List ArcView) (x : List ℤ) → ((k : ℕ) → k < length arcs → IsWide (cost_through arcs x k)) → Clear (cost_row arcs x)
+costs_clear arcs x wide k place reason f = f.2.1 (wide k f.0)
 
 -- ---- cuts
 keeps_tight : (set : ℕ → Bool) (a : ArcView) (x : ℤ) → ((reason : Reason) → ¬ TightFails set a x reason) → IsTightAt set a x

@@ -21,12 +21,12 @@ put_first (a ∷ arcs) tail head k x (y ∷ old) =
     (if joins tail head a then on_next k x y else y) ∷ put_first arcs tail head (if joins tail head a then pred k else k) x old
 
 module _ {X : Type 0} (tail head : ℕ) (x : X) where
-  pub length-put_first : (arcs : List ArcView) (k : ℕ) (old : List X) → length (put_first arcs tail head k x old) ≡ length old
+  length-put_first : (arcs : List ArcView) (k : ℕ) (old : List X) → length (put_first arcs tail head k x old) ≡ length old
   length-put_first [] k old = refl
   length-put_first (a ∷ arcs) k [] = refl
   length-put_first (a ∷ arcs) k (y ∷ old) = ap suc (length-put_first arcs _ old)
 
-  pub put_none : (arcs : List ArcView) (old : List X) → put_first arcs tail head 0 x old ≡ old
+  put_none : (arcs : List ArcView) (old : List X) → put_first arcs tail head 0 x old ≡ old
   put_none [] old = refl
   put_none (a ∷ arcs) [] = refl
   put_none (a ∷ arcs) (y ∷ old) = elim (cases_Bool (joins tail head a)) [

@@ -1,5 +1,5 @@
 -- What tests decide, settle and judge, where all of them pass exactly where something holds.
-use Rattle.std.proofs.Common.{◌≡◌, inl, subst, List, [], ◌∷◌, ◌++◌, Result, Ok, Err, ℤ}
+use Rattle.std.proofs.Common.{◌≡◌, ◌∙◌, ap, inl, subst, List, [], ◌∷◌, ◌++◌, Result, Ok, Err, ℤ}
 use Rattle.std.specs.Prelude.{IsErrAnd}
 use Rattle.std.proofs.lemmas.Result.{err_from_is_err_and}
 use Rattle.dimacs_instance.specs.declared.network.ArcView.{ArcView}
@@ -41,6 +41,10 @@ entries_refuse arcs entries told error is settles = settled_refuses (Carries arc
 pub refused_behind : (front rows more : List Row) (error : JudgeError) → AllClear front → Refuses (First rows) error → Refuses (First (front ++ (rows ++ more))) error
 refused_behind front rows more (Refused place reason) clear first = first_behind front (rows ++ more) place reason clear (first_in_front rows more place reason first)
 refused_behind front rows more Memory clear first = tt
+
+-- and of the flow that a solution carries
+pub refused_among : (tests : List ℤ → List Row) (x y : List ℤ) → x ≡ y → (front rows more : List Row) → front ++ (rows ++ more) ≡ tests x → (error : JudgeError) → AllClear front → Refuses (First rows) error → Refuses (First (tests y)) error
+refused_among tests x y same front rows more are error clear first = subst (λ (all : List Row). Refuses (First all) error) (are ∙ ap tests same) (refused_behind front rows more error clear first)
 
 -- a judge's refusal, where each test fails in one way and a yes needs all tests to pass
 refusal_judges : (rows : List Row) (holds : Type 0) (says : Verdict → Type 0) → AllOneWay rows → (holds → AllClear rows) → (error : JudgeError) → Refuses (First rows) error → Judges rows holds says (Err error)

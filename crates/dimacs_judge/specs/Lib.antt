@@ -20,3 +20,4 @@ pub mod QueryTests
 pub mod Answers
 pub mod PathsJudge
 pub mod MaxJudge
+pub mod MinJudge

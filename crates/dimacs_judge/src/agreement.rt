@@ -4,17 +4,21 @@ ghost use Rattle.dimacs_judge.specs.Agreement.{value_row, nodes_row};
 ghost use Rattle.dimacs_judge.specs.Tests.{TellsRow};
 
 use crate::verdict::Where;
+use dimacs_claims::Solution;
 use dimacs_records::Reason;
 
-/// Whether the claimed value, on this line, is the flow's.
-pub(crate) fn value_agrees(value: i128, claimed: i128, line: u64) -> Result<(), (Where, Reason)>
-    ensures { TellsRow (value_row value claimed line) result }
+/// Whether the solution claims this value, or this cost.
+pub(crate) fn value_agrees(value: i128, solution: &Solution) -> Result<(), (Where, Reason)>
+    ensures { TellsRow (value_row value solution.now.value solution.now.value_line) result }
 {
-    if claimed == value {
-        Ok(())
-    } else {
-        Err((Where::Solution { line, field: 2 }, Reason::ValueDiffers))
+    if solution.value == value {
+        return Ok(());
     }
+    let place = Where::Solution {
+        line: solution.value_line,
+        field: 2,
+    };
+    Err((place, Reason::ValueDiffers))
 }
 
 /// Whether the certificate is of as many nodes as the instance.

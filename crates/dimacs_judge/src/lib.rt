@@ -15,6 +15,7 @@ mod flow;
 mod infeasible;
 mod labels;
 mod laws;
+mod least;
 mod maximum;
 mod paths;
 mod potentials;
@@ -30,6 +31,7 @@ pub use labels::label_tests;
 pub use laws::{
     exchange, labels_give_distances, slack_is_least, tight_cut_is_maximum, violated_has_no_flow,
 };
+pub use least::judge_min;
 pub use maximum::judge_max;
 pub use paths::judge_paths;
 pub use potentials::slack_tests;

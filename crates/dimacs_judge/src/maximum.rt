@@ -55,6 +55,5 @@ fn value_holds<N: Network>(
     requires one_each { length balances.now ≡ instance.now.nodes + 1 }
     ensures { (x : List ℤ) → AreBalances instance.now.nodes instance.now.arcs x balances.now → TellsRow (value_row (value instance.now x) solution.now.value solution.now.value_line) result }
 {
-    let value = balances.of(instance.source());
-    value_agrees(value, solution.value, solution.value_line)
+    value_agrees(balances.of(instance.source()), solution)
 }

@@ -7,7 +7,6 @@ use Rattle.dimacs_judge.proofs.maximum.value_holds.Goals as goal
 pub returns : goal.returns
 returns g c x are =
     let i = c.args.instance.now in
-    let fits : SFits w128 c.of-value.result = search rules in
-    let fits_claimed : SFits w128 c.args.solution.now.value = search rules in
-    let is_value : c.of-value.result ≡ value i x = c.of-value.ensures ∙ rw c.source.ensures (are.sums_are i.source c.requires.source.1) in
-    rw (to_z-of_z w128 c.of-value.result fits, to_z-of_z w128 c.args.solution.now.value fits_claimed, is_value) at c.value_agrees.ensures
+    let fits : SFits w128 c.of.result = search rules in
+    let is_value : c.of.result ≡ value i x = c.of.ensures ∙ rw c.source.ensures (are.sums_are i.source c.requires.source.1) in
+    rw (to_z-of_z w128 c.of.result fits, is_value) at c.value_agrees.ensures

@@ -1,0 +1,41 @@
+-- Judging that a flow is least.
+use Rattle.std.specs.Prelude.{ℕ, ◌≡◌, ◌<◌, List, [], ◌∷◌, length, ℤ}
+use Rattle.dimacs_claims.specs.Potentials.{PotentialsValue, potential_of}
+use Rattle.dimacs_claims.specs.SolutionTexts.{SolutionValue}
+use Rattle.dimacs_instance.specs.MinFlows.{MinValue}
+use Rattle.dimacs_judge.specs.Agreement.{value_row, nodes_row}
+use Rattle.dimacs_judge.specs.CertificateTests.{slack_row}
+use Rattle.dimacs_judge.specs.Claims.{Carries, claimed_flow, entry_row}
+use Rattle.dimacs_judge.specs.Feasible.{FeasibleMin}
+use Rattle.dimacs_judge.specs.Flows.{cost}
+use Rattle.dimacs_judge.specs.FlowTests.{bound_row, balance_row, min_demand, cost_through, cost_row}
+use Rattle.dimacs_judge.specs.Optimum.{Least}
+use Rattle.dimacs_judge.specs.Potentials.{Slack}
+use Rattle.dimacs_judge.specs.Ranges.{IsWide}
+use Rattle.dimacs_judge.specs.Tests.{Row}
+
+-- the tests of a solution and of potentials, in order
+abbrev pub min_rows : MinValue → SolutionValue → PotentialsValue → List Row
+min_rows i s p =
+    let x = claimed_flow i.arcs s.entries in
+    entry_row i.arcs s.entries
+    ∷ bound_row i.arcs x
+    ∷ balance_row i.nodes i.arcs (min_demand i) x
+    ∷ cost_row i.arcs x
+    ∷ value_row (cost i.arcs x) s.value s.value_line
+    ∷ nodes_row i.nodes p.nodes
+    ∷ slack_row i.arcs (potential_of p) x
+    ∷ []
+
+-- the flow that the solution carries is feasible and has the claimed cost, which stays in its range arc by arc, and the potentials are slack for it
+pub record PassesMin (i : MinValue) (s : SolutionValue) (p : PotentialsValue) (x : List ℤ) : Type 0 where
+  pub carries : Carries i.arcs s.entries x
+  pub feasible : FeasibleMin i x
+  pub costs_wide : (k : ℕ) → k < length i.arcs → IsWide (cost_through i.arcs x k)
+  pub cost_is : cost i.arcs x ≡ s.value
+  pub nodes_are : p.nodes ≡ i.nodes
+  pub slack : Slack i.arcs x (potential_of p)
+
+-- a flow passes, and so it is least
+abbrev pub ShowsLeast : MinValue → SolutionValue → PotentialsValue → Type 0
+ShowsLeast i s p = (x : List ℤ) × PassesMin i s p x × Least i x
