@@ -75,8 +75,8 @@ module _ (i : MinValue) (s : SolutionValue) (p : PotentialsValue) where
 
   -- the first test that fails is the judge's error
   pub min_judged : (error : JudgeError) → Refuses (First (min_rows i s p)) error → (result : Result Verdict JudgeError) → IsErrAnd result (λ e. e ≡ error)
-      → Judges (min_rows i s p) (λ verdict. (verdict ≡ Min s.value) × ShowsLeast i s p) result
-  min_judged error first result is = error_judges (min_rows i s p) _ min_one_way (λ verdict shown. let (x, passes, best) = shown.1 in min_clear x passes) error first result is
+      → Judges (min_rows i s p) (ShowsLeast i s p) (λ verdict. verdict ≡ Min s.value) result
+  min_judged error first result is = error_judges (min_rows i s p) (ShowsLeast i s p) _ min_one_way (λ shown. let (x, passes, best) = shown in min_clear x passes) error first result is
 
   pub entries_refused : (error : JudgeError) → Refuses (First (entry_row i.arcs s.entries ∷ [])) error → Refuses (First (min_rows i s p)) error
   entries_refused error first = let x = claimed_flow i.arcs s.entries in refused_behind [] (entry_row i.arcs s.entries ∷ []) (feasible_min_rows i x ++ cost_row i.arcs x ∷ value_test x ∷ certificate_tests x) error tt first

@@ -30,7 +30,7 @@ pub fn judge_min<N: Network>(
     solution: &Solution,
     potentials: &Potentials,
 ) -> Result<Verdict, JudgeError>
-    ensures { Judges (min_rows instance.now (claimed solution.now) potentials.now) (λ verdict. (verdict ≡ Min solution.now.value) × ShowsLeast instance.now (claimed solution.now) potentials.now) result }
+    ensures { Judges (min_rows instance.now (claimed solution.now) potentials.now) (ShowsLeast instance.now (claimed solution.now) potentials.now) (λ verdict. verdict ≡ Min solution.now.value) result }
 {
     let network = instance.network();
     let flow = flow_of(alloc, network, solution)?;

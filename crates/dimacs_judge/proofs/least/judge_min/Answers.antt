@@ -82,4 +82,4 @@ returns g c =
     let agrees = rw (to_z-of_z w128 c.in_ok-cost.cost fits, costs.0) at c.in_ok-value_agrees.ensures in
     let same_nodes = rw (c.nodes.ensures, c.network-network.ensures.nodes, c.nodes-2.ensures.nodes) at c.in_ok-nodes_agree.ensures in
     let clear = min_passed i s c.args.potentials.now x carries feasible.1 costs.1 agrees same_nodes c.in_ok-slack_tests.ensures in
-    (clear, (rw (to_z-of_z w128 c.args.solution.now.value fits_claimed) refl, min_shown i s c.args.potentials.now c.network-network.ensures.lawful clear))
+    (clear, min_shown i s c.args.potentials.now c.network-network.ensures.lawful clear, rw (to_z-of_z w128 c.args.solution.now.value fits_claimed) refl)
