@@ -1,5 +1,12 @@
-use Rattle.std.proofs.Common.{subst}
-use Rattle.dimacs_runs.specs.Judged.{IsClaim, Judged}
+use Rattle.std.proofs.Common.{◌≡◌, ◌∙◌, subst, sym, ap, Option, Some, None}
+use Rattle.dimacs_records.specs.declared.kinds.TextKind.TheVariants as kinds
+use Rattle.dimacs_records.specs.declared.kinds.TextKind.{TextKind}
+use Rattle.dimacs_records.specs.Faults.{Fault}
+use Rattle.dimacs_lines.specs.Lines.{lines}
+use Rattle.dimacs_runs.specs.declared.jobs.JudgeKind.{JudgeKind}
+use Rattle.dimacs_runs.specs.declared.jobs.JudgeKind.TheVariants as judges
+use Rattle.dimacs_runs.specs.Judged.{IsClaim, Judged, claim_kind, instance_kind}
+use Rattle.dimacs_runs.specs.Told.{ToldAlone}
 use Rattle.dimacs_runs.proofs.JudgingLemmas.{told_reports}
 use Rattle.dimacs_runs.proofs.judge.run_judge.Goals as goal
 use Rattle.dimacs_runs.proofs.judge.run_judge.Goals.{in-Max, in-Min, in-Infeasible, in-Paths}
@@ -8,8 +15,34 @@ pub returns-clause-reports : goal.returns-clause-reports
 returns-clause-reports g c = λ a b d first second third.
     told_reports (Judged c.args.kind a b d) c.match-kind.told c.put_told.result (g.K.Sink.accepted c.args.sink.now) (g.K.Sink.accepted c.put_told.new.sink) (g.K.Sink.faults c.args.sink.now) (g.K.Sink.faults c.put_told.new.sink)
     (elim c.match-kind.branch [
-      | in-Max w ↦ ?
-      | in-Min w ↦ ?
-      | in-Infeasible w ↦ ?
-      | in-Paths w ↦ ?
+      | in-Max w ↦ let claim = subst (λ (k : JudgeKind). IsClaim k (g.Q.Source.coming c.args.claim.now) b) w.in-Max.is second in rw (w.in-Max.is, w.told-is) (w.tell_max-told.ensures.told a b d first claim third)
+      | in-Min w ↦ let claim = subst (λ (k : JudgeKind). IsClaim k (g.Q.Source.coming c.args.claim.now) b) w.in-Min.is second in rw (w.in-Min.is, w.told-is) (w.tell_min-told.ensures.told a b d first claim third)
+      | in-Infeasible w ↦ rw (w.in-Infeasible.is, w.told-is) (w.tell_infeasible-told.ensures.told a d first third)
+      | in-Paths w ↦ let claim = subst (λ (k : JudgeKind). IsClaim k (g.Q.Source.coming c.args.claim.now) b) w.in-Paths.is second in rw (w.in-Paths.is, w.told-is) (w.tell_paths-told.ensures.told a b d first claim third)
     ]) c.put_told.ensures
+
+pub returns-clause-instance_alone : goal.returns-clause-instance_alone
+returns-clause-instance_alone g c = λ a l f r coming fault.
+    elim c.match-kind.branch [
+      | in-Max w ↦ rw (w.claim-is, w.certificate-is) (w.tell_max-told.ensures.instance_alone a l f r coming (subst (λ (k : JudgeKind). Fault (instance_kind k) (lines a) l f r) w.in-Max.is fault))
+      | in-Min w ↦ rw (w.claim-is, w.certificate-is) (w.tell_min-told.ensures.instance_alone a l f r coming (subst (λ (k : JudgeKind). Fault (instance_kind k) (lines a) l f r) w.in-Min.is fault))
+      | in-Infeasible w ↦ (w.claim-is, w.certificate-is ∙ w.tell_infeasible-told.ensures.instance_alone a l f r coming (subst (λ (k : JudgeKind). Fault (instance_kind k) (lines a) l f r) w.in-Infeasible.is fault))
+      | in-Paths w ↦ rw (w.claim-is, w.certificate-is) (w.tell_paths-told.ensures.instance_alone a l f r coming (subst (λ (k : JudgeKind). Fault (instance_kind k) (lines a) l f r) w.in-Paths.is fault))
+    ]
+
+-- the kind of the claim, where there is one
+abbrev kind_in : Option TextKind → TextKind
+kind_in (Some kind) = kind
+kind_in None = kinds.Solution
+
+is_claimed : (k : JudgeKind) (kind : JudgeKind) (claimed : TextKind) → kind ≡ k → claim_kind kind ≡ Some claimed → claimed ≡ kind_in (claim_kind k)
+is_claimed k kind claimed is has = sym (ap kind_in (subst (λ (j : JudgeKind). claim_kind j ≡ Some claimed) is has))
+
+pub returns-clause-claim_alone : goal.returns-clause-claim_alone
+returns-clause-claim_alone g c = λ claimed b l f r has coming fault.
+    elim c.match-kind.branch [
+      | in-Max w ↦ w.certificate-is ∙ w.tell_max-told.ensures.claim_alone b l f r coming (subst (λ (k : TextKind). Fault k (lines b) l f r) (is_claimed judges.Max c.args.kind claimed w.in-Max.is has) fault)
+      | in-Min w ↦ w.certificate-is ∙ w.tell_min-told.ensures.claim_alone b l f r coming (subst (λ (k : TextKind). Fault k (lines b) l f r) (is_claimed judges.Min c.args.kind claimed w.in-Min.is has) fault)
+      | in-Infeasible w ↦ let nothing : None ≡ Some claimed = subst (λ (j : JudgeKind). claim_kind j ≡ Some claimed) w.in-Infeasible.is has in absurd cc
+      | in-Paths w ↦ w.certificate-is ∙ w.tell_paths-told.ensures.claim_alone b l f r coming (subst (λ (k : TextKind). Fault k (lines b) l f r) (is_claimed judges.Paths c.args.kind claimed w.in-Paths.is has) fault)
+    ]
