@@ -6,6 +6,7 @@ use dimacs_lines::{
 };
 use dimacs_records::{At, LineFault, ReadError, Reading, Reason, TakeError, TextKind, record};
 use std::alloc::Global;
+use std::process::Abort;
 use std::test::Fail;
 
 const TWO_BLOCKS: &str = "p dist 4 2\nt 1 2\nd 2 5 1\nd 3 -7 2\nt 4 0\n";
@@ -19,7 +20,7 @@ fn convert<S: Source>(alloc: Global, source: &mut S) -> Result<MemorySink, Fail>
 }
 
 #[test]
-fn labels_get_their_canonical_form(rt: HostRuntime) -> Result<(), Fail> {
+fn texts_get_their_canonical_form(rt: HostRuntime) -> Result<(), Fail> {
     for (name, text, canonical) in [
         ("two blocks", TWO_BLOCKS, TWO_BLOCKS),
         ("no block", "p dist 0 0", "p dist 0 0\n"),
@@ -92,6 +93,24 @@ fn labels_are_those_of_the_text(rt: HostRuntime) -> Result<(), Fail> {
     Ok(())
 }
 
+/// Reads a text in one piece, and byte by byte.
+fn refuses(
+    rt: &impl Abort,
+    alloc: Global,
+    name: &str,
+    text: &str,
+    at: At,
+    reason: Reason,
+) -> Result<(), Fail> {
+    let want = Some(ReadError::Refused(at, reason));
+    let whole = read_labels(alloc, &mut MemorySource::new(text.as_bytes())).err();
+    assert_eq!(rt; whole, want, "{name}");
+    let ones = Vec::from_elem(alloc, 1, text.len())?;
+    let pieces = read_labels(alloc, &mut CutSource::new(text.as_bytes(), &ones)).err();
+    assert_eq!(rt; pieces, want, "{name}, in pieces");
+    Ok(())
+}
+
 #[test]
 fn texts_are_refused_at_their_first_fault(rt: HostRuntime) -> Result<(), Fail> {
     for (name, text, line, field, reason) in [
@@ -118,15 +137,37 @@ fn texts_are_refused_at_their_first_fault(rt: HostRuntime) -> Result<(), Fail> {
             Reason::ProblemTwice,
         ),
         (
-            "label before a block",
-            "p dist 4 1\nd 2 5 1\n",
+            "a line of a cut",
+            "p dist 4 1\nu 1\n",
             2,
-            0,
-            Reason::RecordOrder,
+            1,
+            Reason::UnknownLine,
         ),
         (
-            "label before a block, of a node out of range",
-            "p dist 4 1\nd 5 5 1\n",
+            "a label without predecessor",
+            "p dist 4 1\nt 1 1\nd 2 5\n",
+            3,
+            0,
+            Reason::FieldCount,
+        ),
+        ("another problem", "p sp 4 1\n", 1, 2, Reason::BadWord),
+        (
+            "a distance that isn't whole",
+            "p dist 4 1\nt 1 1\nd 2 0.5 1\n",
+            3,
+            3,
+            Reason::BadNumber,
+        ),
+        (
+            "a distance that is too great",
+            "p dist 4 1\nt 1 1\nd 2 1000000000000000000000000000001 1\n",
+            3,
+            3,
+            Reason::NumberRange,
+        ),
+        (
+            "label before a block",
+            "p dist 4 1\nd 2 5 1\n",
             2,
             0,
             Reason::RecordOrder,
@@ -140,56 +181,63 @@ fn texts_are_refused_at_their_first_fault(rt: HostRuntime) -> Result<(), Fail> {
         ),
         (
             "node out of range",
-            "p dist 4 1\nt 1 0\nd 5 5 9\n",
+            "p dist 4 1\nt 1 1\nd 5 5 1\n",
             3,
             2,
             Reason::NodeRange,
         ),
         (
             "predecessor out of range",
-            "p dist 4 1\nt 1 0\nd 1 5 5\n",
+            "p dist 4 1\nt 1 1\nd 2 5 5\n",
             3,
             4,
             Reason::NodeRange,
         ),
         (
             "a second block of a source",
-            "p dist 4 1\nt 1 1\nt 1 0\n",
+            "p dist 4 2\nt 1 0\nt 1 0\n",
             3,
             2,
             Reason::NodeTwice,
         ),
         (
+            "a second block of the first of two sources",
+            "p dist 4 3\nt 1 0\nt 2 0\nt 1 0\n",
+            4,
+            2,
+            Reason::NodeTwice,
+        ),
+        (
             "label of the source",
-            "p dist 4 1\nt 1 0\nd 1 5 2\n",
+            "p dist 4 1\nt 1 1\nd 1 0 1\n",
             3,
             2,
             Reason::NodeTwice,
         ),
         (
             "a second label of a node",
-            "p dist 4 1\nt 1 1\nd 2 5 1\nd 2 5 3\n",
-            4,
+            "p dist 4 1\nt 1 3\nd 2 5 1\nd 3 5 1\nd 2 6 1\n",
+            5,
             2,
             Reason::NodeTwice,
         ),
         (
-            "a second block behind an unfinished one",
-            "p dist 4 1\nt 1 1\nt 2 0\n",
+            "a block more",
+            "p dist 4 1\nt 1 0\nt 2 0\n",
             3,
             0,
             Reason::TooMany,
         ),
         (
-            "one label more, of an unknown predecessor",
-            "p dist 4 1\nt 1 0\nd 2 5 3\n",
-            3,
+            "a label more",
+            "p dist 4 1\nt 1 1\nd 2 5 1\nd 3 5 1\n",
+            4,
             0,
             Reason::TooMany,
         ),
         (
             "a block behind an unfinished one",
-            "p dist 4 2\nt 1 1\nt 2 0\n",
+            "p dist 3 2\nt 1 1\nt 2 0\n",
             3,
             0,
             Reason::TooFew,
@@ -203,21 +251,21 @@ fn texts_are_refused_at_their_first_fault(rt: HostRuntime) -> Result<(), Fail> {
         ),
         (
             "a label too few at the end",
-            "p dist 4 1\nt 1 2\nd 2 5 1\n",
+            "p dist 3 1\nt 1 2\nd 2 5 1\n",
             4,
             0,
             Reason::TooFew,
         ),
         (
-            "predecessor of a later line",
-            "p dist 4 1\nt 1 2\nd 2 5 3\nd 3 5 1\n",
+            "predecessor without a label",
+            "p dist 4 1\nt 1 1\nd 2 5 3\n",
             3,
             0,
             Reason::PredUnknown,
         ),
         (
-            "a label that is its own predecessor",
-            "p dist 4 1\nt 1 1\nd 2 5 2\n",
+            "predecessor of a later line",
+            "p dist 4 1\nt 1 2\nd 3 0 4\nd 4 0 3\n",
             3,
             0,
             Reason::PredUnknown,
@@ -230,20 +278,128 @@ fn texts_are_refused_at_their_first_fault(rt: HostRuntime) -> Result<(), Fail> {
             Reason::PredUnknown,
         ),
         (
-            "a distance that is too great",
-            "p dist 4 1\nt 1 1\nd 2 1000000000000000000000000000001 1\n",
-            3,
-            3,
-            Reason::NumberRange,
+            "source of another block",
+            "p dist 4 2\nt 1 0\nt 3 1\nd 4 1 1\n",
+            4,
+            0,
+            Reason::PredUnknown,
         ),
     ] {
-        let want = Some(ReadError::Refused(At { line, field }, reason));
-        let whole = read_labels(rt.alloc(), &mut MemorySource::new(text.as_bytes())).err();
-        assert_eq!(rt; whole, want, "{name}");
-        let ones = Vec::from_elem(rt.alloc(), 1, text.len())?;
-        let mut source = CutSource::new(text.as_bytes(), &ones);
-        let pieces = read_labels(rt.alloc(), &mut source).err();
-        assert_eq!(rt; pieces, want, "{name}, in pieces");
+        refuses(&rt, rt.alloc(), name, text, At { line, field }, reason)?;
+    }
+    Ok(())
+}
+
+#[test]
+fn a_line_is_refused_for_its_first_reason(rt: HostRuntime) -> Result<(), Fail> {
+    for (name, text, line, field, reason) in [
+        (
+            "the letter before the number of fields",
+            "D\n",
+            1,
+            1,
+            Reason::UnknownLine,
+        ),
+        (
+            "the number of fields before the word",
+            "p cut 4\n",
+            1,
+            0,
+            Reason::FieldCount,
+        ),
+        (
+            "the node before its distance",
+            "d 0 x 1\n",
+            1,
+            2,
+            Reason::NumberRange,
+        ),
+        (
+            "the predecessor before the missing problem",
+            "d 1 0 x\n",
+            1,
+            4,
+            Reason::BadNumber,
+        ),
+        (
+            "the problem's numbers before a second problem",
+            "p dist 4 1\np dist 4 x\n",
+            2,
+            4,
+            Reason::BadNumber,
+        ),
+        (
+            "the missing block before NODES",
+            "p dist 4 1\nd 5 5 1\n",
+            2,
+            0,
+            Reason::RecordOrder,
+        ),
+        (
+            "NODES before a source named twice, the count and an unfinished block",
+            "p dist 4 1\nt 1 1\nt 5 0\n",
+            3,
+            2,
+            Reason::NodeRange,
+        ),
+        (
+            "a source named twice before the count and an unfinished block",
+            "p dist 4 1\nt 1 1\nt 1 0\n",
+            3,
+            2,
+            Reason::NodeTwice,
+        ),
+        (
+            "the count of blocks before an unfinished block",
+            "p dist 4 1\nt 1 1\nt 2 0\n",
+            3,
+            0,
+            Reason::TooMany,
+        ),
+        (
+            "the node above NODES before its predecessor, the count and the predecessor's label",
+            "p dist 4 1\nt 1 0\nd 5 5 6\n",
+            3,
+            2,
+            Reason::NodeRange,
+        ),
+        (
+            "the predecessor above NODES before the source as node",
+            "p dist 4 1\nt 1 0\nd 1 5 5\n",
+            3,
+            4,
+            Reason::NodeRange,
+        ),
+        (
+            "the source as node before the count and the predecessor's label",
+            "p dist 4 1\nt 1 0\nd 1 5 2\n",
+            3,
+            2,
+            Reason::NodeTwice,
+        ),
+        (
+            "a node named twice before the count and the predecessor's label",
+            "p dist 4 1\nt 1 1\nd 2 5 1\nd 2 5 3\n",
+            4,
+            2,
+            Reason::NodeTwice,
+        ),
+        (
+            "the count before the predecessor's label",
+            "p dist 4 1\nt 1 0\nd 2 5 2\n",
+            3,
+            0,
+            Reason::TooMany,
+        ),
+        (
+            "a label that is its own predecessor",
+            "p dist 4 1\nt 1 1\nd 2 5 2\n",
+            3,
+            0,
+            Reason::PredUnknown,
+        ),
+    ] {
+        refuses(&rt, rt.alloc(), name, text, At { line, field }, reason)?;
     }
     Ok(())
 }
@@ -268,45 +424,62 @@ fn a_refused_record_leaves_the_reading_as_it_was(rt: HostRuntime) -> Result<(), 
         (1, "t 1 0", refused(0, Reason::ProblemMissing)),
         (2, "p dist 4 2", Ok(())),
         (3, "d 2 1 1", refused(0, Reason::RecordOrder)),
-        (4, "t 1 2", Ok(())),
-        (5, "d 2 1 3", refused(0, Reason::PredUnknown)),
-        (6, "d 2 1 1", Ok(())),
-        (7, "d 2 1 1", refused(2, Reason::NodeTwice)),
-        (8, "t 3 0", refused(0, Reason::TooFew)),
-        (9, "t 3 0", refused(0, Reason::TooFew)),
-        (10, "d 3 1 2", Ok(())),
-        (11, "d 4 1 2", refused(0, Reason::TooMany)),
-        (12, "t 1 0", refused(2, Reason::NodeTwice)),
-        (13, "t 3 0", Ok(())),
-        (14, "t 4 0", refused(0, Reason::TooMany)),
-        (15, "p dist 4 2", refused(0, Reason::ProblemTwice)),
+        (4, "t 5 2", refused(2, Reason::NodeRange)),
+        (5, "t 1 2", Ok(())),
+        (6, "d 5 1 1", refused(2, Reason::NodeRange)),
+        (7, "d 2 1 5", refused(4, Reason::NodeRange)),
+        (8, "d 2 1 3", refused(0, Reason::PredUnknown)),
+        (9, "d 2 1 1", Ok(())),
+        (10, "d 2 1 1", refused(2, Reason::NodeTwice)),
+        (11, "t 3 0", refused(0, Reason::TooFew)),
+        (12, "d 3 1 2", Ok(())),
+        (13, "d 4 1 2", refused(0, Reason::TooMany)),
+        (14, "t 1 0", refused(2, Reason::NodeTwice)),
+        (15, "t 3 0", Ok(())),
+        (16, "t 4 0", refused(0, Reason::TooMany)),
+        (17, "p dist 4 2", refused(0, Reason::ProblemTwice)),
     ] {
         assert_eq!(rt; take(&mut reading, number, line), answer, "line {number}");
+        if answer.is_err() {
+            let again = take(&mut reading, number, line);
+            assert_eq!(rt; again, answer, "line {number}, once more");
+        }
     }
     let labels = reading.finish()?;
     assert_eq!(rt; labels.blocks().len(), 2);
-    assert_eq!(rt; labels.label(0, 3), Some(1));
+    for (block, id, dist) in [
+        (0, 2, Some(1)),
+        (0, 3, Some(1)),
+        (0, 4, None),
+        (1, 3, Some(0)),
+    ] {
+        assert_eq!(rt; labels.label(block, id), dist, "block {block}, node {id}");
+    }
     Ok(())
 }
 
 #[test]
 fn each_pull_and_each_put_that_fails_is_told(rt: HostRuntime) -> Result<(), Fail> {
-    let ones = Vec::from_elem(rt.alloc(), 1, TWO_BLOCKS.len())?;
-    for failing in 1..=TWO_BLOCKS.len() as u64 + 1 {
+    let text = TWO_BLOCKS.as_bytes();
+    let ones = Vec::from_elem(rt.alloc(), 1, text.len())?;
+    // One pull for each byte, and one that finds the end.
+    for failing in 1..=text.len() as u64 + 1 {
         let fails = [failing];
-        let mut source = FlakySource::new(TWO_BLOCKS.as_bytes(), &ones, &fails);
+        let mut source = FlakySource::new(text, &ones, &fails);
         let error = read_labels(rt.alloc(), &mut source).err();
         assert_eq!(rt; error, Some(ReadError::Device), "at pull {failing}");
     }
-    let labels = read_labels(rt.alloc(), &mut MemorySource::new(TWO_BLOCKS.as_bytes()))?;
-    for failing in 1..=TWO_BLOCKS.len() as u64 {
+    let labels = read_labels(rt.alloc(), &mut MemorySource::new(text))?;
+    for failing in 1..=text.len() as u64 {
         let fails = [failing];
         let mut sink = FlakySink::new(rt.alloc(), &ones, &fails);
-        assert_eq!(rt;
-            write_labels(&labels, &mut sink),
-            Err(DeviceFault),
+        let put = write_labels(&labels, &mut sink);
+        assert_eq!(rt; put, Err(DeviceFault), "at put {failing}");
+        assert!(rt;
+            sink.bytes().len() as u64 == failing - 1,
             "at put {failing}"
         );
+        assert!(rt; text.starts_with(sink.bytes()), "at put {failing}");
     }
     Ok(())
 }

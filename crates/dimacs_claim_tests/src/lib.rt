@@ -3,6 +3,10 @@
 #![tactic(auto)]
 
 #[cfg(test)]
+mod cuts;
+#[cfg(test)]
 mod labels;
+#[cfg(test)]
+mod potentials;
 #[cfg(test)]
 mod solutions;

@@ -6,6 +6,7 @@ use dimacs_lines::{
 };
 use dimacs_records::{At, LineFault, ReadError, Reading, Reason, TakeError, TextKind, record};
 use std::alloc::Global;
+use std::process::Abort;
 use std::test::Fail;
 
 const FLOW: &str = "s 6\nf 1 2 4\nf 1 3 2\nf 2 3 1\nf 2 4 3\nf 3 4 3\n";
@@ -115,6 +116,24 @@ fn open_solutions_are_written_as_they_are(rt: HostRuntime) -> Result<(), Fail> {
     Ok(())
 }
 
+/// Reads a text in one piece, and byte by byte.
+fn refuses(
+    rt: &impl Abort,
+    alloc: Global,
+    name: &str,
+    text: &str,
+    at: At,
+    reason: Reason,
+) -> Result<(), Fail> {
+    let want = Some(ReadError::Refused(at, reason));
+    let whole = read_solution(alloc, &mut MemorySource::new(text.as_bytes())).err();
+    assert_eq!(rt; whole, want, "{name}");
+    let ones = Vec::from_elem(alloc, 1, text.len())?;
+    let pieces = read_solution(alloc, &mut CutSource::new(text.as_bytes(), &ones)).err();
+    assert_eq!(rt; pieces, want, "{name}, in pieces");
+    Ok(())
+}
+
 #[test]
 fn texts_are_refused_at_their_first_fault(rt: HostRuntime) -> Result<(), Fail> {
     for (name, text, line, field, reason) in [
@@ -136,13 +155,6 @@ fn texts_are_refused_at_their_first_fault(rt: HostRuntime) -> Result<(), Fail> {
             Reason::SolutionTwice,
         ),
         (
-            "a second value's own fault comes first",
-            "s 1\ns x\n",
-            2,
-            2,
-            Reason::BadNumber,
-        ),
-        (
             "the greatest value and one",
             "s 1000000000000000000000000000001\n",
             1,
@@ -157,7 +169,6 @@ fn texts_are_refused_at_their_first_fault(rt: HostRuntime) -> Result<(), Fail> {
             Reason::NumberRange,
         ),
         ("a problem line", "p max 1 0\n", 1, 1, Reason::UnknownLine),
-        ("a letter in capitals", "S 1\n", 1, 1, Reason::UnknownLine),
         ("an arc line", "s 1\na 1 2 3\n", 2, 1, Reason::UnknownLine),
         ("value without number", "s\n", 1, 0, Reason::FieldCount),
         ("value and more", "s 1 2\n", 1, 0, Reason::FieldCount),
@@ -175,14 +186,6 @@ fn texts_are_refused_at_their_first_fault(rt: HostRuntime) -> Result<(), Fail> {
             0,
             Reason::FieldCount,
         ),
-        ("tail zero", "s 1\nf 0 0 x\n", 2, 2, Reason::NumberRange),
-        (
-            "head past the range",
-            "f 1 134217729 x\n",
-            1,
-            3,
-            Reason::NumberRange,
-        ),
         (
             "flow past the range",
             "s 1\nf 1 2 9223372036854775808\n",
@@ -199,13 +202,51 @@ fn texts_are_refused_at_their_first_fault(rt: HostRuntime) -> Result<(), Fail> {
             Reason::SolutionTwice,
         ),
     ] {
-        let want = Some(ReadError::Refused(At { line, field }, reason));
-        let whole = read_solution(rt.alloc(), &mut MemorySource::new(text.as_bytes())).err();
-        assert_eq!(rt; whole, want, "{name}");
-        let ones = Vec::from_elem(rt.alloc(), 1, text.len())?;
-        let mut source = CutSource::new(text.as_bytes(), &ones);
-        let pieces = read_solution(rt.alloc(), &mut source).err();
-        assert_eq!(rt; pieces, want, "{name}, in pieces");
+        refuses(&rt, rt.alloc(), name, text, At { line, field }, reason)?;
+    }
+    Ok(())
+}
+
+#[test]
+fn a_line_is_refused_for_its_first_reason(rt: HostRuntime) -> Result<(), Fail> {
+    for (name, text, line, field, reason) in [
+        (
+            "the letter before the number of fields",
+            "S\n",
+            1,
+            1,
+            Reason::UnknownLine,
+        ),
+        (
+            "the number of fields before the fields",
+            "f 0 x\n",
+            1,
+            0,
+            Reason::FieldCount,
+        ),
+        (
+            "the tail before the head and the flow",
+            "s 1\nf 0 0 x\n",
+            2,
+            2,
+            Reason::NumberRange,
+        ),
+        (
+            "the head before the flow",
+            "f 1 134217729 x\n",
+            1,
+            3,
+            Reason::NumberRange,
+        ),
+        (
+            "a value's own fault before a second value",
+            "s 1\ns x\n",
+            2,
+            2,
+            Reason::BadNumber,
+        ),
+    ] {
+        refuses(&rt, rt.alloc(), name, text, At { line, field }, reason)?;
     }
     Ok(())
 }
@@ -230,11 +271,14 @@ fn a_refused_record_leaves_the_reading_as_it_was(rt: HostRuntime) -> Result<(), 
         (1, "f 1 2 3", Ok(())),
         (3, "s 5", Ok(())),
         (4, "s 5", refused(0, Reason::SolutionTwice)),
-        (5, "s 5", refused(0, Reason::SolutionTwice)),
         (7, "f 2 1 0", Ok(())),
         (8, "s 6", refused(0, Reason::SolutionTwice)),
     ] {
         assert_eq!(rt; take(&mut reading, number, line), answer, "line {number}");
+        if answer.is_err() {
+            let again = take(&mut reading, number, line);
+            assert_eq!(rt; again, answer, "line {number}, once more");
+        }
     }
     let solution = reading.finish()?;
     assert_eq!(rt; solution.value, 5);

@@ -1,0 +1,369 @@
+//! Potentials: texts that are read and written again, potentials that are set, and texts that are refused.
+
+use dimacs_claims::{Potentials, PotentialsReading, read_potentials, write_potentials};
+use dimacs_lines::{
+    CutSource, DeviceFault, FlakySink, FlakySource, MemorySink, MemorySource, Source,
+};
+use dimacs_records::{At, LineFault, ReadError, Reading, Reason, TakeError, TextKind, record};
+use std::alloc::Global;
+use std::process::Abort;
+use std::test::Fail;
+
+const TWO_OF_FOUR: &str = "p pot 4 2\ny 1 4\ny 3 -2\n";
+
+/// Puts the canonical text of the potentials that a text spells.
+fn convert<S: Source>(alloc: Global, source: &mut S) -> Result<MemorySink, Fail> {
+    let potentials = read_potentials(alloc, source)?;
+    let mut sink = MemorySink::new(alloc);
+    write_potentials(&potentials, &mut sink)?;
+    Ok(sink)
+}
+
+#[test]
+fn texts_get_their_canonical_form(rt: HostRuntime) -> Result<(), Fail> {
+    for (name, text, canonical) in [
+        ("already canonical", TWO_OF_FOUR, TWO_OF_FOUR),
+        ("the nodes by ID", "p pot 4 2\ny 3 -2\ny 1 4\n", TWO_OF_FOUR),
+        ("no node", "p pot 0 0", "p pot 0 0\n"),
+        (
+            "potentials of 0 left out and not counted",
+            "p pot 2 2\ny 2 -0\ny 1 +05\n",
+            "p pot 2 1\ny 1 5\n",
+        ),
+        (
+            "potentials of 0 alone",
+            "p pot 3 3\ny 3 0\ny 2 0\ny 1 0\n",
+            "p pot 3 0\n",
+        ),
+        (
+            "comments, blanks, CR, empty line, zeros, no last line end",
+            "c x\n p  pot +4 01\r\n\ncy 1 1\n\ty +003 -0007",
+            "p pot 4 1\ny 3 -7\n",
+        ),
+        (
+            "the greatest and the least potential",
+            "p pot 2 2\ny 2 -1000000000000000000000000000000\ny 1 1000000000000000000000000000000\n",
+            "p pot 2 2\ny 1 1000000000000000000000000000000\ny 2 -1000000000000000000000000000000\n",
+        ),
+    ] {
+        let whole = convert(rt.alloc(), &mut MemorySource::new(text.as_bytes()))?;
+        assert!(rt; whole.bytes() == canonical.as_bytes(), "{name}");
+        let ones = Vec::from_elem(rt.alloc(), 1, text.len())?;
+        let pieces = convert(rt.alloc(), &mut CutSource::new(text.as_bytes(), &ones))?;
+        assert!(rt; pieces.bytes() == canonical.as_bytes(), "{name}, in pieces");
+        let again = convert(rt.alloc(), &mut MemorySource::new(canonical.as_bytes()))?;
+        assert!(rt; again.bytes() == canonical.as_bytes(), "{name}, once more");
+    }
+    Ok(())
+}
+
+#[test]
+fn potentials_are_those_of_the_text(rt: HostRuntime) -> Result<(), Fail> {
+    let text = b"p pot 300 4\ny 300 7\ny 1 -5\ny 2 0\ny 256 1\n";
+    let potentials = read_potentials(rt.alloc(), &mut MemorySource::new(text))?;
+    assert_eq!(rt; potentials.nodes(), 300);
+    assert_eq!(rt; potentials.count_nonzero(), 3);
+    for (id, value) in [
+        (0, 0),
+        (1, -5),
+        (2, 0),
+        (3, 0),
+        (255, 0),
+        (256, 1),
+        (257, 0),
+        (300, 7),
+        (301, 0),
+        (512, 0),
+        (u32::MAX, 0),
+    ] {
+        assert_eq!(rt; potentials.of(id), value, "node {id}");
+    }
+    Ok(())
+}
+
+#[test]
+fn potentials_are_set_one_by_one(rt: HostRuntime) -> Result<(), Fail> {
+    let mut potentials = Potentials::new(rt.alloc(), 2);
+    assert_eq!(rt; potentials.of(1), 0);
+    potentials.set(2, 8)?;
+    potentials.set(1, -3)?;
+    potentials.set(1, 5)?;
+    assert_eq!(rt; potentials.of(2), 8);
+    potentials.set(2, 0)?;
+    for (id, value) in [(0, 0), (1, 5), (2, 0), (3, 0)] {
+        assert_eq!(rt; potentials.of(id), value, "node {id}");
+    }
+    let mut sink = MemorySink::new(rt.alloc());
+    write_potentials(&potentials, &mut sink)?;
+    assert!(rt; sink.bytes() == b"p pot 2 1\ny 1 5\n".as_slice());
+    Ok(())
+}
+
+/// Reads a text in one piece, and byte by byte.
+fn refuses(
+    rt: &impl Abort,
+    alloc: Global,
+    name: &str,
+    text: &str,
+    at: At,
+    reason: Reason,
+) -> Result<(), Fail> {
+    let want = Some(ReadError::Refused(at, reason));
+    let whole = read_potentials(alloc, &mut MemorySource::new(text.as_bytes())).err();
+    assert_eq!(rt; whole, want, "{name}");
+    let ones = Vec::from_elem(alloc, 1, text.len())?;
+    let pieces = read_potentials(alloc, &mut CutSource::new(text.as_bytes(), &ones)).err();
+    assert_eq!(rt; pieces, want, "{name}, in pieces");
+    Ok(())
+}
+
+#[test]
+fn texts_are_refused_at_their_first_fault(rt: HostRuntime) -> Result<(), Fail> {
+    for (name, text, line, field, reason) in [
+        ("empty text", "", 1, 0, Reason::ProblemMissing),
+        (
+            "node before the problem",
+            "y 1 0\n",
+            1,
+            0,
+            Reason::ProblemMissing,
+        ),
+        (
+            "a second problem",
+            "p pot 1 0\n\np pot 1 0\n",
+            3,
+            0,
+            Reason::ProblemTwice,
+        ),
+        (
+            "a line of a cut",
+            "p pot 1 1\nu 1\n",
+            2,
+            1,
+            Reason::UnknownLine,
+        ),
+        ("no potential", "p pot 4 2\ny 1\n", 2, 0, Reason::FieldCount),
+        ("another problem", "p cut 4 2\n", 1, 2, Reason::BadWord),
+        (
+            "a node of 0",
+            "p pot 4 1\ny 0 1\n",
+            2,
+            2,
+            Reason::NumberRange,
+        ),
+        (
+            "the greatest potential and one",
+            "p pot 4 1\ny 1 1000000000000000000000000000001\n",
+            2,
+            3,
+            Reason::NumberRange,
+        ),
+        (
+            "the least potential less one",
+            "p pot 4 1\ny 1 -1000000000000000000000000000001\n",
+            2,
+            3,
+            Reason::NumberRange,
+        ),
+        (
+            "a potential that isn't whole",
+            "p pot 4 1\ny 1 1e3\n",
+            2,
+            3,
+            Reason::BadNumber,
+        ),
+        (
+            "node out of range",
+            "p pot 4 1\ny 5 1\n",
+            2,
+            2,
+            Reason::NodeRange,
+        ),
+        (
+            "a node named twice",
+            "p pot 4 3\ny 3 1\ny 1 1\ny 3 2\n",
+            4,
+            2,
+            Reason::NodeTwice,
+        ),
+        (
+            "a node named twice, first with 0",
+            "p pot 4 3\ny 3 0\ny 3 2\n",
+            3,
+            2,
+            Reason::NodeTwice,
+        ),
+        (
+            "a node named twice, then with 0",
+            "p pot 4 3\ny 3 2\ny 3 0\n",
+            3,
+            2,
+            Reason::NodeTwice,
+        ),
+        (
+            "a node named twice with 0",
+            "p pot 4 3\ny 3 0\ny 3 -0\n",
+            3,
+            2,
+            Reason::NodeTwice,
+        ),
+        (
+            "a node more",
+            "p pot 4 1\ny 3 0\ny 1 0\n",
+            3,
+            0,
+            Reason::TooMany,
+        ),
+        ("a node too few", "p pot 4 2\ny 3 0\n", 3, 0, Reason::TooFew),
+        (
+            "nothing behind a refused line matters",
+            "p pot 4 1\ny 5 0\ny 0 x\np\n",
+            2,
+            2,
+            Reason::NodeRange,
+        ),
+    ] {
+        refuses(&rt, rt.alloc(), name, text, At { line, field }, reason)?;
+    }
+    Ok(())
+}
+
+#[test]
+fn a_line_is_refused_for_its_first_reason(rt: HostRuntime) -> Result<(), Fail> {
+    for (name, text, line, field, reason) in [
+        (
+            "the letter before the number of fields",
+            "Y\n",
+            1,
+            1,
+            Reason::UnknownLine,
+        ),
+        (
+            "the number of fields before the word",
+            "p cut 4\n",
+            1,
+            0,
+            Reason::FieldCount,
+        ),
+        (
+            "the word before NODES",
+            "p cut x x\n",
+            1,
+            2,
+            Reason::BadWord,
+        ),
+        ("NODES before K", "p pot -1 x\n", 1, 3, Reason::NumberRange),
+        (
+            "the node before its potential",
+            "p pot 4 1\ny 0 x\n",
+            2,
+            2,
+            Reason::NumberRange,
+        ),
+        (
+            "the potential before the missing problem",
+            "y 1 x\n",
+            1,
+            3,
+            Reason::BadNumber,
+        ),
+        (
+            "the potential before NODES",
+            "p pot 4 1\ny 5 x\n",
+            2,
+            3,
+            Reason::BadNumber,
+        ),
+        (
+            "the problem's numbers before a second problem",
+            "p pot 4 0\np pot 4 x\n",
+            2,
+            4,
+            Reason::BadNumber,
+        ),
+        (
+            "NODES before the count",
+            "p pot 4 0\ny 5 1\n",
+            2,
+            2,
+            Reason::NodeRange,
+        ),
+        (
+            "a node named twice before the count",
+            "p pot 4 1\ny 1 0\ny 1 1\n",
+            3,
+            2,
+            Reason::NodeTwice,
+        ),
+    ] {
+        refuses(&rt, rt.alloc(), name, text, At { line, field }, reason)?;
+    }
+    Ok(())
+}
+
+/// Gives a reading what a line says.
+fn take(reading: &mut PotentialsReading, number: u64, line: &str) -> Result<(), TakeError> {
+    match record(TextKind::Potentials, line.as_bytes()) {
+        Ok(Some(said)) => reading.take(number, said),
+        Ok(None) => Ok(()),
+        Err(LineFault { field, reason }) => Err(TakeError::refused(field, reason)),
+    }
+}
+
+fn refused(field: u32, reason: Reason) -> Result<(), TakeError> {
+    Err(TakeError::Refused(LineFault { field, reason }))
+}
+
+#[test]
+fn a_refused_record_leaves_the_reading_as_it_was(rt: HostRuntime) -> Result<(), Fail> {
+    let mut reading = PotentialsReading::new(rt.alloc());
+    for (number, line, answer) in [
+        (1, "y 1 5", refused(0, Reason::ProblemMissing)),
+        (2, "p pot 4 2", Ok(())),
+        (3, "p pot 9 9", refused(0, Reason::ProblemTwice)),
+        (4, "y 5 1", refused(2, Reason::NodeRange)),
+        (5, "y 3 0", Ok(())),
+        (6, "y 3 6", refused(2, Reason::NodeTwice)),
+        (7, "y 1 5", Ok(())),
+        (8, "y 1 0", refused(2, Reason::NodeTwice)),
+        (9, "y 2 7", refused(0, Reason::TooMany)),
+    ] {
+        assert_eq!(rt; take(&mut reading, number, line), answer, "line {number}");
+        if answer.is_err() {
+            let again = take(&mut reading, number, line);
+            assert_eq!(rt; again, answer, "line {number}, once more");
+        }
+    }
+    let potentials = reading.finish()?;
+    assert_eq!(rt; potentials.nodes(), 4);
+    for (id, value) in [(1, 5), (2, 0), (3, 0), (4, 0), (5, 0)] {
+        assert_eq!(rt; potentials.of(id), value, "node {id}");
+    }
+    Ok(())
+}
+
+#[test]
+fn each_pull_and_each_put_that_fails_is_told(rt: HostRuntime) -> Result<(), Fail> {
+    let text = TWO_OF_FOUR.as_bytes();
+    let ones = Vec::from_elem(rt.alloc(), 1, text.len())?;
+    // One pull for each byte, and one that finds the end.
+    for failing in 1..=text.len() as u64 + 1 {
+        let fails = [failing];
+        let mut source = FlakySource::new(text, &ones, &fails);
+        let error = read_potentials(rt.alloc(), &mut source).err();
+        assert_eq!(rt; error, Some(ReadError::Device), "at pull {failing}");
+    }
+    let potentials = read_potentials(rt.alloc(), &mut MemorySource::new(text))?;
+    for failing in 1..=text.len() as u64 {
+        let fails = [failing];
+        let mut sink = FlakySink::new(rt.alloc(), &ones, &fails);
+        let put = write_potentials(&potentials, &mut sink);
+        assert_eq!(rt; put, Err(DeviceFault), "at put {failing}");
+        assert!(rt;
+            sink.bytes().len() as u64 == failing - 1,
+            "at put {failing}"
+        );
+        assert!(rt; text.starts_with(sink.bytes()), "at put {failing}");
+    }
+    Ok(())
+}
