@@ -16,7 +16,7 @@ ghost use Rattle.dimacs_instance.specs.MaxTexts.{GivesMax, SpellsMax, canonical_
 ghost use Rattle.dimacs_instance.specs.Plain.{capacity_arc};
 ghost use Rattle.dimacs_instance.specs.MaxReading.{AreApart, IsMaxBegun, end_records, max_node, max_begun_records, with_arc};
 
-use crate::ends::SeenEnds;
+use crate::seen::SeenEnds;
 use crate::network::{ArcView, Network};
 use crate::plain::{CapacityArc, PlainArcs};
 use dimacs_lines::{DeviceFault, Memory, Page, Sink, Source};

@@ -19,7 +19,7 @@ ghost use Rattle.dimacs_instance.specs.Flows.{IsNode};
 ghost use Rattle.dimacs_instance.specs.MinTexts.{GivesMin, SpellsMin, canonical_min, is_supplied, min_node, min_arc};
 ghost use Rattle.dimacs_instance.specs.MinReading.{TakesMin, StandsForMin, is_named, with_supply, with_arc};
 
-use crate::ends::SeenEnds;
+use crate::seen::SeenEnds;
 use crate::network::{ArcView, Network};
 use crate::plain::PlainArcs;
 use dimacs_lines::{DeviceFault, Memory, Page, Sink, Source};
