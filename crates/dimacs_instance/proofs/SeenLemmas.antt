@@ -140,3 +140,12 @@ grouped_apart tail head taken slots apart grouped full node = record {
   full = λ some. All-push (λ e. IsFull slots e.tail) apart (record { tail = tail; head = head }) (grouped.full some) (full some);
   nodes = All-push (λ e. 0 < e.tail) apart (record { tail = tail; head = head }) grouped.nodes node;
 }
+
+-- and so are among those in slots and those apart
+pub pushed_in : (tail head at : ℕ) (slots : List Slot) (apart : List Ends) → at < length slots → tail_at slots at ≡ 0 → 0 < tail
+    → IsPermutation ((ends_in slots ++ apart) ++ record { tail = tail; head = head } ∷ []) (ends_in (set slots at (record { tail = tail; head = head })) ++ apart)
+pushed_in tail head at slots apart inside room node =
+    let e : Ends = record { tail = tail; head = head } in
+    let last_to_middle : IsPermutation ((ends_in slots ++ apart) ++ e ∷ []) ((ends_in slots ++ e ∷ []) ++ apart) =
+      rw (append_assoc (ends_in slots) apart (e ∷ []), append_assoc (ends_in slots) (e ∷ []) apart) (IsPermutation-append_right (ends_in slots) (apart ++ e ∷ []) (e ∷ [] ++ apart) (IsPermutation-to_front apart e)) in
+    IsPermutation-trans _ _ _ last_to_middle (IsPermutation-append_left apart _ _ (put_in tail head at slots inside room node))
