@@ -1,11 +1,11 @@
 -- The ends of arcs in groups of slots.
-use Rattle.std.proofs.Common.{◌≡◌, ◌≢◌, ℕ, ◌<◌, ◌≤◌, ◌+◌, ◌-◌, ◌∙◌, ◌++◌, ◌∷◌, [], Bool, List, length, map, get_or, set, take, drop, slice_range, arith, sym, ap, refl, suc, subst, inl, inr, get_or-set_same, get_or-set_other, length-set}
+use Rattle.std.proofs.Common.{◌≡◌, ◌≢◌, ℕ, ◌<◌, ◌≤◌, ◌+◌, ◌-◌, ◌∙◌, ◌++◌, ◌∷◌, [], Bool, List, length, map, get_or, set, take, drop, slice_range, replicate, zero, arith, sym, ap, refl, suc, subst, inl, inr, get_or-set_same, get_or-set_other, length-set}
 use Rattle.std.specs.Prelude.{true, false, ◌==◌, ◌&&◌, ◌||◌, IsPermutation}
 use Rattle.std.specs.List.{All, list_any, filter}
 use Rattle.std.proofs.lemmas.Bool.{cases_eq, cases_Bool, and_parts, and_right, eqb-true, lt-ltb, le-ltb, true≢false, false_from_ne_true, or_left, or_right}
 use Rattle.std.proofs.lemmas.List.Folds.{list_any_none, list_any_at, list_any-append, drop_split}
 use Rattle.std.proofs.lemmas.List.Elements.{All-from_get_or, All-push, All-nil, All-weaker, filter-append}
-use Rattle.std.proofs.lemmas.List.{get_or-take, get_or-drop, get_or_read, length-take, length-drop, map-append, take-append-drop, set_split, set-get_or, append_assoc, length_push}
+use Rattle.std.proofs.lemmas.List.{append-nil, get_or-replicate, get_or-take, get_or-drop, get_or_read, length-append, length-replicate, length-take, take_more, length-drop, map-append, take-append-drop, set_split, set-get_or, append_assoc, length_push}
 use Rattle.std.proofs.lemmas.List.Sorted.{IsPermutation-refl, IsPermutation-sym, IsPermutation-trans, IsPermutation-to_front, IsPermutation-middle, IsPermutation-append_left, IsPermutation-append_right, IsPermutation-append_comm, length_permutation}
 use Rattle.dimacs_instance.specs.declared.seen.Slot.{Slot}
 use Rattle.dimacs_instance.specs.Ends.{Ends, has_ends}
@@ -149,3 +149,46 @@ pushed_in tail head at slots apart inside room node =
     let last_to_middle : IsPermutation ((ends_in slots ++ apart) ++ e ∷ []) ((ends_in slots ++ e ∷ []) ++ apart) =
       rw (append_assoc (ends_in slots) apart (e ∷ []), append_assoc (ends_in slots) (e ∷ []) apart) (IsPermutation-append_right (ends_in slots) (apart ++ e ∷ []) (e ∷ [] ++ apart) (IsPermutation-to_front apart e)) in
     IsPermutation-trans _ _ _ last_to_middle (IsPermutation-append_left apart _ _ (put_in tail head at slots inside room node))
+
+-- one more is put
+pub more_put : (start done self new : List Ends) (e : Ends) → IsPermutation (start ++ done) self → IsPermutation (self ++ e ∷ []) new → IsPermutation (start ++ (done ++ e ∷ [])) new
+more_put start done self new e before after = rw (← append_assoc start done (e ∷ [])) (IsPermutation-trans _ _ _ (IsPermutation-append_left (e ∷ []) (start ++ done) self before) after)
+
+-- there is room while some are left to put
+pub still_few : (start done all self : List Ends) (limit : ℕ) → IsPermutation (start ++ done) self → length done < length all → length start + length all ≤ limit → length self < limit
+still_few start done all self limit before left room = omega (arith, left, room, length_permutation (start ++ done) self before, length-append start done)
+
+-- of a slot more
+pub more_taken : (slots : List Slot) (i : ℕ) → i < length slots → 0 < tail_at slots i → ends_in (take (i + 1) slots) ≡ ends_in (take i slots) ++ slot_ends (get_or slots i free) ∷ []
+more_taken slots i below taken =
+    let is : is_taken (get_or slots i free) ≡ true = lt-ltb 0 (tail_at slots i) taken in
+    ap ends_in (take_more slots i free below) ∙ (ends_in-append (take i slots) (get_or slots i free ∷ []) ∙ rw is refl)
+
+pub more_free : (slots : List Slot) (i : ℕ) → i < length slots → tail_at slots i ≤ 0 → ends_in (take (i + 1) slots) ≡ ends_in (take i slots)
+more_free slots i below room =
+    let is : is_taken (get_or slots i free) ≡ false = le-ltb 0 (tail_at slots i) room in
+    ap ends_in (take_more slots i free below) ∙ (ends_in-append (take i slots) (get_or slots i free ∷ []) ∙ rw is (append-nil (ends_in (take i slots))))
+
+pub fewer_before : (slots : List Slot) (i : ℕ) → i < length slots → 0 < tail_at slots i → length (ends_in (take i slots)) < length (ends_in slots)
+fewer_before slots i below taken =
+    let all : length (ends_in slots) ≡ length (ends_in (take (i + 1) slots)) + length (ends_in (drop (i + 1) slots)) =
+      ap (λ xs. length (ends_in xs)) (sym (take-append-drop (i + 1) slots)) ∙ (ap length (ends_in-append (take (i + 1) slots) (drop (i + 1) slots)) ∙ length-append (ends_in (take (i + 1) slots)) (ends_in (drop (i + 1) slots))) in
+    let more : length (ends_in (take (i + 1) slots)) ≡ length (ends_in (take i slots)) + 1 = ap length (more_taken slots i below taken) ∙ length_push (ends_in (take i slots)) (slot_ends (get_or slots i free)) in
+    omega arith
+
+-- free slots
+pub ends_in-free : (count : ℕ) → ends_in (replicate count free) ≡ []
+ends_in-free zero = refl
+ends_in-free (suc count) = ends_in-free count
+
+pub grouped_free : (count : ℕ) → 8 ≤ count → count ≤ 1073741824 → AreGrouped (replicate count free) 0 []
+grouped_free count some few =
+    let counted : length (replicate count free) ≡ count = length-replicate count free in
+    record {
+      whole = λ any. omega (arith, counted);
+      few = omega (arith, counted);
+      counted = rw ends_in-free refl;
+      placed = λ i below taken. let none : tail_at (replicate count free) i ≡ 0 = ap (λ (x : Slot). x.tail) (get_or-replicate count i free free (omega (arith, counted))) in absurd (omega (arith, none, taken));
+      full = λ any. All-nil (λ e. IsFull (replicate count free) e.tail);
+      nodes = All-nil (λ e. 0 < e.tail);
+    }

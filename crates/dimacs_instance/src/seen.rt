@@ -64,6 +64,22 @@ impl SeenEnds {
         }
     }
 
+    /// No ends, and so many free slots.
+    fn with_slots(alloc: Global, count: usize) -> Result<SeenEnds, Memory>
+        requires some { 8 ≤ count }
+        requires few { count ≤ 1073741824 }
+        ensures { IfOk result (λ seen. seen ≡ []) }
+    {
+        let mut slots = Vec::new(alloc);
+        slots.resize(count, FREE)?;
+        Ok(SeenEnds {
+            alloc,
+            slots,
+            taken: 0,
+            apart: LinkedEnds::new(alloc),
+        })
+    }
+
     /// Whether an arc from `tail` to `head` was pushed.
     #[inline]
     pub fn contains(&self, tail: u32, head: u32) -> bool
@@ -107,14 +123,7 @@ impl SeenEnds {
         requires ends_few { length self.now < 268435456 }
         ensures { IfOk result (λ seen. IsPermutation self.now seen) }
     {
-        let mut slots = Vec::new(self.alloc);
-        slots.resize(count, FREE)?;
-        let mut seen = SeenEnds {
-            alloc: self.alloc,
-            slots,
-            taken: 0,
-            apart: LinkedEnds::new(self.alloc),
-        };
+        let mut seen = SeenEnds::with_slots(self.alloc, count)?;
         seen.put_slots(&self.slots)?;
         seen.put_linked(&self.apart)?;
         Ok(seen)
