@@ -1,12 +1,13 @@
 -- The ends of arcs in groups of slots.
-use Rattle.std.proofs.Common.{◌≡◌, ◌≢◌, ℕ, ◌<◌, ◌≤◌, ◌+◌, ◌-◌, ◌∙◌, ◌++◌, ◌∷◌, [], Bool, List, length, map, get_or, set, take, drop, slice_range, replicate, zero, arith, sym, ap, refl, suc, subst, inl, inr, get_or-set_same, get_or-set_other, length-set}
+use Rattle.std.proofs.Common.{◌≡◌, ◌≢◌, ℕ, ◌<◌, ◌≤◌, ◌+◌, ◌-◌, ◌∙◌, ◌++◌, ◌∷◌, [], Bool, List, length, map, get_or, set, take, drop, slice_range, replicate, zero, arith, sym, ap, refl, suc, inl, inr, get_or-set_same, get_or-set_other, length-set}
 use Rattle.std.specs.Prelude.{true, false, ◌==◌, ◌&&◌, ◌||◌, IsPermutation}
-use Rattle.std.specs.List.{All, list_any, filter}
-use Rattle.std.proofs.lemmas.Bool.{cases_eq, cases_Bool, and_parts, and_right, eqb-true, lt-ltb, le-ltb, true≢false, false_from_ne_true, or_left, or_right}
+use Rattle.std.specs.List.{list_any, filter}
+use Rattle.std.proofs.lemmas.Bool.{cases_eq, cases_Bool, and_parts, eqb-true, lt-ltb, le-ltb, true≢false, false_from_ne_true, or_left, or_right}
 use Rattle.std.proofs.lemmas.List.Folds.{list_any_none, list_any_at, list_any-append, drop_split}
-use Rattle.std.proofs.lemmas.List.Elements.{All-from_get_or, All-push, All-nil, All-weaker, filter-append}
-use Rattle.std.proofs.lemmas.List.{append-nil, get_or-replicate, get_or-take, get_or-drop, get_or_read, length-append, length-replicate, length-take, take_more, length-drop, map-append, take-append-drop, set_split, set-get_or, append_assoc, length_push}
-use Rattle.std.proofs.lemmas.List.Sorted.{IsPermutation-refl, IsPermutation-sym, IsPermutation-trans, IsPermutation-to_front, IsPermutation-middle, IsPermutation-append_left, IsPermutation-append_right, IsPermutation-append_comm, length_permutation}
+use Rattle.std.proofs.lemmas.List.Elements.{All-from_get_or, All-push, All-nil, filter-append}
+use Rattle.std.proofs.lemmas.List.{append-nil, get_or-replicate, get_or-take, get_or-drop, get_or_read, length-append, length-map, length-replicate, length-take, take_more, length-drop, map-append, take-append-drop, set_split, set-get_or, append_assoc, length_push}
+use Rattle.std.proofs.lemmas.List.Sorted.{IsPermutation-sym, IsPermutation-trans, IsPermutation-to_front, IsPermutation-middle, IsPermutation-append_left, IsPermutation-append_right, length_permutation}
+use Rattle.dimacs_instance.specs.declared.network.ArcView.{ArcView}
 use Rattle.dimacs_instance.specs.declared.seen.Slot.{Slot}
 use Rattle.dimacs_instance.specs.Ends.{Ends, has_ends}
 use Rattle.dimacs_instance.specs.Seen.{AreGrouped, IsFull, IsInGroup, ends_in, free, group_start, is_taken, slot_ends, tail_at}
@@ -33,7 +34,7 @@ found_in_slots tail head (s ∷ slots) node =
 pub among_all : (q : Slot → Bool) (slots : List Slot) (start : ℕ) → list_any q (slice_range slots start (start + 8)) ≡ true → list_any q slots ≡ true
 among_all q slots start among =
     let parts : slots ≡ take start slots ++ (slice_range slots start (start + 8) ++ drop (start + 8) slots) =
-      sym (take-append-drop start slots) ∙ ap (λ xs. take start slots ++ xs) (drop_split slots start (start + 8) (omega arith)) in
+    sym (take-append-drop start slots) ∙ ap (λ xs. take start slots ++ xs) (drop_split slots start (start + 8) (omega arith)) in
     ap (list_any q) parts ∙ (list_any-append q (take start slots) (slice_range slots start (start + 8) ++ drop (start + 8) slots)
     ∙ or_right (list_any q (take start slots)) (list_any q (slice_range slots start (start + 8) ++ drop (start + 8) slots))
     (list_any-append q (slice_range slots start (start + 8)) (drop (start + 8) slots) ∙ or_left (list_any q (slice_range slots start (start + 8))) (list_any q (drop (start + 8) slots)) among))
@@ -41,7 +42,7 @@ among_all q slots start among =
 not_at : (q : Slot → Bool) (slots : List Slot) (start i : ℕ) → start + 8 ≤ length slots → list_any q (slice_range slots start (start + 8)) ≡ false → start ≤ i → i < start + 8 → q (get_or slots i free) ≡ false
 not_at q slots start i inside none from below =
     let place : get_or (slice_range slots start (start + 8)) (i - start) free ≡ get_or slots i free =
-      get_or-take (start + 8 - start) (drop start slots) (i - start) free (omega arith) ∙ (get_or-drop start slots (i - start) free ∙ ap (λ n. get_or slots n free) (omega arith)) in
+    get_or-take (start + 8 - start) (drop start slots) (i - start) free (omega arith) ∙ (get_or-drop start slots (i - start) free ∙ ap (λ n. get_or slots n free) (omega arith)) in
     let within : i - start < length (slice_range slots start (start + 8)) = omega (arith, length-take (start + 8 - start) (drop start slots), length-drop start slots) in
     false_from_ne_true (q (get_or slots i free)) (λ is. true≢false (sym (list_any_at q (slice_range slots start (start + 8)) (i - start) free within (ap q place ∙ is)) ∙ none))
 
@@ -50,22 +51,22 @@ pub nowhere : (tail head start taken : ℕ) (slots : List Slot) (apart : List En
     → list_any (is_slot_of tail head) (slice_range slots start (start + 8)) ≡ false → list_any (is_slot_of tail head) slots ≡ false
 nowhere tail head start taken slots apart grouped node is inside none =
     list_any_none (is_slot_of tail head) slots (All-from_get_or (λ s. is_slot_of tail head s ≡ false) slots free (λ i below.
-        elim (cases_Bool (is_slot_of tail head (get_or slots i free))) [
-          | inl here ↦
-              let same : tail_at slots i ≡ tail = slot_tail tail head (get_or slots i free) here in
-              let placed : IsInGroup (length slots) (tail_at slots i) i = grouped.placed i below (rw same node) in
-              let in_group : IsInGroup (length slots) tail i = rw same at placed in
-              not_at (is_slot_of tail head) slots start i inside none (rw is in_group.0) (rw is in_group.1)
-          | inr other ↦ other
-        ]))
+    elim (cases_Bool (is_slot_of tail head (get_or slots i free))) [
+      | inl here ↦
+          let same : tail_at slots i ≡ tail = slot_tail tail head (get_or slots i free) here in
+          let placed : IsInGroup (length slots) (tail_at slots i) i = grouped.placed i below (rw same node) in
+          let in_group : IsInGroup (length slots) tail i = rw same at placed in
+          not_at (is_slot_of tail head) slots start i inside none (rw is in_group.0) (rw is in_group.1)
+      | inr other ↦ other
+    ]))
 
 -- where the group has room nothing of its tail is apart
 pub none_apart : (tail head taken : ℕ) (slots : List Slot) (apart : List Ends) → AreGrouped slots taken apart → 0 < length slots → tail_at slots (group_start (length slots) tail + 7) ≡ 0 → list_any (has_ends tail head) apart ≡ false
 none_apart tail head taken slots apart grouped some room =
     list_any_none (has_ends tail head) apart (λ i d below. false_from_ne_true (has_ends tail head (get_or apart i d)) (λ is.
-        let same : (get_or apart i d).tail ≡ tail = eqb-true (get_or apart i d).tail tail (and_parts ((get_or apart i d).tail == tail) ((get_or apart i d).head == head) is).0 in
-        let full : IsFull slots tail = rw same at (grouped.full some i d below) in
-        omega (arith, full, room)))
+    let same : (get_or apart i d).tail ≡ tail = eqb-true (get_or apart i d).tail tail (and_parts ((get_or apart i d).tail == tail) ((get_or apart i d).head == head) is).0 in
+    let full : IsFull slots tail = rw same at (grouped.full some i d below) in
+    omega (arith, full, room)))
 
 ends_in-append : (xs ys : List Slot) → ends_in (xs ++ ys) ≡ ends_in xs ++ ends_in ys
 ends_in-append xs ys = ap (map slot_ends) (filter-append is_taken xs ys) ∙ map-append slot_ends (filter is_taken xs) (filter is_taken ys)
@@ -80,9 +81,9 @@ put_in tail head at slots inside room node =
     let is_free : is_taken here ≡ false = le-ltb 0 here.tail (omega (arith, room)) in
     let is_new : is_taken (record { tail = tail; head = head }) ≡ true = lt-ltb 0 tail node in
     let old : ends_in slots ≡ before ++ behind =
-      ap ends_in (sym (set-get_or slots at free) ∙ set_split slots at here inside) ∙ (ends_in-append (take at slots) (here ∷ drop (suc at) slots) ∙ rw is_free refl) in
+    ap ends_in (sym (set-get_or slots at free) ∙ set_split slots at here inside) ∙ (ends_in-append (take at slots) (here ∷ drop (suc at) slots) ∙ rw is_free refl) in
     let new : ends_in (set slots at (record { tail = tail; head = head })) ≡ before ++ record { tail = tail; head = head } ∷ behind =
-      ap ends_in (set_split slots at (record { tail = tail; head = head }) inside) ∙ (ends_in-append (take at slots) (record { tail = tail; head = head } ∷ drop (suc at) slots) ∙ rw is_new refl) in
+    ap ends_in (set_split slots at (record { tail = tail; head = head }) inside) ∙ (ends_in-append (take at slots) (record { tail = tail; head = head } ∷ drop (suc at) slots) ∙ rw is_new refl) in
     rw (old, new) (IsPermutation-trans _ _ _ (IsPermutation-to_front (before ++ behind) (record { tail = tail; head = head })) (IsPermutation-sym _ _ (IsPermutation-middle before (record { tail = tail; head = head }) behind)))
 
 -- what is read of a slot
@@ -147,7 +148,7 @@ pub pushed_in : (tail head at : ℕ) (slots : List Slot) (apart : List Ends) →
 pushed_in tail head at slots apart inside room node =
     let e : Ends = record { tail = tail; head = head } in
     let last_to_middle : IsPermutation ((ends_in slots ++ apart) ++ e ∷ []) ((ends_in slots ++ e ∷ []) ++ apart) =
-      rw (append_assoc (ends_in slots) apart (e ∷ []), append_assoc (ends_in slots) (e ∷ []) apart) (IsPermutation-append_right (ends_in slots) (apart ++ e ∷ []) (e ∷ [] ++ apart) (IsPermutation-to_front apart e)) in
+    rw (append_assoc (ends_in slots) apart (e ∷ []), append_assoc (ends_in slots) (e ∷ []) apart) (IsPermutation-append_right (ends_in slots) (apart ++ e ∷ []) (e ∷ [] ++ apart) (IsPermutation-to_front apart e)) in
     IsPermutation-trans _ _ _ last_to_middle (IsPermutation-append_left apart _ _ (put_in tail head at slots inside room node))
 
 -- one more is put
@@ -172,7 +173,7 @@ more_free slots i below room =
 pub fewer_before : (slots : List Slot) (i : ℕ) → i < length slots → 0 < tail_at slots i → length (ends_in (take i slots)) < length (ends_in slots)
 fewer_before slots i below taken =
     let all : length (ends_in slots) ≡ length (ends_in (take (i + 1) slots)) + length (ends_in (drop (i + 1) slots)) =
-      ap (λ xs. length (ends_in xs)) (sym (take-append-drop (i + 1) slots)) ∙ (ap length (ends_in-append (take (i + 1) slots) (drop (i + 1) slots)) ∙ length-append (ends_in (take (i + 1) slots)) (ends_in (drop (i + 1) slots))) in
+    ap (λ xs. length (ends_in xs)) (sym (take-append-drop (i + 1) slots)) ∙ (ap length (ends_in-append (take (i + 1) slots) (drop (i + 1) slots)) ∙ length-append (ends_in (take (i + 1) slots)) (ends_in (drop (i + 1) slots))) in
     let more : length (ends_in (take (i + 1) slots)) ≡ length (ends_in (take i slots)) + 1 = ap length (more_taken slots i below taken) ∙ length_push (ends_in (take i slots)) (slot_ends (get_or slots i free)) in
     omega arith
 
@@ -192,3 +193,10 @@ grouped_free count some few =
       full = λ any. All-nil (λ e. IsFull (replicate count free) e.tail);
       nodes = All-nil (λ e. 0 < e.tail);
     }
+
+-- with the ends of one arc more
+pub more_seen : (ends : ArcView → Ends) (arcs : List ArcView) (a : ArcView) (seen new : List Ends) → IsPermutation (map ends arcs) seen → IsPermutation (seen ++ ends a ∷ []) new → IsPermutation (map ends (arcs ++ a ∷ [])) new
+more_seen ends arcs a seen new before after = rw (map-append ends arcs (a ∷ [])) (IsPermutation-trans _ _ _ (IsPermutation-append_left (ends a ∷ []) (map ends arcs) seen before) after)
+
+pub few_seen : (ends : ArcView → Ends) (arcs : List ArcView) (seen : List Ends) (limit : ℕ) → IsPermutation (map ends arcs) seen → length arcs < limit → length seen < limit
+few_seen ends arcs seen limit same few = omega (arith, few, length_permutation (map ends arcs) seen same, length-map arcs ends)

@@ -1,4 +1,4 @@
-use Rattle.std.proofs.Common.{◌≡◌, ◌<◌, sym, length}
+use Rattle.std.proofs.Common.{◌≡◌, ◌<◌, length}
 use Rattle.dimacs_instance.specs.Seen.{IsInGroup, tail_at}
 use Rattle.dimacs_instance.proofs.SeenLemmas.{grouped_in, pushed_in}
 use Rattle.dimacs_instance.proofs.seen.SeenEnds.put.Goals as goal
