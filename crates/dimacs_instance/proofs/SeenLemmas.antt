@@ -2,6 +2,7 @@
 use Rattle.std.proofs.Common.{◌≡◌, ◌≢◌, ℕ, ◌<◌, ◌≤◌, ◌+◌, ◌-◌, ◌∙◌, ◌++◌, ◌∷◌, [], Bool, List, length, map, get_or, set, take, drop, slice_range, replicate, zero, arith, sym, ap, refl, suc, inl, inr, get_or-set_same, get_or-set_other, length-set}
 use Rattle.std.specs.Prelude.{true, false, ◌==◌, ◌&&◌, ◌||◌, IsPermutation}
 use Rattle.std.specs.List.{list_any, filter}
+use Rattle.std.proofs.Math.Bool.{and_comm}
 use Rattle.std.proofs.lemmas.Bool.{cases_eq, cases_Bool, and_parts, eqb-true, lt-ltb, le-ltb, true≢false, false_from_ne_true, or_left, or_right}
 use Rattle.std.proofs.lemmas.List.Folds.{list_any_none, list_any_at, list_any-append, drop_split}
 use Rattle.std.proofs.lemmas.List.Elements.{All-from_get_or, All-push, All-nil, filter-append}
@@ -14,17 +15,17 @@ use Rattle.dimacs_instance.specs.Seen.{AreGrouped, IsFull, IsInGroup, ends_in, f
 
 -- the slot has these ends
 abbrev pub is_slot_of : ℕ → ℕ → Slot → Bool
-is_slot_of tail head s = (s.tail == tail) && (s.head == head)
+is_slot_of tail head s = (s.head == head) && (s.tail == tail)
 
 slot_tail : (tail head : ℕ) (s : Slot) → is_slot_of tail head s ≡ true → s.tail ≡ tail
-slot_tail tail head s is = eqb-true s.tail tail (and_parts (s.tail == tail) (s.head == head) is).0
+slot_tail tail head s is = eqb-true s.tail tail (and_parts (s.head == head) (s.tail == tail) is).1
 
 -- a node's ends are found in the slots as in the list of those taken
 pub found_in_slots : (tail head : ℕ) (slots : List Slot) → 0 < tail → list_any (has_ends tail head) (ends_in slots) ≡ list_any (is_slot_of tail head) slots
 found_in_slots tail head [] node = refl
 found_in_slots tail head (s ∷ slots) node =
     elim (cases_Bool (is_taken s)) [
-      | inl taken ↦ rw taken (ap (λ b. is_slot_of tail head s || b) (found_in_slots tail head slots node))
+      | inl taken ↦ rw (taken, and_comm (s.tail == tail) (s.head == head)) (ap (λ b. is_slot_of tail head s || b) (found_in_slots tail head slots node))
       | inr free ↦
           let other : is_slot_of tail head s ≡ false = false_from_ne_true (is_slot_of tail head s) (λ is. true≢false (sym (lt-ltb 0 s.tail (rw (slot_tail tail head s is) node)) ∙ free)) in
           rw (free, other) (found_in_slots tail head slots node)

@@ -34,7 +34,7 @@ IsInGroup count tail i = (group_start count tail ≤ i) × (i < group_start coun
 abbrev pub IsFull : List Slot → ℕ → Type 0
 IsFull slots tail = 0 < tail_at slots (group_start (length slots) tail + 7)
 
--- ends stand in the group of their tail, or apart where it is full
+-- ends stand in the group of their tail, or apart where it was full
 pub record AreGrouped (slots : List Slot) (taken : ℕ) (apart : List Ends) : Type 0 where
   pub whole : 0 < length slots → 8 ≤ length slots
   pub few : length slots ≤ 1073741824

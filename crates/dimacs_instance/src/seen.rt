@@ -1,4 +1,5 @@
-//! The ends of the arcs so far, found again in any order of arcs, and faster where arcs with near tails come together.
+//! The ends of the arcs so far, found again in any order of arcs, and faster where arcs with near tails come together,
+//! as they do in most texts.
 
 ghost use Rattle.std.specs.Prelude.{◌≡◌, ◌<◌, ◌≤◌, ◌+◌, ◌*◌, ◌&&◌, ◌==◌, ◌++◌, ◌∷◌, [], length, IfOk, IfSome, OnOk, OnErr, IsPermutation, IsNone};
 ghost use Rattle.std.specs.List.{All, list_any};
@@ -23,19 +24,21 @@ pub(crate) struct Slot {
     head: u32,
 }
 
+/// No ends.
 const FREE: Slot = Slot { tail: 0, head: 0 };
 
-/// The ends of the arcs so far. Those with one tail stand in one group of slots, so that arcs with near tails need few
-/// lines of the cache. What finds its group full stands apart, where no number of arcs with one tail makes a search
-/// long.
+/// The ends of the arcs so far. Those with one tail stand in one group of slots, and near tails have groups side by
+/// side, so that arcs with near tails need few lines of the cache. Ends that find their group full stand apart, by hash,
+/// so that no search is long however many arcs a tail has.
 ///
-/// There are 1 1/3 to 2 2/3 slots, of 8 bytes, for each of those in slots.
+/// There are never more than 2 2/3 slots, of 8 bytes, for an arc, but for the fewest; 16 to 20 bytes for one apart.
 #[derive(Drop)]
 pub(crate) struct SeenEnds {
     alloc: Global,
     slots: Vec<Slot>,
     /// How many slots aren't free.
     taken: usize,
+    /// Those that found their group full.
     apart: LinkedEnds,
 }
 
@@ -98,7 +101,7 @@ impl SeenEnds {
         self.apart.contains(tail, head)
     }
 
-    /// Puts the ends of an arc to the others, in no order.
+    /// Puts the ends of an arc to the others; the order is open.
     #[inline]
     pub fn push(&mut self, tail: u32, head: u32) -> Result<(), Memory>
         requires node { 1 ≤ tail }
@@ -109,7 +112,8 @@ impl SeenEnds {
         if 4 * self.taken < 3 * self.slots.len() {
             return self.put(tail, head);
         }
-        let mut grown = self.in_slots(FEWEST_SLOTS.max(2 * self.slots.len()))?;
+        let ends = self.taken + self.apart.len();
+        let mut grown = self.in_slots(more_slots(self.slots.len(), ends))?;
         grown.put(tail, head)?;
         *self = grown;
         Ok(())
@@ -129,6 +133,7 @@ impl SeenEnds {
         Ok(seen)
     }
 
+    /// Puts the ends in other slots.
     fn put_slots(&mut self, slots: &[Slot]) -> Result<(), Memory>
         requires { length self.old + length (ends_in slots.now) ≤ 268435456 }
         ensures { OnOk result (IsPermutation (self.old ++ ends_in slots.now) self.new) }
@@ -141,6 +146,7 @@ impl SeenEnds {
         Ok(())
     }
 
+    /// Puts ends that stood apart.
     fn put_linked(&mut self, linked: &LinkedEnds) -> Result<(), Memory>
         requires nodes { All (λ e. 0 < e.tail) linked.now }
         requires few { length self.old + length linked.now ≤ 268435456 }
@@ -153,7 +159,7 @@ impl SeenEnds {
         Ok(())
     }
 
-    /// Puts the ends of an arc into the group of the tail, or apart.
+    /// Puts the ends of an arc into the group of the tail, or apart where it is full.
     #[inline]
     fn put(&mut self, tail: u32, head: u32) -> Result<(), Memory>
         requires node { 1 ≤ tail }
@@ -170,14 +176,25 @@ impl SeenEnds {
     }
 }
 
-/// Whether a slot has these ends.
+/// How many slots to take where so many are too few for the ends: twice as many, and no fewer than there are ends, so
+/// that those apart aren't put anew more often than those in slots.
+fn more_slots(slots: usize, ends: usize) -> usize
+    requires crowded { 3 * slots ≤ 4 * ends }
+    requires ends_few { ends < 268435456 }
+    ensures some { 8 ≤ result }
+    ensures few { result ≤ 1073741824 }
+{
+    FEWEST_SLOTS.max(2 * slots).max(ends.next_power_of_two())
+}
+
+/// Whether a slot has these ends. Its head is asked first: those in a group mostly have the same tail.
 #[inline]
 fn is_among(slots: &[Slot], tail: u32, head: u32) -> bool
-    ensures { result ≡ list_any (λ slot. (slot.tail == tail) && (slot.head == head)) slots.now }
+    ensures { result ≡ list_any (λ slot. (slot.head == head) && (slot.tail == tail)) slots.now }
 {
     slots
         .iter()
-        .any(|slot| slot.tail == tail && slot.head == head)
+        .any(|slot| slot.head == head && slot.tail == tail)
 }
 
 /// A free slot in the group of a tail.
