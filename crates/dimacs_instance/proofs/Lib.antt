@@ -7,4 +7,5 @@ pub mod MinLemmas
 pub mod MinSupplies
 pub mod MinTextLemmas
 mod QueriesLemmas
+mod SeenLemmas
 mod SimpleLemmas

@@ -1,8 +1,8 @@
 -- Supplies by node: their lines and their sums.
-use Rattle.std.proofs.Common.{◌≡◌, ◌≢◌, ℕ, zero, suc, ◌<◌, ◌≤◌, ◌∷◌, ◌++◌, [], List, Option, Some, None, length, map, take, ◌+◌, ◌*◌, ◌^◌, cond, refl, ap, ap₂, sym, ◌∙◌, subst, append_assoc, add-one, arith}
-use Rattle.std.specs.Prelude.{ℤ, pos, negsuc, ◌≤ℤ◌, ◌<ℤ◌, ◌+ℤ◌, ◌-ℤ◌, slice_get, sum_by, unwrap_or}
+use Rattle.std.proofs.Common.{◌≡◌, ℕ, zero, suc, ◌≤◌, ◌∷◌, ◌++◌, [], List, Option, Some, None, map, take, ◌+◌, ◌*◌, ◌^◌, cond, refl, ap, ap₂, sym, ◌∙◌, subst, append_assoc, add-one, arith}
+use Rattle.std.specs.Prelude.{ℤ, pos, negsuc, ◌≤ℤ◌, ◌<ℤ◌, ◌+ℤ◌, slice_get, sum_by, unwrap_or}
 use Rattle.std.specs.List.{filter}
-use Rattle.std.specs.FinMap.{FinMap, get, entries, values}
+use Rattle.std.specs.FinMap.{get, entries, values}
 use Rattle.std.proofs.lemmas.Int.{ints}
 use Rattle.std.proofs.lemmas.List.{map-append, append-nil, take_more}
 use Rattle.std.proofs.lemmas.List.Sums.{sum_by-append, sum_by-cons}
@@ -14,7 +14,7 @@ use Rattle.dimacs_records.specs.declared.records.Record.{Record}
 use Rattle.dimacs_records.specs.declared.records.Record.TheVariants.{MinProblem}
 use Rattle.dimacs_records.specs.Canonical.{canonical_line, canonical_text}
 use Rattle.dimacs_instance.specs.declared.network.ArcView.{ArcView}
-use Rattle.dimacs_instance.specs.Flows.{IsNode, IsWhole}
+use Rattle.dimacs_instance.specs.Flows.{IsWhole}
 use Rattle.dimacs_instance.specs.MinFlows.{MinValue, IsMin, IsSupply, supply_of, positive_part, negative_part}
 use Rattle.dimacs_instance.specs.MinTexts.{min_node, min_arc, min_records, is_supplied}
 use Rattle.dimacs_instance.proofs.MinTextLemmas.{no_supply, no_supply_past, supplied_test}

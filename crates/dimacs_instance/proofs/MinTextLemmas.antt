@@ -1,17 +1,15 @@
 -- The texts of minimum cost flow instances.
-use Rattle.std.proofs.Common.{◌≡◌, ◌≢◌, ℕ, suc, ◌<◌, ◌≤◌, ◌∷◌, ◌++◌, [], List, Bool, true, false, Option, Some, None, length, map, take, cond, ◌+◌, ◌*◌, ◌^◌, ◌==◌, ◌⊎◌, inl, inr, refl, ap, ap₂, sym, ◌∙◌, subst, append_assoc, arith}
-use Rattle.std.specs.Prelude.{ℤ, pos, negsuc, codes, slice_get, not, int_lt, ◌≤ℤ◌, ◌<ℤ◌, count_by, sum_by, unwrap_or, if◌then◌else◌}
+use Rattle.std.proofs.Common.{◌≡◌, ◌≢◌, ℕ, ◌<◌, ◌≤◌, ◌∷◌, ◌++◌, [], List, Bool, true, false, Option, Some, None, length, map, cond, ◌+◌, ◌==◌, refl, ap, ap₂, sym, ◌∙◌, arith}
+use Rattle.std.specs.Prelude.{ℤ, pos, codes, not, int_lt, ◌≤ℤ◌, ◌<ℤ◌, count_by}
 use Rattle.std.specs.List.{All, filter, list_any}
-use Rattle.std.specs.Ordering.{nat_cmp, int_eq}
+use Rattle.std.specs.Ordering.{int_eq}
 use Rattle.std.specs.Int.Signed.{lt_z_yes}
-use Rattle.std.specs.FinMap.{FinMap, from_entries, entries, get}
-use Rattle.std.proofs.lemmas.Bool.{eq-eqb, and_from, false_from_ne_true, not_from_false}
-use Rattle.std.proofs.lemmas.Bool.Decides.{nat_tests, Decides-int_eq}
+use Rattle.std.specs.FinMap.{from_entries, entries, get}
+use Rattle.std.proofs.lemmas.Bool.{eq-eqb, and_from, false_from_ne_true}
+use Rattle.std.proofs.lemmas.Bool.Decides.{Decides-int_eq}
 use Rattle.std.proofs.lemmas.Int.{ints}
-use Rattle.std.proofs.lemmas.List.{map-append, append-nil, length-append, length-map, take_more}
+use Rattle.std.proofs.lemmas.List.{append-nil, length-append, length-map}
 use Rattle.std.proofs.lemmas.List.Elements.{All-nil, All-cons, All-head, All-tail, All-append, All-map, All-weaker, All-contains, Contains-append_right}
-use Rattle.std.proofs.lemmas.Option.{slice_get_within, get_or_from_slice_get}
-use Rattle.std.proofs.lemmas.Grind.{flat_map-append}
 use Rattle.dimacs_nodes.proofs.Entries.{from_entries-entries, entries_once, length-entries, All-get}
 use Rattle.dimacs_records.specs.declared.kinds.TextKind.TheVariants.{Min}
 use Rattle.dimacs_records.specs.declared.records.Record.{Record}
@@ -24,8 +22,8 @@ use Rattle.dimacs_records.proofs.SplitLemmas.{image_at}
 use Rattle.dimacs_records.proofs.CanonicalLaws.{canonical_spelled, numbered_all}
 use Rattle.dimacs_instance.specs.declared.network.ArcView.{ArcView}
 use Rattle.dimacs_instance.specs.Arcs.{joins, JoinsNodes}
-use Rattle.dimacs_instance.specs.Flows.{IsNode, IsSimple, IsWhole}
-use Rattle.dimacs_instance.specs.MinFlows.{MinValue, IsMin, IsSupply, HasBounds, supply_of}
+use Rattle.dimacs_instance.specs.Flows.{IsNode}
+use Rattle.dimacs_instance.specs.MinFlows.{MinValue, IsMin, IsSupply, HasBounds}
 use Rattle.dimacs_instance.specs.MinTexts.{min_node, min_arc, min_records, is_of, is_supplied, AreNamed, GivesMin, SpellsMin, canonical_min, canonical_min_records}
 use Rattle.dimacs_instance.proofs.MinLemmas.{once_before, node_new, one_more_arc, all_arcs, allows_problem}
 

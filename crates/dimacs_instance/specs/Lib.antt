@@ -13,3 +13,4 @@ pub mod MinTexts
 pub mod Plain
 pub mod QueriesReading
 pub mod QueryTexts
+pub mod Seen

@@ -1,5 +1,5 @@
 -- How far a maximum flow instance has been read.
-use Rattle.std.specs.Prelude.{ℕ, ◌≡◌, ◌≢◌, ◌≤◌, List, [], ◌∷◌, ◌++◌, map, length, Option, None, Some}
+use Rattle.std.specs.Prelude.{ℕ, ◌≡◌, ◌≢◌, ◌≤◌, List, [], ◌∷◌, ◌++◌, map, length, Option, None, Some, IsPermutation}
 use Rattle.std.specs.List.{All}
 use Rattle.dimacs_records.specs.declared.records.Record.{Record}
 use Rattle.dimacs_records.specs.declared.records.Record.TheVariants.{MaxProblem, MaxNode}
@@ -56,10 +56,10 @@ pub record IsMaxBegun (begun : MaxBegun) : Type 0 where
   pub capacities : All HasCapacityAlone begun.arcs
   pub simple : IsSimple begun.arcs
 
--- a beginning, and the ends of its arcs in their order
+-- a beginning, and the ends of its arcs in any order
 pub record IsMaxKept (begun : MaxBegun) (seen : List Ends) : Type 0 where
   pub lawful : IsMaxBegun begun
-  pub seen_is : seen ≡ map arc_ends begun.arcs
+  pub seen_is : IsPermutation (map arc_ends begun.arcs) seen
 
 -- with one arc more
 abbrev pub with_arc : MaxBegun → ArcView → MaxBegun

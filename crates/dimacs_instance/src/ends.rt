@@ -1,6 +1,6 @@
-//! The ends of the arcs so far, found again in any order of arcs.
+//! The ends of arcs, found again by hash.
 
-ghost use Rattle.std.specs.Prelude.{◌≡◌, ◌<◌, ◌≤◌, ◌+◌, ◌^◌, ◌++◌, ◌∷◌, [], length, map, IfOk, OnOk, OnErr};
+ghost use Rattle.std.specs.Prelude.{◌≡◌, ◌<◌, ◌≤◌, ◌+◌, ◌^◌, ◌++◌, ◌∷◌, [], length, map, slice_index_or, IfOk, OnOk, OnErr};
 ghost use Rattle.std.specs.List.{All, list_any};
 ghost use Rattle.dimacs_instance.specs.Ends.{Ends, has_ends};
 ghost use Rattle.dimacs_instance.specs.Buckets.{AreLinked, bucket, ends_of, before_of};
@@ -23,16 +23,16 @@ struct Entry {
     before: u32,
 }
 
-/// The ends of the arcs so far, with an index by hash. An arc takes 12 bytes, and 4 to 8 for the buckets.
+/// The ends of arcs in their order, with an index by hash. An arc takes 12 bytes, and 4 to 8 for the buckets.
 #[derive(Drop)]
-pub(crate) struct SeenEnds {
+pub(crate) struct LinkedEnds {
     alloc: Global,
     /// 1 + the index of the last entry of each bucket, 0 for none. There is a bucket for each entry, or more.
     buckets: Vec<u32>,
     entries: Vec<Entry>,
 }
 
-impl Model for SeenEnds {
+impl Model for LinkedEnds {
     ghost use Rattle.std.specs.Prelude.{List, map};
     ghost use Rattle.dimacs_instance.specs.Ends.{Ends};
     ghost use Rattle.dimacs_instance.specs.Buckets.{AreKept, ends_of};
@@ -44,12 +44,12 @@ impl Model for SeenEnds {
     ghost invariant = { λ seen. AreKept seen.buckets.items seen.entries.items };
 }
 
-impl SeenEnds {
+impl LinkedEnds {
     /// No ends.
-    pub fn new(alloc: Global) -> SeenEnds
+    pub fn new(alloc: Global) -> LinkedEnds
         ensures { result ≡ [] }
     {
-        SeenEnds {
+        LinkedEnds {
             alloc,
             buckets: Vec::new(alloc),
             entries: Vec::new(alloc),
@@ -94,6 +94,24 @@ impl SeenEnds {
         })?;
         link(&mut self.buckets, &mut self.entries, at);
         Ok(())
+    }
+
+    /// How many were pushed.
+    #[inline]
+    pub fn len(&self) -> usize
+        ensures { result ≡ length self.now }
+    {
+        self.entries.len()
+    }
+
+    /// The tail and the head that were pushed at this place.
+    #[inline]
+    pub fn get(&self, at: usize) -> (u32, u32)
+        requires { at < length self.now }
+        ensures { (d : Ends) → slice_index_or self.now at d ≡ record { tail = result.0; head = result.1 } }
+    {
+        let entry = self.entries[at];
+        (entry.tail, entry.head)
     }
 }
 

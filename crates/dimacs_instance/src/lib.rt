@@ -11,6 +11,7 @@ mod min;
 mod network;
 mod plain;
 mod queries;
+mod seen;
 
 pub use graph::{Graph, GraphReading, read_graph, write_graph};
 pub use max::{MaxInstance, MaxReading, read_max, write_max};

@@ -16,9 +16,9 @@ ghost use Rattle.dimacs_instance.specs.MaxTexts.{GivesMax, SpellsMax, canonical_
 ghost use Rattle.dimacs_instance.specs.Plain.{capacity_arc};
 ghost use Rattle.dimacs_instance.specs.MaxReading.{AreApart, IsMaxBegun, end_records, max_node, max_begun_records, with_arc};
 
-use crate::ends::SeenEnds;
 use crate::network::{ArcView, Network};
 use crate::plain::{CapacityArc, PlainArcs};
+use crate::seen::SeenEnds;
 use dimacs_lines::{DeviceFault, Memory, Page, Sink, Source};
 use dimacs_records::{
     End, ReadError, Reading, Reason, Record, TakeError, TextKind, read_text, write_record,
@@ -141,7 +141,7 @@ pub(crate) struct BegunMax {
     declared: u32,
     ends: EndLines,
     network: PlainArcs<CapacityArc>,
-    /// The ends of the arcs, in their order.
+    /// The ends of the arcs.
     seen: SeenEnds,
 }
 

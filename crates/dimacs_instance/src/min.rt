@@ -19,9 +19,9 @@ ghost use Rattle.dimacs_instance.specs.Flows.{IsNode};
 ghost use Rattle.dimacs_instance.specs.MinTexts.{GivesMin, SpellsMin, canonical_min, is_supplied, min_node, min_arc};
 ghost use Rattle.dimacs_instance.specs.MinReading.{TakesMin, StandsForMin, is_named, with_supply, with_arc};
 
-use crate::ends::SeenEnds;
 use crate::network::{ArcView, Network};
 use crate::plain::PlainArcs;
+use crate::seen::SeenEnds;
 use dimacs_lines::{DeviceFault, Memory, Page, Sink, Source};
 use dimacs_nodes::{NodeMap, NodeSet};
 use dimacs_records::{
@@ -148,7 +148,7 @@ pub(crate) struct BegunMin {
 }
 
 impl Model for BegunMin {
-    ghost use Rattle.std.specs.Prelude.{◌≡◌, map};
+    ghost use Rattle.std.specs.Prelude.{map, IsPermutation};
     ghost use Rattle.dimacs_instance.specs.MinReading.{MinBegun, IsMinBegun, ends_of_arc};
     ghost use Rattle.dimacs_instance.specs.MinCodes.{begun_code};
 
@@ -158,7 +158,7 @@ impl Model for BegunMin {
 
     ghost view = { λ b. record { nodes = b.network.nodes; declared = b.declared; supplies = b.supplies; zeros = b.zeros; arcs = b.network.arcs } };
 
-    ghost invariant = { λ b. IsMinBegun (record { nodes = b.network.nodes; declared = b.declared; supplies = b.supplies; zeros = b.zeros; arcs = b.network.arcs }) × (b.seen ≡ map ends_of_arc b.network.arcs) };
+    ghost invariant = { λ b. IsMinBegun (record { nodes = b.network.nodes; declared = b.declared; supplies = b.supplies; zeros = b.zeros; arcs = b.network.arcs }) × IsPermutation (map ends_of_arc b.network.arcs) b.seen };
 }
 
 impl BegunMin {

@@ -408,20 +408,28 @@ fn all_arcs(alloc: Global) -> Result<Vec<u8>, Fail> {
 
 #[test]
 fn a_repeated_arc_is_found_among_many(rt: HostRuntime) -> Result<(), Fail> {
-    let mut text = all_arcs(rt.alloc())?;
+    let text = all_arcs(rt.alloc())?;
     let max = read_max(rt.alloc(), &mut MemorySource::new(&text))?;
     assert_eq!(rt; max.network().arcs(), 3_600);
-    text.extend_from_slice(b"a 17 42 1\n")?;
-    refuses(
-        &rt,
-        rt.alloc(),
-        "an arc of the middle",
-        &text,
-        At {
-            line: 3_604,
-            field: 0,
-        },
-        Reason::ParallelArc,
-    )?;
+    let repeated = [
+        ("one of the first of its tail", "a 17 3 1\n"),
+        ("one behind many of its tail", "a 17 42 1\n"),
+        ("the last of all", "a 60 60 1\n"),
+    ];
+    for (name, line) in repeated {
+        let mut text = all_arcs(rt.alloc())?;
+        text.extend_from_slice(line.as_bytes())?;
+        refuses(
+            &rt,
+            rt.alloc(),
+            name,
+            &text,
+            At {
+                line: 3_604,
+                field: 0,
+            },
+            Reason::ParallelArc,
+        )?;
+    }
     Ok(())
 }

@@ -1,4 +1,4 @@
-use Rattle.std.proofs.Common.{ap, ◌≡◌, ◌∷◌, [], List, refl, subst, take, length}
+use Rattle.std.proofs.Common.{ap, ◌≡◌, ◌∷◌, [], refl, subst, take, length}
 use Rattle.std.specs.Prelude.{slice_get, Some}
 use Rattle.std.specs.FinMap.{entries}
 use Rattle.dimacs_lines.specs.Lines.{lines}

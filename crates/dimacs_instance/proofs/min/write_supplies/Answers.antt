@@ -1,4 +1,4 @@
-use Rattle.std.proofs.Common.{◌≡◌, ◌+◌, ℕ, sym, ◌∙◌, ap, w64, SFits, rules, arith}
+use Rattle.std.proofs.Common.{◌≡◌, ◌+◌, sym, ◌∙◌, ap, w64, SFits, rules, arith}
 use Rattle.std.proofs.lemmas.Int.{to_z-of_z}
 use Rattle.dimacs_instance.proofs.MinSupplies.{supplies_below, first_supplies, next_supplies, all_supplies, no_lines, same_lines, next_lines}
 use Rattle.dimacs_instance.proofs.min.write_supplies.Goals as goal

@@ -1,7 +1,7 @@
 use Rattle.std.proofs.lemmas.Int.{to_z-of_z, ints}
-use Rattle.std.proofs.Common.{w64, ◌≡◌, ◌<◌, ◌≤◌, refl, sym, ap, ◌∙◌, arith, length}
-use Rattle.std.specs.List.{list_any}
-use Rattle.dimacs_instance.specs.Ends.{has_ends}
+use Rattle.std.proofs.Common.{w64, ◌≡◌, ◌<◌, ◌≤◌, refl, sym, ◌∙◌, arith, length, map}
+use Rattle.std.proofs.lemmas.List.Sorted.{list_any-IsPermutation}
+use Rattle.dimacs_instance.specs.Ends.{arc_ends, has_ends}
 use Rattle.dimacs_instance.specs.Flows.{IsWhole}
 use Rattle.dimacs_instance.proofs.MaxLemmas.{tail_above, head_above, end_missing, negative, parallel, one_too_many, one_more_arc, ends_there, ends_lack, pushed_arc, more_lawful}
 use Rattle.dimacs_instance.proofs.max.BegunMax.add_arc.Goals as goal
@@ -41,7 +41,7 @@ returns-then-contains c =
     let tail : c.args.tail ≤ b.network.nodes = omega (arith, c.nodes.ensures, c.if-tail-nodes.false) in
     let head : c.args.head ≤ b.network.nodes = omega (arith, c.nodes-2.ensures, c.if-head-nodes.false) in
     let there = ends_there b.network.nodes b.declared b.ends b.network.arcs c.in-Both.field-0 c.in-Both.field-1 c.in-Both.is in
-    let twice = ap (list_any (has_ends c.args.tail c.args.head)) (sym c.self.invariant.seen_is) ∙ sym c.if-contains.ensures in
+    let twice = list_any-IsPermutation (has_ends c.args.tail c.args.head) (map arc_ends b.network.arcs) b.seen c.self.invariant.seen_is ∙ sym c.if-contains.ensures in
     rw (← c.self.view_is, c.refused-then-contains.ensures) (parallel b.network.nodes b.declared b.ends b.network.arcs c.args.tail c.args.head c.args.cap tail head there (rw (to_z-of_z w64 c.args.cap c.ranges.cap) at c.if-cap-lt0.false) twice, refl)
 
 pub returns-then-arcs-self : goal.returns-then-arcs-self
@@ -50,7 +50,7 @@ returns-then-arcs-self c =
     let tail : c.args.tail ≤ b.network.nodes = omega (arith, c.nodes.ensures, c.if-tail-nodes.false) in
     let head : c.args.head ≤ b.network.nodes = omega (arith, c.nodes-2.ensures, c.if-head-nodes.false) in
     let there = ends_there b.network.nodes b.declared b.ends b.network.arcs c.in-Both.field-0 c.in-Both.field-1 c.in-Both.is in
-    let fresh = ap (list_any (has_ends c.args.tail c.args.head)) (sym c.self.invariant.seen_is) ∙ sym c.if-contains.ensures in
+    let fresh = list_any-IsPermutation (has_ends c.args.tail c.args.head) (map arc_ends b.network.arcs) b.seen c.self.invariant.seen_is ∙ sym c.if-contains.ensures in
     let full : length b.network.arcs ≡ b.declared = omega (arith, c.arcs.ensures, c.if-arcs-self.true) in
     rw (← c.self.view_is, c.refused-then-arcs-self.ensures) (one_too_many b.network.nodes b.declared b.ends b.network.arcs c.args.tail c.args.head c.args.cap tail head there (rw (to_z-of_z w64 c.args.cap c.ranges.cap) at c.if-cap-lt0.false) fresh full, refl)
 
@@ -59,7 +59,7 @@ keep-requires c =
     let b = c.self.inside in
     let tail : c.args.tail ≤ b.network.nodes = omega (arith, c.nodes.ensures, c.if-tail-nodes.false) in
     let head : c.args.head ≤ b.network.nodes = omega (arith, c.nodes-2.ensures, c.if-head-nodes.false) in
-    let fresh = ap (list_any (has_ends c.args.tail c.args.head)) (sym c.self.invariant.seen_is) ∙ sym c.if-contains.ensures in
+    let fresh = list_any-IsPermutation (has_ends c.args.tail c.args.head) (map arc_ends b.network.arcs) b.seen c.self.invariant.seen_is ∙ sym c.if-contains.ensures in
     let room : length b.network.arcs < b.declared = omega (arith, c.arcs.ensures, c.if-arcs-self.false, c.self.invariant.lawful.no_more) in
     let whole : IsWhole c.args.cap = (omega (arith, ints, c.ranges.cap), omega (arith, ints, c.ranges.cap)) in
     rw (← c.self.view_is, to_z-of_z w64 c.args.cap c.ranges.cap)
@@ -72,7 +72,7 @@ returns c =
     let tail : c.args.tail ≤ b.network.nodes = omega (arith, c.nodes.ensures, c.if-tail-nodes.false) in
     let head : c.args.head ≤ b.network.nodes = omega (arith, c.nodes-2.ensures, c.if-head-nodes.false) in
     let there = ends_there b.network.nodes b.declared b.ends b.network.arcs c.in-Both.field-0 c.in-Both.field-1 c.in-Both.is in
-    let fresh = ap (list_any (has_ends c.args.tail c.args.head)) (sym c.self.invariant.seen_is) ∙ sym c.if-contains.ensures in
+    let fresh = list_any-IsPermutation (has_ends c.args.tail c.args.head) (map arc_ends b.network.arcs) b.seen c.self.invariant.seen_is ∙ sym c.if-contains.ensures in
     let room : length b.network.arcs < b.declared = omega (arith, c.arcs.ensures, c.if-arcs-self.false, c.self.invariant.lawful.no_more) in
     rw (c.in-Ok.ensures.kept, ← c.self.view_is, to_z-of_z w64 c.args.cap c.ranges.cap)
     (one_more_arc b.network.nodes b.declared b.ends b.network.arcs c.args.tail c.args.head c.args.cap tail head there (rw (to_z-of_z w64 c.args.cap c.ranges.cap) at c.if-cap-lt0.false) fresh room, pushed_arc b.network.nodes b.declared b.ends b.network.arcs c.args.tail c.args.head c.args.cap)

@@ -1,6 +1,5 @@
-use Rattle.std.proofs.Common.{◌≡◌, ◌≤◌, false, true, refl, sym, length, w64, arith}
+use Rattle.std.proofs.Common.{◌≤◌, refl, sym, length, w64, arith}
 use Rattle.std.proofs.lemmas.Int.{to_z-of_z}
-use Rattle.dimacs_instance.specs.MinReading.{is_named}
 use Rattle.dimacs_instance.proofs.MinLemmas.{refuses_order, refuses_node_above, refuses_node_again, takes_node}
 use Rattle.dimacs_instance.proofs.min.BegunMin.name.Goals as goal
 

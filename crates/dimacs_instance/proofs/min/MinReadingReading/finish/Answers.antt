@@ -1,4 +1,4 @@
-use Rattle.std.proofs.Common.{◌≡◌, ◌<◌, ◌≤◌, Some, refl, sym, ◌∙◌, ap, arith, length}
+use Rattle.std.proofs.Common.{◌<◌, ◌≤◌, Some, refl, sym, ◌∙◌, ap, arith, length}
 use Rattle.dimacs_instance.proofs.MinLemmas.{refuses_nothing, refuses_end, completes, stands}
 use Rattle.dimacs_instance.proofs.min.MinReadingReading.finish.Goals as goal
 

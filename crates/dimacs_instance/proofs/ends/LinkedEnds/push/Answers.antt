@@ -1,10 +1,10 @@
 use Rattle.std.proofs.Common.{◌≡◌, ◌∙◌, rules, length, ap}
 use Rattle.std.proofs.lemmas.List.{with_items_is}
-use Rattle.dimacs_instance.specs.declared.ends.SeenEnds.TheInside.{Inside}
+use Rattle.dimacs_instance.specs.declared.ends.LinkedEnds.TheInside.{Inside}
 use Rattle.dimacs_instance.specs.Buckets.{AreLinked}
 use Rattle.dimacs_instance.proofs.EndsLemmas.{still_linked}
-use Rattle.dimacs_instance.proofs.ends.SeenEnds.push.Goals as goal
-use Rattle.dimacs_instance.proofs.ends.SeenEnds.push.Goals.{then-at-len+in_ok-self-inside, else-at-len}
+use Rattle.dimacs_instance.proofs.ends.LinkedEnds.push.Goals as goal
+use Rattle.dimacs_instance.proofs.ends.LinkedEnds.push.Goals.{then-at-len+in_ok-self-inside, else-at-len}
 
 pub link-requires-clause-linked : goal.link-requires-clause-linked
 link-requires-clause-linked c =

@@ -2,8 +2,8 @@ use Rattle.std.proofs.Common.{rules, sym, length, map}
 use Rattle.std.proofs.lemmas.Bool.{and_left, and_right, ne_eqb}
 use Rattle.dimacs_instance.specs.Buckets.{ends_of}
 use Rattle.dimacs_instance.proofs.EndsLemmas.{search_begins, search_goes_on, search_finds, search_ends}
-use Rattle.dimacs_instance.proofs.ends.SeenEnds.contains.Goals as goal
-use Rattle.dimacs_instance.proofs.ends.SeenEnds.contains.Goals.{else-entry-tail-via-then-entry-tail+else-entry-head, else-entry-tail-via-else-entry-tail}
+use Rattle.dimacs_instance.proofs.ends.LinkedEnds.contains.Goals as goal
+use Rattle.dimacs_instance.proofs.ends.LinkedEnds.contains.Goals.{else-entry-tail-via-then-entry-tail+else-entry-head, else-entry-tail-via-else-entry-tail}
 
 pub loop-last-init : goal.loop-last-init
 loop-last-init c = search_begins c.args.tail c.args.head c.len.result c.bucket_of.result c.index-last.result.now c.self.inside.buckets.items c.self.inside.entries.items c.self.invariant (search rules) c.bucket_of.ensures.same c.bucket_of.ensures.inside c.index-last.ensures
