@@ -14,7 +14,8 @@ const FLOW: &str = "s 6\nf 1 2 4\nf 1 3 2\nf 2 3 1\nf 2 4 3\nf 3 4 3\n";
 const CUT: &str = "p cut 4 1\nu 1\n";
 
 /// The same network with costs, and supplies at its ends.
-const MIN: &str = "p min 4 5\nn 1 4\nn 4 -4\na 1 2 0 4 2\na 1 3 0 2 2\na 2 3 0 2 1\na 2 4 0 3 3\na 3 4 0 5 1\n";
+const MIN: &str =
+    "p min 4 5\nn 1 4\nn 4 -4\na 1 2 0 4 2\na 1 3 0 2 2\na 2 3 0 2 1\na 2 4 0 3 3\na 3 4 0 5 1\n";
 
 /// A flow of least cost in it.
 const LEAST: &str = "s 14\nf 1 2 2\nf 1 3 2\nf 2 3 2\nf 3 4 4\n";
@@ -28,14 +29,7 @@ const TURN: &str = "p min 2 2\na 1 2 0 2 -3\na 2 1 0 2 1\n";
 #[test]
 fn maximum_flows_are_judged_by_cuts(rt: HostRuntime) -> Result<(), Fail> {
     for (name, instance, claim, certificate, status, output) in [
-        (
-            "a tight cut",
-            MAX,
-            FLOW,
-            CUT,
-            Status::Done,
-            "v max 6\n",
-        ),
+        ("a tight cut", MAX, FLOW, CUT, Status::Done, "v max 6\n"),
         (
             "an arc that leaves the cut and isn't full",
             MAX,

@@ -16,11 +16,7 @@ pub struct Texts<'a> {
 }
 
 /// Judges texts in one piece.
-pub fn judge(
-    alloc: Global,
-    texts: Texts<'_>,
-    sink: &mut MemorySink,
-) -> Result<Status, RunError> {
+pub fn judge(alloc: Global, texts: Texts<'_>, sink: &mut MemorySink) -> Result<Status, RunError> {
     run_judge(
         alloc,
         texts.kind,
@@ -65,7 +61,10 @@ pub fn judges(
         let mut sink = MemorySink::new(alloc);
         let ended = judge_pieces(alloc, texts, size, &mut sink)?;
         assert_eq!(rt; ended, Ok(status), "{name}, in pieces of {size}");
-        assert!(rt; sink.bytes() == output.as_bytes(), "{name}, in pieces of {size}");
+        assert!(rt;
+            sink.bytes() == output.as_bytes(),
+            "{name}, in pieces of {size}"
+        );
     }
     Ok(())
 }

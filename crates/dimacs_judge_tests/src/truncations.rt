@@ -26,7 +26,14 @@ fn texts_cut_off_are_refused_at_their_end(rt: HostRuntime) -> Result<(), Fail> {
         (0, Status::Refused, "x instance 1 0 ProblemMissing\n"),
     ] {
         let instance = &MAX.instance[..end];
-        judges(&rt, rt.alloc(), "the instance", Texts { instance, ..MAX }, status, output)?;
+        judges(
+            &rt,
+            rt.alloc(),
+            "the instance",
+            Texts { instance, ..MAX },
+            status,
+            output,
+        )?;
     }
     for (end, output) in [
         (12, "x node 2 Balance\n"),
@@ -34,7 +41,14 @@ fn texts_cut_off_are_refused_at_their_end(rt: HostRuntime) -> Result<(), Fail> {
         (0, "x solution 1 0 SolutionMissing\n"),
     ] {
         let claim = &MAX.claim[..end];
-        judges(&rt, rt.alloc(), "the solution", Texts { claim, ..MAX }, Status::Refused, output)?;
+        judges(
+            &rt,
+            rt.alloc(),
+            "the solution",
+            Texts { claim, ..MAX },
+            Status::Refused,
+            output,
+        )?;
     }
     Ok(())
 }
@@ -82,7 +96,7 @@ fn nothing_is_claimed_where_no_flow_is_feasible(rt: HostRuntime) -> Result<(), F
         &mut sink,
     );
     assert_eq!(rt; ended, Ok(Status::Done));
-    assert_eq!(rt; sink.bytes(), b"v infeasible\n");
+    assert!(rt; sink.bytes() == "v infeasible\n".as_bytes());
     let mut sink = MemorySink::new(alloc);
     let ended = run_judge(
         alloc,
@@ -93,7 +107,7 @@ fn nothing_is_claimed_where_no_flow_is_feasible(rt: HostRuntime) -> Result<(), F
         &mut sink,
     );
     assert_eq!(rt; ended, Err(RunError::Device));
-    assert_eq!(rt; sink.bytes(), b"");
+    assert!(rt; sink.bytes() == "".as_bytes());
     Ok(())
 }
 
@@ -111,6 +125,6 @@ fn a_slow_sink_gets_the_same_bytes(rt: HostRuntime) -> Result<(), Fail> {
         &mut sink,
     );
     assert_eq!(rt; ended, Ok(Status::Done));
-    assert_eq!(rt; sink.bytes(), b"v 1 2 5\nv 1 4 unreachable\n");
+    assert!(rt; sink.bytes() == "v 1 2 5\nv 1 4 unreachable\n".as_bytes());
     Ok(())
 }

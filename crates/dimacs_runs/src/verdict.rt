@@ -60,7 +60,11 @@ fn write_answer<K: Sink>(page: &mut Page, sink: &mut K, answer: &Answer)
 }
 
 /// Puts the line of a test that fails.
-pub(crate) fn put_failure<K: Sink>(sink: &mut K, place: Where, reason: Reason) -> Result<(), DeviceFault>
+pub(crate) fn put_failure<K: Sink>(
+    sink: &mut K,
+    place: Where,
+    reason: Reason,
+) -> Result<(), DeviceFault>
     ensures puts { Puts result (K.accepted sink.old) (failure_line place reason) (K.accepted sink.new) }
     ensures fault { CountsFault result (K.faults sink.old) (K.faults sink.new) }
 {
