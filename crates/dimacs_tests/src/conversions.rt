@@ -272,6 +272,142 @@ fn faulty_instances_and_queries_get_one_line(rt: HostRuntime) -> Result<(), Fail
 }
 
 #[test]
+fn claims_and_certificates_get_their_canonical_text(rt: HostRuntime) -> Result<(), Fail> {
+    for (name, kind, text, canonical) in [
+        (
+            "a value behind an entry",
+            TextKind::Solution,
+            "f 1 2 3\ns 5\n",
+            "s 5\nf 1 2 3\n",
+        ),
+        (
+            "the greatest value",
+            TextKind::Solution,
+            "s 1000000000000000000000000000000\n",
+            "s 1000000000000000000000000000000\n",
+        ),
+        (
+            "the nodes of a cut by ID",
+            TextKind::Cut,
+            "p cut 4 2\nu 3\nu 1\n",
+            "p cut 4 2\nu 1\nu 3\n",
+        ),
+        (
+            "a potential of 0 left out",
+            TextKind::Potentials,
+            "p pot 2 2\ny 2 -0\ny 1 +05\n",
+            "p pot 2 1\ny 1 5\n",
+        ),
+        (
+            "blocks and labels in their order",
+            TextKind::Labels,
+            "p dist 4 2\nt 4 2\nd 2 5 4\nd 1 -1 02\nt 1 0",
+            "p dist 4 2\nt 4 2\nd 2 5 4\nd 1 -1 2\nt 1 0\n",
+        ),
+    ] {
+        converts(
+            &rt,
+            rt.alloc(),
+            kind,
+            name,
+            text.as_bytes(),
+            Status::Done,
+            canonical,
+        )?;
+    }
+    Ok(())
+}
+
+#[test]
+fn faulty_claims_and_certificates_get_one_line(rt: HostRuntime) -> Result<(), Fail> {
+    for (name, kind, text, line) in [
+        (
+            "no value",
+            TextKind::Solution,
+            "f 1 2 3\n",
+            "x solution 2 0 SolutionMissing\n",
+        ),
+        (
+            "two values",
+            TextKind::Solution,
+            "s 1\ns 1\n",
+            "x solution 2 0 SolutionTwice\n",
+        ),
+        (
+            "a value one past the greatest",
+            TextKind::Solution,
+            "s 1000000000000000000000000000001\n",
+            "x solution 1 2 NumberRange\n",
+        ),
+        (
+            "a node of a cut too few",
+            TextKind::Cut,
+            "p cut 4 1\n",
+            "x certificate 2 0 TooFew\n",
+        ),
+        (
+            "a potential set twice",
+            TextKind::Potentials,
+            "p pot 2 2\ny 2 0\ny 2 1\n",
+            "x certificate 3 2 NodeTwice\n",
+        ),
+        (
+            "a label too few",
+            TextKind::Labels,
+            "p dist 3 1\nt 1 2\nd 2 5 1\n",
+            "x certificate 4 0 TooFew\n",
+        ),
+        (
+            "a block behind an unfinished one",
+            TextKind::Labels,
+            "p dist 3 2\nt 1 1\nt 2 0\n",
+            "x certificate 3 0 TooFew\n",
+        ),
+        (
+            "a block too many behind an unfinished one",
+            TextKind::Labels,
+            "p dist 3 1\nt 1 1\nt 2 0\n",
+            "x certificate 3 0 TooMany\n",
+        ),
+        (
+            "a label before the first block",
+            TextKind::Labels,
+            "p dist 3 1\nd 2 5 1\n",
+            "x certificate 2 0 RecordOrder\n",
+        ),
+        (
+            "a label of the source",
+            TextKind::Labels,
+            "p dist 3 1\nt 1 1\nd 1 0 1\n",
+            "x certificate 3 2 NodeTwice\n",
+        ),
+        (
+            "a predecessor without a label",
+            TextKind::Labels,
+            "p dist 3 1\nt 1 1\nd 2 5 3\n",
+            "x certificate 3 0 PredUnknown\n",
+        ),
+        (
+            "two nodes that are each other's predecessor",
+            TextKind::Labels,
+            "p dist 4 1\nt 1 3\nd 2 5 1\nd 3 0 4\nd 4 0 3\n",
+            "x certificate 4 0 PredUnknown\n",
+        ),
+    ] {
+        converts(
+            &rt,
+            rt.alloc(),
+            kind,
+            name,
+            text.as_bytes(),
+            Status::Refused,
+            line,
+        )?;
+    }
+    Ok(())
+}
+
+#[test]
 fn a_long_line_is_refused_whatever_stands_in_it(rt: HostRuntime) -> Result<(), Fail> {
     for (length, line) in [
         (1_048_576, "x instance 2 0 ProblemMissing\n"),

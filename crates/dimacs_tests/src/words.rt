@@ -21,6 +21,10 @@ fn words_ask_for_each_kind(rt: HostRuntime) -> Result<(), Fail> {
         ("min", TextKind::Min),
         ("gr", TextKind::Graph),
         ("query", TextKind::Queries),
+        ("solution", TextKind::Solution),
+        ("cut", TextKind::Cut),
+        ("pot", TextKind::Potentials),
+        ("dist", TextKind::Labels),
     ] {
         let converted = words(rt.alloc(), &format!(in rt.alloc(); "convert {word} file")?)?;
         assert_eq!(rt; job(&converted), Some(Job::Convert(kind, "file")), "{word}");
