@@ -1,7 +1,7 @@
 //! What the command's words mean, and its exit statuses.
 
 use dimacs_records::TextKind;
-use dimacs_runs::{Job, RunError, Status, exit_status, job};
+use dimacs_runs::{Job, JudgeKind, RunError, Status, exit_status, job};
 use std::alloc::Global;
 use std::test::Fail;
 
@@ -55,6 +55,20 @@ fn words_ask_for_a_conversion(rt: HostRuntime) -> Result<(), Fail> {
 }
 
 #[test]
+fn words_ask_for_each_judge(rt: HostRuntime) -> Result<(), Fail> {
+    for (line, kind) in [
+        ("judge-max instance solution cut", JudgeKind::Max),
+        ("judge-min instance solution potentials", JudgeKind::Min),
+        ("judge-infeasible instance cut", JudgeKind::Infeasible),
+        ("judge-paths graph query labels", JudgeKind::Paths),
+    ] {
+        let given = words(rt.alloc(), line)?;
+        assert_eq!(rt; job(&given), Some(Job::Judge(kind, &given[1..])), "{line}");
+    }
+    Ok(())
+}
+
+#[test]
 fn other_words_ask_for_nothing(rt: HostRuntime) -> Result<(), Fail> {
     for line in [
         "",
@@ -72,6 +86,12 @@ fn other_words_ask_for_nothing(rt: HostRuntime) -> Result<(), Fail> {
         "show gr",
         "show foo road.gr",
         "show gr road.gr road.gr",
+        "judge-max",
+        "judge-max instance solution",
+        "judge-max instance solution cut cut",
+        "judge-infeasible instance",
+        "judge-infeasible instance solution cut",
+        "judge instance solution cut",
     ] {
         let given = words(rt.alloc(), line)?;
         assert_eq!(rt; job(&given), None, "{line}");
