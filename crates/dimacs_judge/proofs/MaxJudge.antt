@@ -17,7 +17,7 @@ use Rattle.dimacs_judge.specs.CertificateTests.{cut_rows}
 use Rattle.dimacs_judge.specs.Claims.{Carries, claimed_flow, entry_row}
 use Rattle.dimacs_judge.specs.Cuts.{CutTight, members}
 use Rattle.dimacs_judge.specs.Feasible.{FeasibleMax, value}
-use Rattle.dimacs_judge.specs.FlowTests.{bound_row, balance_row, max_demand, feasible_max_rows}
+use Rattle.dimacs_judge.specs.FlowTests.{max_demand, feasible_max_rows}
 use Rattle.dimacs_judge.specs.MaxJudge.{PassesMax, ShowsMaximum, max_rows}
 use Rattle.dimacs_judge.specs.Tests.{Row, Clear, AllClear, FirstOfRow, First, Judges, Refuses}
 use Rattle.dimacs_judge.proofs.Claims.{carries_clear, clear_carries, length-claimed_flow, entry_one_way}
