@@ -2,7 +2,7 @@
 //!
 //! The optimality theory stands in `laws`: a tight cut proves a flow maximum, slack potentials prove it least, a
 //! violated set proves that there is none, and labels prove distances. Everything else tests, over any `Network`:
-//! `judge_max`, `judge_min` and `judge_infeasible` make all tests of a claim, and the others some of them.
+//! `judge_max`, `judge_min`, `judge_infeasible` and `judge_paths` make all tests of a claim, the others some of them.
 #![tactic(auto)]
 
 mod agreement;
