@@ -1,4 +1,4 @@
--- How the ends of arcs are found again: entries in buckets, each linked to the one before it in its bucket.
+-- How the ends of arcs are found again: entries in buckets, each linked to the one before it in its bucket. No public clause cites this module.
 use Rattle.std.specs.Prelude.{ℕ, ◌≡◌, ◌≢◌, ◌<◌, ◌≤◌, ◌-◌, ◌*◌, ◌/◌, ◌%◌, ◌^◌, List, map, length, slice_index, bit_or}
 use Rattle.dimacs_instance.specs.declared.ends.Entry.{Entry}
 use Rattle.dimacs_instance.specs.Ends.{Ends}

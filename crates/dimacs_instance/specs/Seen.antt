@@ -1,4 +1,4 @@
--- The ends of arcs in groups of slots, where each tail has its group, and those that found their group full.
+-- The ends of arcs in groups of slots, where each tail has its group, and those that found their group full. No public clause cites this module.
 use Rattle.std.specs.Prelude.{ℕ, ◌≡◌, ◌<◌, ◌≤◌, ◌+◌, ◌-◌, ◌*◌, Bool, List, map, length, slice_index_or, bit_and, nat_lt}
 use Rattle.std.specs.List.{All, filter}
 use Rattle.dimacs_instance.specs.declared.seen.Slot.{Slot}

@@ -1,6 +1,6 @@
 //! Instances and their networks, read from texts and written in the canonical form.
 //!
-//! A network is a list of arcs in the order of the text. The judges and producers see instances through `Network`
+//! A network is a list of arcs in the order of the text. The judges see instances through `Network`
 //! alone, so a network may keep its arcs as it likes.
 #![tactic(auto)]
 

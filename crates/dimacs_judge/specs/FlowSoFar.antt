@@ -1,4 +1,4 @@
--- A flow while entries are taken, one after another.
+-- A flow while entries are taken, one after another. No public clause cites this module.
 use Rattle.std.specs.Prelude.{ℕ, ◌≡◌, Bool, if◌then◌else◌, List, [], ◌∷◌, ◌++◌, map, ℤ, Result, Ok, Err}
 use Rattle.std.specs.List.{list_any}
 use Rattle.dimacs_instance.specs.declared.network.ArcView.{ArcView}

@@ -34,7 +34,8 @@ pub fn judge_pieces(
     size: usize,
     sink: &mut MemorySink,
 ) -> Result<Result<Status, RunError>, Fail> {
-    let sizes = Vec::from_elem(alloc, size, 100)?;
+    let bytes = texts.instance.len() + texts.claim.len() + texts.certificate.len();
+    let sizes = Vec::from_elem(alloc, size, bytes)?;
     Ok(run_judge(
         alloc,
         texts.kind,
