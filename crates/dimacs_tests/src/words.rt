@@ -63,7 +63,8 @@ fn words_ask_for_each_judge(rt: HostRuntime) -> Result<(), Fail> {
         ("judge-paths graph query labels", JudgeKind::Paths),
     ] {
         let given = words(rt.alloc(), line)?;
-        assert_eq!(rt; job(&given), Some(Job::Judge(kind, &given[1..])), "{line}");
+        let files = given.get(1..).unwrap_or_default();
+        assert_eq!(rt; job(&given), Some(Job::Judge(kind, files)), "{line}");
     }
     Ok(())
 }
