@@ -51,6 +51,7 @@ fn a_flow_goes_on_all_arcs_with_the_ends_of_its_entry(rt: HostRuntime) -> Result
     )?;
     let solution = read_solution(alloc, &mut MemorySource::new(b"s 0\nf 1 2 5\n"))?;
     let flow = flow_of(alloc, graph.network(), &solution)?;
+    assert_eq!(rt; flow.len(), 3);
     assert_eq!(rt; (flow.amount(0), flow.amount(1), flow.amount(2)), (5, 0, 5));
     Ok(())
 }
