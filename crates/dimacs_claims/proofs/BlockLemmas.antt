@@ -5,14 +5,15 @@ use Rattle.std.specs.List.{All, Contains, list_any}
 use Rattle.std.specs.Ordering.{nat_cmp}
 use Rattle.std.specs.Cmp.{unsigned_tied}
 use Rattle.std.specs.BTreeMap.{BTreeMap, get, is_at}
-use Rattle.std.proofs.lemmas.Bool.{eqb-true, eq-eqb}
+use Rattle.std.proofs.lemmas.Bool.{eqb-true, eq-eqb, false_from_ne_true}
 use Rattle.std.proofs.lemmas.List.{length-append}
 use Rattle.std.proofs.lemmas.Int.{ints}
 use Rattle.std.proofs.lemmas.List.Elements.{All-head, All-push, All-tail}
 use Rattle.dimacs_records.specs.Earlier.{or_else}
 use Rattle.dimacs_records.proofs.SplitLemmas.{two_places, same, sooner, later}
 use Rattle.dimacs_claims.specs.declared.block.Label.{Label}
-use Rattle.dimacs_claims.specs.Labels.{BlockValue, label, label_at, distance_in, with_label, EachBehind, IsFresh, HasPred, IsLabel, IsBlock, IsWide}
+use Rattle.dimacs_claims.specs.Labels.{BlockValue, label, label_at, distance_in, with_label, EachBehind, IsFresh, HasPred, IsLabel, IsBlock}
+use Rattle.dimacs_records.specs.Ranges.{IsWide}
 use Rattle.dimacs_claims.specs.Distances.{AreDistances}
 
 -- a test before a choice
@@ -108,10 +109,6 @@ pub pred_has_label : (b : BlockValue) (l : Label) → HasPred b.source b.labels 
 pred_has_label b l (inl e) = some_if (b.source == l.pred) (pos 0) (distance_in b.labels l.pred) ∙ or_true (b.source == l.pred) _ (inl (eq-eqb _ _ (sym e)))
 pred_has_label b l (inr h) = some_if (b.source == l.pred) (pos 0) (distance_in b.labels l.pred) ∙ or_true (b.source == l.pred) _ (inr (label_there b.labels l.pred h.1.0 h.0 h.1.1 h.1.2 h.2))
 
-true_or_false : (c : Bool) → ¬ (c ≡ true) → c ≡ false
-true_or_false true h = absurd (h refl)
-true_or_false false h = refl
-
 -- a node without a label
 pub is_fresh : (b : BlockValue) (l : Label) → is_some (label b l.id) ≡ false → IsFresh b.source b.labels l
 is_fresh b l h = (
@@ -123,7 +120,7 @@ is_fresh b l h = (
     not_both t = let s = some_if (b.source == l.id) (pos 0) (distance_in b.labels l.id) in absurd (cc)
 
 pub fresh_has_none : (b : BlockValue) (l : Label) → IsFresh b.source b.labels l → is_some (label b l.id) ≡ false
-fresh_has_none b l h = true_or_false _ (λ t. by_test (b.source == l.id) refl t)
+fresh_has_none b l h = false_from_ne_true _ (λ t. by_test (b.source == l.id) refl t)
   where
     by_test : (c : Bool) → (b.source == l.id) ≡ c → is_some (if c then Some (pos 0) else distance_in b.labels l.id) ≡ true → ⊥
     by_test true e t = h.0 (sym (eqb-true b.source l.id e))

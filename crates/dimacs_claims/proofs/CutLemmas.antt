@@ -24,12 +24,14 @@ use Rattle.dimacs_records.specs.Texts.{AreFaultless}
 use Rattle.dimacs_records.specs.Faults.{FirstAtEnd}
 use Rattle.dimacs_records.specs.FieldReader.{fault_at}
 use Rattle.dimacs_records.proofs.CanonicalLaws.{canonical_spelled, numbered_all}
-use Rattle.dimacs_records.proofs.ConditionLemmas.{is_first_condition, is_allowed, is_first_at_end, is_complete}
-use Rattle.dimacs_records.proofs.SplitLemmas.{image_at}
-use Rattle.dimacs_claims.specs.Cuts.{CutValue, IsCut, IsNode, AreNamed, GivesCut, SpellsCut, canonical_cut, cut_records, empty_cut, ids_in, is_id, with_node}
+use Rattle.dimacs_records.proofs.ConditionLemmas.{is_first_condition, is_allowed, is_first_at_end, is_complete, allowed_at}
+use Rattle.dimacs_records.proofs.SplitLemmas.{image_at, All-at}
+use Rattle.dimacs_claims.specs.Cuts.{CutValue, IsCut, AreNamed, GivesCut, SpellsCut, canonical_cut, cut_records, empty_cut, ids_in, is_id, with_node}
+use Rattle.dimacs_records.specs.Ranges.{IsNode}
 use Rattle.dimacs_claims.specs.CutReading.{CutBegun, IsCutBegun, IsCutBegunBy, with_line}
-use Rattle.dimacs_claims.specs.Takings.{StandsFor}
-use Rattle.dimacs_claims.proofs.NodeLists.{once_before, once_more, passing, passing_once, passing_few, none_passing, All-passing, passing_below, passing_listed, passing_more}
+use Rattle.dimacs_records.specs.Takings.{StandsFor}
+use Rattle.dimacs_claims.proofs.NodeLists.{passing, passing_once, passing_few, none_passing, All-passing, passing_below, passing_listed, passing_more}
+use Rattle.dimacs_records.proofs.CountLemmas.{once_before, once_more}
 
 any_names : (id : ℕ) (named : List ℕ) → list_any (names id) (map CutNode named) ≡ list_any (is_id id) named
 any_names id [] = refl
@@ -196,9 +198,6 @@ gives_cut b rs h full law = record {
   is_cut = law;
 }
 
-allowed_at : (before here : List Record) (r s : Record) → before ≡ here → r ≡ s → IsAllowed here s → IsAllowed before r
-allowed_at before here r s before_is r_is h = rw (before_is, r_is) h
-
 -- the lines of a set are refused for nothing
 lines_allowed : (nodes : ℕ) (named : List ℕ) → AreNamed nodes named → (before after : List Record) (r : Record) → cut_records nodes (length named) named ≡ before ++ r ∷ after → IsAllowed before r
 lines_allowed nodes named are [] after r e = let first : r ≡ CutProblem nodes (length named) = cc in rw first (allows_problem nodes (length named))
@@ -206,15 +205,10 @@ lines_allowed nodes named are (b ∷ bs) after r e =
     let first : b ≡ CutProblem nodes (length named) = cc in
     let at = image_at CutNode named bs after r (cc) in
     let room : length at.front < length named = omega (arith, ap length at.xs_are, length-append at.front (at.x ∷ at.back)) in
-    let within : All (IsNode nodes) (at.front ++ at.x ∷ at.back) = subst (All (IsNode nodes)) at.xs_are are.within in
-    let node : IsNode nodes at.x = All-head (IsNode nodes) at.x at.back (All-after (IsNode nodes) at.front (at.x ∷ at.back) within) in
+    let node : IsNode nodes at.x = All-at (IsNode nodes) named at.front at.back at.x at.xs_are are.within in
     let once : count_by (is_id at.x) (at.front ++ at.x ∷ at.back) ≤ 1 = subst (λ (xs : List ℕ). count_by (is_id at.x) xs ≤ 1) at.xs_are (are.once at.x) in
     let new : list_any (is_id at.x) at.front ≡ false = once_before (is_id at.x) at.front at.back at.x (grind (arith, nat_tests)) once in
     allowed_at (b ∷ bs) (cut_records nodes (length named) at.front) r (CutNode at.x) (ap₂ (λ x xs. x ∷ xs) first at.before_is) at.y_is (one_more nodes (length named) at.front at.x node.1 new room)
-  where
-    All-after : {X : Type 0} (P : X → Type 0) (front back : List X) → All P (front ++ back) → All P back
-    All-after P [] back h = h
-    All-after P (x ∷ front) back h = All-after P front back (All-tail P x (front ++ back) h)
 
 pub cut_faultless : (rs : List LineRecord) (c : CutValue) → GivesCut rs c → AreFaultless kinds.Cut (records_of rs)
 cut_faultless rs c h =

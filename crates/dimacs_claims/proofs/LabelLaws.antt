@@ -51,7 +51,7 @@ each_next P done more x each = subst (EachBehind P) (sym (append_assoc done (x �
 abbrev with_labels : ℕ → List Label → BlockValue
 with_labels source ls = record { source = source; labels = ls }
 
-not_full : (count n : ℕ) → n < count → nat_le count n ≡ false
+pub not_full : (count n : ℕ) → n < count → nat_le count n ≡ false
 not_full count n room = grind (arith, nat_tests, room)
 
 -- labels of a block that is begun are allowed

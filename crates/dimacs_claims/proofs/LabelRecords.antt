@@ -13,9 +13,10 @@ use Rattle.dimacs_records.specs.declared.records.Record.{Record}
 use Rattle.dimacs_records.specs.declared.records.Record.TheVariants.{LabelsProblem, LabelsBlock}
 use Rattle.dimacs_records.specs.Blocks.{Block, is_short_block}
 use Rattle.dimacs_claims.specs.declared.block.Label.{Label}
-use Rattle.dimacs_claims.specs.Labels.{BlockValue, IsBlock, IsLabel, IsFresh, HasPred, IsNewSource, IsNode}
+use Rattle.dimacs_claims.specs.Labels.{BlockValue, IsBlock, IsLabel, IsFresh, HasPred, IsNewSource, has_source}
+use Rattle.dimacs_records.specs.Ranges.{IsNode}
 use Rattle.dimacs_claims.specs.LabelTexts.{label_line, block_lines}
-use Rattle.dimacs_claims.specs.LabelsReading.{LabelsBegun, AreLabelsBegun, AreSources, lines_of_short, lacking, lines_of_blocks, labels_begun_records, has_source, with_block}
+use Rattle.dimacs_claims.specs.LabelsReading.{LabelsBegun, AreLabelsBegun, AreSources, lines_of_short, lacking, lines_of_blocks, labels_begun_records, with_block}
 use Rattle.dimacs_claims.proofs.BlockLemmas.{label_id, each_behind_nil, each_behind_push}
 use Rattle.dimacs_claims.proofs.LabelStates.{Say, opened, is_source, say_problem, say_block, say_label}
 

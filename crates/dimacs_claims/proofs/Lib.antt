@@ -8,5 +8,4 @@ pub mod LabelWrites
 mod NodeLists
 mod PotentialsLemmas
 pub mod SolutionLemmas
-mod TakingLemmas
 mod ValueLemmas

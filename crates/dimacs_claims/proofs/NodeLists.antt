@@ -5,60 +5,13 @@ use Rattle.std.specs.List.{All, filter, list_any, range_with_len}
 use Rattle.std.proofs.lemmas.Bool.{eqb-true, cases_lt}
 use Rattle.std.proofs.lemmas.Bool.Decides.{nat_tests}
 use Rattle.std.proofs.lemmas.List.Elements.{filter-append, All-nil, All-cons}
-use Rattle.std.proofs.lemmas.List.Sums.{sum_by-append, sum_by-cons}
 use Rattle.dimacs_claims.specs.Cuts.{is_id}
-
-pub one_if : Bool → ℕ
-one_if b = cond b 1 0
-
-count_cons : {X : Type 0} (p : X → Bool) (x : X) (xs : List X) (b : Bool) → p x ≡ b → count_by p (x ∷ xs) ≡ one_if b + count_by p xs
-unfolding one_if
-count_cons p x xs b e = sum_by-cons (λ y. cond (p y) 1 0) x xs ∙ ap (λ b. cond b 1 0 + count_by p xs) e
-
-one_if-true : one_if true ≡ 1
-unfolding one_if
-one_if-true = refl
-
-one_if-false : one_if false ≡ 0
-unfolding one_if
-one_if-false = refl
-
--- none passes where none is counted, and none is counted where none passes
-pub none_counted : {X : Type 0} (p : X → Bool) (xs : List X) → list_any p xs ≡ false → count_by p xs ≡ 0
-none_counted p [] h = refl
-none_counted p (x ∷ xs) h = by_test (p x) refl h (none_counted p xs)
-  where
-    by_test : (b : Bool) → p x ≡ b → (b || list_any p xs) ≡ false → (list_any p xs ≡ false → count_by p xs ≡ 0) → count_by p (x ∷ xs) ≡ 0
-    by_test true e h rest = absurd (cc)
-    by_test false e h rest = omega (arith, count_cons p x xs false e, one_if-false, rest h)
-
-none_passes : {X : Type 0} (p : X → Bool) (xs : List X) → count_by p xs ≡ 0 → list_any p xs ≡ false
-none_passes p [] h = refl
-none_passes p (x ∷ xs) h = by_test (p x) refl (none_passes p xs)
-  where
-    by_test : (b : Bool) → p x ≡ b → (count_by p xs ≡ 0 → list_any p xs ≡ false) → (b || list_any p xs) ≡ false
-    by_test true e rest = absurd (omega (arith, h, count_cons p x xs true e, one_if-true))
-    by_test false e rest = rest (omega (arith, h, count_cons p x xs false e, one_if-false))
-
--- an element that is counted at most once is none of those before it
-pub once_before : {X : Type 0} (p : X → Bool) (front back : List X) (x : X) → p x ≡ true → count_by p (front ++ x ∷ back) ≤ 1 → list_any p front ≡ false
-once_before p front back x here once =
-    none_passes p front (omega (arith, once, sum_by-append (λ y. cond (p y) 1 0) front (x ∷ back), count_cons p x back true here, one_if-true))
-
--- no ID is counted twice with one more that is new
-pub once_more : {X : Type 0} (test : ℕ → X → Bool) (named : List X) (x : X) → ((other : ℕ) → test other x ≡ true → list_any (test other) named ≡ false) → ((other : ℕ) → count_by (test other) named ≤ 1)
-    → (other : ℕ) → count_by (test other) (named ++ x ∷ []) ≤ 1
-once_more test named x new once other = by_test (test other x) refl
-  where
-    by_test : (b : Bool) → test other x ≡ b → count_by (test other) (named ++ x ∷ []) ≤ 1
-    by_test true e =
-        omega (arith, sum_by-append (λ y. cond (test other y) 1 0) named (x ∷ []), count_cons (test other) x [] true e, one_if-true, none_counted (test other) named (new other e))
-    by_test false e = omega (arith, sum_by-append (λ y. cond (test other y) 1 0) named (x ∷ []), count_cons (test other) x [] false e, one_if-false, once other)
+use Rattle.dimacs_records.proofs.CountLemmas.{count_by-cons, count_yes, count_no, none_counted}
 
 -- each ID from a on is listed once
 range_before : (id a n : ℕ) → id < a → count_by (is_id id) (range_with_len a n) ≡ 0
 range_before id a zero h = refl
-range_before id a (suc n) h = let apart : is_id id a ≡ false = grind (arith, nat_tests, h) in omega (arith, count_cons (is_id id) a (range_with_len (a + 1) n) false apart, one_if-false, range_before id (a + 1) n (omega (arith, h)))
+range_before id a (suc n) h = let apart : is_id id a ≡ false = grind (arith, nat_tests, h) in omega (arith, count_no (is_id id) a (range_with_len (a + 1) n) apart, range_before id (a + 1) n (omega (arith, h)))
 
 range_once : (id a n : ℕ) → a ≤ id → id < a + n → count_by (is_id id) (range_with_len a n) ≡ 1
 range_once id a zero least below = absurd (omega (arith, least, below))
@@ -66,15 +19,15 @@ range_once id a (suc n) least below =
     elim (cases_lt a id) [
       | inl more ↦
           let apart : is_id id a ≡ false = grind (arith, nat_tests, more) in
-          omega (arith, count_cons (is_id id) a (range_with_len (a + 1) n) false apart, one_if-false, range_once id (a + 1) n (omega (arith, more)) (omega (arith, below)))
+          omega (arith, count_no (is_id id) a (range_with_len (a + 1) n) apart, range_once id (a + 1) n (omega (arith, more)) (omega (arith, below)))
       | inr most ↦
           let same : is_id id a ≡ true = grind (arith, nat_tests, most, least) in
-          omega (arith, count_cons (is_id id) a (range_with_len (a + 1) n) true same, one_if-true, range_before id (a + 1) n (omega (arith, most)))
+          omega (arith, count_yes (is_id id) a (range_with_len (a + 1) n) same, range_before id (a + 1) n (omega (arith, most)))
     ]
 
 range_past : (id a n : ℕ) → a + n ≤ id → count_by (is_id id) (range_with_len a n) ≡ 0
 range_past id a zero h = refl
-range_past id a (suc n) h = let apart : is_id id a ≡ false = grind (arith, nat_tests, h) in omega (arith, count_cons (is_id id) a (range_with_len (a + 1) n) false apart, one_if-false, range_past id (a + 1) n (omega (arith, h)))
+range_past id a (suc n) h = let apart : is_id id a ≡ false = grind (arith, nat_tests, h) in omega (arith, count_no (is_id id) a (range_with_len (a + 1) n) apart, range_past id (a + 1) n (omega (arith, h)))
 
 range_next : (a n : ℕ) → range_with_len a (suc n) ≡ range_with_len a n ++ (a + n) ∷ []
 range_next a zero = let e : a ≡ a + 0 = omega arith in ap (λ x. x ∷ []) e
@@ -89,7 +42,7 @@ range_at_most_once id n =
 
 pub count_map : {A B : Type 0} (p : B → Bool) (f : A → B) (xs : List A) → count_by p (map f xs) ≡ count_by (λ x. p (f x)) xs
 count_map p f [] = refl
-count_map p f (x ∷ xs) = count_cons p (f x) (map f xs) (p (f x)) refl ∙ ap (λ n. one_if (p (f x)) + n) (count_map p f xs) ∙ sym (count_cons (λ x. p (f x)) x xs (p (f x)) refl)
+count_map p f (x ∷ xs) = count_by-cons p (f x) (map f xs) ∙ ap (λ n. cond (p (f x)) 1 0 + n) (count_map p f xs) ∙ sym (count_by-cons (λ x. p (f x)) x xs)
 
 -- no more of what passes are counted than of all
 count_filter : (p q : ℕ → Bool) (xs : List ℕ) → count_by q (filter p xs) ≤ count_by q xs
@@ -97,8 +50,8 @@ count_filter p q [] = omega arith
 count_filter p q (x ∷ xs) = by_test (p x) (count_filter p q xs)
   where
     by_test : (b : Bool) → count_by q (filter p xs) ≤ count_by q xs → count_by q (cond b (x ∷ filter p xs) (filter p xs)) ≤ count_by q (x ∷ xs)
-    by_test true rest = omega (arith, rest, count_cons q x (filter p xs) (q x) refl, count_cons q x xs (q x) refl)
-    by_test false rest = omega (arith, rest, count_cons q x xs (q x) refl)
+    by_test true rest = omega (arith, rest, count_by-cons q x (filter p xs), count_by-cons q x xs)
+    by_test false rest = omega (arith, rest, count_by-cons q x xs)
 
 -- the IDs from 1 to n that pass
 abbrev pub passing : (ℕ → Bool) → ℕ → List ℕ
@@ -179,9 +132,9 @@ one_passing p q id (x ∷ xs) new is = ap (λ b. length (cond b (x ∷ filter q 
     by_tests : (s b : Bool) → (x == id) ≡ s → p x ≡ b → length (filter q xs) ≡ length (filter p xs) + count_by (is_id id) xs
         → length (cond (s || b) (x ∷ filter q xs) (filter q xs)) ≡ length (cond b (x ∷ filter p xs) (filter p xs)) + count_by (is_id id) (x ∷ xs)
     by_tests true true same e rest = absurd (cc (ap p (sym (eqb-true x id same)) ∙ e, new))
-    by_tests true false same e rest = omega (arith, rest, count_cons (is_id id) x xs true same, one_if-true)
-    by_tests false true apart e rest = omega (arith, rest, count_cons (is_id id) x xs false apart, one_if-false)
-    by_tests false false apart e rest = omega (arith, rest, count_cons (is_id id) x xs false apart, one_if-false)
+    by_tests true false same e rest = omega (arith, rest, count_yes (is_id id) x xs same)
+    by_tests false true apart e rest = omega (arith, rest, count_no (is_id id) x xs apart)
+    by_tests false false apart e rest = omega (arith, rest, count_no (is_id id) x xs apart)
 
 pub passing_more : (p q : ℕ → Bool) (n id : ℕ) → p id ≡ false → ((x : ℕ) → q x ≡ ((x == id) || p x)) → (1 ≤ id) × (id ≤ n) → length (passing q n) ≡ length (passing p n) + 1
 passing_more p q n id new is node = omega (arith, one_passing p q id (range_with_len 1 n) new is, range_once id 1 n node.0 (omega (arith, node.1)))

@@ -9,8 +9,7 @@ use Rattle.std.specs.FinMap.Entries.{find}
 use Rattle.std.specs.FinSet.{contains}
 use Rattle.std.specs.FinSet as set
 use Rattle.std.proofs.lemmas.List.{map-append, length-append, length-map, append-nil}
-use Rattle.std.proofs.lemmas.List.Elements.{All-nil, All-cons, All-head, All-tail, All-push, filter-append}
-use Rattle.std.proofs.lemmas.List.Folds.{list_any-append}
+use Rattle.std.proofs.lemmas.List.Elements.{All-nil, All-cons, All-head, All-tail}
 use Rattle.std.proofs.lemmas.Bool.{lt-ltb, le-ltb, le-leb, eqb-true}
 use Rattle.std.proofs.lemmas.Bool.Decides.{nat_tests}
 use Rattle.std.proofs.lemmas.Int.{ints}
@@ -27,14 +26,18 @@ use Rattle.dimacs_records.specs.Texts.{AreFaultless}
 use Rattle.dimacs_records.specs.Faults.{FirstAtEnd}
 use Rattle.dimacs_records.specs.FieldReader.{fault_at}
 use Rattle.dimacs_records.proofs.CanonicalLaws.{canonical_spelled, numbered_all}
-use Rattle.dimacs_records.proofs.ConditionLemmas.{is_first_condition, is_allowed, is_first_at_end, is_complete}
-use Rattle.dimacs_records.proofs.SplitLemmas.{image_at}
-use Rattle.dimacs_claims.specs.Cuts.{IsNode, is_id}
-use Rattle.dimacs_claims.specs.Potentials.{PotentialsValue, ArePotentials, GivesPotentials, IsWide, NameNodes, SpellsPotentials, canonical_potentials, has_value, is_nonzero, is_of, node_line, nonzero_ids, potential_of, potentials_records, with_values, zero_potentials}
+use Rattle.dimacs_records.proofs.ConditionLemmas.{is_first_condition, is_allowed, is_first_at_end, is_complete, allowed_at}
+use Rattle.dimacs_records.proofs.SplitLemmas.{image_at, All-at}
+use Rattle.dimacs_claims.specs.Cuts.{is_id}
+use Rattle.dimacs_records.specs.Ranges.{IsNode, IsWide}
+use Rattle.dimacs_claims.specs.Potentials.{PotentialsValue, ArePotentials, GivesPotentials, SpellsPotentials, canonical_potentials, node_line, nonzero_ids, potential_of, potentials_records, with_values, zero_potentials}
+use Rattle.dimacs_records.specs.NodeValues.{NameNodes, has_value, is_nonzero, is_of}
 use Rattle.dimacs_claims.specs.PotentialsReading.{PotentialsBegun, AreBegun, AreBegunBy, is_named, with_line, with_value, with_zero}
-use Rattle.dimacs_claims.specs.Takings.{StandsFor}
-use Rattle.dimacs_claims.proofs.NodeLists.{All-passing, count_map, once_before, once_more, passing, passing_below, passing_few, passing_listed, passing_once}
+use Rattle.dimacs_records.specs.Takings.{StandsFor}
+use Rattle.dimacs_claims.proofs.NodeLists.{All-passing, count_map, passing, passing_below, passing_few, passing_listed, passing_once}
 use Rattle.dimacs_claims.proofs.ValueLemmas.{not_zero, zero_law}
+use Rattle.dimacs_records.proofs.CountLemmas.{once_before, same_test}
+use Rattle.dimacs_records.proofs.NameLemmas.{named_more, any_more, valued_more, zero_more}
 
 any_names : (id : ℕ) (named : List (ℕ × ℤ)) → list_any (names id) (map node_line named) ≡ list_any (is_of id) named
 any_names id [] = refl
@@ -88,26 +91,6 @@ allows_problem n k = is_allowed [] (PotentialsProblem n k) refl
 
 nothing_read : FirstAtEnd kinds.Potentials [] ProblemMissing
 nothing_read = is_first_at_end kinds.Potentials [] ProblemMissing refl
-
--- one line more that names a new node
-named_more : (nodes : ℕ) (named : List (ℕ × ℤ)) (id : ℕ) (v : ℤ) → NameNodes nodes named → IsNode nodes id → list_any (is_of id) named ≡ false → NameNodes nodes (named ++ (id, v) ∷ [])
-named_more nodes named id v are node new = record {
-  within = All-push (λ (n : ℕ × ℤ). IsNode nodes n.0) named (id, v) are.within node;
-  once = once_more is_of named (id, v) (λ other same. ap (λ n. list_any (is_of n) named) (sym (eqb-true id other same)) ∙ new) are.once;
-}
-
-same_test : (a b : ℕ) → (a == b) ≡ (b == a)
-same_test a b = grind (arith, nat_tests)
-
-any_push : (named : List (ℕ × ℤ)) (id other : ℕ) (v : ℤ) → list_any (is_of other) (named ++ (id, v) ∷ []) ≡ (list_any (is_of other) named || ((id == other) || false))
-any_push named id other v = list_any-append (is_of other) named ((id, v) ∷ [])
-
-zero_more : (g z e : Bool) → (g || (e || z)) ≡ ((g || z) || (e || false))
-zero_more true z e = refl
-zero_more false true true = refl
-zero_more false true false = refl
-zero_more false false true = refl
-zero_more false false false = refl
 
 value_more : (b g z e : Bool) → b ≡ (e || g) → (b || z) ≡ ((g || z) || (e || false))
 value_more b g z true is = ap (λ x. x || z) is ∙ or_true (g || z)
@@ -163,12 +146,6 @@ module _ (b : PotentialsBegun) (rs : List Record) (h : AreBegunBy b rs) where
         abbrev more : List (ℕ × ℤ)
         more = h.named ++ (id, v) ∷ []
 
-        any_more : (other : ℕ) → (is_named b other || ((other == id) || false)) ≡ list_any (is_of other) more
-        any_more other = ap₂ (λ x y. x || (y || false)) (h.nodes_named other) (same_test other id) ∙ sym (any_push h.named id other v)
-
-        valued_more : (t : Bool) → int_eq v (pos 0) ≡ t → filter has_value more ≡ filter has_value h.named ++ cond (not t) ((id, v) ∷ []) []
-        valued_more t e = filter-append has_value h.named ((id, v) ∷ []) ∙ ap (λ b. filter has_value h.named ++ cond (not b) ((id, v) ∷ []) []) e
-
         records_more : rs ++ PotentialsNode id v ∷ [] ≡ potentials_records b.potentials.nodes b.declared more
         records_more = ap (λ rs. rs ++ PotentialsNode id v ∷ []) h.records ∙ ap (λ rs. PotentialsProblem b.potentials.nodes b.declared ∷ rs) (sym (map-append node_line h.named ((id, v) ∷ [])))
 
@@ -184,19 +161,19 @@ module _ (b : PotentialsBegun) (rs : List Record) (h : AreBegunBy b rs) where
           begun_with : (t : Bool) → int_eq v (pos 0) ≡ t → AreBegunBy (if t then with_zero b id else with_value b id v) (rs ++ PotentialsNode id v ∷ [])
           begun_with true e = record {
             named = more;
-            name_nodes = named_more b.potentials.nodes h.named id v h.name_nodes (least, within) none_before;
-            values = h.values ∙ ap from_entries (sym (valued_more true e ∙ append-nil (filter has_value h.named)));
-            nodes_named = λ other. ap (λ z. is_nonzero (potential_of b.potentials other) || z) (contains-insert b.zeros id other) ∙ zero_more (is_nonzero (potential_of b.potentials other)) (contains b.zeros other) (other == id) ∙ any_more other;
+            name_nodes = named_more h.named id v b.potentials.nodes h.name_nodes (least, within) none_before;
+            values = h.values ∙ ap from_entries (sym (valued_more h.named id v true e ∙ append-nil (filter has_value h.named)));
+            nodes_named = λ other. ap (λ z. is_nonzero (potential_of b.potentials other) || z) (contains-insert b.zeros id other) ∙ zero_more (is_nonzero (potential_of b.potentials other)) (contains b.zeros other) (other == id) ∙ any_more h.named id v (is_named b other) other (h.nodes_named other);
             count = count_more;
             records = records_more;
           }
           begun_with false e = record {
             named = more;
-            name_nodes = named_more b.potentials.nodes h.named id v h.name_nodes (least, within) none_before;
+            name_nodes = named_more h.named id v b.potentials.nodes h.name_nodes (least, within) none_before;
             values = ap (λ m. insert m id v) h.values
-                ∙ sym (ap from_entries (valued_more false e) ∙ from_entries_push nat_cmp_total nat_cmp-IsAntisymmetric (filter has_value h.named) id v not_found);
+                ∙ sym (ap from_entries (valued_more h.named id v false e) ∙ from_entries_push nat_cmp_total nat_cmp-IsAntisymmetric (filter has_value h.named) id v not_found);
             nodes_named = λ other. value_more (is_nonzero (unwrap_or (get (insert b.potentials.values id v) other) (pos 0))) (is_nonzero (potential_of b.potentials other)) (contains b.zeros other) (other == id) (ap (λ o. is_nonzero (unwrap_or o (pos 0))) (get-insert b.potentials.values id other v) ∙ potential_at (other == id) v (get b.potentials.values other) e)
-                ∙ any_more other;
+                ∙ any_more h.named id v (is_named b other) other (h.nodes_named other);
             count = count_more;
             records = records_more;
           }
@@ -254,9 +231,6 @@ gives_potentials b rs h full law = record {
   are_potentials = law;
 }
 
-allowed_at : (before here : List Record) (r s : Record) → before ≡ here → r ≡ s → IsAllowed here s → IsAllowed before r
-allowed_at before here r s before_is r_is h = rw (before_is, r_is) h
-
 -- the lines of potentials are refused for nothing
 lines_allowed : (nodes : ℕ) (named : List (ℕ × ℤ)) → NameNodes nodes named → (before after : List Record) (r : Record) → potentials_records nodes (length named) named ≡ before ++ r ∷ after → IsAllowed before r
 lines_allowed nodes named are [] after r e = let first : r ≡ PotentialsProblem nodes (length named) = cc in rw first (allows_problem nodes (length named))
@@ -264,15 +238,10 @@ lines_allowed nodes named are (b ∷ bs) after r e =
     let first : b ≡ PotentialsProblem nodes (length named) = cc in
     let at = image_at node_line named bs after r (cc) in
     let room : length at.front < length named = omega (arith, ap length at.xs_are, length-append at.front (at.x ∷ at.back)) in
-    let within : All (λ (n : ℕ × ℤ). IsNode nodes n.0) (at.front ++ at.x ∷ at.back) = subst (All (λ (n : ℕ × ℤ). IsNode nodes n.0)) at.xs_are are.within in
-    let node : IsNode nodes at.x.0 = All-head (λ (n : ℕ × ℤ). IsNode nodes n.0) at.x at.back (All-after (λ (n : ℕ × ℤ). IsNode nodes n.0) at.front (at.x ∷ at.back) within) in
+    let node : IsNode nodes at.x.0 = All-at (λ (n : ℕ × ℤ). IsNode nodes n.0) named at.front at.back at.x at.xs_are are.within in
     let once : count_by (is_of at.x.0) (at.front ++ at.x ∷ at.back) ≤ 1 = subst (λ (xs : List (ℕ × ℤ)). count_by (is_of at.x.0) xs ≤ 1) at.xs_are (are.once at.x.0) in
     let new : list_any (is_of at.x.0) at.front ≡ false = once_before (is_of at.x.0) at.front at.back at.x (grind (arith, nat_tests)) once in
     allowed_at (b ∷ bs) (potentials_records nodes (length named) at.front) r (node_line at.x) (ap₂ (λ x xs. x ∷ xs) first at.before_is) at.y_is (one_more nodes (length named) at.front at.x.0 at.x.1 node.1 new room)
-  where
-    All-after : {X : Type 0} (P : X → Type 0) (front back : List X) → All P (front ++ back) → All P back
-    All-after P [] back h = h
-    All-after P (x ∷ front) back h = All-after P front back (All-tail P x (front ++ back) h)
 
 pub potentials_faultless : (rs : List LineRecord) (p : PotentialsValue) → GivesPotentials rs p → AreFaultless kinds.Potentials (records_of rs)
 potentials_faultless rs p h =

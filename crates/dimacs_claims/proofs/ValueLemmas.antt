@@ -7,8 +7,9 @@ use Rattle.std.specs.FinMap.{FinMap, empty, get, insert, remove, same_map, get-e
 use Rattle.std.proofs.lemmas.Bool.{eqb-true}
 use Rattle.std.proofs.lemmas.Int.{ints}
 use Rattle.dimacs_nodes.proofs.Nodes.{get-insert}
-use Rattle.dimacs_claims.specs.Cuts.{IsNode}
-use Rattle.dimacs_claims.specs.Potentials.{PotentialsValue, ArePotentials, IsPotential, IsWide, is_nonzero, potential_of, with_potential, zero_potentials}
+use Rattle.dimacs_records.specs.Ranges.{IsNode, IsWide}
+use Rattle.dimacs_claims.specs.Potentials.{PotentialsValue, ArePotentials, IsPotential, potential_of, with_potential, zero_potentials}
+use Rattle.dimacs_records.specs.NodeValues.{is_nonzero}
 use Rattle.dimacs_claims.specs.PotentialsReading.{without_zeros}
 
 -- what is found, unless it is 0

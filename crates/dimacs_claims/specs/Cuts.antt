@@ -8,6 +8,7 @@ use Rattle.dimacs_records.specs.declared.kinds.TextKind.TheVariants as kinds
 use Rattle.dimacs_records.specs.declared.records.Record.{Record}
 use Rattle.dimacs_records.specs.declared.records.Record.TheVariants.{CutProblem, CutNode}
 use Rattle.dimacs_records.specs.Canonical.{canonical_text}
+use Rattle.dimacs_records.specs.Ranges.{IsNode}
 use Rattle.dimacs_records.specs.Readings.{LineRecord, records_of}
 use Rattle.dimacs_records.specs.Texts.{SpellsValue}
 
@@ -15,9 +16,6 @@ use Rattle.dimacs_records.specs.Texts.{SpellsValue}
 pub record CutValue : Type 0 where
   pub nodes : ℕ
   pub ids : FinSet nat_cmp
-
-abbrev pub IsNode : ℕ → ℕ → Type 0
-IsNode nodes id = (1 ≤ id) × (id ≤ nodes)
 
 -- the IDs are those of nodes
 pub record IsCut (c : CutValue) : Type 0 where

@@ -1,7 +1,7 @@
 -- Labels: claimed distances from sources.
-use Rattle.std.specs.Prelude.{ℕ, ◌≡◌, ◌≢◌, ◌≤◌, ◌⊎◌, ◌^◌, ◌==◌, if◌then◌else◌, List, [], ◌∷◌, ◌++◌, length, slice_get, Option, Some, None, ℤ, pos, neg_ℤ}
+use Rattle.std.specs.Prelude.{ℕ, ◌≡◌, ◌≢◌, ◌≤◌, ◌⊎◌, ◌==◌, if◌then◌else◌, List, [], ◌∷◌, ◌++◌, length, slice_get, Option, Some, None, ℤ, pos, Bool}
 use Rattle.std.specs.List.{All, Contains}
-use Rattle.dimacs_lines.specs.Number.{IsWithin}
+use Rattle.dimacs_records.specs.Ranges.{IsNode, IsWide}
 use Rattle.dimacs_claims.specs.declared.block.Label.{Label}
 
 -- the labels of the nodes that are claimed to be reached from the source
@@ -48,12 +48,6 @@ HasPred source before l = (l.pred ≡ source) ⊎ ((m : Label) × Contains befor
 abbrev pub PredsAreEarlier : BlockValue → Type 0
 PredsAreEarlier b = EachBehind (HasPred b.source) b.labels
 
-abbrev pub IsNode : ℕ → ℕ → Type 0
-IsNode nodes id = (1 ≤ id) × (id ≤ nodes)
-
-abbrev pub IsWide : ℤ → Type 0
-IsWide n = IsWithin (neg_ℤ (pos (10 ^ 30))) (pos (10 ^ 30)) n
-
 -- the label's numbers lie in their ranges
 pub record IsLabel (nodes : ℕ) (l : Label) : Type 0 where
   pub id : IsNode nodes l.id
@@ -67,6 +61,9 @@ pub record IsBlock (nodes : ℕ) (b : BlockValue) : Type 0 where
   pub within : All (IsLabel nodes) b.labels
   pub fresh : EachBehind (IsFresh b.source) b.labels
   pub preds : PredsAreEarlier b
+
+abbrev pub has_source : ℕ → BlockValue → Bool
+has_source source b = b.source == source
 
 -- a block of a source that no earlier block has
 abbrev pub IsNewSource : List BlockValue → BlockValue → Type 0

@@ -1,11 +1,11 @@
 -- How far labels have been read.
-use Rattle.std.specs.Prelude.{ℕ, ◌≡◌, ◌≤◌, ◌+◌, ◌==◌, Bool, List, [], ◌∷◌, ◌++◌, map, length, Option, None, Some}
+use Rattle.std.specs.Prelude.{ℕ, ◌≡◌, ◌≤◌, ◌+◌, List, [], ◌∷◌, ◌++◌, map, length, Option, None, Some}
 use Rattle.std.specs.List.{All, list_any}
 use Rattle.std.specs.Ordering.{nat_cmp}
 use Rattle.std.specs.FinSet as set
 use Rattle.dimacs_records.specs.declared.records.Record.{Record}
 use Rattle.dimacs_records.specs.declared.records.Record.TheVariants.{LabelsProblem, LabelsBlock}
-use Rattle.dimacs_claims.specs.Labels.{BlockValue, EachBehind, IsBlock, IsNewSource}
+use Rattle.dimacs_claims.specs.Labels.{BlockValue, EachBehind, IsBlock, IsNewSource, has_source}
 use Rattle.dimacs_claims.specs.LabelTexts.{label_line}
 
 -- what the problem line declares, the blocks behind it, and how many labels the last one lacks
@@ -50,9 +50,6 @@ pub record AreLabelsBegun (begun : LabelsBegun) : Type 0 where
   pub none_lack : begun.blocks ≡ [] → begun.missing ≡ 0
   pub blocks : All (IsBlock begun.nodes) begun.blocks
   pub sources : EachBehind IsNewSource begun.blocks
-
-abbrev pub has_source : ℕ → BlockValue → Bool
-has_source id b = b.source == id
 
 -- the set of the sources of the blocks
 abbrev pub AreSources : set.FinSet nat_cmp → List BlockValue → Type 0

@@ -8,4 +8,3 @@ pub mod Potentials
 pub mod PotentialsReading
 pub mod SolutionReading
 pub mod SolutionTexts
-pub mod Takings

@@ -1,17 +1,17 @@
 -- Potentials of nodes, and the texts that spell them.
-use Rattle.std.specs.Prelude.{ℕ, ℤ, ◌≡◌, ◌≢◌, ◌==◌, ◌≤◌, ◌^◌, Bool, not, List, ◌∷◌, Some, map, length, count_by, if◌then◌else◌, pos, neg_ℤ, unwrap_or}
-use Rattle.std.specs.List.{All, filter, range_with_len}
+use Rattle.std.specs.Prelude.{ℕ, ℤ, ◌≡◌, ◌≢◌, ◌≤◌, List, ◌∷◌, Some, map, length, if◌then◌else◌, pos, unwrap_or}
+use Rattle.std.specs.List.{filter, range_with_len}
 use Rattle.std.specs.Ordering.{nat_cmp, int_eq}
 use Rattle.std.specs.FinMap.{FinMap, empty, get, insert, remove, from_entries}
 use Rattle.dimacs_lines.specs.Lines.{lines}
-use Rattle.dimacs_lines.specs.Number.{IsWithin}
 use Rattle.dimacs_records.specs.declared.kinds.TextKind.TheVariants as kinds
 use Rattle.dimacs_records.specs.declared.records.Record.{Record}
 use Rattle.dimacs_records.specs.declared.records.Record.TheVariants.{PotentialsProblem, PotentialsNode}
 use Rattle.dimacs_records.specs.Canonical.{canonical_text}
 use Rattle.dimacs_records.specs.Readings.{LineRecord, records_of}
 use Rattle.dimacs_records.specs.Texts.{SpellsValue}
-use Rattle.dimacs_claims.specs.Cuts.{IsNode}
+use Rattle.dimacs_records.specs.Ranges.{IsNode, IsWide}
+use Rattle.dimacs_records.specs.NodeValues.{NameNodes, has_value, is_nonzero}
 
 -- a number of nodes, and the potentials that aren't 0
 pub record PotentialsValue : Type 0 where
@@ -21,12 +21,6 @@ pub record PotentialsValue : Type 0 where
 -- the potential of a node; 0 where the map has none
 abbrev pub potential_of : PotentialsValue → ℕ → ℤ
 potential_of p id = unwrap_or (get p.values id) (pos 0)
-
-abbrev pub is_nonzero : ℤ → Bool
-is_nonzero n = not (int_eq n (pos 0))
-
-abbrev pub IsWide : ℤ → Type 0
-IsWide n = IsWithin (neg_ℤ (pos (10 ^ 30))) (pos (10 ^ 30)) n
 
 -- a node, and a potential that isn't 0
 abbrev pub IsPotential : ℕ → ℕ → ℤ → Type 0
@@ -50,17 +44,6 @@ nonzero_ids p = filter (λ id. is_nonzero (potential_of p id)) (range_with_len 1
 -- these nodes with their potentials
 abbrev pub with_values : PotentialsValue → List ℕ → List (ℕ × ℤ)
 with_values p ids = map (λ id. (id, potential_of p id)) ids
-
-abbrev pub is_of : ℕ → ℕ × ℤ → Bool
-is_of id n = n.0 == id
-
-abbrev pub has_value : ℕ × ℤ → Bool
-has_value n = is_nonzero n.1
-
--- the lines name nodes, and no node twice
-pub record NameNodes (nodes : ℕ) (named : List (ℕ × ℤ)) : Type 0 where
-  pub within : All (λ (n : ℕ × ℤ). IsNode nodes n.0) named
-  pub once : (id : ℕ) → count_by (is_of id) named ≤ 1
 
 -- the line of a node and its potential
 abbrev pub node_line : ℕ × ℤ → Record

@@ -8,7 +8,8 @@ use Rattle.std.specs.FinMap as map
 use Rattle.std.specs.FinSet.{FinSet}
 use Rattle.std.specs.FinSet as set
 use Rattle.dimacs_records.specs.declared.records.Record.{Record}
-use Rattle.dimacs_claims.specs.Potentials.{PotentialsValue, ArePotentials, NameNodes, has_value, is_nonzero, is_of, potential_of, potentials_records}
+use Rattle.dimacs_claims.specs.Potentials.{PotentialsValue, ArePotentials, potential_of, potentials_records}
+use Rattle.dimacs_records.specs.NodeValues.{NameNodes, has_value, is_nonzero, is_of}
 
 -- the values that aren't 0
 unfoldable pub without_zeros : FinMap nat_cmp ℤ → FinMap nat_cmp ℤ

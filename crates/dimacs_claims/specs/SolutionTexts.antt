@@ -1,13 +1,13 @@
 -- Solutions, and the texts that spell them.
-use Rattle.std.specs.Prelude.{ℕ, suc, ◌+◌, ◌-◌, ◌^◌, ◌≡◌, ◌≤◌, List, [], ◌∷◌, ◌++◌, map, length, ℤ, pos, neg_ℤ}
+use Rattle.std.specs.Prelude.{ℕ, suc, ◌+◌, ◌≡◌, ◌≤◌, List, [], ◌∷◌, ◌++◌, map, length, ℤ}
 use Rattle.std.specs.List.{All}
 use Rattle.dimacs_lines.specs.Lines.{lines}
-use Rattle.dimacs_lines.specs.Number.{IsWithin}
 use Rattle.dimacs_lines.specs.declared.reader.TheConstants.{MAX_LINES}
 use Rattle.dimacs_records.specs.declared.kinds.TextKind.TheVariants as kinds
 use Rattle.dimacs_records.specs.declared.records.Record.{Record}
 use Rattle.dimacs_records.specs.declared.records.Record.TheVariants as records
 use Rattle.dimacs_records.specs.Canonical.{canonical_text}
+use Rattle.dimacs_records.specs.Ranges.{IsId, IsWhole, IsWide}
 use Rattle.dimacs_records.specs.Readings.{LineRecord, on_line}
 use Rattle.dimacs_records.specs.Texts.{SpellsValue}
 use Rattle.dimacs_claims.specs.declared.solution.Entry.{Entry}
@@ -44,18 +44,15 @@ GivesSolution rs s = StandsAmong (on_line s.value_line (records.SolutionValue s.
 abbrev pub SpellsSolution : List ℕ → SolutionValue → Type 0
 SpellsSolution text s = SpellsValue kinds.Solution GivesSolution (lines text) s
 
-abbrev pub IsId : ℕ → Type 0
-IsId id = (1 ≤ id) × (id ≤ 134217728)
-
 -- the numbers of an entry lie in their ranges
 pub record IsLawfulEntry (e : Entry) : Type 0 where
   pub tail : IsId e.tail
   pub head : IsId e.head
-  pub flow : IsWithin (neg_ℤ (pos (2 ^ 63))) (pos (2 ^ 63 - 1)) e.flow
+  pub flow : IsWhole e.flow
 
 -- the numbers lie in their ranges, and a text has room for the lines
 pub record IsLawful (s : SolutionValue) : Type 0 where
-  pub value : IsWithin (neg_ℤ (pos (10 ^ 30))) (pos (10 ^ 30)) s.value
+  pub value : IsWide s.value
   pub entries : All IsLawfulEntry s.entries
   pub few : length s.entries + 1 ≤ MAX_LINES
 

@@ -13,8 +13,9 @@ ghost use Rattle.dimacs_records.specs.Canonical.{canonical_text};
 ghost use Rattle.dimacs_records.specs.Faults.{Fault};
 ghost use Rattle.dimacs_records.specs.Readings.{CountsRead, records_of};
 ghost use Rattle.dimacs_records.specs.Texts.{Reads};
-ghost use Rattle.dimacs_claims.specs.Takings.{StandsFor, Takes};
-ghost use Rattle.dimacs_claims.specs.Cuts.{CutValue, IsCut, IsNode, GivesCut, SpellsCut, canonical_cut, empty_cut, ids_in, with_node};
+ghost use Rattle.dimacs_records.specs.Takings.{StandsFor, Takes};
+ghost use Rattle.dimacs_claims.specs.Cuts.{CutValue, IsCut, GivesCut, SpellsCut, canonical_cut, empty_cut, ids_in, with_node};
+ghost use Rattle.dimacs_records.specs.Ranges.{IsNode};
 ghost use Rattle.dimacs_claims.specs.CutReading.{IsCutBegunBy};
 
 use dimacs_lines::{DeviceFault, Memory, Page, Sink, Source};

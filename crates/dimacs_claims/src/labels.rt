@@ -12,7 +12,8 @@ ghost use Rattle.dimacs_records.specs.Faults.{Fault};
 ghost use Rattle.dimacs_records.specs.Readings.{CountsRead, TakesRecord, records_of};
 ghost use Rattle.dimacs_records.specs.Texts.{Reads};
 ghost use Rattle.dimacs_claims.specs.Labels as claims;
-ghost use Rattle.dimacs_claims.specs.Labels.{BlockValue, LabelsValue, AreLabels, IsWide, label_at, with_label};
+ghost use Rattle.dimacs_claims.specs.Labels.{BlockValue, LabelsValue, AreLabels, label_at, with_label};
+ghost use Rattle.dimacs_records.specs.Ranges.{IsWide};
 ghost use Rattle.dimacs_claims.specs.LabelTexts.{FitText, GivesLabels, SpellsLabels, block_lines, canonical_labels, label_line};
 ghost use Rattle.dimacs_claims.specs.LabelsReading.{AreLabelsBegun, labels_begun_records, with_block};
 

@@ -12,9 +12,10 @@ ghost use Rattle.dimacs_records.specs.Canonical.{canonical_text};
 ghost use Rattle.dimacs_records.specs.Faults.{Fault};
 ghost use Rattle.dimacs_records.specs.Readings.{CountsRead, records_of};
 ghost use Rattle.dimacs_records.specs.Texts.{Reads};
-ghost use Rattle.dimacs_claims.specs.Takings.{StandsFor, Takes};
-ghost use Rattle.dimacs_claims.specs.Cuts.{IsNode};
-ghost use Rattle.dimacs_claims.specs.Potentials.{PotentialsValue, ArePotentials, GivesPotentials, IsWide, SpellsPotentials, canonical_potentials, is_nonzero, node_line, nonzero_ids, potential_of, with_potential, with_values, zero_potentials};
+ghost use Rattle.dimacs_records.specs.Takings.{StandsFor, Takes};
+ghost use Rattle.dimacs_records.specs.Ranges.{IsNode, IsWide};
+ghost use Rattle.dimacs_claims.specs.Potentials.{PotentialsValue, ArePotentials, GivesPotentials, SpellsPotentials, canonical_potentials, node_line, nonzero_ids, potential_of, with_potential, with_values, zero_potentials};
+ghost use Rattle.dimacs_records.specs.NodeValues.{is_nonzero};
 ghost use Rattle.dimacs_claims.specs.PotentialsReading.{AreBegunBy, is_named, with_line};
 
 use dimacs_lines::{DeviceFault, Memory, Page, Sink, Source};

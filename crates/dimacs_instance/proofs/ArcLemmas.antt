@@ -1,9 +1,9 @@
 -- Arcs between given ends.
-use Rattle.std.proofs.Common.{◌≡◌, ℕ, ◌<◌, List, true, length, map, take, get_or, count_by, Some}
+use Rattle.std.proofs.Common.{◌≡◌, ℕ, ◌+◌, ◌<◌, ◌∷◌, ◌++◌, [], List, true, length, map, take, get_or, count_by, Some, slice_get, ap, ◌∙◌}
 use Rattle.std.specs.Prelude.{◌==◌}
 use Rattle.std.proofs.lemmas.Bool.{eq-eqb, and_from}
-use Rattle.std.proofs.lemmas.List.{length-map, take-map}
-use Rattle.std.proofs.lemmas.Option.{slice_get-map, slice_get-get_or}
+use Rattle.std.proofs.lemmas.List.{length-map, take-map, take_more}
+use Rattle.std.proofs.lemmas.Option.{slice_get-map, slice_get-get_or, slice_get_within, get_or_from_slice_get}
 use Rattle.dimacs_instance.specs.declared.network.ArcView.{ArcView}
 use Rattle.dimacs_instance.specs.Arcs.{joins, IsKthBetween}
 
@@ -15,3 +15,7 @@ pub found_at : {A : Type 0} (shows : A → ArcView) (items : List A) (tail head 
     → count_by (joins tail head) (map shows (take i items)) ≡ k → IsKthBetween (map shows items) tail head k (Some i)
 found_at shows items tail head k i d a inside is same_tail same_head counted =
     (rw (length-map items shows) inside, rw (slice_get-map shows items i, slice_get-get_or items i d inside, ← is) (joins_ends tail head a same_tail same_head), rw (take-map shows i items) counted)
+
+-- the arcs up to the next one
+pub take_next : (arcs : List ArcView) (i : ℕ) (a : ArcView) → slice_get arcs i ≡ Some a → take (i + 1) arcs ≡ take i arcs ++ a ∷ []
+take_next arcs i a got = take_more arcs i a (slice_get_within arcs i a got) ∙ ap (λ x. take i arcs ++ x ∷ []) (get_or_from_slice_get arcs i a a got)

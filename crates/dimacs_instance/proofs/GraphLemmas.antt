@@ -2,12 +2,11 @@
 use Rattle.std.proofs.Common.{◌≡◌, ℕ, suc, ◌<◌, ◌≤◌, ◌∷◌, ◌++◌, [], List, true, false, Option, Some, None, length, map, take, ◌+◌, refl, ap, ap₂, sym, ◌∙◌, arith}
 use Rattle.std.specs.Prelude.{ℤ, pos, codes, slice_get, is_some, nat_lt, nat_le}
 use Rattle.std.specs.List.{All}
-use Rattle.std.proofs.lemmas.List.{map-append, take_more}
-use Rattle.std.proofs.lemmas.Option.{slice_get_within, get_or_from_slice_get}
+use Rattle.std.proofs.lemmas.List.{map-append}
 use Rattle.std.proofs.lemmas.Bool.{lt-ltb, le-ltb, le-leb}
 use Rattle.std.proofs.lemmas.Int.{ints}
 use Rattle.std.proofs.lemmas.List.{length-append, length-map}
-use Rattle.std.proofs.lemmas.List.Elements.{All-nil, All-cons, All-head, All-tail, All-contains, Contains-append_right}
+use Rattle.std.proofs.lemmas.List.Elements.{All-nil, All-cons, All-head, All-tail}
 use Rattle.std.proofs.lemmas.Bool.Decides.{nat_tests}
 use Rattle.dimacs_records.specs.declared.kinds.TextKind.TheVariants.{Graph}
 use Rattle.dimacs_records.specs.declared.records.Record.{Record}
@@ -24,11 +23,12 @@ use Rattle.dimacs_records.specs.Forms.{form, Word, Nodes, Count, Id, Whole}
 use Rattle.dimacs_records.specs.Canonical.{CanBeSpelled}
 use Rattle.dimacs_records.specs.Readings.{LineRecord, records_of}
 use Rattle.dimacs_records.specs.Texts.{AreFaultless}
-use Rattle.dimacs_records.proofs.SplitLemmas.{image_at}
+use Rattle.dimacs_records.proofs.SplitLemmas.{image_at, All-at}
 use Rattle.dimacs_records.proofs.CanonicalLaws.{canonical_spelled, numbered_all}
 use Rattle.dimacs_instance.specs.Arcs.{JoinsNodes}
 use Rattle.dimacs_instance.specs.Graph.{GraphValue, IsGraph, HasWeightAlone, GivesGraph, SpellsGraph, canonical_graph, graph_records, graph_arc}
 use Rattle.dimacs_instance.specs.GraphReading.{GraphBegun, graph_records_so_far}
+use Rattle.dimacs_instance.proofs.ArcLemmas.{take_next}
 
 counted_in-arcs : (arcs : List ArcView) → counted_in (map graph_arc arcs) ≡ length arcs
 counted_in-arcs [] = refl
@@ -68,9 +68,6 @@ module _ (nodes declared : ℕ) (arcs : List ArcView) where
       let counted : nat_lt (counted_in earlier) declared ≡ false = rw (counted_in-arcs arcs) (le-ltb (length arcs) declared full) in
       is_complete Graph earlier (rw counted refl)
 
-take_next : (arcs : List ArcView) (i : ℕ) (a : ArcView) → slice_get arcs i ≡ Some a → take (i + 1) arcs ≡ take i arcs ++ a ∷ []
-take_next arcs i a got = take_more arcs i a (slice_get_within arcs i a got) ∙ ap (λ x. take i arcs ++ x ∷ []) (get_or_from_slice_get arcs i a a got)
-
 pub pushed_records : (nodes declared : ℕ) (arcs : List ArcView) (t h : ℕ) (w : ℤ)
     → GraphProblem nodes declared ∷ map graph_arc (arcs ++ weight_arc t h w ∷ []) ≡ (GraphProblem nodes declared ∷ map graph_arc arcs) ++ GraphArc t h w ∷ []
 pushed_records nodes declared arcs t h w = ap (λ rs. GraphProblem nodes declared ∷ rs) (map-append graph_arc arcs (weight_arc t h w ∷ []))
@@ -87,9 +84,6 @@ nothing_read = is_first_at_end Graph [] ProblemMissing refl
 pub begun_twice : (begun : Option GraphBegun) (n m : ℕ) → is_some begun ≡ true → IsFirstCondition (graph_records_so_far begun) (GraphProblem n m) (fault_at 0 ProblemTwice)
 begun_twice (Some begun) n m h = second_problem begun.nodes begun.declared begun.arcs n m
 begun_twice None n m h = absurd (cc)
-
-All-at : {A : Type 0} (P : A → Type 0) (xs front back : List A) (x : A) → xs ≡ front ++ x ∷ back → All P xs → P x
-All-at P xs front back x e all = All-contains P xs x all (rw e (Contains-append_right front (x ∷ back) x (0, omega arith, refl)))
 
 arc_allowed : (nodes declared : ℕ) (arcs : List ArcView) (a : ArcView) (before : List Record) (r : Record) → before ≡ GraphProblem nodes declared ∷ map graph_arc arcs → r ≡ graph_arc a
     → JoinsNodes nodes a → length arcs < declared → IsAllowed before r

@@ -1,4 +1,4 @@
-mod ArcLemmas
+pub mod ArcLemmas
 mod EndsLemmas
 mod GraphLemmas
 mod MaxLemmas

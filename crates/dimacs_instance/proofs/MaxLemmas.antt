@@ -30,9 +30,10 @@ use Rattle.dimacs_instance.specs.Ends.{has_ends, arc_ends}
 use Rattle.dimacs_instance.specs.MaxTexts.{max_arc}
 use Rattle.dimacs_instance.specs.Plain.{capacity_arc}
 use Rattle.dimacs_instance.specs.Arcs.{JoinsNodes}
-use Rattle.dimacs_instance.specs.Flows.{IsNode, IsWhole, HasCapacityAlone}
+use Rattle.dimacs_instance.specs.MaxFlows.{HasCapacityAlone}
+use Rattle.dimacs_records.specs.Ranges.{IsNode, IsWhole}
 use Rattle.dimacs_instance.specs.MaxReading.{MaxBegun, IsMaxBegun, ComeLast, max_node, end_records, max_begun_records, max_records_so_far, with_arc}
-use Rattle.dimacs_instance.proofs.SimpleLemmas.{one_more_simple}
+use Rattle.dimacs_instance.proofs.SimpleLemmas.{one_more_simple, any_joins}
 
 pub no_arcs : (arcs : List ArcView) → length arcs ≤ 0 → arcs ≡ []
 no_arcs [] none = refl
@@ -204,7 +205,7 @@ more_lawful begun first second t h cap is ends tail head test whole fresh room =
   arcs_last = rw ends tt;
   joined = All-append (JoinsNodes begun.nodes) begun.arcs (capacity_arc t h cap ∷ []) is.joined (All-cons (JoinsNodes begun.nodes) (capacity_arc t h cap) [] (tail, head) (All-nil (JoinsNodes begun.nodes)));
   capacities = All-append HasCapacityAlone begun.arcs (capacity_arc t h cap ∷ []) is.capacities (All-cons HasCapacityAlone (capacity_arc t h cap) [] (refl, refl, from_zero cap test, whole) (All-nil HasCapacityAlone));
-  simple = one_more_simple begun.arcs (capacity_arc t h cap) is.simple fresh;
+  simple = one_more_simple begun.arcs (capacity_arc t h cap) is.simple (sym (any_joins t h begun.arcs) ∙ fresh);
 }
 
 pub nothing_before_node : (id : ℕ) (end : End) → IsFirstCondition [] (MaxNode id end) (fault_at 0 ProblemMissing)

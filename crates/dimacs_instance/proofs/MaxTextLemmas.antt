@@ -4,9 +4,8 @@ use Rattle.std.specs.Prelude.{ℤ, pos, ◌≤ℤ◌, codes, slice_get, int_lt, 
 use Rattle.std.specs.List.{All, list_any}
 use Rattle.std.proofs.lemmas.Bool.{ne_eqb}
 use Rattle.std.proofs.lemmas.Int.{ints}
-use Rattle.std.proofs.lemmas.List.{map-append, take_more, length-map}
-use Rattle.std.proofs.lemmas.List.Elements.{All-nil, All-cons, All-head, All-tail, All-contains, Contains-append_right}
-use Rattle.std.proofs.lemmas.Option.{slice_get_within, get_or_from_slice_get}
+use Rattle.std.proofs.lemmas.List.{map-append, length-map}
+use Rattle.std.proofs.lemmas.List.Elements.{All-nil, All-cons, All-head, All-tail}
 use Rattle.dimacs_lines.specs.Lines.{lines}
 use Rattle.dimacs_records.specs.declared.kinds.TextKind.TheVariants.{Max}
 use Rattle.dimacs_records.specs.declared.records.End.{End}
@@ -18,18 +17,20 @@ use Rattle.dimacs_records.specs.Forms.{form, Word, Either, Nodes, Count, Id, Who
 use Rattle.dimacs_records.specs.Canonical.{CanBeSpelled, canonical_text}
 use Rattle.dimacs_records.specs.Readings.{LineRecord, records_of, IsAllowed}
 use Rattle.dimacs_records.specs.Texts.{AreSpelled, AreFaultless}
-use Rattle.dimacs_records.proofs.SplitLemmas.{ImageAt, image_at}
+use Rattle.dimacs_records.proofs.SplitLemmas.{ImageAt, image_at, All-at}
 use Rattle.dimacs_records.proofs.CanonicalLaws.{canonical_spelled, numbered_all}
 use Rattle.dimacs_instance.specs.declared.network.ArcView.{ArcView}
 use Rattle.dimacs_instance.specs.declared.max.EndLine.{EndLine}
 use Rattle.dimacs_instance.specs.declared.max.EndLines.TheVariants.{Neither, One, Both}
-use Rattle.dimacs_instance.specs.Arcs.{JoinsNodes}
-use Rattle.dimacs_instance.specs.Flows.{MaxValue, IsMax, IsNode, IsSimple, HasCapacityAlone}
+use Rattle.dimacs_instance.specs.Arcs.{JoinsNodes, IsSimple}
+use Rattle.dimacs_instance.specs.MaxFlows.{MaxValue, IsMax, HasCapacityAlone}
+use Rattle.dimacs_records.specs.Ranges.{IsNode}
 use Rattle.dimacs_instance.specs.Plain.{capacity_arc}
 use Rattle.dimacs_instance.specs.MaxTexts.{max_arc, source_node, sink_node, max_records, canonical_max, GivesMax, SpellsMax}
 use Rattle.dimacs_instance.specs.MaxReading.{MaxBegun, IsMaxBegun, max_node, max_begun_records}
-use Rattle.dimacs_instance.proofs.SimpleLemmas.{others_before}
+use Rattle.dimacs_instance.proofs.SimpleLemmas.{others_before, any_joins}
 use Rattle.dimacs_instance.proofs.MaxLemmas.{first_problem, one_more_node, one_more_arc, all_arcs, ends_there}
+use Rattle.dimacs_instance.proofs.ArcLemmas.{take_next}
 
 -- an instance whose node lines come in this order
 abbrev read_whole : ℕ → EndLine → EndLine → List ArcView → MaxBegun
@@ -76,9 +77,6 @@ other_end Source Sink node other = refl
 other_end Sink Source node other = refl
 other_end Sink Sink node other = absurd (other refl)
 
-All-at : {A : Type 0} (P : A → Type 0) (xs front back : List A) (x : A) → xs ≡ front ++ x ∷ back → All P xs → P x
-All-at P xs front back x e all = All-contains P xs x all (rw e (Contains-append_right front (x ∷ back) x (0, omega arith, refl)))
-
 not_below_zero : (cap : ℤ) → pos 0 ≤ℤ cap → int_lt cap (pos 0) ≡ false
 not_below_zero cap least = grind (arith, ints)
 
@@ -91,7 +89,7 @@ module _ (nodes : ℕ) (first second : EndLine) (arcs : List ArcView) (is : IsMa
       let room : length at.front < length arcs = omega (arith, ap length at.xs_are, length-append at.front (at.x ∷ at.back)) in
       let simple : IsSimple (at.front ++ at.x ∷ at.back) = rw at.xs_are at is.simple in
       rw (before, at.y_is) (one_more_arc nodes (length arcs) (Both first second) at.front at.x.tail at.x.head at.x.cap joins.0.1 joins.1.1
-      (ends_there nodes (length arcs) (Both first second) at.front first second refl) (not_below_zero at.x.cap alone.2) (others_before at.front at.back at.x simple) room)
+      (ends_there nodes (length arcs) (Both first second) at.front first second refl) (not_below_zero at.x.cap alone.2) (any_joins at.x.tail at.x.head at.front ∙ others_before at.front at.back at.x simple) room)
 
   -- its records are refused for nothing
   all_allowed : (before after : List Record) (r : Record) → max_begun_records (read_whole nodes first second arcs) ≡ before ++ r ∷ after → IsAllowed before r
@@ -222,9 +220,6 @@ given_by rs m h = elim h.0 [
 -- the records of an instance are those of no other
 pub one_max : (rs : List LineRecord) (g h : MaxValue) → GivesMax rs g → GivesMax rs h → g ≡ h
 one_max rs g h a b = sym (given_by rs g a) ∙ given_by rs h b
-
-take_next : (arcs : List ArcView) (i : ℕ) (a : ArcView) → slice_get arcs i ≡ Some a → take (i + 1) arcs ≡ take i arcs ++ a ∷ []
-take_next arcs i a got = take_more arcs i a (slice_get_within arcs i a got) ∙ ap (λ x. take i arcs ++ x ∷ []) (get_or_from_slice_get arcs i a a got)
 
 -- one arc more behind other records
 pub next_records : (problem first second : Record) (arcs : List ArcView) (i : ℕ) (a : ArcView) → slice_get arcs i ≡ Some a

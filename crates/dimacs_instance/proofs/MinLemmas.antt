@@ -1,6 +1,6 @@
 -- Records behind those of a minimum cost flow instance that was begun.
-use Rattle.std.proofs.Common.{◌≡◌, ◌≢◌, ℕ, suc, ◌<◌, ◌≤◌, ◌∷◌, ◌++◌, [], List, Bool, true, false, Option, Some, None, length, map, cond, ◌+◌, ◌==◌, ◌||◌, refl, ap, ap₂, sym, ◌∙◌, subst, append_assoc, arith}
-use Rattle.std.specs.Prelude.{ℤ, pos, is_some, nat_lt, nat_le, int_lt, not, count_by, if◌then◌else◌, Result, Ok, Err, OnOk, OnErr}
+use Rattle.std.proofs.Common.{◌≡◌, ◌≢◌, ℕ, suc, ◌<◌, ◌≤◌, ◌∷◌, ◌++◌, [], List, Bool, true, false, Option, Some, None, length, map, cond, ◌==◌, ◌||◌, refl, ap, ap₂, sym, ◌∙◌, subst, append_assoc, arith}
+use Rattle.std.specs.Prelude.{ℤ, pos, is_some, nat_lt, nat_le, int_lt, if◌then◌else◌, Result, Ok, Err, OnOk, OnErr}
 use Rattle.std.specs.List.{filter, list_any}
 use Rattle.std.specs.Ordering.{nat_cmp, int_eq}
 use Rattle.std.specs.Cmp.{nat_cmp_total}
@@ -10,10 +10,8 @@ use Rattle.std.specs.FinMap.Entries.{find}
 use Rattle.std.specs.FinMap as map
 use Rattle.std.specs.FinSet as set
 use Rattle.std.proofs.lemmas.List.{map-append, length-append, append-nil, nil_from_length}
-use Rattle.std.proofs.lemmas.List.Elements.{All-nil, All-push, filter-append}
-use Rattle.std.proofs.lemmas.List.Folds.{list_any-append}
-use Rattle.std.proofs.lemmas.List.Sums.{sum_by-append, sum_by-cons}
-use Rattle.std.proofs.lemmas.Bool.{lt-ltb, le-ltb, le-leb, eqb-true, and_parts}
+use Rattle.std.proofs.lemmas.List.Elements.{All-nil, All-push}
+use Rattle.std.proofs.lemmas.Bool.{lt-ltb, le-ltb, le-leb}
 use Rattle.std.proofs.lemmas.Bool.Decides.{nat_tests}
 use Rattle.dimacs_nodes.proofs.Entries.{All-empty, All-insert}
 use Rattle.dimacs_nodes.proofs.Nodes.{get-insert, contains-insert, get-empty, contains-empty}
@@ -21,51 +19,21 @@ use Rattle.dimacs_records.specs.declared.kinds.TextKind.TheVariants.{Min}
 use Rattle.dimacs_records.specs.declared.records.Record.{Record}
 use Rattle.dimacs_records.specs.declared.records.Record.TheVariants.{MinProblem, MinNode}
 use Rattle.dimacs_records.specs.declared.reasons.Reason.TheVariants.{ProblemMissing, ProblemTwice, RecordOrder, NodeRange, NodeTwice, BoundOrder, ParallelArc, TooMany, TooFew}
-use Rattle.dimacs_records.specs.declared.faults.TakeError.{TakeError}
 use Rattle.dimacs_records.specs.Earlier.{is_flow_arc, names, connects, counted_in}
-use Rattle.dimacs_records.specs.Readings.{LineRecord, records_of, on_line, AreBefore, IsAllowed, IsFirstCondition, IsComplete}
+use Rattle.dimacs_records.specs.Readings.{IsAllowed, IsFirstCondition, IsComplete}
 use Rattle.dimacs_records.specs.Faults.{FirstAtEnd}
 use Rattle.dimacs_records.specs.FieldReader.{fault_at}
 use Rattle.dimacs_records.proofs.ConditionLemmas.{is_first_condition, is_allowed, is_first_at_end, is_complete}
 use Rattle.dimacs_instance.specs.declared.network.ArcView.{ArcView}
 use Rattle.dimacs_instance.specs.Arcs.{joins, JoinsNodes}
-use Rattle.dimacs_instance.specs.Ends.{has_ends}
-use Rattle.dimacs_instance.specs.Flows.{IsNode, IsSimple, IsWhole}
+use Rattle.dimacs_records.specs.Ranges.{IsNode, IsWhole}
 use Rattle.dimacs_instance.specs.MinFlows.{IsSupply, HasBounds}
-use Rattle.dimacs_instance.specs.MinTexts.{min_node, min_arc, min_records, is_of, is_supplied, AreNamed}
-use Rattle.dimacs_instance.specs.MinReading.{MinBegun, IsMinBegun, IsBegunBy, StandsForMin, TakesMin, ends_of_arc, is_named, with_supply, with_arc}
-
-abbrev one_if : Bool → ℕ
-one_if b = cond b 1 0
-
--- none passes where none is counted, and none is counted where none passes
-none_counted : {X : Type 0} (p : X → Bool) (xs : List X) → list_any p xs ≡ false → count_by p xs ≡ 0
-none_counted p [] h = refl
-none_counted p (x ∷ xs) h = by_test (p x) refl h (none_counted p xs)
-  where
-    by_test : (b : Bool) → p x ≡ b → (b || list_any p xs) ≡ false → (list_any p xs ≡ false → count_by p xs ≡ 0) → count_by p (x ∷ xs) ≡ 0
-    by_test true e h rest = absurd (cc)
-    by_test false e h rest = omega (arith, sum_by-cons (λ y. cond (p y) 1 0) x xs, ap one_if e, rest h)
-
-none_passes : {X : Type 0} (p : X → Bool) (xs : List X) → count_by p xs ≡ 0 → list_any p xs ≡ false
-none_passes p [] h = refl
-none_passes p (x ∷ xs) h = by_test (p x) refl (none_passes p xs)
-  where
-    by_test : (b : Bool) → p x ≡ b → (count_by p xs ≡ 0 → list_any p xs ≡ false) → (b || list_any p xs) ≡ false
-    by_test true e rest = absurd (omega (arith, h, sum_by-cons (λ y. cond (p y) 1 0) x xs, ap one_if e))
-    by_test false e rest = rest (omega (arith, h, sum_by-cons (λ y. cond (p y) 1 0) x xs))
-
--- an element that is counted at most once is none of those before it
-pub once_before : {X : Type 0} (p : X → Bool) (front back : List X) (x : X) → p x ≡ true → count_by p (front ++ x ∷ back) ≤ 1 → list_any p front ≡ false
-once_before p front back x here once =
-    none_passes p front (omega (arith, once, sum_by-append (λ y. cond (p y) 1 0) front (x ∷ back), sum_by-cons (λ y. cond (p y) 1 0) x back, ap one_if here))
-
--- one more that may pass
-count_push : {X : Type 0} (p : X → Bool) (xs : List X) (x : X) → count_by p (xs ++ x ∷ []) ≡ count_by p xs + cond (p x) 1 0
-count_push p xs x = omega (arith, sum_by-append (λ y. cond (p y) 1 0) xs (x ∷ []), sum_by-cons (λ y. cond (p y) 1 0) x [])
-
-any_push : {X : Type 0} (p : X → Bool) (xs : List X) (x : X) → list_any p (xs ++ x ∷ []) ≡ (list_any p xs || (p x || false))
-any_push p xs x = list_any-append p xs (x ∷ [])
+use Rattle.dimacs_instance.specs.MinTexts.{min_node, min_arc, min_records}
+use Rattle.dimacs_records.specs.NodeValues.{is_of, has_value}
+use Rattle.dimacs_instance.specs.MinReading.{MinBegun, IsMinBegun, IsBegunBy, is_named, with_supply, with_arc}
+use Rattle.dimacs_records.specs.Takings.{StandsFor}
+use Rattle.dimacs_records.proofs.NameLemmas.{named_more, any_more, valued_more, zero_more}
+use Rattle.dimacs_instance.proofs.SimpleLemmas.{one_more_simple}
 
 -- the lines of arcs, and the node lines before them
 any_flow_arc : (named : List (ℕ × ℤ)) (arcs : List ArcView) → list_any is_flow_arc (map min_node named ++ map min_arc arcs) ≡ nat_lt 0 (length arcs)
@@ -88,10 +56,6 @@ any_arc_connects t h (a ∷ arcs) = ap (λ b. joins t h a || b) (any_arc_connect
 any_connects : (t h : ℕ) (named : List (ℕ × ℤ)) (arcs : List ArcView) → list_any (connects t h) (map min_node named ++ map min_arc arcs) ≡ list_any (joins t h) arcs
 any_connects t h [] arcs = any_arc_connects t h arcs
 any_connects t h (s ∷ named) arcs = any_connects t h named arcs
-
-pub any_has_ends : (t h : ℕ) (arcs : List ArcView) → list_any (has_ends t h) (map ends_of_arc arcs) ≡ list_any (joins t h) arcs
-any_has_ends t h [] = refl
-any_has_ends t h (a ∷ arcs) = ap (λ b. joins t h a || b) (any_has_ends t h arcs)
 
 counted_in-arcs : (arcs : List ArcView) → counted_in (map min_arc arcs) ≡ length arcs
 counted_in-arcs [] = refl
@@ -215,7 +179,7 @@ module _ (b : MinBegun) (rs : List Record) (h : IsBegunBy b rs) where
           of_taken (λ (rs : List Record). IsAllowed rs (min_arc a)) b rs h (one_more_arc b.nodes b.declared h.named b.arcs a tail head low cap alone room),
           record {
             named = h.named;
-            are_named = h.are_named;
+            name_nodes = h.name_nodes;
             supplies = h.supplies;
             nodes_named = h.nodes_named;
             records = ap (λ rs. rs ++ min_arc a ∷ []) h.records
@@ -230,23 +194,6 @@ module _ (b : MinBegun) (rs : List Record) (h : IsBegunBy b rs) where
   pub completes : b.declared ≤ length b.arcs → IsComplete Min rs
   completes full = of_taken (λ (rs : List Record). IsComplete Min rs) b rs h (all_arcs b.nodes b.declared h.named b.arcs full)
 
--- one node line more
-once_more : (named : List (ℕ × ℤ)) (id : ℕ) (s : ℤ) → ((other : ℕ) → count_by (is_of other) named ≤ 1) → list_any (is_of id) named ≡ false → (other : ℕ) → count_by (is_of other) (named ++ (id, s) ∷ []) ≤ 1
-once_more named id s once new other = by_test (id == other) refl
-  where
-    by_test : (b : Bool) → (id == other) ≡ b → count_by (is_of other) (named ++ (id, s) ∷ []) ≤ 1
-    by_test true e =
-        let same : id ≡ other = eqb-true id other e in
-        let none : count_by (is_of other) named ≡ 0 = none_counted (is_of other) named (ap (λ n. list_any (is_of n) named) (sym same) ∙ new) in
-        omega (arith, count_push (is_of other) named (id, s), none, ap one_if e)
-    by_test false e = omega (arith, count_push (is_of other) named (id, s), once other, ap one_if e)
-
-named_more : (nodes : ℕ) (named : List (ℕ × ℤ)) (id : ℕ) (s : ℤ) → AreNamed nodes named → IsNode nodes id → list_any (is_of id) named ≡ false → AreNamed nodes (named ++ (id, s) ∷ [])
-named_more nodes named id s are node new = record {
-  within = All-push (λ (x : ℕ × ℤ). IsNode nodes x.0) named (id, s) are.within node;
-  once = once_more named id s are.once new;
-}
-
 records_more : (nodes declared id : ℕ) (s : ℤ) (rs : List Record) (named : List (ℕ × ℤ)) (arcs : List ArcView) → rs ≡ min_records nodes declared named arcs → arcs ≡ []
     → rs ++ MinNode id s ∷ [] ≡ min_records nodes declared (named ++ (id, s) ∷ []) arcs
 records_more nodes declared id s rs named arcs is none =
@@ -255,13 +202,6 @@ records_more nodes declared id s rs named arcs is none =
     ∙ ap (λ rs. MinProblem nodes declared ∷ rs ++ MinNode id s ∷ []) (append-nil (map min_node named))
     ∙ ap (λ rs. MinProblem nodes declared ∷ rs) (sym (map-append min_node named ((id, s) ∷ [])) ∙ sym (append-nil (map min_node (named ++ (id, s) ∷ []))))
     ∙ ap (λ (arcs : List ArcView). min_records nodes declared (named ++ (id, s) ∷ []) arcs) (sym none)
-
-zero_more : (g z e : Bool) → (g || (e || z)) ≡ ((g || z) || (e || false))
-zero_more true z e = refl
-zero_more false true true = refl
-zero_more false true false = refl
-zero_more false false true = refl
-zero_more false false false = refl
 
 value_more : (g : Option ℤ) (z e : Bool) (s : ℤ) → (is_some (cond e (Some s) g) || z) ≡ ((is_some g || z) || (e || false))
 value_more (Some v) z true s = refl
@@ -275,9 +215,6 @@ no_value : (g : Option ℤ) (z : Bool) → (is_some g || z) ≡ false → g ≡ 
 no_value None z e = refl
 no_value (Some v) z e = absurd (cc)
 
-same_test : (a b : ℕ) → (a == b) ≡ (b == a)
-same_test a b = grind (arith, nat_tests)
-
 -- a zero or a supply is kept, and named
 module _ (b : MinBegun) (rs : List Record) (h : IsBegunBy b rs) (id : ℕ) (s : ℤ) (no_arcs : length b.arcs ≤ 0) (node : IsNode b.nodes id) (new : is_named b id ≡ false) where
   abbrev more : List (ℕ × ℤ)
@@ -286,30 +223,23 @@ module _ (b : MinBegun) (rs : List Record) (h : IsBegunBy b rs) (id : ℕ) (s : 
   none_before : list_any (is_of id) h.named ≡ false
   none_before = sym (h.nodes_named id) ∙ new
 
-  any_more : (other : ℕ) → (is_named b other || ((other == id) || false)) ≡ list_any (is_of other) more
-  any_more other = ap₂ (λ x y. x || (y || false)) (h.nodes_named other) (same_test other id) ∙ sym (any_push (is_of other) h.named (id, s))
-
-  -- s where the test for 0 answers false, else none
-  supplied_more : (t : Bool) → int_eq s (pos 0) ≡ t → filter is_supplied more ≡ filter is_supplied h.named ++ cond (not t) ((id, s) ∷ []) []
-  supplied_more t e = filter-append is_supplied h.named ((id, s) ∷ []) ∙ ap (λ b. filter is_supplied h.named ++ cond (not b) ((id, s) ∷ []) []) e
-
-  not_found : find nat_cmp id (filter is_supplied h.named) ≡ None
-  not_found = sym (get-from_entries nat_cmp_total (filter is_supplied h.named) id) ∙ ap (λ m. map.get m id) (sym h.supplies) ∙ no_value (map.get b.supplies id) (set.contains b.zeros id) new
+  not_found : find nat_cmp id (filter has_value h.named) ≡ None
+  not_found = sym (get-from_entries nat_cmp_total (filter has_value h.named) id) ∙ ap (λ m. map.get m id) (sym h.supplies) ∙ no_value (map.get b.supplies id) (set.contains b.zeros id) new
 
   begun_with : (t : Bool) → int_eq s (pos 0) ≡ t → IsBegunBy (if t then record b { zeros = set.insert b.zeros id } else record b { supplies = map.insert b.supplies id s }) (rs ++ MinNode id s ∷ [])
   begun_with true e = record {
     named = more;
-    are_named = named_more b.nodes h.named id s h.are_named node none_before;
-    supplies = h.supplies ∙ ap from_entries (sym (supplied_more true e ∙ append-nil (filter is_supplied h.named)));
-    nodes_named = λ other. ap (λ z. is_some (map.get b.supplies other) || z) (contains-insert b.zeros id other) ∙ zero_more (is_some (map.get b.supplies other)) (set.contains b.zeros other) (other == id) ∙ any_more other;
+    name_nodes = named_more h.named id s b.nodes h.name_nodes node none_before;
+    supplies = h.supplies ∙ ap from_entries (sym (valued_more h.named id s true e ∙ append-nil (filter has_value h.named)));
+    nodes_named = λ other. ap (λ z. is_some (map.get b.supplies other) || z) (contains-insert b.zeros id other) ∙ zero_more (is_some (map.get b.supplies other)) (set.contains b.zeros other) (other == id) ∙ any_more h.named id s (is_named b other) other (h.nodes_named other);
     records = records_more b.nodes b.declared id s rs h.named b.arcs h.records (nil_from_length b.arcs (omega arith));
   }
   begun_with false e = record {
     named = more;
-    are_named = named_more b.nodes h.named id s h.are_named node none_before;
+    name_nodes = named_more h.named id s b.nodes h.name_nodes node none_before;
     supplies = ap (λ m. map.insert m id s) h.supplies
-        ∙ sym (ap from_entries (supplied_more false e) ∙ from_entries_push nat_cmp_total nat_cmp-IsAntisymmetric (filter is_supplied h.named) id s not_found);
-    nodes_named = λ other. ap (λ o. is_some o || set.contains b.zeros other) (get-insert b.supplies id other s) ∙ value_more (map.get b.supplies other) (set.contains b.zeros other) (other == id) s ∙ any_more other;
+        ∙ sym (ap from_entries (valued_more h.named id s false e) ∙ from_entries_push nat_cmp_total nat_cmp-IsAntisymmetric (filter has_value h.named) id s not_found);
+    nodes_named = λ other. ap (λ o. is_some o || set.contains b.zeros other) (get-insert b.supplies id other s) ∙ value_more (map.get b.supplies other) (set.contains b.zeros other) (other == id) s ∙ any_more h.named id s (is_named b other) other (h.nodes_named other);
     records = records_more b.nodes b.declared id s rs h.named b.arcs h.records (nil_from_length b.arcs (omega arith));
   }
 
@@ -339,18 +269,6 @@ law_with_supply b id s law node some whole = record {
   simple = law.simple;
 }
 
-simple_more : (arcs : List ArcView) (a : ArcView) → IsSimple arcs → list_any (joins a.tail a.head) arcs ≡ false → IsSimple (arcs ++ a ∷ [])
-simple_more arcs a simple alone t h = by_test (joins t h a) refl
-  where
-    by_test : (b : Bool) → joins t h a ≡ b → count_by (joins t h) (arcs ++ a ∷ []) ≤ 1
-    by_test true e =
-        let parts = and_parts (a.tail == t) (a.head == h) e in
-        let tail : a.tail ≡ t = eqb-true a.tail t parts.0 in
-        let head : a.head ≡ h = eqb-true a.head h parts.1 in
-        let none : count_by (joins t h) arcs ≡ 0 = none_counted (joins t h) arcs (ap₂ (λ x y. list_any (joins x y) arcs) (sym tail) (sym head) ∙ alone) in
-        omega (arith, count_push (joins t h) arcs a, none, ap one_if e)
-    by_test false e = omega (arith, count_push (joins t h) arcs a, simple t h, ap one_if e)
-
 pub law_with_arc : (b : MinBegun) (a : ArcView) → IsMinBegun b → JoinsNodes b.nodes a → HasBounds a → list_any (joins a.tail a.head) b.arcs ≡ false → length b.arcs < b.declared → IsMinBegun (with_arc b a)
 law_with_arc b a law joined bounds alone room = record {
   nodes_few = law.nodes_few;
@@ -359,7 +277,7 @@ law_with_arc b a law joined bounds alone room = record {
   supplied = law.supplied;
   joined = All-push (JoinsNodes b.nodes) b.arcs a law.joined joined;
   bounds = All-push HasBounds b.arcs a law.bounds bounds;
-  simple = simple_more b.arcs a law.simple alone;
+  simple = one_more_simple b.arcs a law.simple alone;
 }
 
 -- before the problem line
@@ -381,18 +299,18 @@ takes_problem nodes declared rs none = (
   subst (λ (rs : List Record). IsAllowed rs (MinProblem nodes declared)) (sym none) (allows_problem nodes declared),
   record {
     named = [];
-    are_named = record { within = All-nil (λ (s : ℕ × ℤ). IsNode nodes s.0); once = λ id. omega arith };
+    name_nodes = record { within = All-nil (λ (s : ℕ × ℤ). IsNode nodes s.0); once = λ id. omega arith };
     supplies = refl;
     nodes_named = λ id. ap₂ (λ o z. is_some o || z) (get-empty id) (contains-empty id);
     records = ap (λ rs. rs ++ MinProblem nodes declared ∷ []) none;
   },
 )
 
-pub refuses_second : (begun : Option MinBegun) (rs : List Record) (n m : ℕ) → is_some begun ≡ true → StandsForMin begun rs → IsFirstCondition rs (MinProblem n m) (fault_at 0 ProblemTwice)
+pub refuses_second : (begun : Option MinBegun) (rs : List Record) (n m : ℕ) → is_some begun ≡ true → StandsFor IsBegunBy begun rs → IsFirstCondition rs (MinProblem n m) (fault_at 0 ProblemTwice)
 refuses_second (Some b) rs n m e h = refuses_problem b rs h n m
 refuses_second None rs n m e h = absurd (cc)
 
-pub takes_first : (begun : Option MinBegun) (rs : List Record) (n m : ℕ) → is_some begun ≡ false → StandsForMin begun rs
+pub takes_first : (begun : Option MinBegun) (rs : List Record) (n m : ℕ) → is_some begun ≡ false → StandsFor IsBegunBy begun rs
     → IsAllowed rs (MinProblem n m) × IsBegunBy (record { nodes = n; declared = m; supplies = map.empty; zeros = set.empty; arcs = [] }) (rs ++ MinProblem n m ∷ [])
 takes_first None rs n m e h = takes_problem n m rs h
 takes_first (Some b) rs n m e h = absurd (cc)
@@ -407,17 +325,6 @@ pub on_ok_of : {E : Type 0} {P : Type 0} (r : Result Unit E) → is_err r ≡ fa
 on_ok_of (Ok done) e h = h
 on_ok_of (Err error) e h = absurd (cc)
 
--- what a reading stands for that has begun, or not
-pub stands : (o : Option MinBegun) (b : MinBegun) (rs : List Record) → o ≡ Some b → StandsForMin o rs → IsBegunBy b rs
-stands o b rs is h = subst (λ (x : Option MinBegun). StandsForMin x rs) is h
-
-pub refuses_nothing : (o : Option MinBegun) (rs : List Record) → o ≡ None → StandsForMin o rs → FirstAtEnd Min rs ProblemMissing
+pub refuses_nothing : (o : Option MinBegun) (rs : List Record) → o ≡ None → StandsFor IsBegunBy o rs → FirstAtEnd Min rs ProblemMissing
 refuses_nothing None rs e h = subst (λ (rs : List Record). FirstAtEnd Min rs ProblemMissing) (sym h) nothing_read
 refuses_nothing (Some b) rs e h = absurd (cc)
-
--- records with the lines that they stand on
-pub taken_on_line : (old new : Option MinBegun) (said : Record) (r : Result Unit TakeError) (line : ℕ) → TakesMin old said r new
-    → OnOk r ((rs : List LineRecord) → StandsForMin old (records_of rs) → AreBefore line rs → StandsForMin new (records_of (rs ++ on_line line said ∷ [])))
-taken_on_line old new said (Ok done) line takes = λ rs h before.
-    subst (StandsForMin new) (sym (map-append (λ (x : LineRecord). x.says) rs (on_line line said ∷ []))) (takes (records_of rs) h).1
-taken_on_line old new said (Err error) line takes = tt

@@ -7,31 +7,31 @@ use Rattle.std.proofs.lemmas.Int.{ints}
 use Rattle.std.proofs.lemmas.List.{map-append, append-nil, take_more}
 use Rattle.std.proofs.lemmas.List.Sums.{sum_by-append, sum_by-cons}
 use Rattle.std.proofs.lemmas.Option.{slice_get_within, get_or_from_slice_get}
-use Rattle.std.proofs.lemmas.Grind.{flat_map-append}
 use Rattle.dimacs_lines.specs.Pages.{PageState, IsWritten}
 use Rattle.dimacs_nodes.proofs.Entries.{entry_of, entries_below, entries_below-none, entries_below-next, entries_are, All-get}
-use Rattle.dimacs_records.specs.declared.records.Record.{Record}
 use Rattle.dimacs_records.specs.declared.records.Record.TheVariants.{MinProblem}
-use Rattle.dimacs_records.specs.Canonical.{canonical_line, canonical_text}
+use Rattle.dimacs_records.specs.Canonical.{canonical_text}
 use Rattle.dimacs_instance.specs.declared.network.ArcView.{ArcView}
-use Rattle.dimacs_instance.specs.Flows.{IsWhole}
+use Rattle.dimacs_records.specs.Ranges.{IsWhole}
 use Rattle.dimacs_instance.specs.MinFlows.{MinValue, IsMin, IsSupply, supply_of, positive_part, negative_part}
-use Rattle.dimacs_instance.specs.MinTexts.{min_node, min_arc, min_records, is_supplied}
+use Rattle.dimacs_instance.specs.MinTexts.{min_node, min_arc, min_records}
+use Rattle.dimacs_records.specs.NodeValues.{has_value}
 use Rattle.dimacs_instance.proofs.MinTextLemmas.{no_supply, no_supply_past, supplied_test}
+use Rattle.dimacs_records.proofs.WrittenLemmas.{canonical_text-append}
 
 -- the supplies of the nodes below n
 abbrev pub supplies_below : MinValue → ℕ → List (ℕ × ℤ)
 supplies_below m n = entries_below (get m.supplies) n
 
 module _ (m : MinValue) (law : IsMin m) where
-  entry_is : (id : ℕ) (o : Option ℤ) → get m.supplies id ≡ o → entry_of id o ≡ filter is_supplied ((id, unwrap_or o (pos 0)) ∷ [])
+  entry_is : (id : ℕ) (o : Option ℤ) → get m.supplies id ≡ o → entry_of id o ≡ filter has_value ((id, unwrap_or o (pos 0)) ∷ [])
   entry_is id None e = refl
   entry_is id (Some v) e = sym (ap (λ b. cond b ((id, v) ∷ []) []) (supplied_test (id, v) (All-get (IsSupply m.nodes) m.supplies id v law.supplied e).1))
 
   pub first_supplies : supplies_below m 1 ≡ []
   first_supplies = entries_below-next (get m.supplies) 0 ∙ ap (λ es. es ++ entry_of 0 (get m.supplies 0)) (entries_below-none (get m.supplies)) ∙ ap (entry_of 0) (no_supply m law 0 (λ node. omega (arith, node.0)))
 
-  pub next_supplies : (id : ℕ) → supplies_below m (id + 1) ≡ supplies_below m id ++ filter is_supplied ((id, supply_of m id) ∷ [])
+  pub next_supplies : (id : ℕ) → supplies_below m (id + 1) ≡ supplies_below m id ++ filter has_value ((id, supply_of m id) ∷ [])
   next_supplies id = entries_below-next (get m.supplies) id ∙ ap (λ es. supplies_below m id ++ es) (entry_is id (get m.supplies id) refl)
 
   pub all_supplies : supplies_below m (m.nodes + 1) ≡ entries m.supplies
@@ -89,9 +89,6 @@ positive_few (negsuc n) h = omega arith
 pub negative_few : (s : ℤ) → IsWhole s → negative_part s ≤ 2 ^ 63
 negative_few (pos n) h = omega arith
 negative_few (negsuc n) h = omega (arith, ints, h.0)
-
-canonical_text-append : (xs ys : List Record) → canonical_text (xs ++ ys) ≡ canonical_text xs ++ canonical_text ys
-canonical_text-append xs ys = flat_map-append canonical_line xs ys
 
 -- the lines of supplies behind a text
 module _ (start new : Option (List ℕ)) (page : PageState) (text : List ℕ) where

@@ -9,7 +9,7 @@ use Rattle.std.proofs.lemmas.Bool.{eq-eqb, and_from, false_from_ne_true}
 use Rattle.std.proofs.lemmas.Bool.Decides.{Decides-int_eq}
 use Rattle.std.proofs.lemmas.Int.{ints}
 use Rattle.std.proofs.lemmas.List.{append-nil, length-append, length-map}
-use Rattle.std.proofs.lemmas.List.Elements.{All-nil, All-cons, All-head, All-tail, All-append, All-map, All-weaker, All-contains, Contains-append_right}
+use Rattle.std.proofs.lemmas.List.Elements.{All-nil, All-cons, All-head, All-tail, All-append, All-map, All-weaker}
 use Rattle.dimacs_nodes.proofs.Entries.{from_entries-entries, entries_once, length-entries, All-get}
 use Rattle.dimacs_records.specs.declared.kinds.TextKind.TheVariants.{Min}
 use Rattle.dimacs_records.specs.declared.records.Record.{Record}
@@ -18,17 +18,16 @@ use Rattle.dimacs_records.specs.Forms.{form, Word, Nodes, Count, Id, Whole}
 use Rattle.dimacs_records.specs.Canonical.{CanBeSpelled}
 use Rattle.dimacs_records.specs.Readings.{LineRecord, records_of, IsAllowed}
 use Rattle.dimacs_records.specs.Texts.{AreFaultless}
-use Rattle.dimacs_records.proofs.SplitLemmas.{image_at}
+use Rattle.dimacs_records.proofs.SplitLemmas.{image_at, All-at}
 use Rattle.dimacs_records.proofs.CanonicalLaws.{canonical_spelled, numbered_all}
 use Rattle.dimacs_instance.specs.declared.network.ArcView.{ArcView}
 use Rattle.dimacs_instance.specs.Arcs.{joins, JoinsNodes}
-use Rattle.dimacs_instance.specs.Flows.{IsNode}
+use Rattle.dimacs_records.specs.Ranges.{IsNode}
 use Rattle.dimacs_instance.specs.MinFlows.{MinValue, IsMin, IsSupply, HasBounds}
-use Rattle.dimacs_instance.specs.MinTexts.{min_node, min_arc, min_records, is_of, is_supplied, AreNamed, GivesMin, SpellsMin, canonical_min, canonical_min_records}
-use Rattle.dimacs_instance.proofs.MinLemmas.{once_before, node_new, one_more_arc, all_arcs, allows_problem}
-
-All-at : {A : Type 0} (P : A → Type 0) (xs front back : List A) (x : A) → xs ≡ front ++ x ∷ back → All P xs → P x
-All-at P xs front back x e all = All-contains P xs x all (rw e (Contains-append_right front (x ∷ back) x (0, omega arith, refl)))
+use Rattle.dimacs_instance.specs.MinTexts.{min_node, min_arc, min_records, GivesMin, SpellsMin, canonical_min, canonical_min_records}
+use Rattle.dimacs_records.specs.NodeValues.{is_of, has_value, NameNodes}
+use Rattle.dimacs_instance.proofs.MinLemmas.{node_new, one_more_arc, all_arcs, allows_problem}
+use Rattle.dimacs_records.proofs.CountLemmas.{once_before}
 
 -- an element of two lists, one behind the other, is one of the first or one of the second
 pub data InEither {A : Type 0} (xs ys before : List A) (y : A) : Type 0 where
@@ -48,7 +47,7 @@ in_either (x ∷ xs) ys (b ∷ bs) after y e =
 int_lt_not : (x y : ℤ) → y ≤ℤ x → int_lt x y ≡ false
 int_lt_not x y h = false_from_ne_true (int_lt x y) (λ e. let below : x <ℤ y = lt_z_yes {a = x} {b = y} (rw e tt) in absurd (omega (arith, ints, below, h)))
 
-node_allowed : (m : MinValue) (named front back : List (ℕ × ℤ)) (s : ℕ × ℤ) (before : List Record) (r : Record) → AreNamed m.nodes named → named ≡ front ++ s ∷ back
+node_allowed : (m : MinValue) (named front back : List (ℕ × ℤ)) (s : ℕ × ℤ) (before : List Record) (r : Record) → NameNodes m.nodes named → named ≡ front ++ s ∷ back
     → before ≡ min_records m.nodes (length m.arcs) front [] → r ≡ min_node s → IsAllowed before r
 node_allowed m named front back s before r are is before_is r_is =
     let node : IsNode m.nodes s.0 = All-at (λ (x : ℕ × ℤ). IsNode m.nodes x.0) named front back s is are.within in
@@ -67,7 +66,7 @@ arc_allowed m named front back a before r law is before_is r_is =
     rw (before_is, r_is) (one_more_arc m.nodes (length m.arcs) named front a joined.0.1 joined.1.1 (int_lt_not a.low (pos 0) bounds.0) (int_lt_not a.cap a.low bounds.1) alone room)
 
 -- the records of an instance are refused for nothing
-min_allowed : (m : MinValue) (named : List (ℕ × ℤ)) → AreNamed m.nodes named → IsMin m → (before after : List Record) (r : Record) → min_records m.nodes (length m.arcs) named m.arcs ≡ before ++ r ∷ after → IsAllowed before r
+min_allowed : (m : MinValue) (named : List (ℕ × ℤ)) → NameNodes m.nodes named → IsMin m → (before after : List Record) (r : Record) → min_records m.nodes (length m.arcs) named m.arcs ≡ before ++ r ∷ after → IsAllowed before r
 min_allowed m named are law [] after r e = let first : r ≡ MinProblem m.nodes (length m.arcs) = cc in rw first (allows_problem m.nodes (length m.arcs))
 min_allowed m named are law (b ∷ bs) after r e =
     let first : b ≡ MinProblem m.nodes (length m.arcs) = cc in
@@ -81,7 +80,7 @@ min_allowed m named are law (b ∷ bs) after r e =
     ]
 
 pub min_faultless : (rs : List LineRecord) (m : MinValue) → GivesMin rs m → AreFaultless Min (records_of rs)
-min_faultless rs m h = rw h.records (record { allowed = min_allowed m h.named h.are_named h.is_min; complete = all_arcs m.nodes (length m.arcs) h.named m.arcs (omega arith) })
+min_faultless rs m h = rw h.records (record { allowed = min_allowed m h.named h.name_nodes h.is_min; complete = all_arcs m.nodes (length m.arcs) h.named m.arcs (omega arith) })
 
 -- the node lines and the arcs among records
 nodes_in : List Record → ℕ
@@ -137,7 +136,7 @@ one_min rs g h a b =
     let nodes : g.nodes ≡ h.nodes = sym (nodes_in-records g.nodes (length g.arcs) a.named g.arcs) ∙ ap nodes_in same ∙ nodes_in-records h.nodes (length h.arcs) b.named h.arcs in
     let named : a.named ≡ b.named = sym (named_in-records g.nodes (length g.arcs) a.named g.arcs) ∙ ap named_in same ∙ named_in-records h.nodes (length h.arcs) b.named h.arcs in
     let arcs : g.arcs ≡ h.arcs = sym (arcs_in-records g.nodes (length g.arcs) a.named g.arcs) ∙ ap arcs_in same ∙ arcs_in-records h.nodes (length h.arcs) b.named h.arcs in
-    let supplies : g.supplies ≡ h.supplies = a.supplies ∙ ap (λ x. from_entries (filter is_supplied x)) named ∙ sym b.supplies in
+    let supplies : g.supplies ≡ h.supplies = a.supplies ∙ ap (λ x. from_entries (filter has_value x)) named ∙ sym b.supplies in
     λ i. record { nodes = nodes i; supplies = supplies i; arcs = arcs i }
 
 problem_fits : (m : MinValue) → IsMin m → CanBeSpelled Min (MinProblem m.nodes (length m.arcs))
@@ -197,7 +196,7 @@ no_supply m law id out = of_value (get m.supplies id) refl
 pub no_supply_past : (m : MinValue) → IsMin m → (id : ℕ) → m.nodes + 1 ≤ id → get m.supplies id ≡ None
 no_supply_past m law id past = no_supply m law id (λ node. omega (arith, node.1))
 
-pub supplied_test : (s : ℕ × ℤ) → s.1 ≢ pos 0 → is_supplied s ≡ true
+pub supplied_test : (s : ℕ × ℤ) → s.1 ≢ pos 0 → has_value s ≡ true
 supplied_test s some = ap not (false_from_ne_true (int_eq s.1 (pos 0)) (λ e. some ((Decides-int_eq s.1 (pos 0)).0 e)))
 
 all_pass : {A : Type 0} (p : A → Bool) (xs : List A) → All (λ x. p x ≡ true) xs → filter p xs ≡ xs
@@ -208,15 +207,15 @@ all_pass p (x ∷ xs) h = ap (λ b. cond b (x ∷ filter p xs) (filter p xs)) (A
 pub min_round_trip : (m : MinValue) → IsMin m → SpellsMin (canonical_min m) m
 min_round_trip m law =
     let few : length (entries m.supplies) ≤ m.nodes + 1 = length-entries m.supplies (m.nodes + 1) (no_supply_past m law) in
-    let kept : filter is_supplied (entries m.supplies) ≡ entries m.supplies =
-    all_pass is_supplied (entries m.supplies) (All-weaker (IsSupply m.nodes) (λ (s : ℕ × ℤ). is_supplied s ≡ true) (λ s h. supplied_test s h.1) (entries m.supplies) law.supplied) in
+    let kept : filter has_value (entries m.supplies) ≡ entries m.supplies =
+    all_pass has_value (entries m.supplies) (All-weaker (IsSupply m.nodes) (λ (s : ℕ × ℤ). has_value s ≡ true) (λ s h. supplied_test s h.1) (entries m.supplies) law.supplied) in
     record {
       said = map (λ (r : Record). Some r) (canonical_min_records m);
       spelled = canonical_spelled Min (canonical_min_records m) (records_fit m law)
           (omega (arith, length-append (map min_node (entries m.supplies)) (map min_arc m.arcs), length-map (entries m.supplies) min_node, length-map m.arcs min_arc, few, law.nodes_few, law.arcs_few));
       given = record {
         named = entries m.supplies;
-        are_named = record {
+        name_nodes = record {
           within = All-weaker (IsSupply m.nodes) (λ (s : ℕ × ℤ). IsNode m.nodes s.0) (λ s h. h.0) (entries m.supplies) law.supplied;
           once = entries_once m.supplies (m.nodes + 1) (no_supply_past m law);
         };

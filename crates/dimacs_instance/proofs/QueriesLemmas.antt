@@ -23,9 +23,10 @@ use Rattle.dimacs_records.specs.Readings.{LineRecord, IsAllowed, IsFirstConditio
 use Rattle.dimacs_records.specs.Spelling.{query_word}
 use Rattle.dimacs_records.specs.Texts.{AreFaultless}
 use Rattle.dimacs_records.proofs.CanonicalLaws.{canonical_spelled, numbered_all}
-use Rattle.dimacs_records.proofs.ConditionLemmas.{is_first_condition, is_allowed, is_first_at_end, is_complete}
+use Rattle.dimacs_records.proofs.ConditionLemmas.{is_first_condition, is_allowed, is_first_at_end, is_complete, allowed_at}
 use Rattle.dimacs_records.proofs.SplitLemmas.{image_at}
-use Rattle.dimacs_instance.specs.QueryTexts.{QueriesValue, Sources, Pairs, IsId, AreIds, AreLawful, GivesQueries, SpellsQueries, canonical_queries, kind_asked, pair_query, query_lines, query_records}
+use Rattle.dimacs_instance.specs.QueryTexts.{QueriesValue, Sources, Pairs, AreIds, AreLawful, GivesQueries, SpellsQueries, canonical_queries, kind_asked, pair_query, query_lines, query_records}
+use Rattle.dimacs_records.specs.Ranges.{IsId}
 use Rattle.dimacs_instance.specs.QueriesReading.{QueriesBegun, query_records_so_far}
 
 counted_in-sources : (ids : List ℕ) → counted_in (map SourceQuery ids) ≡ length ids
@@ -125,9 +126,6 @@ pushed_source ids id = map-append SourceQuery ids (id ∷ [])
 
 pub pushed_pair : (pairs : List (ℕ × ℕ)) (from to : ℕ) → map pair_query (pairs ++ (from, to) ∷ []) ≡ map pair_query pairs ++ PairQuery from to ∷ []
 pushed_pair pairs from to = map-append pair_query pairs ((from, to) ∷ [])
-
-allowed_at : (before here : List Record) (r s : Record) → before ≡ here → r ≡ s → IsAllowed here s → IsAllowed before r
-allowed_at before here r s before_is r_is h = rw (before_is, r_is) h
 
 -- the records of queries are refused for nothing
 sources_allowed : (ids : List ℕ) (before after : List Record) (r : Record) → query_records (Sources ids) ≡ before ++ r ∷ after → IsAllowed before r

@@ -1,5 +1,6 @@
 -- Arcs and their ends.
 use Rattle.std.specs.Prelude.{ℕ, ◌≡◌, ◌==◌, ◌<◌, ◌≤◌, ◌&&◌, Bool, true, List, Option, Some, None, length, take, count_by, IfSome, slice_get}
+use Rattle.dimacs_records.specs.Ranges.{IsNode}
 use Rattle.dimacs_instance.specs.declared.network.ArcView.{ArcView}
 
 abbrev pub joins : ℕ → ℕ → ArcView → Bool
@@ -12,7 +13,11 @@ IsKthBetween arcs tail head k (Some i) = (i < length arcs) × IfSome (slice_get 
 
 -- both ends are nodes
 abbrev pub JoinsNodes : ℕ → ArcView → Type 0
-JoinsNodes nodes a = ((1 ≤ a.tail) × (a.tail ≤ nodes)) × ((1 ≤ a.head) × (a.head ≤ nodes))
+JoinsNodes nodes a = IsNode nodes a.tail × IsNode nodes a.head
+
+-- at most one arc from each node to each other
+abbrev pub IsSimple : List ArcView → Type 0
+IsSimple arcs = (tail head : ℕ) → count_by (joins tail head) arcs ≤ 1
 
 -- a number of nodes, and arcs in order
 pub record NetworkValue : Type 0 where

@@ -1,12 +1,12 @@
 -- Graphs for shortest paths, and the texts that spell them.
-use Rattle.std.specs.Prelude.{ℕ, ◌≡◌, ◌≤◌, List, ◌∷◌, map, length, pos, neg_ℤ, ◌^◌, ◌-◌}
+use Rattle.std.specs.Prelude.{ℕ, ◌≡◌, ◌≤◌, List, ◌∷◌, map, length, pos}
 use Rattle.std.specs.List.{All}
 use Rattle.dimacs_lines.specs.Lines.{lines}
-use Rattle.dimacs_lines.specs.Number.{IsWithin}
 use Rattle.dimacs_records.specs.declared.kinds.TextKind.TheVariants.{Graph}
 use Rattle.dimacs_records.specs.declared.records.Record.{Record}
 use Rattle.dimacs_records.specs.declared.records.Record.TheVariants.{GraphProblem, GraphArc}
 use Rattle.dimacs_records.specs.Canonical.{canonical_text}
+use Rattle.dimacs_records.specs.Ranges.{IsWhole}
 use Rattle.dimacs_records.specs.Readings.{LineRecord, records_of}
 use Rattle.dimacs_records.specs.Texts.{SpellsValue}
 use Rattle.dimacs_instance.specs.declared.network.ArcView.{ArcView}
@@ -18,7 +18,7 @@ pub record GraphValue : Type 0 where
 
 -- an arc with a weight alone
 abbrev pub HasWeightAlone : ArcView → Type 0
-HasWeightAlone a = (a.low ≡ pos 0) × (a.cap ≡ pos 0) × IsWithin (neg_ℤ (pos (2 ^ 63))) (pos (2 ^ 63 - 1)) a.cost
+HasWeightAlone a = (a.low ≡ pos 0) × (a.cap ≡ pos 0) × IsWhole a.cost
 
 -- the counts lie within their limits, and each arc joins nodes of the graph
 pub record IsGraph (g : GraphValue) : Type 0 where

@@ -1,7 +1,7 @@
 pub mod Arcs
 pub mod Buckets
 pub mod Ends
-pub mod Flows
+pub mod MaxFlows
 pub mod Graph
 pub mod GraphReading
 pub mod MaxReading

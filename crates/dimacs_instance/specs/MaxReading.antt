@@ -7,9 +7,10 @@ use Rattle.dimacs_instance.specs.declared.network.ArcView.{ArcView}
 use Rattle.dimacs_instance.specs.declared.max.EndLine.{EndLine}
 use Rattle.dimacs_instance.specs.declared.max.EndLines.{EndLines}
 use Rattle.dimacs_instance.specs.declared.max.EndLines.TheVariants.{Neither, One, Both}
-use Rattle.dimacs_instance.specs.Arcs.{JoinsNodes}
+use Rattle.dimacs_instance.specs.Arcs.{JoinsNodes, IsSimple}
 use Rattle.dimacs_instance.specs.Ends.{Ends, arc_ends}
-use Rattle.dimacs_instance.specs.Flows.{IsNode, IsSimple, HasCapacityAlone}
+use Rattle.dimacs_instance.specs.MaxFlows.{HasCapacityAlone}
+use Rattle.dimacs_records.specs.Ranges.{IsNode}
 use Rattle.dimacs_instance.specs.MaxTexts.{max_arc}
 
 -- what the problem line declares, the node lines and the arcs behind it

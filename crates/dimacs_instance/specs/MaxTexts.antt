@@ -9,7 +9,7 @@ use Rattle.dimacs_records.specs.Canonical.{canonical_text}
 use Rattle.dimacs_records.specs.Readings.{LineRecord, records_of}
 use Rattle.dimacs_records.specs.Texts.{SpellsValue}
 use Rattle.dimacs_instance.specs.declared.network.ArcView.{ArcView}
-use Rattle.dimacs_instance.specs.Flows.{MaxValue, IsMax}
+use Rattle.dimacs_instance.specs.MaxFlows.{MaxValue, IsMax}
 
 abbrev pub max_arc : ArcView → Record
 max_arc a = MaxArc a.tail a.head a.cap

@@ -4,8 +4,8 @@ use Rattle.std.specs.List.{All}
 use Rattle.std.specs.Ordering.{nat_cmp}
 use Rattle.std.specs.FinMap.{FinMap, get, entries, values}
 use Rattle.dimacs_instance.specs.declared.network.ArcView.{ArcView}
-use Rattle.dimacs_instance.specs.Arcs.{JoinsNodes}
-use Rattle.dimacs_instance.specs.Flows.{IsWhole, IsSimple, IsNode}
+use Rattle.dimacs_instance.specs.Arcs.{JoinsNodes, IsSimple}
+use Rattle.dimacs_records.specs.Ranges.{IsWhole, IsNode}
 
 -- a minimum cost flow instance; the map has the supplies that aren't 0, by node
 pub record MinValue : Type 0 where

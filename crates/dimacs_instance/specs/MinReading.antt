@@ -1,5 +1,5 @@
 -- How far a minimum cost flow instance has been read.
-use Rattle.std.specs.Prelude.{ℕ, ℤ, ◌≡◌, ◌≤◌, ◌||◌, Bool, List, [], ◌∷◌, ◌++◌, length, Option, None, Some, Result, Ok, Err, is_some, pos, if◌then◌else◌}
+use Rattle.std.specs.Prelude.{ℕ, ℤ, ◌≡◌, ◌≤◌, ◌||◌, Bool, List, [], ◌∷◌, ◌++◌, length, is_some, pos, if◌then◌else◌}
 use Rattle.std.specs.List.{All, filter, list_any}
 use Rattle.std.specs.Ordering.{nat_cmp, int_eq}
 use Rattle.std.specs.FinMap.{FinMap, from_entries, entries}
@@ -7,17 +7,11 @@ use Rattle.std.specs.FinMap as map
 use Rattle.std.specs.FinSet.{FinSet}
 use Rattle.std.specs.FinSet as set
 use Rattle.dimacs_records.specs.declared.records.Record.{Record}
-use Rattle.dimacs_records.specs.declared.faults.TakeError.{TakeError}
-use Rattle.dimacs_records.specs.Readings.{IsAllowed, RefusesRecord}
 use Rattle.dimacs_instance.specs.declared.network.ArcView.{ArcView}
-use Rattle.dimacs_instance.specs.Arcs.{JoinsNodes}
-use Rattle.dimacs_instance.specs.Ends.{Ends}
-use Rattle.dimacs_instance.specs.Flows.{IsSimple}
+use Rattle.dimacs_instance.specs.Arcs.{JoinsNodes, IsSimple}
 use Rattle.dimacs_instance.specs.MinFlows.{IsSupply, HasBounds}
-use Rattle.dimacs_instance.specs.MinTexts.{AreNamed, is_of, is_supplied, min_records}
-
-abbrev pub ends_of_arc : ArcView → Ends
-ends_of_arc a = record { tail = a.tail; head = a.head }
+use Rattle.dimacs_instance.specs.MinTexts.{min_records}
+use Rattle.dimacs_records.specs.NodeValues.{NameNodes, is_of, has_value}
 
 -- what the problem line declares, the supplies, the nodes that are named with supply 0, and the arcs
 pub record MinBegun : Type 0 where
@@ -43,8 +37,8 @@ is_named begun id = is_some (map.get begun.supplies id) || set.contains begun.ze
 -- these records may have been taken
 pub record IsBegunBy (begun : MinBegun) (rs : List Record) : Type 0 where
   pub named : List (ℕ × ℤ)
-  pub are_named : AreNamed begun.nodes named
-  pub supplies : begun.supplies ≡ from_entries (filter is_supplied named)
+  pub name_nodes : NameNodes begun.nodes named
+  pub supplies : begun.supplies ≡ from_entries (filter has_value named)
   pub nodes_named : (id : ℕ) → is_named begun id ≡ list_any (is_of id) named
   pub records : rs ≡ min_records begun.nodes begun.declared named begun.arcs
 
@@ -55,12 +49,3 @@ with_supply begun id supply = if int_eq supply (pos 0) then record begun { zeros
 -- with one arc more
 abbrev pub with_arc : MinBegun → ArcView → MinBegun
 with_arc begun arc = record begun { arcs = begun.arcs ++ arc ∷ [] }
-
-abbrev pub StandsForMin : Option MinBegun → List Record → Type 0
-StandsForMin None rs = rs ≡ []
-StandsForMin (Some begun) rs = IsBegunBy begun rs
-
--- what a reading answers to one record more, and what it is then
-abbrev pub TakesMin : Option MinBegun → Record → Result Unit TakeError → Option MinBegun → Type 0
-TakesMin old r (Ok done) new = (rs : List Record) → StandsForMin old rs → IsAllowed rs r × StandsForMin new (rs ++ r ∷ [])
-TakesMin old r (Err error) new = ((rs : List Record) → StandsForMin old rs → RefusesRecord rs r error) × (new ≡ old)

@@ -1,7 +1,6 @@
 -- The texts that spell minimum cost flow instances.
-use Rattle.std.specs.Prelude.{ℕ, ℤ, ◌≡◌, ◌==◌, ◌≤◌, Bool, not, List, ◌∷◌, ◌++◌, map, length, count_by, pos}
-use Rattle.std.specs.List.{All, filter}
-use Rattle.std.specs.Ordering.{int_eq}
+use Rattle.std.specs.Prelude.{ℕ, ℤ, ◌≡◌, List, ◌∷◌, ◌++◌, map, length}
+use Rattle.std.specs.List.{filter}
 use Rattle.std.specs.FinMap.{entries, from_entries}
 use Rattle.dimacs_lines.specs.Lines.{lines}
 use Rattle.dimacs_records.specs.declared.kinds.TextKind.TheVariants.{Min}
@@ -11,8 +10,8 @@ use Rattle.dimacs_records.specs.Canonical.{canonical_text}
 use Rattle.dimacs_records.specs.Readings.{LineRecord, records_of}
 use Rattle.dimacs_records.specs.Texts.{SpellsValue}
 use Rattle.dimacs_instance.specs.declared.network.ArcView.{ArcView}
-use Rattle.dimacs_instance.specs.Flows.{IsNode}
 use Rattle.dimacs_instance.specs.MinFlows.{MinValue, IsMin}
+use Rattle.dimacs_records.specs.NodeValues.{NameNodes, has_value}
 
 -- the line of a node and its supply
 abbrev pub min_node : ℕ × ℤ → Record
@@ -25,22 +24,11 @@ min_arc a = MinArc a.tail a.head a.low a.cap a.cost
 abbrev pub min_records : ℕ → ℕ → List (ℕ × ℤ) → List ArcView → List Record
 min_records nodes count named arcs = MinProblem nodes count ∷ map min_node named ++ map min_arc arcs
 
-abbrev pub is_of : ℕ → ℕ × ℤ → Bool
-is_of id s = s.0 == id
-
--- node lines name nodes, and no node twice
-pub record AreNamed (nodes : ℕ) (named : List (ℕ × ℤ)) : Type 0 where
-  pub within : All (λ (s : ℕ × ℤ). IsNode nodes s.0) named
-  pub once : (id : ℕ) → count_by (is_of id) named ≤ 1
-
-abbrev pub is_supplied : ℕ × ℤ → Bool
-is_supplied s = not (int_eq s.1 (pos 0))
-
 -- the node lines name each supply that isn't 0, and may name others
 pub record GivesMin (rs : List LineRecord) (m : MinValue) : Type 0 where
   pub named : List (ℕ × ℤ)
-  pub are_named : AreNamed m.nodes named
-  pub supplies : m.supplies ≡ from_entries (filter is_supplied named)
+  pub name_nodes : NameNodes m.nodes named
+  pub supplies : m.supplies ≡ from_entries (filter has_value named)
   pub records : records_of rs ≡ min_records m.nodes (length m.arcs) named m.arcs
   pub is_min : IsMin m
 

@@ -8,6 +8,7 @@ use Rattle.dimacs_records.specs.declared.records.QueryKind.TheVariants as asks
 use Rattle.dimacs_records.specs.declared.records.Record.{Record}
 use Rattle.dimacs_records.specs.declared.records.Record.TheVariants.{QueriesProblem, SourceQuery, PairQuery}
 use Rattle.dimacs_records.specs.Canonical.{canonical_text}
+use Rattle.dimacs_records.specs.Ranges.{IsId}
 use Rattle.dimacs_records.specs.Readings.{LineRecord, records_of}
 use Rattle.dimacs_records.specs.Texts.{SpellsValue}
 use Rattle.dimacs_instance.specs.declared.queries.Queries.{Queries}
@@ -37,9 +38,6 @@ query_lines (Pairs pairs) = map pair_query pairs
 -- the problem line, and then the queries
 abbrev pub query_records : QueriesValue → List Record
 query_records queries = QueriesProblem (kind_asked queries) (length (query_lines queries)) ∷ query_lines queries
-
-abbrev pub IsId : ℕ → Type 0
-IsId id = (1 ≤ id) × (id ≤ 134217728)
 
 abbrev pub AreIds : ℕ × ℕ → Type 0
 AreIds pair = IsId pair.0 × IsId pair.1

@@ -11,7 +11,7 @@ ghost use Rattle.dimacs_records.specs.Earlier.{names, is_end};
 ghost use Rattle.dimacs_records.specs.Readings.{CountsRead, TakesRecord, records_of};
 ghost use Rattle.dimacs_records.specs.Faults.{Fault};
 ghost use Rattle.dimacs_records.specs.Texts.{Reads};
-ghost use Rattle.dimacs_instance.specs.Flows.{MaxValue, IsMax};
+ghost use Rattle.dimacs_instance.specs.MaxFlows.{MaxValue, IsMax};
 ghost use Rattle.dimacs_instance.specs.MaxTexts.{GivesMax, SpellsMax, canonical_max, max_arc, nodes_by_id};
 ghost use Rattle.dimacs_instance.specs.Plain.{capacity_arc};
 ghost use Rattle.dimacs_instance.specs.MaxReading.{AreApart, IsMaxBegun, end_records, max_node, max_begun_records, with_arc};
@@ -35,7 +35,7 @@ pub struct MaxInstance<N: Network> {
 }
 
 impl<N: Network> Model for MaxInstance<N> {
-    ghost use Rattle.dimacs_instance.specs.Flows.{MaxValue, IsMax};
+    ghost use Rattle.dimacs_instance.specs.MaxFlows.{MaxValue, IsMax};
 
     ghost Value = { MaxValue };
 

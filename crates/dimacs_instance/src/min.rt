@@ -15,9 +15,11 @@ ghost use Rattle.dimacs_records.specs.Faults.{Fault};
 ghost use Rattle.dimacs_records.specs.Texts.{Reads};
 ghost use Rattle.dimacs_instance.specs.Arcs.{joins, JoinsNodes};
 ghost use Rattle.dimacs_instance.specs.MinFlows.{MinValue, IsMin, HasBounds, supply_of, positive_part, negative_part, supplied, demanded};
-ghost use Rattle.dimacs_instance.specs.Flows.{IsNode};
-ghost use Rattle.dimacs_instance.specs.MinTexts.{GivesMin, SpellsMin, canonical_min, is_supplied, min_node, min_arc};
-ghost use Rattle.dimacs_instance.specs.MinReading.{TakesMin, StandsForMin, is_named, with_supply, with_arc};
+ghost use Rattle.dimacs_records.specs.Ranges.{IsNode};
+ghost use Rattle.dimacs_instance.specs.MinTexts.{GivesMin, SpellsMin, canonical_min, min_node, min_arc};
+ghost use Rattle.dimacs_records.specs.NodeValues.{has_value};
+ghost use Rattle.dimacs_instance.specs.MinReading.{is_named, with_supply, with_arc, IsBegunBy};
+ghost use Rattle.dimacs_records.specs.Takings.{Takes, StandsFor};
 
 use crate::network::{ArcView, Network};
 use crate::plain::PlainArcs;
@@ -149,7 +151,8 @@ pub(crate) struct BegunMin {
 
 impl Model for BegunMin {
     ghost use Rattle.std.specs.Prelude.{map, IsPermutation};
-    ghost use Rattle.dimacs_instance.specs.MinReading.{MinBegun, IsMinBegun, ends_of_arc};
+    ghost use Rattle.dimacs_instance.specs.MinReading.{MinBegun, IsMinBegun};
+    ghost use Rattle.dimacs_instance.specs.Ends.{arc_ends};
     ghost use Rattle.dimacs_instance.specs.MinCodes.{begun_code};
 
     ghost Value = { MinBegun };
@@ -158,7 +161,7 @@ impl Model for BegunMin {
 
     ghost view = { λ b. record { nodes = b.network.nodes; declared = b.declared; supplies = b.supplies; zeros = b.zeros; arcs = b.network.arcs } };
 
-    ghost invariant = { λ b. IsMinBegun (record { nodes = b.network.nodes; declared = b.declared; supplies = b.supplies; zeros = b.zeros; arcs = b.network.arcs }) × IsPermutation (map ends_of_arc b.network.arcs) b.seen };
+    ghost invariant = { λ b. IsMinBegun (record { nodes = b.network.nodes; declared = b.declared; supplies = b.supplies; zeros = b.zeros; arcs = b.network.arcs }) × IsPermutation (map arc_ends b.network.arcs) b.seen };
 }
 
 impl BegunMin {
@@ -172,7 +175,7 @@ impl BegunMin {
 
     fn name(&mut self, id: u32, supply: i64) -> Result<(), TakeError>
         requires { 1 ≤ id }
-        ensures { TakesMin (Some self.old) (MinNode id supply) result (Some self.new) }
+        ensures { Takes IsBegunBy (Some self.old) (MinNode id supply) result (Some self.new) }
     {
         if self.network.arcs() > 0 {
             return Err(TakeError::refused(0, Reason::RecordOrder));
@@ -205,7 +208,7 @@ impl BegunMin {
     fn add(&mut self, arc: ArcView) -> Result<(), TakeError>
         requires tail { 1 ≤ arc.tail }
         requires head { 1 ≤ arc.head }
-        ensures { TakesMin (Some self.old) (min_arc arc) result (Some self.new) }
+        ensures { Takes IsBegunBy (Some self.old) (min_arc arc) result (Some self.new) }
     {
         if arc.tail > self.network.nodes() {
             return Err(TakeError::refused(2, Reason::NodeRange));
@@ -259,7 +262,7 @@ impl MinReading {
     fn start(&mut self, nodes: u32, declared: u32) -> Result<(), TakeError>
         requires nodes { nodes ≤ 134217728 }
         requires declared { declared ≤ 268435456 }
-        ensures { TakesMin self.old (MinProblem nodes declared) result self.new }
+        ensures { Takes IsBegunBy self.old (MinProblem nodes declared) result self.new }
     {
         if self.begun.is_some() {
             return Err(TakeError::refused(0, Reason::ProblemTwice));
@@ -276,7 +279,7 @@ impl MinReading {
 
     fn name(&mut self, id: u32, supply: i64) -> Result<(), TakeError>
         requires { 1 ≤ id }
-        ensures { TakesMin self.old (MinNode id supply) result self.new }
+        ensures { Takes IsBegunBy self.old (MinNode id supply) result self.new }
     {
         let Some(begun) = &mut self.begun else {
             return Err(TakeError::refused(0, Reason::ProblemMissing));
@@ -288,7 +291,7 @@ impl MinReading {
     fn add(&mut self, arc: ArcView) -> Result<(), TakeError>
         requires tail { 1 ≤ arc.tail }
         requires head { 1 ≤ arc.head }
-        ensures { TakesMin self.old (min_arc arc) result self.new }
+        ensures { Takes IsBegunBy self.old (min_arc arc) result self.new }
     {
         let Some(begun) = &mut self.begun else {
             return Err(TakeError::refused(0, Reason::ProblemMissing));
@@ -302,7 +305,7 @@ impl Reading for MinReading {
 
     ghost kind = { λ reading. kinds.Min };
 
-    ghost stands_for = { λ reading rs. StandsForMin reading (records_of rs) };
+    ghost stands_for = { λ reading rs. StandsFor IsBegunBy reading (records_of rs) };
 
     ghost gives = { λ rs m. GivesMin rs m };
 
@@ -388,7 +391,7 @@ fn write_supplies<N: Network, S: Sink>(page: &mut Page, sink: &mut S, instance: 
 /// Writes the line of a node, unless its supply is 0.
 #[inline(always)]
 fn write_supply<S: Sink>(page: &mut Page, sink: &mut S, id: u32, supply: i64)
-    ensures written { (start : Option (List ℕ)) (text : List ℕ) → IsWritten start text (S.accepted sink.old) page.old → IsWritten start (text ++ canonical_text (map min_node (filter is_supplied ((id, supply) ∷ [])))) (S.accepted sink.new) page.new }
+    ensures written { (start : Option (List ℕ)) (text : List ℕ) → IsWritten start text (S.accepted sink.old) page.old → IsWritten start (text ++ canonical_text (map min_node (filter has_value ((id, supply) ∷ [])))) (S.accepted sink.new) page.new }
     ensures faults { (start : ℕ) → FaultsAre start (S.faults sink.old) page.old → FaultsAre start (S.faults sink.new) page.new }
 {
     if supply != 0 {

@@ -12,9 +12,9 @@ use Rattle.std.proofs.lemmas.List.Quantifiers.{position-Some}
 use Rattle.std.proofs.lemmas.List.Sums.{position_or_len_is, fails_before_first, prefix_len-le-length}
 use Rattle.std.proofs.lemmas.Option.{slice_get_past, slice_get-get_or}
 use Rattle.dimacs_nodes.proofs.Nodes.{get-insert_same, get-insert_other}
-use Rattle.dimacs_claims.specs.Labels.{BlockValue, EachBehind, IsNewSource, label_at}
+use Rattle.dimacs_claims.specs.Labels.{BlockValue, EachBehind, IsNewSource, label_at, has_source}
 use Rattle.dimacs_judge.specs.Answers.{block_of, distance_from}
-use Rattle.dimacs_judge.specs.QueryTests.{HasBlock, is_of, AreNumbers}
+use Rattle.dimacs_judge.specs.QueryTests.{HasBlock, AreNumbers}
 
 -- ---- the first place that passes a test
 module _ {X : Type 0} (p : X → Bool) where
@@ -50,25 +50,25 @@ module _ {X : Type 0} (p : X → Bool) where
   ]
 
 -- ---- whether a source has a block
-pub has_block : (blocks : List BlockValue) (source i : ℕ) → position (is_of source) blocks ≡ Some i → HasBlock blocks source
+pub has_block : (blocks : List BlockValue) (source i : ℕ) → position (has_source source) blocks ≡ Some i → HasBlock blocks source
 has_block blocks source i is =
     let d : BlockValue = record { source = 0; labels = [] } in
-    let found = position-Some (is_of source) blocks i d is in
+    let found = position-Some (has_source source) blocks i d is in
     (i, get_or blocks i d, found.0, get_or_default blocks i _ _ found.0, eqb-true _ _ found.1)
 
-pub no_block : (blocks : List BlockValue) (source : ℕ) → position (is_of source) blocks ≡ None → ¬ HasBlock blocks source
+pub no_block : (blocks : List BlockValue) (source : ℕ) → position (has_source source) blocks ≡ None → ¬ HasBlock blocks source
 no_block blocks source none has =
     let (k, b, inside, there, same) = has in
-    let off = rw there at (fails_all (is_of source) blocks b none k inside) in
+    let off = rw there at (fails_all (has_source source) blocks b none k inside) in
     let on = eq-eqb b.source source same in
     cc
 
 -- and whether it has a number tells
-pub numbered_has_block : (blocks : List BlockValue) (source : ℕ) (number : Option ℕ) → number ≡ position (is_of source) blocks → is_some number ≡ true → HasBlock blocks source
+pub numbered_has_block : (blocks : List BlockValue) (source : ℕ) (number : Option ℕ) → number ≡ position (has_source source) blocks → is_some number ≡ true → HasBlock blocks source
 numbered_has_block blocks source None is some = absurd (let f : false ≡ true = some in cc)
 numbered_has_block blocks source (Some i) is some = has_block blocks source i (sym is)
 
-pub unnumbered_has_none : (blocks : List BlockValue) (source : ℕ) (number : Option ℕ) → number ≡ position (is_of source) blocks → is_some number ≡ false → ¬ HasBlock blocks source
+pub unnumbered_has_none : (blocks : List BlockValue) (source : ℕ) (number : Option ℕ) → number ≡ position (has_source source) blocks → is_some number ≡ false → ¬ HasBlock blocks source
 unnumbered_has_none blocks source None is none = no_block blocks source (sym is)
 unnumbered_has_none blocks source (Some i) is none = absurd (let f : true ≡ false = none in cc)
 
@@ -81,27 +81,27 @@ numbers_more blocks numbers i b inside is new are source =
     let split : blocks ≡ take i blocks ++ b ∷ drop (i + 1) blocks = sym (take-append-drop i blocks) ∙ ap (λ rest. take i blocks ++ rest) (drop_more blocks i b inside ∙ ap (λ x. x ∷ drop (i + 1) blocks) (sym is)) in
     let apart : IsNewSource (take i blocks) b = new (take i blocks) (drop (i + 1) blocks) b split in
     elim (cases_eq source b.source) [
-      | inl same ↦ rw (same, step) (get-insert_same numbers b.source i ∙ sym (position-first (is_of b.source) (take i blocks ++ b ∷ []) i b (omega (arith, len, length_push (take i blocks) b)) (rw (get_or_at (take i blocks) b [] b i len) (eq-eqb b.source b.source refl)) (λ k below.
+      | inl same ↦ rw (same, step) (get-insert_same numbers b.source i ∙ sym (position-first (has_source b.source) (take i blocks ++ b ∷ []) i b (omega (arith, len, length_push (take i blocks) b)) (rw (get_or_at (take i blocks) b [] b i len) (eq-eqb b.source b.source refl)) (λ k below.
           let within : k < length (take i blocks) = omega (arith, below, len) in
           rw (get_or_append_left (take i blocks) (b ∷ []) b k within) (ne_eqb _ _ (apart (get_or (take i blocks) k b) (Contains-get_or (take i blocks) k b within))))))
-      | inr other ↦ get-insert_other numbers b.source source i other ∙ are source ∙ sym (position-push (is_of source) (take i blocks) b (ne_eqb b.source source (λ e. other (sym e)))) ∙ ap (position (is_of source)) (sym step)
+      | inr other ↦ get-insert_other numbers b.source source i other ∙ are source ∙ sym (position-push (has_source source) (take i blocks) b (ne_eqb b.source source (λ e. other (sym e)))) ∙ ap (position (has_source source)) (sym step)
     ]
 
 -- ---- what they lead to
-pub distance_none : (blocks : List BlockValue) (from to : ℕ) → position (is_of from) blocks ≡ None → None ≡ distance_from blocks from to
-distance_none blocks from to none = rw (find-position (is_of from) blocks, none) refl
+pub distance_none : (blocks : List BlockValue) (from to : ℕ) → position (has_source from) blocks ≡ None → None ≡ distance_from blocks from to
+distance_none blocks from to none = rw (find-position (has_source from) blocks, none) refl
 
-pub distance_some : (blocks : List BlockValue) (from to i : ℕ) → position (is_of from) blocks ≡ Some i → label_at blocks i to ≡ distance_from blocks from to
-distance_some blocks from to i is = rw (find-position (is_of from) blocks, is) refl
+pub distance_some : (blocks : List BlockValue) (from to i : ℕ) → position (has_source from) blocks ≡ Some i → label_at blocks i to ≡ distance_from blocks from to
+distance_some blocks from to i is = rw (find-position (has_source from) blocks, is) refl
 
 -- the block of a source that has one
 pub block_found : (blocks : List BlockValue) (source : ℕ) → HasBlock blocks source → (i : ℕ) × (b : BlockValue) × (i < length blocks) × (get_or blocks i b ≡ b) × (block_of blocks source ≡ Some b) × (b.source ≡ source)
-block_found blocks source has = by_number (position (is_of source) blocks) refl
+block_found blocks source has = by_number (position (has_source source) blocks) refl
   where
-    by_number : (number : Option ℕ) → position (is_of source) blocks ≡ number → (i : ℕ) × (b : BlockValue) × (i < length blocks) × (get_or blocks i b ≡ b) × (block_of blocks source ≡ Some b) × (b.source ≡ source)
+    by_number : (number : Option ℕ) → position (has_source source) blocks ≡ number → (i : ℕ) × (b : BlockValue) × (i < length blocks) × (get_or blocks i b ≡ b) × (block_of blocks source ≡ Some b) × (b.source ≡ source)
     by_number None is = absurd (no_block blocks source is has)
     by_number (Some i) is =
         let d : BlockValue = record { source = 0; labels = [] } in
-        let found = position-Some (is_of source) blocks i d is in
-        let first : block_of blocks source ≡ slice_get blocks i = find-position (is_of source) blocks ∙ ap (option_and_then (slice_get blocks)) is in
+        let found = position-Some (has_source source) blocks i d is in
+        let first : block_of blocks source ≡ slice_get blocks i = find-position (has_source source) blocks ∙ ap (option_and_then (slice_get blocks)) is in
         (i, get_or blocks i d, found.0, get_or_default blocks i _ _ found.0, first ∙ slice_get-get_or blocks i d found.0, eqb-true _ _ found.1)

@@ -5,7 +5,8 @@ use Rattle.std.specs.List.{All, AllZip}
 use Rattle.dimacs_instance.specs.declared.network.ArcView.{ArcView}
 use Rattle.dimacs_instance.specs.Arcs.{JoinsNodes}
 use Rattle.dimacs_judge.specs.Flows.{sum_arcs, sum_nodes, when, net}
-use Rattle.dimacs_instance.specs.Flows.{MaxValue, IsNode}
+use Rattle.dimacs_instance.specs.MaxFlows.{MaxValue}
+use Rattle.dimacs_records.specs.Ranges.{IsNode}
 use Rattle.dimacs_instance.specs.MinFlows.{MinValue, supply_of}
 use Rattle.dimacs_judge.specs.Feasible.{FeasibleMax, FeasibleMin, value}
 use Rattle.dimacs_judge.specs.Optimum.{Maximum, Least, NoFlow}

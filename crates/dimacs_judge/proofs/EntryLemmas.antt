@@ -1,9 +1,8 @@
 -- Entries taken one after another.
 use Rattle.std.proofs.Common.{◌≡◌, inl, inr, ℕ, ◌+◌, ◌<◌, ◌≤◌, Bool, true, false, List, [], ◌∷◌, ◌++◌, length, map, replicate, take, get_or, ℤ, pos, Some, refl, sym, ap, ◌∙◌, arith, below_more}
-use Rattle.std.specs.Prelude.{◌==◌, if◌then◌else◌}
+use Rattle.std.specs.Prelude.{if◌then◌else◌}
 use Rattle.std.specs.List.{list_any}
-use Rattle.std.proofs.lemmas.Bool.{cases_Bool, eq-eqb, ne_eqb}
-use Rattle.std.proofs.lemmas.Bool.Decides.{eqb_tells}
+use Rattle.std.proofs.lemmas.Bool.{cases_Bool}
 use Rattle.std.proofs.lemmas.Option.{slice_get-get_or}
 use Rattle.std.proofs.lemmas.List.{get_or-map}
 use Rattle.dimacs_instance.specs.declared.network.ArcView.{ArcView}
@@ -17,7 +16,7 @@ use Rattle.dimacs_judge.specs.FlowSoFar.{is_claimed, IsClaimedBy, put_between}
 use Rattle.dimacs_judge.specs.Rows.{no_arc, arc_at}
 use Rattle.dimacs_judge.specs.Tests.{Clear, ClearBelow, FirstOfRow}
 use Rattle.dimacs_judge.proofs.SupportLemmas.{ends_joined, counted_in_all}
-use Rattle.dimacs_judge.proofs.CountLemmas.{any_counted, none_counted}
+use Rattle.dimacs_records.proofs.CountLemmas.{any_counted, none_counted, same_test}
 use Rattle.dimacs_judge.proofs.PutLemmas.{put_between-map}
 
 -- ---- lists
@@ -36,13 +35,9 @@ none_claimed arcs n flow claimed one_each none unmarked = record {
   marks = unmarked ∙ rw one_each (replicate-map false arcs);
 }
 
--- ---- an entry and an arc
-eqb_sym : (m n : ℕ) → (m == n) ≡ (n == m)
-eqb_sym m n = elim (eqb_tells m n) [ inl is ↦ is.0 ∙ sym (eq-eqb n m (sym is.1)) | inr off ↦ off.0 ∙ sym (ne_eqb n m (λ is. off.1 (sym is))) ]
-
 -- the entry has the arc's ends where the arc has the entry's
 between_joins : (e : Entry) (a : ArcView) → is_between a.tail a.head e ≡ joins e.tail e.head a
-between_joins e a = rw (eqb_sym e.tail a.tail, eqb_sym e.head a.head) refl
+between_joins e a = rw (same_test e.tail a.tail, same_test e.head a.head) refl
 
 -- ---- one more entry
 claimed_first : (before : List Entry) (e : Entry) (tail head : ℕ) → list_any (is_between tail head) before ≡ false → is_between tail head e ≡ true → claimed_between (before ++ e ∷ []) tail head ≡ e.flow

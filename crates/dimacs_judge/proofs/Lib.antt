@@ -13,7 +13,6 @@ mod Settling
 pub mod Reasons
 pub mod Passing
 pub mod LabelsPassing
-mod CountLemmas
 mod PutLemmas
 mod EntryLemmas
 pub mod Claims

@@ -3,7 +3,7 @@ use Rattle.std.proofs.Common.{◌≡◌, inl, List, [], ◌∷◌, Result, ℤ, 
 use Rattle.std.specs.Prelude.{IsErrAnd}
 use Rattle.dimacs_claims.specs.Cuts.{CutValue}
 use Rattle.dimacs_claims.specs.SolutionTexts.{SolutionValue}
-use Rattle.dimacs_instance.specs.Flows.{MaxValue, IsMax}
+use Rattle.dimacs_instance.specs.MaxFlows.{MaxValue, IsMax}
 use Rattle.dimacs_records.specs.declared.reasons.Reason.{Reason}
 use Rattle.dimacs_records.specs.declared.reasons.Reason.TheVariants.{ValueDiffers, NodesDiffer}
 use Rattle.dimacs_judge.specs.declared.verdict.JudgeError.{JudgeError}

@@ -12,14 +12,15 @@ use Rattle.dimacs_records.specs.declared.reasons.Reason.TheVariants as reasons
 use Rattle.dimacs_judge.specs.declared.verdict.Where.{Where}
 use Rattle.dimacs_judge.specs.declared.verdict.Where.TheVariants as places
 use Rattle.dimacs_judge.specs.Flows.{net}
-use Rattle.dimacs_instance.specs.Flows.{MaxValue, IsMax, IsNode, HasCapacityAlone}
+use Rattle.dimacs_instance.specs.MaxFlows.{MaxValue, IsMax, HasCapacityAlone}
+use Rattle.dimacs_records.specs.Ranges.{IsNode, IsWide}
 use Rattle.dimacs_instance.specs.MinFlows.{MinValue, supply_of}
 use Rattle.dimacs_judge.specs.Feasible.{FeasibleMax, FeasibleMin}
 use Rattle.dimacs_judge.specs.Cuts.{IsTightAt, CutTight}
 use Rattle.dimacs_judge.specs.Potentials.{IsSlackAt, Slack, reduced_cost}
 use Rattle.dimacs_judge.specs.ViolatedSets.{most_out, least_out, supply_in, Violated}
 use Rattle.dimacs_judge.specs.Agreement.{value_row, nodes_row}
-use Rattle.dimacs_judge.specs.Ranges.{IsOfSize, IsWide}
+use Rattle.dimacs_judge.specs.Ranges.{IsOfSize}
 use Rattle.dimacs_judge.specs.Tests.{Clear, AllClear, TellsRow, Tells}
 use Rattle.dimacs_judge.specs.Rows.{one_test, no_arc, arc_at, amount_at, flow_row}
 use Rattle.dimacs_judge.specs.FlowTests.{BoundFails, bound_row, balance_row, cost_through, cost_row, feasible_max_rows, feasible_min_rows, max_demand, min_demand}

@@ -6,7 +6,7 @@ use Rattle.std.proofs.lemmas.List.Sums.{count_by-le-length}
 use Rattle.dimacs_instance.specs.declared.network.ArcView.{ArcView}
 use Rattle.dimacs_instance.specs.Arcs.{joins, IsKthBetween}
 use Rattle.dimacs_judge.specs.FlowSoFar.{put_between}
-use Rattle.dimacs_judge.proofs.CountLemmas.{count_yes, count_no}
+use Rattle.dimacs_records.proofs.CountLemmas.{count_yes, count_no}
 
 -- x for the arcs that are still to get it
 abbrev on_next : {X : Type 0} → ℕ → X → X → X

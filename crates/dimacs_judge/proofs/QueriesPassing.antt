@@ -6,9 +6,9 @@ use Rattle.std.proofs.lemmas.List.Elements.{All-get_or, All-from_get_or}
 use Rattle.dimacs_records.specs.declared.reasons.Reason.{Reason}
 use Rattle.dimacs_records.specs.declared.reasons.Reason.TheVariants as reasons
 use Rattle.dimacs_instance.specs.QueryTexts.{QueriesValue}
-use Rattle.dimacs_claims.specs.Labels.{BlockValue}
+use Rattle.dimacs_claims.specs.Labels.{BlockValue, has_source}
 use Rattle.dimacs_judge.specs.declared.verdict.Where.TheVariants as places
-use Rattle.dimacs_judge.specs.QueryTests.{HasBlock, is_of, nodes_asked, sources_asked, listed_row, query_node_row, block_row}
+use Rattle.dimacs_judge.specs.QueryTests.{HasBlock, nodes_asked, sources_asked, listed_row, query_node_row, block_row}
 use Rattle.dimacs_judge.specs.Tests.{Clear}
 use Rattle.dimacs_judge.proofs.BlockNumbers.{has_block, no_block}
 use Rattle.dimacs_judge.proofs.Firsts.{OneWay}
@@ -38,9 +38,9 @@ query_nodes_clear nodes queries all = listed_clear (nodes_asked queries) reasons
 
 -- ---- blocks
 block_or_none : (blocks : List BlockValue) (source : ℕ) → HasBlock blocks source ⊎ (¬ HasBlock blocks source)
-block_or_none blocks source = by_number (position (is_of source) blocks) refl
+block_or_none blocks source = by_number (position (has_source source) blocks) refl
   where
-    by_number : (number : Option ℕ) → position (is_of source) blocks ≡ number → HasBlock blocks source ⊎ (¬ HasBlock blocks source)
+    by_number : (number : Option ℕ) → position (has_source source) blocks ≡ number → HasBlock blocks source ⊎ (¬ HasBlock blocks source)
     by_number None is = inr (no_block blocks source is)
     by_number (Some i) is = inl (has_block blocks source i is)
 

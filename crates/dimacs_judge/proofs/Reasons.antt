@@ -5,7 +5,7 @@ use Rattle.dimacs_instance.specs.declared.network.ArcView.{ArcView}
 use Rattle.dimacs_records.specs.declared.reasons.Reason.{Reason}
 use Rattle.dimacs_judge.specs.declared.verdict.Where.TheVariants.{Node}
 use Rattle.dimacs_records.specs.declared.reasons.Reason.TheVariants.{SourceOutside, SinkInside}
-use Rattle.dimacs_instance.specs.Flows.{MaxValue}
+use Rattle.dimacs_instance.specs.MaxFlows.{MaxValue}
 use Rattle.dimacs_claims.specs.Labels.{BlockValue}
 use Rattle.dimacs_judge.specs.Rows.{arc_at, amount_at}
 use Rattle.dimacs_judge.specs.FlowTests.{BoundFails, bound_row, balance_row, cost_row}

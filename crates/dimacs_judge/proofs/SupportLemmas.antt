@@ -1,7 +1,6 @@
 -- The arcs between two ends, one after another.
 use Rattle.std.proofs.Common.{◌≡◌, inl, inr, ℕ, ◌+◌, ◌<◌, ◌≤◌, Bool, true, cond, List, length, take, slice_get, count_by, Some, ℤ, ◌+ℤ◌, sym, ap, ◌∙◌, arith}
-use Rattle.std.specs.Prelude.{◌==◌}
-use Rattle.std.proofs.lemmas.Bool.{and_from, eq-eqb, cases_order}
+use Rattle.std.proofs.lemmas.Bool.{cases_order}
 use Rattle.std.proofs.lemmas.Bool.Decides.{eqb_tells}
 use Rattle.std.proofs.lemmas.Option.{get_or_from_slice_get, slice_get-get_or, slice_get_within}
 use Rattle.std.proofs.lemmas.List.{take-take}
@@ -10,9 +9,7 @@ use Rattle.dimacs_instance.specs.declared.network.ArcView.{ArcView}
 use Rattle.dimacs_instance.specs.Arcs.{joins, IsKthBetween}
 use Rattle.dimacs_claims.specs.declared.block.Label.{Label}
 use Rattle.dimacs_judge.specs.Labels.{HasArcOfWeight}
-
-joins_ends : (tail head : ℕ) (a : ArcView) → a.tail ≡ tail → a.head ≡ head → joins tail head a ≡ true
-joins_ends tail head a t h = and_from (a.tail == tail) (a.head == head) (eq-eqb a.tail tail t) (eq-eqb a.head head h)
+use Rattle.dimacs_instance.proofs.ArcLemmas.{joins_ends}
 
 pub ends_joined : (tail head : ℕ) (a : ArcView) → joins tail head a ≡ true → (a.tail ≡ tail) × (a.head ≡ head)
 ends_joined tail head a e = elim (eqb_tells a.tail tail) [

@@ -3,15 +3,14 @@ use Rattle.std.specs.Prelude.{ℕ, ◌≡◌, List, map, length, Option, ℤ}
 use Rattle.std.specs.List.{find}
 use Rattle.dimacs_instance.specs.QueryTexts.{QueriesValue}
 use Rattle.dimacs_instance.specs.QueryTexts as queries
-use Rattle.dimacs_claims.specs.Labels.{BlockValue, label_in}
+use Rattle.dimacs_claims.specs.Labels.{BlockValue, label_in, has_source}
 use Rattle.dimacs_judge.specs.declared.verdict.Answer.{Answer}
 use Rattle.dimacs_judge.specs.declared.verdict.Verdict.{Verdict}
 use Rattle.dimacs_judge.specs.declared.verdict.Verdict.TheVariants as verdicts
-use Rattle.dimacs_judge.specs.QueryTests.{is_of}
 
 -- the first block of this source
 abbrev pub block_of : List BlockValue → ℕ → Option BlockValue
-block_of blocks source = find (is_of source) blocks
+block_of blocks source = find (has_source source) blocks
 
 -- the label of one node in the block of another; none where it has no label, and where there is no block
 abbrev pub distance_from : List BlockValue → ℕ → ℕ → Option ℤ

@@ -3,7 +3,7 @@ use Rattle.std.specs.Prelude.{ℕ, ◌≡◌, Bool, true, false, not, ◌&&◌, 
 use Rattle.std.specs.List.{AllZip}
 use Rattle.std.specs.FinSet.{contains}
 use Rattle.dimacs_instance.specs.declared.network.ArcView.{ArcView}
-use Rattle.dimacs_instance.specs.Flows.{MaxValue}
+use Rattle.dimacs_instance.specs.MaxFlows.{MaxValue}
 use Rattle.dimacs_claims.specs.Cuts.{CutValue}
 
 -- whether a node is in the set

@@ -1,7 +1,8 @@
 -- The flows that an instance allows.
 use Rattle.std.specs.Prelude.{ℕ, ◌≡◌, ◌≢◌, List, ℤ, pos, ◌≤ℤ◌}
 use Rattle.std.specs.List.{AllZip}
-use Rattle.dimacs_instance.specs.Flows.{MaxValue, IsNode}
+use Rattle.dimacs_instance.specs.MaxFlows.{MaxValue}
+use Rattle.dimacs_records.specs.Ranges.{IsNode}
 use Rattle.dimacs_instance.specs.MinFlows.{MinValue, supply_of}
 use Rattle.dimacs_judge.specs.Flows.{net}
 

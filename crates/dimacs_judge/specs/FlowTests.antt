@@ -3,11 +3,11 @@ use Rattle.std.specs.Prelude.{ℕ, ◌≡◌, ◌≢◌, ◌+◌, ◌≤◌, ◌
 use Rattle.dimacs_instance.specs.declared.network.ArcView.{ArcView}
 use Rattle.dimacs_records.specs.declared.reasons.Reason.{Reason}
 use Rattle.dimacs_records.specs.declared.reasons.Reason.TheVariants.{BelowLow, AboveCap, Balance, CostRange}
-use Rattle.dimacs_judge.specs.Ranges.{IsWide}
+use Rattle.dimacs_records.specs.Ranges.{IsWide}
 use Rattle.dimacs_judge.specs.Flows.{net, cost}
 use Rattle.dimacs_judge.specs.Rows.{arc_row, flow_row, node_row}
 use Rattle.dimacs_judge.specs.Tests.{Row, Clear, FirstOfRow, AllClear, First, Refuses}
-use Rattle.dimacs_instance.specs.Flows.{MaxValue}
+use Rattle.dimacs_instance.specs.MaxFlows.{MaxValue}
 use Rattle.dimacs_instance.specs.MinFlows.{MinValue, supply_of}
 use Rattle.dimacs_judge.specs.declared.verdict.JudgeError.{JudgeError}
 use Rattle.dimacs_judge.specs.declared.verdict.Where.{Where}

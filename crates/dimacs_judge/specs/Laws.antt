@@ -3,7 +3,8 @@ use Rattle.std.specs.Prelude.{ℕ, ◌≡◌, Bool, List, All, ℤ, ◌-ℤ◌, 
 use Rattle.dimacs_instance.specs.declared.network.ArcView.{ArcView}
 use Rattle.dimacs_instance.specs.Arcs.{JoinsNodes}
 use Rattle.dimacs_judge.specs.Flows.{net, sum_arcs, sum_nodes}
-use Rattle.dimacs_instance.specs.Flows.{MaxValue, IsNode}
+use Rattle.dimacs_instance.specs.MaxFlows.{MaxValue}
+use Rattle.dimacs_records.specs.Ranges.{IsNode}
 use Rattle.dimacs_instance.specs.MinFlows.{MinValue}
 use Rattle.dimacs_judge.specs.Feasible.{FeasibleMax, FeasibleMin}
 use Rattle.dimacs_judge.specs.Optimum.{Maximum, Least, NoFlow}

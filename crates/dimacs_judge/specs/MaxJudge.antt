@@ -2,7 +2,7 @@
 use Rattle.std.specs.Prelude.{◌≡◌, List, ◌∷◌, ℤ}
 use Rattle.dimacs_claims.specs.Cuts.{CutValue}
 use Rattle.dimacs_claims.specs.SolutionTexts.{SolutionValue}
-use Rattle.dimacs_instance.specs.Flows.{MaxValue}
+use Rattle.dimacs_instance.specs.MaxFlows.{MaxValue}
 use Rattle.dimacs_judge.specs.Agreement.{value_row, nodes_row}
 use Rattle.dimacs_judge.specs.CertificateTests.{cut_rows}
 use Rattle.dimacs_judge.specs.Claims.{Carries, claimed_flow, entry_row}

@@ -11,7 +11,7 @@ use Rattle.dimacs_judge.specs.Flows.{cost}
 use Rattle.dimacs_judge.specs.FlowTests.{bound_row, balance_row, min_demand, cost_through, cost_row}
 use Rattle.dimacs_judge.specs.Optimum.{Least}
 use Rattle.dimacs_judge.specs.Potentials.{Slack}
-use Rattle.dimacs_judge.specs.Ranges.{IsWide}
+use Rattle.dimacs_records.specs.Ranges.{IsWide}
 use Rattle.dimacs_judge.specs.Tests.{Row}
 
 -- the tests of a solution and of potentials, in order

@@ -1,7 +1,7 @@
 -- Best flows, among all flows of whole numbers.
 use Rattle.std.specs.Prelude.{List, ℤ, ◌≤ℤ◌}
 use Rattle.dimacs_judge.specs.Flows.{cost}
-use Rattle.dimacs_instance.specs.Flows.{MaxValue}
+use Rattle.dimacs_instance.specs.MaxFlows.{MaxValue}
 use Rattle.dimacs_instance.specs.MinFlows.{MinValue}
 use Rattle.dimacs_judge.specs.Feasible.{FeasibleMax, FeasibleMin, value}
 

@@ -1,10 +1,10 @@
 -- The tests of queries: their nodes, and the blocks of their sources.
-use Rattle.std.specs.Prelude.{ℕ, ◌≡◌, ◌<◌, ◌==◌, Bool, List, [], ◌∷◌, map, length, get_or, Result, Ok, Err}
+use Rattle.std.specs.Prelude.{ℕ, ◌≡◌, ◌<◌, List, [], ◌∷◌, map, length, get_or, Result, Ok, Err}
 use Rattle.std.specs.List.{Any, flat_map, position}
 use Rattle.std.specs.Ordering.{nat_cmp}
 use Rattle.std.specs.FinMap.{FinMap, get}
 use Rattle.dimacs_instance.specs.QueryTexts.{QueriesValue, Sources, Pairs}
-use Rattle.dimacs_claims.specs.Labels.{BlockValue}
+use Rattle.dimacs_claims.specs.Labels.{BlockValue, has_source}
 use Rattle.dimacs_records.specs.declared.reasons.Reason.{Reason}
 use Rattle.dimacs_records.specs.declared.reasons.Reason.TheVariants.{QueryNode, BlockMissing}
 use Rattle.dimacs_judge.specs.declared.verdict.Where.TheVariants.{Node}
@@ -41,12 +41,9 @@ query_node_row nodes queries = listed_row (nodes_asked queries) QueryNode (λ id
 abbrev pub block_row : List BlockValue → QueriesValue → Row
 block_row blocks queries = listed_row (sources_asked queries) BlockMissing (λ source. ¬ HasBlock blocks source)
 
-abbrev pub is_of : ℕ → BlockValue → Bool
-is_of source b = b.source == source
-
 -- each source has the number of its first block, from 0; a node without a block has none
 abbrev pub AreNumbers : List BlockValue → FinMap nat_cmp ℕ → Type 0
-AreNumbers blocks numbers = (source : ℕ) → get numbers source ≡ position (is_of source) blocks
+AreNumbers blocks numbers = (source : ℕ) → get numbers source ≡ position (has_source source) blocks
 
 -- the numbers of the blocks, where every query has one; else the first query that has none
 abbrev pub TellsBlocks : List BlockValue → QueriesValue → Result (FinMap nat_cmp ℕ) JudgeError → Type 0

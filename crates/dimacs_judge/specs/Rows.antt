@@ -4,7 +4,7 @@ use Rattle.dimacs_instance.specs.declared.network.ArcView.{ArcView}
 use Rattle.dimacs_records.specs.declared.reasons.Reason.{Reason}
 use Rattle.dimacs_judge.specs.declared.verdict.Where.{Where}
 use Rattle.dimacs_judge.specs.declared.verdict.Where.TheVariants.{Arc, Node}
-use Rattle.dimacs_instance.specs.Flows.{IsNode}
+use Rattle.dimacs_records.specs.Ranges.{IsNode}
 use Rattle.dimacs_judge.specs.Tests.{Row}
 
 abbrev pub no_arc : ArcView

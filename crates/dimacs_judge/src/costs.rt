@@ -2,7 +2,8 @@
 
 ghost use Rattle.std.specs.Prelude.{◌≡◌, ◌^◌, ◌+ℤ◌, ◌*ℤ◌, length, IsTrue, ◌↔◌, MatchOption};
 ghost use Rattle.dimacs_judge.specs.FlowTests.{TellsCost};
-ghost use Rattle.dimacs_judge.specs.Ranges.{IsOfSize, IsWide};
+ghost use Rattle.dimacs_judge.specs.Ranges.{IsOfSize};
+ghost use Rattle.dimacs_records.specs.Ranges.{IsWide};
 
 use crate::flow::Flow;
 use crate::verdict::Where;

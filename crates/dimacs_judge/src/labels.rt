@@ -4,7 +4,7 @@ ghost use Rattle.std.specs.Prelude.{◌≡◌, ◌<◌, ◌+ℤ◌, ◌<ℤ◌, 
 ghost use Rattle.dimacs_claims.specs.Labels.{AreLabels, label_at};
 ghost use Rattle.dimacs_judge.specs.CertificateTests.{RelaxFails, support_row, relax_row, block_rows, label_rows};
 ghost use Rattle.dimacs_judge.specs.Labels.{AreDistances, HasArcOfWeight, LabelsOk, block_at};
-ghost use Rattle.dimacs_judge.specs.Ranges.{IsWide};
+ghost use Rattle.dimacs_records.specs.Ranges.{IsWide};
 ghost use Rattle.dimacs_judge.specs.Tests.{Decides, TellsReason, TellsRow, Tells};
 
 use crate::verdict::Where;

@@ -2,7 +2,7 @@
 
 ghost use Rattle.std.specs.Prelude.{◌≡◌, ◌+◌, List, ℤ, length};
 ghost use Rattle.dimacs_claims.specs.SolutionTexts.{claimed};
-ghost use Rattle.dimacs_instance.specs.Flows.{IsNode};
+ghost use Rattle.dimacs_records.specs.Ranges.{IsNode};
 ghost use Rattle.dimacs_judge.specs.declared.verdict.Verdict.TheVariants.{Max};
 ghost use Rattle.dimacs_judge.specs.Agreement.{value_row};
 ghost use Rattle.dimacs_judge.specs.Feasible.{value};

@@ -13,7 +13,7 @@ use Rattle.std.proofs.lemmas.List.Sums.{position_or_len_is, prefix_len_passes, p
 use Rattle.dimacs_lines.specs.Fields.{is_blank}
 use Rattle.dimacs_lines.specs.Number.{Spells, place_sum}
 
-digit_from : (b : ℕ) → is_ascii_digit b ≡ true → IsAsciiDigit b
+pub digit_from : (b : ℕ) → is_ascii_digit b ≡ true → IsAsciiDigit b
 digit_from b h = (grind (arith, nat_tests), grind (arith, nat_tests))
 
 -- a byte from 33 on is no blank
@@ -38,10 +38,10 @@ run_of_digits xs n is ends =
     let within : n ≤ length xs = omega (arith, prefix_len-le-length is_ascii_digit (take 8 xs), length-take 8 xs) in
     sym (position_or_len_is is_blank xs n 0 within (λ k below. not_blank (get_or xs k 0) (let digit = digit_at xs n k 0 is below in omega (arith, digit.0))) ends)
 
-digit_is_no_sign : (b : ℕ) → IsAsciiDigit b → (b == 43 || b == 45) ≡ false
+pub digit_is_no_sign : (b : ℕ) → IsAsciiDigit b → (b == 43 || b == 45) ≡ false
 digit_is_no_sign b digit = grind (arith, nat_tests, digit.0, digit.1)
 
-digit_is_no_minus : (b : ℕ) → IsAsciiDigit b → (b == 45) ≡ false
+pub digit_is_no_minus : (b : ℕ) → IsAsciiDigit b → (b == 45) ≡ false
 digit_is_no_minus b digit = grind (arith, nat_tests, digit.0, digit.1)
 
 -- digits alone

@@ -2,9 +2,9 @@ pub mod PutLemmas
 mod TextLemmas
 mod PieceLemmas
 mod ReaderLemmas
-mod NumberLemmas
+pub mod NumberLemmas
 mod FieldLemmas
-mod DigitLemmas
+pub mod DigitLemmas
 mod FieldLaw
 mod DecimalLengths
 mod Lanes

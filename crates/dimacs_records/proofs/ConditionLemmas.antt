@@ -109,3 +109,7 @@ is_complete kind all e reason h =
     let c = listed_at_end kind all reason h in
     let none : ¬ IsTrue (end_condition kind all (get_or end_reasons c.0 reason)) = none_is (end_condition kind all) end_reasons e c.0 reason c.1 in
     none (subst (λ (s : Reason). IsTrue (end_condition kind all s)) (sym c.2) h)
+
+-- a record that is allowed, in other words
+pub allowed_at : (before here : List Record) (r s : Record) → before ≡ here → r ≡ s → IsAllowed here s → IsAllowed before r
+allowed_at before here r s before_is r_is h = rw (before_is, r_is) h

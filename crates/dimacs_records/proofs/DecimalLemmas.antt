@@ -1,24 +1,17 @@
 -- What the decimal text of a number spells.
-use Rattle.std.proofs.Common.{◌≡◌, ◌+◌, ◌-◌, ◌*◌, ◌/◌, ◌%◌, ◌^◌, ◌<◌, ◌≤◌, ◌++◌, ◌∷◌, [], ℕ, suc, List, false, length, refl, sym, ap, arith, length-append, add-one}
-use Rattle.std.specs.Prelude.{ℤ, pos, negsuc, neg_ℤ, ◌==◌, ◌||◌}
+use Rattle.std.proofs.Common.{◌≡◌, ◌+◌, ◌/◌, ◌%◌, ◌^◌, ◌<◌, ◌≤◌, ◌++◌, ◌∷◌, [], ℕ, suc, List, length, refl, sym, ap, arith, length-append}
+use Rattle.std.specs.Prelude.{ℤ, pos, negsuc, neg_ℤ}
 use Rattle.std.specs.List.{All}
 use Rattle.std.specs.Char.{IsAsciiDigit}
 use Rattle.std.specs.Fmt.{decimal, signed_decimal}
-use Rattle.std.proofs.Math.Nat.{pow-suc}
 use Rattle.std.proofs.lemmas.Bool.Decides.{nat_tests}
 use Rattle.std.proofs.lemmas.Fmt.{decimal_by_steps_wide, length-decimal-le_wide}
 use Rattle.std.proofs.lemmas.Int.{ints}
 use Rattle.std.proofs.lemmas.List.Elements.{All-nil, All-cons, All-push, All-weaker}
 use Rattle.dimacs_lines.specs.Number.{place_sum, Spells, IsWithin}
 use Rattle.dimacs_records.proofs.PlainLines.{IsVisible, IsPlain}
-
-ten_more : (n : ℕ) → 10 ^ (n + 1) ≡ 10 ^ n * 10
-ten_more n = rw (add-one, pow-suc) (omega arith)
-
--- one digit more at the end
-place_sum-push : (xs : List ℕ) (c : ℕ) → place_sum (xs ++ c ∷ []) ≡ place_sum xs * 10 + (c - 48)
-place_sum-push [] c = omega arith
-place_sum-push (x ∷ xs) c = rw (length-append xs (c ∷ []), ten_more (length xs), place_sum-push xs c) (omega arith)
+use Rattle.dimacs_lines.proofs.NumberLemmas.{place_sum-push}
+use Rattle.dimacs_lines.proofs.DigitLemmas.{digit_is_no_sign, digit_is_no_minus}
 
 -- digits that spell n
 record AreDigits (n : ℕ) (digits : List ℕ) : Type 0 where
@@ -39,17 +32,11 @@ one_more n digits large front = record {
 decimal_digits : (n : ℕ) → n < 10 ^ 64 → AreDigits n (decimal n)
 decimal_digits = decimal_by_steps_wide AreDigits one_digit one_more
 
-no_sign : (b : ℕ) → IsAsciiDigit b → (b == 43 || b == 45) ≡ false
-no_sign b digit = grind (arith, nat_tests, digit.0, digit.1)
-
-no_minus : (b : ℕ) → IsAsciiDigit b → (b == 45) ≡ false
-no_minus b digit = grind (arith, nat_tests, digit.0, digit.1)
-
 spells_digits : (n : ℕ) (digits : List ℕ) → AreDigits n digits → Spells digits (pos n)
 spells_digits n [] are = absurd (omega (arith, are.some))
 spells_digits n (b ∷ bs) are =
     let first : IsAsciiDigit b = are.each 0 0 are.some in
-    rw (no_sign b first, no_minus b first) ((are.some, are.each), ap pos (sym are.sum))
+    rw (digit_is_no_sign b first, digit_is_no_minus b first) ((are.some, are.each), ap pos (sym are.sum))
 
 spells_minus : (n : ℕ) (digits : List ℕ) → AreDigits n digits → Spells (45 ∷ digits) (neg_ℤ (pos n))
 spells_minus n digits are = ((are.some, are.each), ap (λ k. neg_ℤ (pos k)) (sym are.sum))

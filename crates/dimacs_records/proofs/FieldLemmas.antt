@@ -1,11 +1,11 @@
 -- What a field says, and why it is refused.
 use Rattle.std.proofs.Common.{◌≡◌, ℕ, ◌∷◌, [], List, Bool, true, false, Option, Some, None, Err, length, refl, arith, inl, inr}
 use Rattle.std.proofs.Common.{SFits, w64, ◌^◌, ◌-◌}
-use Rattle.std.specs.Prelude.{ℤ, pos, neg_ℤ, ◌≤ℤ◌, int_lt, ◌&&◌, ◌||◌, not, nat_lt}
+use Rattle.std.specs.Prelude.{ℤ, pos, neg_ℤ, ◌≤ℤ◌, int_lt, ◌||◌, not, nat_lt}
 use Rattle.std.specs.List.{list_all}
 use Rattle.std.specs.Char.{IsAsciiDigit, is_ascii_digit}
 use Rattle.std.specs.Str.{bytes_eq}
-use Rattle.std.proofs.lemmas.Bool.{ltb-true, lt-ltb, and_from, and_right, or_from, eq-eqb}
+use Rattle.std.proofs.lemmas.Bool.{ltb-true, lt-ltb, and_from, and_right, or_from, eq-eqb, and_parts}
 use Rattle.std.proofs.lemmas.Bool.Decides.{nat_tests}
 use Rattle.std.proofs.lemmas.List.Sums.{AllPass-from_list_all, list_all-from_AllPass}
 use Rattle.std.proofs.lemmas.List.Elements.{All-weaker}
@@ -19,13 +19,7 @@ use Rattle.dimacs_records.specs.Spelling.{Part, Text, Amount, Says}
 use Rattle.dimacs_records.specs.Shapes.{is_number}
 use Rattle.dimacs_records.specs.FieldReader.{field_reason, number_reason}
 use Rattle.dimacs_records.specs.Earlier.{or_else}
-
-and_parts : (a b : Bool) → (a && b) ≡ true → (a ≡ true) × (b ≡ true)
-and_parts true b h = (refl, h)
-and_parts false b h = absurd (cc)
-
-digit_from : (b : ℕ) → is_ascii_digit b ≡ true → IsAsciiDigit b
-digit_from b h = (grind (arith, nat_tests), grind (arith, nat_tests))
+use Rattle.dimacs_lines.proofs.DigitLemmas.{digit_from}
 
 digit_to : (b : ℕ) → IsAsciiDigit b → is_ascii_digit b ≡ true
 digit_to b h = grind (arith, nat_tests, h.0, h.1)

@@ -4,6 +4,7 @@ use Rattle.std.specs.Prelude.{IsTrue, if◌then◌else◌}
 use Rattle.std.specs.List.{All}
 use Rattle.std.proofs.lemmas.List.Elements.{All-nil, All-cons, All-head, All-tail}
 use Rattle.dimacs_records.specs.Order.{First}
+use Rattle.std.proofs.lemmas.Bool.{false_from_ne_true}
 
 -- the first of a list that passes a test
 abbrev pub first_by : {X : Type 0} → (X → Bool) → List X → Option X
@@ -20,10 +21,6 @@ unique P (b ∷ bs) (c ∷ cs) after after' x y e n n' p q = unique P bs cs afte
 pub first_unique : {X : Type 0} (P : X → Type 0) (all : List X) (x y : X) → First P all x → First P all y → x ≡ y
 first_unique P all x y f g = unique P f.before g.before f.after g.after x y (sym f.all_is ∙ g.all_is) f.none_before g.none_before f.holds g.holds
 
-ne_true : (b : Bool) → ¬ (b ≡ true) → b ≡ false
-ne_true true h = absurd (h refl)
-ne_true false h = refl
-
 ne_false : (b : Bool) → b ≡ false → ¬ (b ≡ true)
 ne_false true h = absurd (cc)
 ne_false false h = λ e. absurd (cc)
@@ -31,7 +28,7 @@ ne_false false h = λ e. absurd (cc)
 -- the computed first is the first
 found_at : {X : Type 0} (test : X → Bool) (before after : List X) (x : X) → All (λ z. ¬ IsTrue (test z)) before → IsTrue (test x) → first_by test (before ++ x ∷ after) ≡ Some x
 found_at test [] after x n h = rw h refl
-found_at test (b ∷ bs) after x n h = rw (ne_true (test b) (All-head (λ z. ¬ IsTrue (test z)) b bs n)) (found_at test bs after x (All-tail (λ z. ¬ IsTrue (test z)) b bs n) h)
+found_at test (b ∷ bs) after x n h = rw (false_from_ne_true (test b) (All-head (λ z. ¬ IsTrue (test z)) b bs n)) (found_at test bs after x (All-tail (λ z. ¬ IsTrue (test z)) b bs n) h)
 
 pub first_is : {X : Type 0} (test : X → Bool) (all : List X) (x : X) → First (λ z. IsTrue (test z)) all x → first_by test all ≡ Some x
 first_is test all x f = ap (first_by test) f.all_is ∙ found_at test f.before f.after x f.none_before f.holds
@@ -61,4 +58,4 @@ none_is test (y ∷ all) e = let p = none_at test y all (test y) refl e in All-c
 
 pub is_none_first : {X : Type 0} (test : X → Bool) (all : List X) → All (λ z. ¬ IsTrue (test z)) all → first_by test all ≡ None
 is_none_first test [] n = refl
-is_none_first test (y ∷ all) n = rw (ne_true (test y) (All-head (λ z. ¬ IsTrue (test z)) y all n)) (is_none_first test all (All-tail (λ z. ¬ IsTrue (test z)) y all n))
+is_none_first test (y ∷ all) n = rw (false_from_ne_true (test y) (All-head (λ z. ¬ IsTrue (test z)) y all n)) (is_none_first test all (All-tail (λ z. ¬ IsTrue (test z)) y all n))

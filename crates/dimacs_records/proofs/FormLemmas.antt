@@ -1,7 +1,7 @@
 -- What the fields behind a letter give, taken one after another.
-use Rattle.std.proofs.Common.{◌≡◌, ◌≢◌, ℕ, suc, ◌∷◌, [], List, Bool, true, false, Option, Some, None, Result, Err, length, map, refl, ap, sym, ◌∙◌, subst, arith}
+use Rattle.std.proofs.Common.{◌≡◌, ℕ, suc, ◌∷◌, [], List, Bool, true, false, Option, Some, None, Result, Err, length, map, refl, ap, sym, ◌∙◌, subst, arith}
 use Rattle.std.specs.Prelude.{◌==◌, if◌then◌else◌}
-use Rattle.std.proofs.lemmas.Bool.{eq-eqb, eqb-true}
+use Rattle.std.proofs.lemmas.Bool.{eq-eqb, eqb-true, ne_eqb}
 use Rattle.std.proofs.lemmas.Bool.Decides.{nat_tests}
 use Rattle.std.proofs.lemmas.List.{length-map}
 use Rattle.dimacs_lines.specs.Fields.{Run}
@@ -42,9 +42,6 @@ missing_all f (type ∷ types) old (part ∷ parts) new h taken = missing_all (s
 abbrev outcome : ℕ → List FieldType → Option LineFault → List Run → Record → Result (Option Record) LineFault
 outcome f types fault runs r = if length types == length runs then without_fault (or_else fault (fields_fault f types (map text_of_run runs))) r else Err (fault_at 0 FieldCount)
 
-differ : (a b : ℕ) → a ≢ b → (a == b) ≡ false
-differ a b h = grind (arith, nat_tests, h)
-
 one_more : (a b : ℕ) → (a == b) ≡ (suc a == suc b)
 one_more a b = grind (arith, nat_tests)
 
@@ -53,7 +50,7 @@ at_missing new r h = rw h refl
 
 at_end : (s : FieldReader) (runs : List Run) (r : Record) (f : ℕ) → s.scan ≡ runs → s.missing ≡ false → finished s r ≡ outcome f [] s.fault runs r
 at_end s [] r f h there = rw (h, there, or_else-none s.fault) refl
-at_end s (run ∷ runs) r f h there = let none : (0 == suc (length runs)) ≡ false = differ 0 (suc (length runs)) (omega arith) in rw (h, there, none) refl
+at_end s (run ∷ runs) r f h there = let none : (0 == suc (length runs)) ≡ false = ne_eqb 0 (suc (length runs)) (omega arith) in rw (h, there, none) refl
 
 taken_outcome : (f : ℕ) (types : List FieldType) (s : FieldReader) (parts : List Part) (new : FieldReader) (runs : List Run) (r : Record) → s.scan ≡ runs → s.missing ≡ false → TakesAll f types s parts new → finished new r ≡ outcome f types s.fault runs r
 taken_outcome f [] s [] new runs r h there taken = rw taken (at_end s runs r f h there)
@@ -62,7 +59,7 @@ taken_outcome f (type ∷ types) s [] new runs r h there taken = absurd taken
 taken_outcome f (type ∷ types) s (part ∷ parts) new [] r h there taken =
     let mid : FieldReader = taken.0 in
     let next : TakesNext f type [] s part mid = rw h at taken.1 in
-    let none : (suc (length types) == 0) ≡ false = differ (suc (length types)) 0 (omega arith) in
+    let none : (suc (length types) == 0) ≡ false = ne_eqb (suc (length types)) 0 (omega arith) in
     at_missing new r (missing_all (suc f) types mid parts new next taken.2) ∙ rw none refl
 taken_outcome f (type ∷ types) s (part ∷ parts) new (run ∷ runs) r h there taken =
     let mid : FieldReader = taken.0 in

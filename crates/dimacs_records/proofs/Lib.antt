@@ -19,3 +19,6 @@ pub mod CanonicalLaws
 pub mod ReadLaws
 pub mod FitLaws
 pub mod WrittenLemmas
+pub mod CountLemmas
+pub mod NameLemmas
+pub mod TakingLemmas

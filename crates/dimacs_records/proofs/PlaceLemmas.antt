@@ -1,9 +1,8 @@
 -- The first fault of a line's fields, as the first condition in the order of places.
-use Rattle.std.proofs.Common.{◌≡◌, ◌≢◌, ℕ, zero, suc, ◌≤◌, ◌∷◌, ◌++◌, [], List, Bool, true, false, Option, Some, None, length, refl, ◌∙◌, arith}
+use Rattle.std.proofs.Common.{◌≡◌, ℕ, zero, suc, ◌≤◌, ◌∷◌, ◌++◌, [], List, Bool, true, false, Option, Some, None, length, refl, ◌∙◌, arith}
 use Rattle.std.specs.Prelude.{◌==◌, not, if◌then◌else◌}
 use Rattle.std.specs.List.{All}
-use Rattle.std.proofs.lemmas.Bool.{eq-eqb}
-use Rattle.std.proofs.lemmas.Bool.Decides.{nat_tests}
+use Rattle.std.proofs.lemmas.Bool.{eq-eqb, ne_eqb}
 use Rattle.std.proofs.lemmas.List.Elements.{All-nil, All-cons, All-head, All-tail}
 use Rattle.dimacs_records.specs.declared.reasons.Reason.{Reason}
 use Rattle.dimacs_records.specs.declared.reasons.Reason.TheVariants.{UnknownLine, FieldCount, BadNumber, NumberRange, BadWord}
@@ -54,15 +53,12 @@ none_first : {X : Type 0} (xs : List X) → first_by (λ x. false) xs ≡ None
 none_first [] = refl
 none_first (x ∷ xs) = none_first xs
 
-differ : (a b : ℕ) → a ≢ b → (a == b) ≡ false
-differ a b h = grind (arith, nat_tests, h)
-
 -- places behind a field are those of the fields behind it
 behind_first : (n : ℕ) (type : FieldType) (types : List FieldType) (text : List ℕ) (texts : List (List ℕ)) (ps : List Place) → All (IsFrom (suc n)) ps
     → All (λ p. test_at (fields_condition n (type ∷ types) (text ∷ texts)) p ≡ test_at (fields_condition (suc n) types texts) p) ps
 behind_first n type types text texts [] h = All-nil _
 behind_first n type types text texts (p ∷ ps) h =
-    let past : (p.field == n) ≡ false = differ p.field n (omega (arith, All-head (IsFrom (suc n)) p ps h)) in
+    let past : (p.field == n) ≡ false = ne_eqb p.field n (omega (arith, All-head (IsFrom (suc n)) p ps h)) in
     All-cons (λ p. test_at (fields_condition n (type ∷ types) (text ∷ texts)) p ≡ test_at (fields_condition (suc n) types texts) p) p ps (rw past refl) (behind_first n type types text texts ps (All-tail (IsFrom (suc n)) p ps h))
 
 first_field : (n : ℕ) (b c d : Bool) (rest : Option LineFault) → (if b then Some (at n BadNumber) else if c then Some (at n NumberRange) else if d then Some (at n BadWord) else place_in rest)

@@ -1,5 +1,6 @@
 -- Places of a list.
-use Rattle.std.proofs.Common.{◌≡◌, ◌∙◌, ◌∷◌, ◌++◌, [], List, length, map, refl, ap, arith, length-append}
+use Rattle.std.proofs.Common.{◌≡◌, ◌∙◌, ◌∷◌, ◌++◌, [], List, length, map, refl, ap, arith, length-append, All}
+use Rattle.std.proofs.lemmas.List.Elements.{All-contains, Contains-append_right}
 
 -- how two elements of one list lie, each behind others: they are the same one, or one of them comes sooner
 pub data TwoPlaces {X : Type 0} (before before' : List X) (x x' : X) : Type 0 where
@@ -35,3 +36,7 @@ image_at f (x ∷ xs) (b ∷ bs) after y e =
     let rest = image_at f xs bs after y (cc) in
     let first : b ≡ f x = cc in
     record { front = x ∷ rest.front; x = rest.x; back = rest.back; xs_are = ap (λ t. x ∷ t) rest.xs_are; before_is = ap (λ t. t ∷ bs) first ∙ ap (λ ts. f x ∷ ts) rest.before_is; y_is = rest.y_is }
+
+-- what holds of all elements holds of one of them
+pub All-at : {A : Type 0} (P : A → Type 0) (xs front back : List A) (x : A) → xs ≡ front ++ x ∷ back → All P xs → P x
+All-at P xs front back x e all = All-contains P xs x all (rw e (Contains-append_right front (x ∷ back) x (0, omega arith, refl)))

@@ -12,7 +12,10 @@ pub mod LineReader
 pub mod Names
 pub mod Order
 pub mod Printed
+pub mod Ranges
+pub mod NodeValues
 pub mod Readings
+pub mod Takings
 pub mod Shapes
 pub mod Spelling
 pub mod Texts

@@ -1,6 +1,5 @@
 -- What is told of texts that are judged.
-use Rattle.std.proofs.Common.{◌≡◌, ℕ, List, [], ◌∷◌, Option, Result, Ok, Err, refl, sym, subst, ap, ◌∙◌, inl, inr, ◌⊎◌}
-use Rattle.dimacs_lines.specs.Devices.{one_more}
+use Rattle.std.proofs.Common.{◌≡◌, ℕ, List, Option, Result, Ok, Err, refl, sym, subst, ap, ◌∙◌, inl, inr, ◌⊎◌}
 use Rattle.dimacs_records.specs.declared.faults.At.{At}
 use Rattle.dimacs_records.specs.declared.faults.ReadError.{ReadError}
 use Rattle.dimacs_records.specs.declared.faults.ReadError.TheVariants as read_errors
@@ -16,18 +15,18 @@ use Rattle.dimacs_instance.specs.QueryTexts as queries
 use Rattle.dimacs_instance.specs.QueryTexts.{QueriesValue}
 use Rattle.std.specs.List.{flat_map}
 use Rattle.dimacs_runs.specs.Judged.{paths_lines}
-use Rattle.dimacs_judge.specs.Tests.{Row, AllClear, First, Judges}
+use Rattle.dimacs_judge.specs.Tests.{Row, Judges}
 use Rattle.dimacs_runs.specs.declared.outcome.Status.{Status}
 use Rattle.dimacs_runs.specs.declared.outcome.Status.TheVariants.{Done, Refused}
 use Rattle.dimacs_runs.specs.declared.outcome.RunError.{RunError}
-use Rattle.dimacs_runs.specs.declared.outcome.RunError.TheVariants.{Device, Memory}
 use Rattle.dimacs_runs.specs.declared.told.Told.{Told}
 use Rattle.dimacs_runs.specs.declared.unread.Unread.{Unread}
-use Rattle.dimacs_runs.specs.Judgings.{TextSays, FaultOr, VerdictOr, ReadsIn, StopsAt, CountsDevices, CountsUnread, CountsError, OneMore, answer_told, error_told}
+use Rattle.dimacs_runs.specs.Judgings.{TextSays, FaultOr, VerdictOr, ReadsIn, StopsAt, answer_told, error_told}
 use Rattle.dimacs_runs.specs.Refusals.{refusal_line}
-use Rattle.dimacs_runs.specs.Runs.{TellsAlone, Reports, CountsRun}
+use Rattle.dimacs_runs.specs.Runs.{TellsAlone, Reports}
 use Rattle.dimacs_runs.specs.Told.{EndsAfter, ToldAlone, told_lines, told_status}
 use Rattle.dimacs_runs.specs.Verdicts.{answer_line, failure_line, sources_line, verdict_lines}
+use Rattle.dimacs_judge.proofs.Firsts.{none_first}
 
 module _ {V : Type 0} (text : TextSays V) (next : V → Status → List ℕ → Type 0) where
   value_alone : (v : V) (status : Status) (out : List ℕ) → ReadsIn text (Ok v) → TellsAlone (next v) status out → TellsAlone (FaultOr text next) status out
@@ -87,12 +86,6 @@ module _ {V W X : Type 0} (x : TextSays V) (y : TextSays W) (z : TextSays X) (ne
   three_told unread (inl first) = stop_told x (λ v. FaultOr y (after_second v)) unread first
   three_told unread (inr (v, read, inl second)) = value_told x (λ v. FaultOr y (after_second v)) v (error_told unread unread.error) read (stop_told y (after_second v) unread second)
   three_told unread (inr (v, read, inr (w, also, third))) = two_values x y after_second v w (error_told unread unread.error) read also (stop_told z (next v w) unread third)
-
--- where all tests pass, none is the first that fails
-none_first : (rows : List Row) (place : Where) (reason : Reason) → AllClear rows → ¬ First rows place reason
-none_first [] place reason clear f = f
-none_first (row ∷ rows) place reason clear (inl f) = clear.0 f.number place reason f.fails
-none_first (row ∷ rows) place reason clear (inr f) = none_first rows place reason clear.1 f.1
 
 module _ (holds : Type 0) (rows : List Row) (says : Verdict → Type 0) (lines : List ℕ) (same : (verdict : Verdict) → says verdict → verdict_lines verdict ≡ lines) where
   abbrev judged : Status → List ℕ → Type 0

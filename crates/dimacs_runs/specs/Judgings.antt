@@ -22,7 +22,7 @@ use Rattle.dimacs_runs.specs.declared.told.Told.TheVariants as told
 use Rattle.dimacs_runs.specs.declared.unread.Unread.{Unread}
 use Rattle.dimacs_runs.specs.Refusals.{refusal_line}
 use Rattle.dimacs_runs.specs.Runs.{text_word}
-use Rattle.dimacs_runs.specs.Verdicts.{verdict_lines, failure_line}
+use Rattle.dimacs_runs.specs.Verdicts.{failure_line}
 
 -- a text: its name in refusals, which value it spells, and its fault
 pub record TextSays (V : Type 0) : Type 1 where

@@ -6,7 +6,7 @@ use Rattle.dimacs_claims.specs.Cuts.{CutValue, ids_in}
 use Rattle.dimacs_claims.specs.Labels.{LabelsValue}
 use Rattle.dimacs_claims.specs.Potentials.{PotentialsValue, nonzero_ids}
 use Rattle.dimacs_claims.specs.SolutionTexts.{SolutionValue}
-use Rattle.dimacs_instance.specs.Flows.{MaxValue}
+use Rattle.dimacs_instance.specs.MaxFlows.{MaxValue}
 use Rattle.dimacs_instance.specs.Graph.{GraphValue}
 use Rattle.dimacs_instance.specs.MinFlows.{MinValue, supplied, demanded}
 use Rattle.dimacs_instance.specs.QueryTexts.{QueriesValue, Sources, Pairs}

@@ -1,5 +1,5 @@
 -- What a judge's run tells, in lines and with a status.
-use Rattle.std.specs.Prelude.{ℕ, ◌≡◌, List, [], ◌∷◌, Option, Result, Ok, Err}
+use Rattle.std.specs.Prelude.{ℕ, ◌≡◌, List, Option, Result, Ok, Err}
 use Rattle.dimacs_lines.specs.Devices.{after_piece, one_more}
 use Rattle.dimacs_lines.specs.Puts.{AcceptsFront}
 use Rattle.dimacs_runs.specs.declared.outcome.Status.{Status}

@@ -5,7 +5,7 @@ ghost use Rattle.std.specs.Fmt.{decimal};
 ghost use Rattle.dimacs_lines.specs.Devices.{CountsFault};
 ghost use Rattle.dimacs_lines.specs.Puts.{Puts};
 ghost use Rattle.dimacs_records.specs.declared.kinds.TextKind.TheVariants as kinds;
-ghost use Rattle.dimacs_instance.specs.Flows.{MaxValue};
+ghost use Rattle.dimacs_instance.specs.MaxFlows.{MaxValue};
 ghost use Rattle.dimacs_instance.specs.Graph.{GraphValue, SpellsGraph, canonical_graph};
 ghost use Rattle.dimacs_instance.specs.MaxTexts.{SpellsMax, canonical_max};
 ghost use Rattle.dimacs_instance.specs.MinFlows.{MinValue};

@@ -5,10 +5,9 @@ use Rattle.dimacs_lines.specs.Lines.{lines}
 use Rattle.dimacs_records.specs.declared.kinds.TextKind.TheVariants as kinds
 use Rattle.dimacs_records.specs.declared.records.Record.TheVariants.{CutProblem, CutNode}
 use Rattle.dimacs_records.proofs.ReadLaws.{spells_one_value}
-use Rattle.dimacs_records.proofs.WrittenLemmas.{written_first}
+use Rattle.dimacs_records.proofs.WrittenLemmas.{written_first, written_behind}
 use Rattle.dimacs_claims.specs.Cuts.{GivesCut, canonical_cut, ids_in}
 use Rattle.dimacs_claims.proofs.CutLemmas.{cut_round_trip, lines_below, lines_below_next, one_cut}
-use Rattle.dimacs_claims.proofs.TakingLemmas.{written_behind}
 use Rattle.dimacs_claims.proofs.cut.write_cut.Goals as goal
 
 pub loop-id-init : goal.loop-id-init

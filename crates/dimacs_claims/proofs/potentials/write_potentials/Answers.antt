@@ -4,10 +4,9 @@ use Rattle.dimacs_lines.specs.Lines.{lines}
 use Rattle.dimacs_records.specs.declared.kinds.TextKind.TheVariants as kinds
 use Rattle.dimacs_records.specs.declared.records.Record.TheVariants.{PotentialsProblem}
 use Rattle.dimacs_records.proofs.ReadLaws.{spells_one_value}
-use Rattle.dimacs_records.proofs.WrittenLemmas.{written_first}
+use Rattle.dimacs_records.proofs.WrittenLemmas.{written_first, written_behind}
 use Rattle.dimacs_claims.specs.Potentials.{GivesPotentials, canonical_potentials, node_line, nonzero_ids, with_values}
 use Rattle.dimacs_claims.proofs.PotentialsLemmas.{nonzero_at, potentials_round_trip, lines_below, lines_below_next, one_potentials}
-use Rattle.dimacs_claims.proofs.TakingLemmas.{written_behind}
 use Rattle.dimacs_claims.proofs.potentials.write_potentials.Goals as goal
 
 pub loop-id-init : goal.loop-id-init

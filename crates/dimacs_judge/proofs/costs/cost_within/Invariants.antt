@@ -1,7 +1,7 @@
 use Rattle.std.proofs.Common.{◌≡◌, take}
 use Rattle.dimacs_judge.specs.Flows.{cost}
 use Rattle.dimacs_judge.specs.FlowTests.{cost_row}
-use Rattle.dimacs_judge.specs.Ranges.{IsWide}
+use Rattle.dimacs_records.specs.Ranges.{IsWide}
 use Rattle.dimacs_judge.specs.Tests.{ClearBelow}
 use Rattle.dimacs_judge.proofs.costs.cost_within.Given as goal
 

@@ -6,7 +6,6 @@ use Rattle.dimacs_lines.specs.Lines.{lines}
 use Rattle.dimacs_runs.specs.declared.jobs.JudgeKind.{JudgeKind}
 use Rattle.dimacs_runs.specs.declared.jobs.JudgeKind.TheVariants as judges
 use Rattle.dimacs_runs.specs.Judged.{IsClaim, Judged, claim_kind, instance_kind}
-use Rattle.dimacs_runs.specs.Told.{ToldAlone}
 use Rattle.dimacs_runs.proofs.JudgingLemmas.{told_reports}
 use Rattle.dimacs_runs.proofs.judge.run_judge.Goals as goal
 use Rattle.dimacs_runs.proofs.judge.run_judge.Goals.{in-Max, in-Min, in-Infeasible, in-Paths}

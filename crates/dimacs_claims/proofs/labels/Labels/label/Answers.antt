@@ -2,7 +2,8 @@ use Rattle.std.proofs.Common.{arith, ◌≡◌, ◌∙◌, subst, ap, sym, IfSom
 use Rattle.std.specs.Prelude.{slice_get}
 use Rattle.std.proofs.lemmas.Option.{slice_get-get_or}
 use Rattle.std.proofs.lemmas.Grind.{common_steps}
-use Rattle.dimacs_claims.specs.Labels.{IsWide, label_at, label_in}
+use Rattle.dimacs_claims.specs.Labels.{label_at, label_in}
+use Rattle.dimacs_records.specs.Ranges.{IsWide}
 use Rattle.dimacs_claims.proofs.BlockLemmas.{label_at_wide}
 use Rattle.dimacs_claims.proofs.labels.Labels.label.Goals as goal
 

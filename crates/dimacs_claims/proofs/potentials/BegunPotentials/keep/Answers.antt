@@ -1,7 +1,7 @@
 use Rattle.std.proofs.Common.{◌<◌, arith}
 use Rattle.std.specs.Int.{w128}
 use Rattle.std.proofs.lemmas.Int.{to_z-of_z}
-use Rattle.dimacs_claims.specs.Cuts.{IsNode}
+use Rattle.dimacs_records.specs.Ranges.{IsNode}
 use Rattle.dimacs_claims.proofs.ValueLemmas.{law_with_potential}
 use Rattle.dimacs_claims.proofs.potentials.BegunPotentials.keep.Goals as goal
 use Rattle.dimacs_claims.proofs.potentials.BegunPotentials.keep.Goals.{then-value-eq0+in_ok-insert, else-value-eq0+in_ok-set}

@@ -1,8 +1,8 @@
 use Rattle.std.proofs.Common.{◌≡◌, ◌<◌, ◌≤◌, Some, refl, sym, ◌∙◌, ap, arith}
 use Rattle.dimacs_claims.specs.PotentialsReading.{AreBegunBy}
 use Rattle.dimacs_claims.proofs.PotentialsLemmas.{refuses_nothing, refuses_end, completes, gives_potentials}
-use Rattle.dimacs_claims.proofs.TakingLemmas.{stands}
 use Rattle.dimacs_claims.proofs.potentials.PotentialsReadingReading.finish.Goals as goal
+use Rattle.dimacs_records.proofs.TakingLemmas.{stands}
 
 pub returns-in_default-clause-refused : goal.returns-in_default-clause-refused
 returns-in_default-clause-refused c = λ rs h. rw (c.refused.ensures) (refl, refuses_nothing c.args.self _ (sym c.self.view_is ∙ c.in_default.is) h)

@@ -2,7 +2,7 @@ use Rattle.std.proofs.lemmas.Int.{to_z-of_z, ints}
 use Rattle.std.proofs.Common.{w64, ◌≡◌, ◌<◌, ◌≤◌, refl, sym, ◌∙◌, arith, length, map}
 use Rattle.std.proofs.lemmas.List.Sorted.{list_any-IsPermutation}
 use Rattle.dimacs_instance.specs.Ends.{arc_ends, has_ends}
-use Rattle.dimacs_instance.specs.Flows.{IsWhole}
+use Rattle.dimacs_records.specs.Ranges.{IsWhole}
 use Rattle.dimacs_instance.proofs.MaxLemmas.{tail_above, head_above, end_missing, negative, parallel, one_too_many, one_more_arc, ends_there, ends_lack, pushed_arc, more_lawful}
 use Rattle.dimacs_instance.proofs.max.BegunMax.add_arc.Goals as goal
 

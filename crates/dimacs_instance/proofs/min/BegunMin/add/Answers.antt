@@ -4,10 +4,10 @@ use Rattle.std.specs.List.{list_any}
 use Rattle.std.proofs.lemmas.Int.{to_z-of_z}
 use Rattle.dimacs_instance.specs.Arcs.{joins}
 use Rattle.std.proofs.lemmas.List.Sorted.{list_any-IsPermutation}
-use Rattle.dimacs_instance.specs.Ends.{has_ends}
-use Rattle.dimacs_instance.specs.MinReading.{ends_of_arc}
-use Rattle.dimacs_instance.proofs.MinLemmas.{refuses_tail, refuses_head, refuses_low, refuses_cap, refuses_parallel, refuses_count, takes_arc, any_has_ends}
+use Rattle.dimacs_instance.specs.Ends.{has_ends, arc_ends}
+use Rattle.dimacs_instance.proofs.MinLemmas.{refuses_tail, refuses_head, refuses_low, refuses_cap, refuses_parallel, refuses_count, takes_arc}
 use Rattle.dimacs_instance.proofs.min.BegunMin.add.Goals as goal
+use Rattle.dimacs_instance.proofs.SimpleLemmas.{any_joins}
 
 pub returns-then-arc-nodes : goal.returns-then-arc-nodes
 returns-then-arc-nodes c = rw (← c.self.view_is, c.refused.ensures) (λ rs h. refuses_tail _ rs h c.args.arc (omega (arith, c.nodes.ensures, c.if-arc-nodes.true)), refl)
@@ -42,7 +42,7 @@ returns-then-contains c =
     let cap_fits : SFits w64 c.args.arc.cap = search rules in
     let low : int_lt c.args.arc.low (pos 0) ≡ false = rw (to_z-of_z w64 c.args.arc.low low_fits) at c.if-arc-lt0.false in
     let cap : int_lt c.args.arc.cap c.args.arc.low ≡ false = rw (to_z-of_z w64 c.args.arc.cap cap_fits, to_z-of_z w64 c.args.arc.low low_fits) at c.if-arc.false in
-    let again : list_any (joins c.args.arc.tail c.args.arc.head) c.self.inside.network.arcs ≡ true = sym (any_has_ends c.args.arc.tail c.args.arc.head c.self.inside.network.arcs) ∙ list_any-IsPermutation (has_ends c.args.arc.tail c.args.arc.head) (map ends_of_arc c.self.inside.network.arcs) c.self.inside.seen c.self.invariant.1 ∙ sym c.if-contains.ensures in
+    let again : list_any (joins c.args.arc.tail c.args.arc.head) c.self.inside.network.arcs ≡ true = sym (any_joins c.args.arc.tail c.args.arc.head c.self.inside.network.arcs) ∙ list_any-IsPermutation (has_ends c.args.arc.tail c.args.arc.head) (map arc_ends c.self.inside.network.arcs) c.self.inside.seen c.self.invariant.1 ∙ sym c.if-contains.ensures in
     rw (← c.self.view_is, c.refused-then-contains.ensures) (λ rs h. refuses_parallel _ rs h c.args.arc tail head low cap again, refl)
 
 pub returns-then-arcs-self : goal.returns-then-arcs-self
@@ -53,13 +53,13 @@ returns-then-arcs-self c =
     let cap_fits : SFits w64 c.args.arc.cap = search rules in
     let low : int_lt c.args.arc.low (pos 0) ≡ false = rw (to_z-of_z w64 c.args.arc.low low_fits) at c.if-arc-lt0.false in
     let cap : int_lt c.args.arc.cap c.args.arc.low ≡ false = rw (to_z-of_z w64 c.args.arc.cap cap_fits, to_z-of_z w64 c.args.arc.low low_fits) at c.if-arc.false in
-    let alone : list_any (joins c.args.arc.tail c.args.arc.head) c.self.inside.network.arcs ≡ false = sym (any_has_ends c.args.arc.tail c.args.arc.head c.self.inside.network.arcs) ∙ list_any-IsPermutation (has_ends c.args.arc.tail c.args.arc.head) (map ends_of_arc c.self.inside.network.arcs) c.self.inside.seen c.self.invariant.1 ∙ sym c.if-contains.ensures in
+    let alone : list_any (joins c.args.arc.tail c.args.arc.head) c.self.inside.network.arcs ≡ false = sym (any_joins c.args.arc.tail c.args.arc.head c.self.inside.network.arcs) ∙ list_any-IsPermutation (has_ends c.args.arc.tail c.args.arc.head) (map arc_ends c.self.inside.network.arcs) c.self.inside.seen c.self.invariant.1 ∙ sym c.if-contains.ensures in
     let full : length c.self.inside.network.arcs ≡ c.self.inside.declared = omega (arith, c.arcs.ensures, c.if-arcs-self.true) in
     rw (← c.self.view_is, c.refused-then-arcs-self.ensures) (λ rs h. refuses_count _ rs h c.args.arc tail head low cap alone full, refl)
 
 pub keep_arc-requires-clause-alone : goal.keep_arc-requires-clause-alone
 keep_arc-requires-clause-alone c =
-    let alone : list_any (joins c.args.arc.tail c.args.arc.head) c.self.inside.network.arcs ≡ false = sym (any_has_ends c.args.arc.tail c.args.arc.head c.self.inside.network.arcs) ∙ list_any-IsPermutation (has_ends c.args.arc.tail c.args.arc.head) (map ends_of_arc c.self.inside.network.arcs) c.self.inside.seen c.self.invariant.1 ∙ sym c.if-contains.ensures in
+    let alone : list_any (joins c.args.arc.tail c.args.arc.head) c.self.inside.network.arcs ≡ false = sym (any_joins c.args.arc.tail c.args.arc.head c.self.inside.network.arcs) ∙ list_any-IsPermutation (has_ends c.args.arc.tail c.args.arc.head) (map arc_ends c.self.inside.network.arcs) c.self.inside.seen c.self.invariant.1 ∙ sym c.if-contains.ensures in
     rw (← c.self.view_is) alone
 
 pub returns : goal.returns
@@ -70,6 +70,6 @@ returns c =
     let cap_fits : SFits w64 c.args.arc.cap = search rules in
     let low : int_lt c.args.arc.low (pos 0) ≡ false = rw (to_z-of_z w64 c.args.arc.low low_fits) at c.if-arc-lt0.false in
     let cap : int_lt c.args.arc.cap c.args.arc.low ≡ false = rw (to_z-of_z w64 c.args.arc.cap cap_fits, to_z-of_z w64 c.args.arc.low low_fits) at c.if-arc.false in
-    let alone : list_any (joins c.args.arc.tail c.args.arc.head) c.self.inside.network.arcs ≡ false = sym (any_has_ends c.args.arc.tail c.args.arc.head c.self.inside.network.arcs) ∙ list_any-IsPermutation (has_ends c.args.arc.tail c.args.arc.head) (map ends_of_arc c.self.inside.network.arcs) c.self.inside.seen c.self.invariant.1 ∙ sym c.if-contains.ensures in
+    let alone : list_any (joins c.args.arc.tail c.args.arc.head) c.self.inside.network.arcs ≡ false = sym (any_joins c.args.arc.tail c.args.arc.head c.self.inside.network.arcs) ∙ list_any-IsPermutation (has_ends c.args.arc.tail c.args.arc.head) (map arc_ends c.self.inside.network.arcs) c.self.inside.seen c.self.invariant.1 ∙ sym c.if-contains.ensures in
     let room : length c.self.inside.network.arcs < c.self.inside.declared = omega (arith, c.arcs.ensures, c.if-arcs-self.false, c.self.invariant.0.no_more) in
     rw (c.in-Ok.ensures.kept, ← c.self.view_is) (λ rs h. takes_arc _ rs h c.args.arc tail head low cap alone room)

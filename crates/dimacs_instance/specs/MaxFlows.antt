@@ -1,20 +1,9 @@
 -- What maximum flow instances are.
-use Rattle.std.specs.Prelude.{ℕ, ℤ, ◌≡◌, ◌≢◌, ◌≤◌, ◌≤ℤ◌, List, length, count_by, pos, neg_ℤ, ◌^◌, ◌-◌}
+use Rattle.std.specs.Prelude.{ℕ, ◌≡◌, ◌≢◌, ◌≤◌, ◌≤ℤ◌, List, length, pos}
 use Rattle.std.specs.List.{All}
-use Rattle.dimacs_lines.specs.Number.{IsWithin}
+use Rattle.dimacs_records.specs.Ranges.{IsNode, IsWhole}
 use Rattle.dimacs_instance.specs.declared.network.ArcView.{ArcView}
-use Rattle.dimacs_instance.specs.Arcs.{joins, JoinsNodes}
-
--- a whole number of 64 bits
-abbrev pub IsWhole : ℤ → Type 0
-IsWhole n = IsWithin (neg_ℤ (pos (2 ^ 63))) (pos (2 ^ 63 - 1)) n
-
--- at most one arc from each node to each other
-abbrev pub IsSimple : List ArcView → Type 0
-IsSimple arcs = (tail head : ℕ) → count_by (joins tail head) arcs ≤ 1
-
-abbrev pub IsNode : ℕ → ℕ → Type 0
-IsNode nodes id = (1 ≤ id) × (id ≤ nodes)
+use Rattle.dimacs_instance.specs.Arcs.{JoinsNodes, IsSimple}
 
 -- a capacity that isn't negative, and nothing else
 abbrev pub HasCapacityAlone : ArcView → Type 0

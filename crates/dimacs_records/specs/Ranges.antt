@@ -1,0 +1,19 @@
+-- The ranges of the numbers in texts.
+use Rattle.std.specs.Prelude.{ℕ, ◌≤◌, ◌^◌, ◌-◌, ℤ, pos, neg_ℤ}
+use Rattle.dimacs_lines.specs.Number.{IsWithin}
+
+-- the ID of one of so many nodes
+abbrev pub IsNode : ℕ → ℕ → Type 0
+IsNode nodes id = (1 ≤ id) × (id ≤ nodes)
+
+-- an ID in a text that doesn't say how many nodes there are
+abbrev pub IsId : ℕ → Type 0
+IsId id = IsNode 134217728 id
+
+-- a whole number of 64 bits
+abbrev pub IsWhole : ℤ → Type 0
+IsWhole n = IsWithin (neg_ℤ (pos (2 ^ 63))) (pos (2 ^ 63 - 1)) n
+
+-- a value, a cost, a potential or a distance
+abbrev pub IsWide : ℤ → Type 0
+IsWide n = IsWithin (neg_ℤ (pos (10 ^ 30))) (pos (10 ^ 30)) n
