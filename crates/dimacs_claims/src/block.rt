@@ -64,9 +64,7 @@ impl Block {
         ensures { IfOk result (λ block. block ≡ record { source = source; labels = [] }) }
     {
         let mut distances = BTreeMap::new(alloc);
-        let Ok(_) = distances.insert(source, 0) else {
-            return Err(Memory);
-        };
+        distances.insert(source, 0)?;
         Ok(Block {
             source,
             labels: Vec::new(alloc),
@@ -80,9 +78,7 @@ impl Block {
         ensures added { OnOk result (self.new ≡ with_label self.old label) }
         ensures unchanged { OnErr result (self.new ≡ self.old) }
     {
-        let Ok(()) = self.labels.push(label) else {
-            return Err(Memory);
-        };
+        self.labels.push(label)?;
         let Ok(_) = self.distances.insert(label.id, label.dist) else {
             self.labels.pop();
             return Err(Memory);

@@ -152,9 +152,7 @@ impl BegunCut {
         if self.cut.len() == self.declared {
             return Err(TakeError::refused(0, Reason::TooMany));
         }
-        let Ok(()) = self.cut.add(id) else {
-            return Err(TakeError::Memory);
-        };
+        self.cut.add(id)?;
         Ok(())
     }
 }

@@ -125,9 +125,7 @@ impl BegunLabels {
         if self.missing > 0 {
             return Err(TakeError::refused(0, Reason::TooFew));
         }
-        let Ok(()) = self.open(source, count) else {
-            return Err(TakeError::Memory);
-        };
+        self.open(source, count)?;
         Ok(())
     }
 
@@ -138,9 +136,7 @@ impl BegunLabels {
         ensures unchanged { OnErr result (self.new ≡ self.old) }
     {
         let block = Block::new(*self.blocks.allocator(), source)?;
-        let Ok(()) = self.blocks.push(block) else {
-            return Err(Memory);
-        };
+        self.blocks.push(block)?;
         let Ok(()) = self.sources.insert(source) else {
             self.blocks.pop();
             return Err(Memory);
@@ -173,9 +169,7 @@ impl BegunLabels {
         if block.distance(label.pred).is_none() {
             return Err(TakeError::refused(0, Reason::PredUnknown));
         }
-        let Ok(()) = add_to_last(&mut self.blocks, label) else {
-            return Err(TakeError::Memory);
-        };
+        add_to_last(&mut self.blocks, label)?;
         self.missing -= 1;
         Ok(())
     }

@@ -165,9 +165,7 @@ impl BegunPotentials {
         if self.taken == self.declared {
             return Err(TakeError::refused(0, Reason::TooMany));
         }
-        let Ok(()) = self.keep(id, value) else {
-            return Err(TakeError::Memory);
-        };
+        self.keep(id, value)?;
         Ok(())
     }
 

@@ -101,9 +101,7 @@ impl SolutionReading {
     fn take_entry(&mut self, entry: Entry) -> Result<(), TakeError>
         ensures { TakesLine self.old (entry_line entry) result self.new }
     {
-        let Ok(()) = self.entries.push(entry) else {
-            return Err(TakeError::Memory);
-        };
+        self.entries.push(entry)?;
         Ok(())
     }
 }

@@ -96,9 +96,7 @@ impl BegunGraph {
         if self.network.arcs() == self.declared {
             return Err(TakeError::refused(0, Reason::TooMany));
         }
-        let Ok(()) = self.network.push(WeightArc { tail, head, weight }) else {
-            return Err(TakeError::Memory);
-        };
+        self.network.push(WeightArc { tail, head, weight })?;
         Ok(())
     }
 }

@@ -200,9 +200,7 @@ impl BegunMax {
         if self.network.arcs() == self.declared {
             return Err(TakeError::refused(0, Reason::TooMany));
         }
-        let Ok(()) = self.keep(CapacityArc { tail, head, cap }) else {
-            return Err(TakeError::Memory);
-        };
+        self.keep(CapacityArc { tail, head, cap })?;
         Ok(())
     }
 

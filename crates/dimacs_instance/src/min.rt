@@ -186,9 +186,7 @@ impl BegunMin {
         if self.is_named(id) {
             return Err(TakeError::refused(2, Reason::NodeTwice));
         }
-        let Ok(()) = self.keep_supply(id, supply) else {
-            return Err(TakeError::Memory);
-        };
+        self.keep_supply(id, supply)?;
         Ok(())
     }
 
@@ -228,9 +226,7 @@ impl BegunMin {
         if self.network.arcs() == self.declared {
             return Err(TakeError::refused(0, Reason::TooMany));
         }
-        let Ok(()) = self.keep_arc(arc) else {
-            return Err(TakeError::Memory);
-        };
+        self.keep_arc(arc)?;
         Ok(())
     }
 

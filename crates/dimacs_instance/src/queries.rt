@@ -139,9 +139,7 @@ impl BegunQueries {
         if ids.len() == self.declared as usize {
             return Err(TakeError::refused(0, Reason::TooMany));
         }
-        let Ok(()) = ids.push(id) else {
-            return Err(TakeError::Memory);
-        };
+        ids.push(id)?;
         Ok(())
     }
 
@@ -158,9 +156,7 @@ impl BegunQueries {
         if pairs.len() == self.declared as usize {
             return Err(TakeError::refused(0, Reason::TooMany));
         }
-        let Ok(()) = pairs.push((from, to)) else {
-            return Err(TakeError::Memory);
-        };
+        pairs.push((from, to))?;
         Ok(())
     }
 }

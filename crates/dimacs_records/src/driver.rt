@@ -32,9 +32,7 @@ pub fn read_text<R: Reading, S: Source>(
     ensures device { CountsRead result (S.faults source.old) (S.faults source.new) }
 {
     let mut reading = reading;
-    let Ok(mut lines) = Lines::new(alloc) else {
-        return Err(ReadError::Memory);
-    };
+    let mut lines = Lines::new(alloc)?;
     let mut count = 0;
     while let Some(number) = read_line(kind, &mut lines, &mut reading, source)? {
         count = number;

@@ -4,6 +4,8 @@ ghost use Rattle.std.specs.Prelude.{◌≡◌};
 ghost use Rattle.dimacs_records.specs.declared.faults.TakeError.TheVariants.{Refused};
 
 use crate::reasons::Reason;
+use dimacs_lines::Memory;
+use std::alloc::AllocFailed;
 
 /// A fault at a line: the field, counted from 1, or 0 for the whole line; and the reason.
 #[derive(Clone, Copy, Debug, PartialEq, Eq)]
@@ -34,6 +36,26 @@ impl TakeError {
     }
 }
 
+impl From<Memory> for TakeError {
+    ghost use Rattle.dimacs_records.specs.declared.faults.TakeError.TheVariants as errors;
+
+    ghost from_gives = { λ memory error. error ≡ errors.Memory };
+
+    fn from(_memory: Memory) -> TakeError {
+        TakeError::Memory
+    }
+}
+
+impl<T: Drop> From<AllocFailed<T>> for TakeError {
+    ghost use Rattle.dimacs_records.specs.declared.faults.TakeError.TheVariants as errors;
+
+    ghost from_gives = { λ failed error. error ≡ errors.Memory };
+
+    fn from(_failed: AllocFailed<T>) -> TakeError {
+        TakeError::Memory
+    }
+}
+
 /// Why a text is not read.
 #[derive(Clone, Copy, Debug, PartialEq, Eq)]
 pub enum ReadError {
@@ -43,4 +65,14 @@ pub enum ReadError {
     Device,
     /// A growth was refused.
     Memory,
+}
+
+impl From<Memory> for ReadError {
+    ghost use Rattle.dimacs_records.specs.declared.faults.ReadError.TheVariants as errors;
+
+    ghost from_gives = { λ memory error. error ≡ errors.Memory };
+
+    fn from(_memory: Memory) -> ReadError {
+        ReadError::Memory
+    }
 }

@@ -21,10 +21,10 @@ pub returns : goal.returns
 returns c =
     let within : c.args.id ≤ c.self.inside.cut.nodes = omega (arith, c.nodes.ensures, c.if-id-nodes.false) in
     let room : length (ids_in c.self.inside.cut) < c.self.inside.declared = omega (arith, c.len.ensures.count, c.if-len-self.false, c.self.invariant.no_more) in
-    rw (← c.self.view_is, c.in-Ok.ensures.added) (λ rs h. takes_node _ rs h c.args.id within (sym c.if-contains.ensures) c.requires room)
+    rw (← c.self.view_is, c.in_ok-add.ensures.added) (λ rs h. takes_node _ rs h c.args.id within (sym c.if-contains.ensures) c.requires room)
 
 pub invariant_of-self-2 : goal.invariant_of-self-2
 invariant_of-self-2 c =
     let within : c.args.id ≤ c.self.inside.cut.nodes = omega (arith, c.nodes.ensures, c.if-id-nodes.false) in
     let room : length (ids_in c.self.inside.cut) < c.self.inside.declared = omega (arith, c.len.ensures.count, c.if-len-self.false, c.self.invariant.no_more) in
-    rw (c.in-Ok.ensures.added) (law_with_line _ c.args.id c.self.invariant (c.requires, within) (sym c.if-contains.ensures) room)
+    rw (c.in_ok-add.ensures.added) (law_with_line _ c.args.id c.self.invariant (c.requires, within) (sym c.if-contains.ensures) room)

@@ -69,7 +69,7 @@ invariant_of-self-2 c =
     let lacks : 0 < begun.missing = omega (arith, c.if-self-eq0.false) in
     let known : is_some (label b c.args.label.pred) ≡ true = ap is_some (sym c.distance-2.ensures) ∙ c.if-is_none.ensures in
     let l = c.args.label in
-    rw (c.in-Ok.ensures.added at.0 b at.1) (
+    rw (c.in_ok-add_to_last.ensures.added at.0 b at.1) (
       begun_label begun at.0 b at.1 l c.self.invariant.0 (record { id = (c.requires.id, c.if-label-self.false); dist = c.requires.dist; pred = (c.requires.pred, c.if-label-self-2.false) }) fresh known lacks,
       sources_stay begun at.0 b at.1 l inside.sources c.self.invariant.1,
     )
@@ -85,5 +85,5 @@ returns c =
     let known : is_some (label b c.args.label.pred) ≡ true = ap is_some (sym c.distance-2.ensures) ∙ c.if-is_none.ensures in
     let l = c.args.label in (
       subst (λ t. IsAllowed (labels_begun_records t) (label_line l)) c.self.view_is (begun_label_allowed begun at.0 b at.1 l c.if-label-self.false c.if-label-self-2.false fresh lacks known),
-      ap (λ bs. labels_begun_records (with_blocks begun bs)) (c.in-Ok.ensures.added at.0 b at.1) ∙ (pushed_label begun at.0 b at.1 l lacks ∙ ap (λ t. labels_begun_records t ++ label_line l ∷ []) c.self.view_is),
+      ap (λ bs. labels_begun_records (with_blocks begun bs)) (c.in_ok-add_to_last.ensures.added at.0 b at.1) ∙ (pushed_label begun at.0 b at.1 l lacks ∙ ap (λ t. labels_begun_records t ++ label_line l ∷ []) c.self.view_is),
     )

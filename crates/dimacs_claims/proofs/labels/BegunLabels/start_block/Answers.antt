@@ -50,7 +50,7 @@ returns c =
     let fresh = sym (c.self.invariant.1 c.args.source) ∙ sym c.if-contains.ensures in
     let room : length begun.blocks < begun.declared = omega (arith, c.len.ensures, c.if-len-self.false) in
     let none : begun.missing ≡ 0 = omega (arith, c.if-self-gt0.false) in
-    let opened = c.in-Ok.ensures.opened ∙ ap (λ t. with_block t c.args.source c.args.count) (sym c.self.view_is) in (
+    let opened = c.in_ok-open.ensures.opened ∙ ap (λ t. with_block t c.args.source c.args.count) (sym c.self.view_is) in (
       subst (λ t. IsAllowed (labels_begun_records t) (LabelsBlock c.args.source c.args.count)) c.self.view_is (begun_block_allowed begun c.args.source c.args.count c.if-source-self.false fresh room none),
       ap labels_begun_records opened ∙ (pushed_block begun c.args.source c.args.count none ∙ ap (λ t. labels_begun_records t ++ LabelsBlock c.args.source c.args.count ∷ []) c.self.view_is),
     )

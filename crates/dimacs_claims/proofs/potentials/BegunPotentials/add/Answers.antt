@@ -24,4 +24,4 @@ returns c =
     let within : c.args.id ≤ c.args.self.now.potentials.nodes = rw (← c.self.view_is) (omega (arith, c.nodes.ensures.nodes, c.if-id-nodes.false)) in
     let room : c.args.self.now.taken < c.args.self.now.declared = rw (← c.self.view_is) (omega (arith, c.if-self.false, c.self.invariant.no_more)) in
     let law : ArePotentials c.args.self.now.potentials = rw (← c.self.view_is) (c.self.invariant.are_potentials) in
-    rw (c.in-Ok.ensures.kept, to_z-of_z w128 c.args.value c.ranges.value) (λ rs h. takes_node c.args.self.now rs h c.args.id c.args.value within (sym c.if-is_named.ensures) c.requires.least law room)
+    rw (c.in_ok-keep.ensures.kept, to_z-of_z w128 c.args.value c.ranges.value) (λ rs h. takes_node c.args.self.now rs h c.args.id c.args.value within (sym c.if-is_named.ensures) c.requires.least law room)

@@ -30,4 +30,4 @@ returns c =
     let tail : c.args.tail ≤ inside.network.nodes = omega (arith, c.nodes.ensures, c.if-tail-nodes.false) in
     let head : c.args.head ≤ inside.network.nodes = omega (arith, c.nodes-2.ensures, c.if-head-nodes.false) in
     let room : length inside.network.arcs < inside.declared = omega (arith, c.arcs.ensures, c.if-arcs-self.false, c.self.invariant.no_more) in
-    rw (← c.self.view_is, c.in-Ok.ensures.pushed, to_z-of_z w64 c.args.weight c.ranges.weight) (one_more_arc inside.network.nodes inside.declared inside.network.arcs c.args.tail c.args.head c.args.weight tail head room, pushed_records inside.network.nodes inside.declared inside.network.arcs c.args.tail c.args.head c.args.weight)
+    rw (← c.self.view_is, c.in_ok-push.ensures.pushed, to_z-of_z w64 c.args.weight c.ranges.weight) (one_more_arc inside.network.nodes inside.declared inside.network.arcs c.args.tail c.args.head c.args.weight tail head room, pushed_records inside.network.nodes inside.declared inside.network.arcs c.args.tail c.args.head c.args.weight)

@@ -74,5 +74,5 @@ returns c =
     let there = ends_there b.network.nodes b.declared b.ends b.network.arcs c.in-Both.field-0 c.in-Both.field-1 c.in-Both.is in
     let fresh = list_any-IsPermutation (has_ends c.args.tail c.args.head) (map arc_ends b.network.arcs) b.seen c.self.invariant.seen_is ∙ sym c.if-contains.ensures in
     let room : length b.network.arcs < b.declared = omega (arith, c.arcs.ensures, c.if-arcs-self.false, c.self.invariant.lawful.no_more) in
-    rw (c.in-Ok.ensures.kept, ← c.self.view_is, to_z-of_z w64 c.args.cap c.ranges.cap)
+    rw (c.in_ok-keep.ensures.kept, ← c.self.view_is, to_z-of_z w64 c.args.cap c.ranges.cap)
     (one_more_arc b.network.nodes b.declared b.ends b.network.arcs c.args.tail c.args.head c.args.cap tail head there (rw (to_z-of_z w64 c.args.cap c.ranges.cap) at c.if-cap-lt0.false) fresh room, pushed_arc b.network.nodes b.declared b.ends b.network.arcs c.args.tail c.args.head c.args.cap)

@@ -72,4 +72,4 @@ returns c =
     let cap : int_lt c.args.arc.cap c.args.arc.low ≡ false = rw (to_z-of_z w64 c.args.arc.cap cap_fits, to_z-of_z w64 c.args.arc.low low_fits) at c.if-arc.false in
     let alone : list_any (joins c.args.arc.tail c.args.arc.head) c.self.inside.network.arcs ≡ false = sym (any_joins c.args.arc.tail c.args.arc.head c.self.inside.network.arcs) ∙ list_any-IsPermutation (has_ends c.args.arc.tail c.args.arc.head) (map arc_ends c.self.inside.network.arcs) c.self.inside.seen c.self.invariant.1 ∙ sym c.if-contains.ensures in
     let room : length c.self.inside.network.arcs < c.self.inside.declared = omega (arith, c.arcs.ensures, c.if-arcs-self.false, c.self.invariant.0.no_more) in
-    rw (c.in-Ok.ensures.kept, ← c.self.view_is) (λ rs h. takes_arc _ rs h c.args.arc tail head low cap alone room)
+    rw (c.in_ok-keep_arc.ensures.kept, ← c.self.view_is) (λ rs h. takes_arc _ rs h c.args.arc tail head low cap alone room)

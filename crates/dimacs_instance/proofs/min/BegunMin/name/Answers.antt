@@ -20,4 +20,4 @@ pub returns : goal.returns
 returns c =
     let no_arcs : length c.args.self.now.arcs ≤ 0 = rw (← c.self.view_is) (omega (arith, c.arcs.ensures, c.if-arcs-gt0.false)) in
     let within : c.args.id ≤ c.args.self.now.nodes = rw (← c.self.view_is) (omega (arith, c.nodes.ensures, c.if-id-nodes.false)) in
-    rw (c.in-Ok.ensures.kept, to_z-of_z w64 c.args.supply c.ranges.supply) (λ rs h. takes_node c.args.self.now rs h c.args.id c.args.supply no_arcs (c.requires, within) (sym c.if-is_named.ensures))
+    rw (c.in_ok-keep_supply.ensures.kept, to_z-of_z w64 c.args.supply c.ranges.supply) (λ rs h. takes_node c.args.self.now rs h c.args.id c.args.supply no_arcs (c.requires, within) (sym c.if-is_named.ensures))

@@ -20,4 +20,4 @@ returns c =
     let pairs = c.in-Pairs.pairs.items in
     let no_more = rw c.in-Pairs.is at c.self.invariant.no_more in
     let room : length pairs < c.self.inside.declared = omega (arith, no_more, length-map pairs pair_query, c.len.ensures, c.if-len-self.false) in
-    rw (← c.self.view_is, c.in-Pairs.is, c.in-Ok.ensures.items) (pair_more c.self.inside.declared pairs c.args.from c.args.to room, ap (λ rs. QueriesProblem asks.Pairs c.self.inside.declared ∷ rs) (pushed_pair pairs c.args.from c.args.to))
+    rw (← c.self.view_is, c.in-Pairs.is, c.in_ok-push.ensures.items) (pair_more c.self.inside.declared pairs c.args.from c.args.to room, ap (λ rs. QueriesProblem asks.Pairs c.self.inside.declared ∷ rs) (pushed_pair pairs c.args.from c.args.to))

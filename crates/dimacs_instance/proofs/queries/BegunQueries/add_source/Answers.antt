@@ -19,4 +19,4 @@ returns c =
     let ids = c.in-Sources.ids.items in
     let no_more = rw c.in-Sources.is at c.self.invariant.no_more in
     let room : length ids < c.self.inside.declared = omega (arith, no_more, length-map ids SourceQuery, c.len.ensures, c.if-len-self.false) in
-    rw (← c.self.view_is, c.in-Sources.is, c.in-Ok.ensures.items) (source_more c.self.inside.declared ids c.args.id room, ap (λ rs. QueriesProblem asks.Sources c.self.inside.declared ∷ rs) (pushed_source ids c.args.id))
+    rw (← c.self.view_is, c.in-Sources.is, c.in_ok-push.ensures.items) (source_more c.self.inside.declared ids c.args.id room, ap (λ rs. QueriesProblem asks.Sources c.self.inside.declared ∷ rs) (pushed_source ids c.args.id))
