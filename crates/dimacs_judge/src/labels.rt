@@ -31,9 +31,7 @@ fn blocks_hold<N: Network>(network: &N, labels: &Labels) -> Result<(), (Where, R
     ensures lawful { AreLabels labels.now }
 {
     for block in 0..labels.blocks().len() {
-        if let Err(refusal) = block_holds(network, labels, block) {
-            return Err(refusal);
-        }
+        block_holds(network, labels, block)?;
     }
     Ok(())
 }
@@ -47,9 +45,7 @@ fn block_holds<N: Network>(
     requires { block < length labels.now.blocks }
     ensures { Tells (block_rows (N.list network.now) (block_at labels.now.blocks block)) result }
 {
-    if let Err(refusal) = labels_supported(network, labels, block) {
-        return Err(refusal);
-    }
+    labels_supported(network, labels, block)?;
     arcs_relaxed(network, labels, block)
 }
 

@@ -36,8 +36,5 @@ pub fn judge_paths<N: Network>(
     query_nodes_hold(nodes, queries)?;
     let numbers = blocks_exist(alloc, labels, queries)?;
     label_tests(graph, labels)?;
-    let Ok(verdict) = answers(alloc, queries, labels, &numbers) else {
-        return Err(JudgeError::Memory);
-    };
-    Ok(verdict)
+    Ok(answers(alloc, queries, labels, &numbers)?)
 }

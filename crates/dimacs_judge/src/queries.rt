@@ -59,12 +59,8 @@ pub(crate) fn blocks_exist(
 ) -> Result<NodeMap<u32>, JudgeError>
     ensures { TellsBlocks labels.now.blocks (asked queries.now) result }
 {
-    let Ok(numbers) = block_numbers(alloc, labels) else {
-        return Err(JudgeError::Memory);
-    };
-    if let Err((place, reason)) = sources_have_blocks(&numbers, queries) {
-        return Err(JudgeError::Refused(place, reason));
-    }
+    let numbers = block_numbers(alloc, labels)?;
+    sources_have_blocks(&numbers, queries)?;
     Ok(numbers)
 }
 
@@ -136,9 +132,7 @@ fn pair_answers(
     for pair in pairs {
         let (from, to) = *pair;
         let distance = distance(labels, numbers, from, to);
-        let Ok(()) = answers.push(Answer { from, to, distance }) else {
-            return Err(Memory);
-        };
+        answers.push(Answer { from, to, distance })?;
     }
     Ok(answers)
 }

@@ -12,10 +12,8 @@ use dimacs_records::ReadError;
 pub(crate) fn done(put: Result<(), DeviceFault>) -> Result<Status, RunError>
     ensures { result ≡ done_after put }
 {
-    match put {
-        Ok(()) => Ok(Status::Done),
-        Err(DeviceFault) => Err(RunError::Device),
-    }
+    put?;
+    Ok(Status::Done)
 }
 
 /// Puts the line of a refusal where a text has a fault.
@@ -27,10 +25,10 @@ pub(crate) fn refuse<K: Sink>(
     ensures { EndsWith error text.now result (K.accepted sink.old) (K.accepted sink.new) (K.faults sink.old) (K.faults sink.new) }
 {
     match error {
-        ReadError::Refused(place, reason) => match put_refusal(sink, text, place, reason) {
-            Ok(()) => Ok(Status::Refused),
-            Err(DeviceFault) => Err(RunError::Device),
-        },
+        ReadError::Refused(place, reason) => {
+            put_refusal(sink, text, place, reason)?;
+            Ok(Status::Refused)
+        }
         ReadError::Device => Err(RunError::Device),
         ReadError::Memory => Err(RunError::Memory),
     }

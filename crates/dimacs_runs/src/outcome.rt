@@ -3,6 +3,8 @@
 ghost use Rattle.std.specs.Prelude.{◌≡◌};
 ghost use Rattle.dimacs_runs.specs.Outcomes.{status_number};
 
+use dimacs_lines::DeviceFault;
+
 /// What was put at the end of a run.
 #[derive(Clone, Copy, Debug, PartialEq, Eq)]
 pub enum Status {
@@ -19,6 +21,16 @@ pub enum RunError {
     Device,
     /// A growth was refused.
     Memory,
+}
+
+impl From<DeviceFault> for RunError {
+    ghost use Rattle.dimacs_runs.specs.declared.outcome.RunError.TheVariants.{Device};
+
+    ghost from_gives = { λ fault error. error ≡ Device };
+
+    fn from(_fault: DeviceFault) -> RunError {
+        RunError::Device
+    }
 }
 
 /// The exit status of the command.

@@ -64,12 +64,7 @@ pub(crate) fn put_told<K: Sink>(
 ) -> Result<Status, RunError>
     ensures { EndsAfter told result (K.accepted sink.old) (K.accepted sink.new) (K.faults sink.old) (K.faults sink.new) }
 {
-    let told = match told {
-        Ok(told) => told,
-        Err(error) => return Err(error),
-    };
-    match told.put(sink) {
-        Ok(()) => Ok(told.status()),
-        Err(DeviceFault) => Err(RunError::Device),
-    }
+    let told = told?;
+    told.put(sink)?;
+    Ok(told.status())
 }

@@ -57,14 +57,9 @@ pub(crate) fn read_two<V: Text, W: Text, P: Source, Q: Source>(
     ensures faults { CountsUnread result (P.faults first.old ∷ Q.faults second.old ∷ []) (P.faults first.new ∷ Q.faults second.new ∷ []) }
     ensures first_alone { (a : List ℕ) (l f : ℕ) (r : Reason) → P.coming first.old ≡ Some a → Fault V.kind (lines a) l f r → second.new ≡ second.old }
 {
-    let value = match read(alloc, first) {
-        Ok(value) => value,
-        Err(unread) => return Err(unread),
-    };
-    match read(alloc, second) {
-        Ok(other) => Ok((value, other)),
-        Err(unread) => Err(unread),
-    }
+    let value = read(alloc, first)?;
+    let other = read(alloc, second)?;
+    Ok((value, other))
 }
 
 /// Reads three texts. None is pulled behind one that has a fault.
@@ -80,16 +75,8 @@ pub(crate) fn read_three<V: Text, W: Text, X: Text, P: Source, Q: Source, R: Sou
     ensures second_alone { (b : List ℕ) (l f : ℕ) (r : Reason) → Q.coming second.old ≡ Some b → Fault W.kind (lines b) l f r → third.new ≡ third.old }
     ensures lawful { IfOk result (λ values. V.lawful (V.said values.0) × W.lawful (W.said values.1) × X.lawful (X.said values.2)) }
 {
-    let value = match read(alloc, first) {
-        Ok(value) => value,
-        Err(unread) => return Err(unread),
-    };
-    let other = match read(alloc, second) {
-        Ok(value) => value,
-        Err(unread) => return Err(unread),
-    };
-    match read(alloc, third) {
-        Ok(last) => Ok((value, other, last)),
-        Err(unread) => Err(unread),
-    }
+    let value = read(alloc, first)?;
+    let other = read(alloc, second)?;
+    let last = read(alloc, third)?;
+    Ok((value, other, last))
 }

@@ -33,4 +33,4 @@ returns g c =
     let named = rw (c.nodes-nodes.ensures, c.network.ensures.nodes) at c.in_ok-query_nodes_hold.ensures in
     let told = c.in_ok-label_tests.ensures in
     let clear : AllClear (paths_rows graph (asked c.args.queries.now) labels) = (nodes, (named, (c.in_ok-numbers.ensures.1, labels_clear graph.arcs labels.blocks told.decides))) in
-    (clear, paths_shown graph (asked c.args.queries.now) labels clear told.distances, c.in-Ok.ensures)
+    (clear, paths_shown graph (asked c.args.queries.now) labels clear told.distances, c.in_ok-answers.ensures)
