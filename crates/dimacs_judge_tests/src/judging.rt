@@ -15,6 +15,16 @@ pub struct Texts<'a> {
     pub certificate: &'a str,
 }
 
+/// A case: its name, the instance, the claim, the certificate, how the run ends and what it puts.
+pub type Case = (
+    &'static str,
+    &'static str,
+    &'static str,
+    &'static str,
+    Status,
+    &'static str,
+);
+
 /// Judges texts in one piece.
 pub fn judge(alloc: Global, texts: Texts<'_>, sink: &mut MemorySink) -> Result<Status, RunError> {
     run_judge(
@@ -65,6 +75,31 @@ pub fn judges(
             sink.bytes() == output.as_bytes(),
             "{name}, in pieces of {size}"
         );
+    }
+    Ok(())
+}
+
+/// Whether a case of this kind is judged as it says.
+fn judges_case(rt: &impl Abort, alloc: Global, kind: JudgeKind, case: &Case) -> Result<(), Fail> {
+    let (name, instance, claim, certificate, status, output) = *case;
+    let texts = Texts {
+        kind,
+        instance,
+        claim,
+        certificate,
+    };
+    judges(rt, alloc, name, texts, status, output)
+}
+
+/// Whether each case of this kind is judged as it says.
+pub fn judges_each(
+    rt: &impl Abort,
+    alloc: Global,
+    kind: JudgeKind,
+    cases: &[Case],
+) -> Result<(), Fail> {
+    for case in cases {
+        judges_case(rt, alloc, kind, case)?;
     }
     Ok(())
 }

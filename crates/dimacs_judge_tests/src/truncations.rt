@@ -14,18 +14,28 @@ const MAX: Texts<'static> = Texts {
     certificate: "p cut 4 1\nu 1\n",
 };
 
+/// The instance up to a byte, how the run ends and what it puts.
+static CUT_INSTANCES: [(usize, Status, &str); 7] = [
+    (61, Status::Done, "v max 6\n"),
+    (60, Status::Refused, "x instance 8 0 FieldCount\n"),
+    (54, Status::Refused, "x instance 8 0 TooFew\n"),
+    (16, Status::Refused, "x instance 3 0 EndMissing\n"),
+    (9, Status::Refused, "x instance 2 0 EndMissing\n"),
+    (8, Status::Refused, "x instance 1 0 FieldCount\n"),
+    (0, Status::Refused, "x instance 1 0 ProblemMissing\n"),
+];
+
+/// The solution up to a byte, and the refusal.
+static CUT_SOLUTIONS: [(usize, &str); 3] = [
+    (12, "x node 2 Balance\n"),
+    (4, "x solution 1 2 ValueDiffers\n"),
+    (0, "x solution 1 0 SolutionMissing\n"),
+];
+
 #[test]
 fn texts_cut_off_are_refused_at_their_end(rt: HostRuntime) -> Result<(), Fail> {
-    for (end, status, output) in [
-        (61, Status::Done, "v max 6\n"),
-        (60, Status::Refused, "x instance 8 0 FieldCount\n"),
-        (54, Status::Refused, "x instance 8 0 TooFew\n"),
-        (16, Status::Refused, "x instance 3 0 EndMissing\n"),
-        (9, Status::Refused, "x instance 2 0 EndMissing\n"),
-        (8, Status::Refused, "x instance 1 0 FieldCount\n"),
-        (0, Status::Refused, "x instance 1 0 ProblemMissing\n"),
-    ] {
-        let instance = &MAX.instance[..end];
+    for &(end, status, output) in &CUT_INSTANCES {
+        let instance = MAX.instance.get(..end).unwrap_or_default();
         judges(
             &rt,
             rt.alloc(),
@@ -35,12 +45,8 @@ fn texts_cut_off_are_refused_at_their_end(rt: HostRuntime) -> Result<(), Fail> {
             output,
         )?;
     }
-    for (end, output) in [
-        (12, "x node 2 Balance\n"),
-        (4, "x solution 1 2 ValueDiffers\n"),
-        (0, "x solution 1 0 SolutionMissing\n"),
-    ] {
-        let claim = &MAX.claim[..end];
+    for &(end, output) in &CUT_SOLUTIONS {
+        let claim = MAX.claim.get(..end).unwrap_or_default();
         judges(
             &rt,
             rt.alloc(),
