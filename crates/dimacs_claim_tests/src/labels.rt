@@ -19,40 +19,68 @@ fn convert<S: Source>(alloc: Global, source: &mut S) -> Result<MemorySink, Fail>
     Ok(sink)
 }
 
+/// Whether what a source gives gets this canonical form.
+fn becomes<S: Source>(
+    rt: &impl Abort,
+    alloc: Global,
+    name: &str,
+    way: &str,
+    source: &mut S,
+    canonical: &str,
+) -> Result<(), Fail> {
+    let sink = convert(alloc, source)?;
+    assert!(rt; sink.bytes() == canonical.as_bytes(), "{name}, {way}");
+    Ok(())
+}
+
+/// Converts a text in one piece and byte by byte, and its canonical form once more.
+fn converts(
+    rt: &impl Abort,
+    alloc: Global,
+    name: &str,
+    text: &str,
+    canonical: &str,
+) -> Result<(), Fail> {
+    let mut whole = MemorySource::new(text.as_bytes());
+    becomes(rt, alloc, name, "in one piece", &mut whole, canonical)?;
+    let ones = Vec::from_elem(alloc, 1, text.len())?;
+    let mut pieces = CutSource::new(text.as_bytes(), &ones);
+    becomes(rt, alloc, name, "in pieces", &mut pieces, canonical)?;
+    let mut again = MemorySource::new(canonical.as_bytes());
+    becomes(rt, alloc, name, "once more", &mut again, canonical)
+}
+
+/// Texts, each with its canonical form.
+static CANONICAL_FORMS: [(&str, &str, &str); 5] = [
+    ("two blocks", TWO_BLOCKS, TWO_BLOCKS),
+    ("no block", "p dist 0 0", "p dist 0 0\n"),
+    (
+        "blocks and labels keep their order",
+        "p dist 3 2\nt 3 2\nd 2 0 3\nd 1 0 2\nt 1 1\nd 3 1 1\n",
+        "p dist 3 2\nt 3 2\nd 2 0 3\nd 1 0 2\nt 1 1\nd 3 1 1\n",
+    ),
+    (
+        "comment, blanks, CR, sign, zeros",
+        "c x\n p dist 02 +1\r\nt 1 1\nd 2 -0 01",
+        "p dist 2 1\nt 1 1\nd 2 0 1\n",
+    ),
+    (
+        "the greatest and the least distance, the greatest ID",
+        "p dist 134217728 1\nt 1 2\nd 134217728 1000000000000000000000000000000 1\nd 2 -1000000000000000000000000000000 134217728\n",
+        "p dist 134217728 1\nt 1 2\nd 134217728 1000000000000000000000000000000 1\nd 2 -1000000000000000000000000000000 134217728\n",
+    ),
+];
+
 #[test]
 fn texts_get_their_canonical_form(rt: HostRuntime) -> Result<(), Fail> {
-    for (name, text, canonical) in [
-        ("two blocks", TWO_BLOCKS, TWO_BLOCKS),
-        ("no block", "p dist 0 0", "p dist 0 0\n"),
-        (
-            "blocks and labels keep their order",
-            "p dist 3 2\nt 3 2\nd 2 0 3\nd 1 0 2\nt 1 1\nd 3 1 1\n",
-            "p dist 3 2\nt 3 2\nd 2 0 3\nd 1 0 2\nt 1 1\nd 3 1 1\n",
-        ),
-        (
-            "comment, blanks, CR, sign, zeros",
-            "c x\n p dist 02 +1\r\nt 1 1\nd 2 -0 01",
-            "p dist 2 1\nt 1 1\nd 2 0 1\n",
-        ),
-        (
-            "the greatest and the least distance, the greatest ID",
-            "p dist 134217728 1\nt 1 2\nd 134217728 1000000000000000000000000000000 1\nd 2 -1000000000000000000000000000000 134217728\n",
-            "p dist 134217728 1\nt 1 2\nd 134217728 1000000000000000000000000000000 1\nd 2 -1000000000000000000000000000000 134217728\n",
-        ),
-    ] {
-        let whole = convert(rt.alloc(), &mut MemorySource::new(text.as_bytes()))?;
-        assert!(rt; whole.bytes() == canonical.as_bytes(), "{name}");
-        let ones = Vec::from_elem(rt.alloc(), 1, text.len())?;
-        let pieces = convert(rt.alloc(), &mut CutSource::new(text.as_bytes(), &ones))?;
-        assert!(rt; pieces.bytes() == canonical.as_bytes(), "{name}, in pieces");
-        let again = convert(rt.alloc(), &mut MemorySource::new(canonical.as_bytes()))?;
-        assert!(rt; again.bytes() == canonical.as_bytes(), "{name}, once more");
+    for &(name, text, canonical) in &CANONICAL_FORMS {
+        converts(&rt, rt.alloc(), name, text, canonical)?;
     }
     Ok(())
 }
 
 #[test]
-fn labels_are_those_of_the_text(rt: HostRuntime) -> Result<(), Fail> {
+fn blocks_are_those_of_the_text(rt: HostRuntime) -> Result<(), Fail> {
     let labels: Labels = read_labels(rt.alloc(), &mut MemorySource::new(TWO_BLOCKS.as_bytes()))?;
     assert_eq!(rt; labels.nodes(), 4);
     let blocks = labels.blocks();
@@ -76,18 +104,27 @@ fn labels_are_those_of_the_text(rt: HostRuntime) -> Result<(), Fail> {
     );
     assert_eq!(rt; blocks[1].source(), 4);
     assert!(rt; blocks[1].labels().is_empty());
-    for (block, id, dist) in [
-        (0, 1, Some(0)),
-        (0, 2, Some(5)),
-        (0, 3, Some(-7)),
-        (0, 4, None),
-        (0, 0, None),
-        (0, u32::MAX, None),
-        (1, 4, Some(0)),
-        (1, 1, None),
-        (2, 4, None),
-        (usize::MAX, 1, None),
-    ] {
+    Ok(())
+}
+
+/// Blocks and nodes, each with its distance.
+static DISTANCES: [(usize, u32, Option<i128>); 10] = [
+    (0, 1, Some(0)),
+    (0, 2, Some(5)),
+    (0, 3, Some(-7)),
+    (0, 4, None),
+    (0, 0, None),
+    (0, u32::MAX, None),
+    (1, 4, Some(0)),
+    (1, 1, None),
+    (2, 4, None),
+    (usize::MAX, 1, None),
+];
+
+#[test]
+fn labels_are_those_of_the_text(rt: HostRuntime) -> Result<(), Fail> {
+    let labels: Labels = read_labels(rt.alloc(), &mut MemorySource::new(TWO_BLOCKS.as_bytes()))?;
+    for &(block, id, dist) in &DISTANCES {
         assert_eq!(rt; labels.label(block, id), dist, "block {block}, node {id}");
     }
     Ok(())
@@ -111,297 +148,308 @@ fn refuses(
     Ok(())
 }
 
-#[test]
-fn texts_are_refused_at_their_first_fault(rt: HostRuntime) -> Result<(), Fail> {
-    for (name, text, line, field, reason) in [
-        ("empty text", "", 1, 0, Reason::ProblemMissing),
-        (
-            "block before the problem",
-            "t 1 0\n",
-            1,
-            0,
-            Reason::ProblemMissing,
-        ),
-        (
-            "label before the problem",
-            "d 1 0 1\n",
-            1,
-            0,
-            Reason::ProblemMissing,
-        ),
-        (
-            "a second problem",
-            "p dist 1 0\np dist 1 0\n",
-            2,
-            0,
-            Reason::ProblemTwice,
-        ),
-        (
-            "a line of a cut",
-            "p dist 4 1\nu 1\n",
-            2,
-            1,
-            Reason::UnknownLine,
-        ),
-        (
-            "a label without predecessor",
-            "p dist 4 1\nt 1 1\nd 2 5\n",
-            3,
-            0,
-            Reason::FieldCount,
-        ),
-        ("another problem", "p sp 4 1\n", 1, 2, Reason::BadWord),
-        (
-            "a distance that isn't whole",
-            "p dist 4 1\nt 1 1\nd 2 0.5 1\n",
-            3,
-            3,
-            Reason::BadNumber,
-        ),
-        (
-            "a distance that is too great",
-            "p dist 4 1\nt 1 1\nd 2 1000000000000000000000000000001 1\n",
-            3,
-            3,
-            Reason::NumberRange,
-        ),
-        (
-            "label before a block",
-            "p dist 4 1\nd 2 5 1\n",
-            2,
-            0,
-            Reason::RecordOrder,
-        ),
-        (
-            "source out of range",
-            "p dist 4 1\nt 5 0\n",
-            2,
-            2,
-            Reason::NodeRange,
-        ),
-        (
-            "node out of range",
-            "p dist 4 1\nt 1 1\nd 5 5 1\n",
-            3,
-            2,
-            Reason::NodeRange,
-        ),
-        (
-            "predecessor out of range",
-            "p dist 4 1\nt 1 1\nd 2 5 5\n",
-            3,
-            4,
-            Reason::NodeRange,
-        ),
-        (
-            "a second block of a source",
-            "p dist 4 2\nt 1 0\nt 1 0\n",
-            3,
-            2,
-            Reason::NodeTwice,
-        ),
-        (
-            "a second block of the first of two sources",
-            "p dist 4 3\nt 1 0\nt 2 0\nt 1 0\n",
-            4,
-            2,
-            Reason::NodeTwice,
-        ),
-        (
-            "label of the source",
-            "p dist 4 1\nt 1 1\nd 1 0 1\n",
-            3,
-            2,
-            Reason::NodeTwice,
-        ),
-        (
-            "a second label of a node",
-            "p dist 4 1\nt 1 3\nd 2 5 1\nd 3 5 1\nd 2 6 1\n",
-            5,
-            2,
-            Reason::NodeTwice,
-        ),
-        (
-            "a block more",
-            "p dist 4 1\nt 1 0\nt 2 0\n",
-            3,
-            0,
-            Reason::TooMany,
-        ),
-        (
-            "a label more",
-            "p dist 4 1\nt 1 1\nd 2 5 1\nd 3 5 1\n",
-            4,
-            0,
-            Reason::TooMany,
-        ),
-        (
-            "a block behind an unfinished one",
-            "p dist 3 2\nt 1 1\nt 2 0\n",
-            3,
-            0,
-            Reason::TooFew,
-        ),
-        (
-            "a block too few",
-            "p dist 4 2\nt 1 0\n",
-            3,
-            0,
-            Reason::TooFew,
-        ),
-        (
-            "a label too few at the end",
-            "p dist 3 1\nt 1 2\nd 2 5 1\n",
-            4,
-            0,
-            Reason::TooFew,
-        ),
-        (
-            "predecessor without a label",
-            "p dist 4 1\nt 1 1\nd 2 5 3\n",
-            3,
-            0,
-            Reason::PredUnknown,
-        ),
-        (
-            "predecessor of a later line",
-            "p dist 4 1\nt 1 2\nd 3 0 4\nd 4 0 3\n",
-            3,
-            0,
-            Reason::PredUnknown,
-        ),
-        (
-            "predecessor of another block",
-            "p dist 4 2\nt 1 1\nd 2 5 1\nt 3 1\nd 4 1 2\n",
-            5,
-            0,
-            Reason::PredUnknown,
-        ),
-        (
-            "source of another block",
-            "p dist 4 2\nt 1 0\nt 3 1\nd 4 1 1\n",
-            4,
-            0,
-            Reason::PredUnknown,
-        ),
-    ] {
-        refuses(&rt, rt.alloc(), name, text, At { line, field }, reason)?;
+/// A text that is refused: its name, the text, the line, the field and the reason.
+type Refused = (&'static str, &'static str, u64, u32, Reason);
+
+/// Reads each text in one piece, and byte by byte.
+fn refuses_each(rt: &impl Abort, alloc: Global, texts: &[Refused]) -> Result<(), Fail> {
+    for &(name, text, line, field, reason) in texts {
+        refuses(rt, alloc, name, text, At { line, field }, reason)?;
     }
     Ok(())
 }
 
+/// Texts that are refused for their first fault.
+static REFUSED_TEXTS: [Refused; 26] = [
+    ("empty text", "", 1, 0, Reason::ProblemMissing),
+    (
+        "block before the problem",
+        "t 1 0\n",
+        1,
+        0,
+        Reason::ProblemMissing,
+    ),
+    (
+        "label before the problem",
+        "d 1 0 1\n",
+        1,
+        0,
+        Reason::ProblemMissing,
+    ),
+    (
+        "a second problem",
+        "p dist 1 0\np dist 1 0\n",
+        2,
+        0,
+        Reason::ProblemTwice,
+    ),
+    (
+        "a line of a cut",
+        "p dist 4 1\nu 1\n",
+        2,
+        1,
+        Reason::UnknownLine,
+    ),
+    (
+        "a label without predecessor",
+        "p dist 4 1\nt 1 1\nd 2 5\n",
+        3,
+        0,
+        Reason::FieldCount,
+    ),
+    ("another problem", "p sp 4 1\n", 1, 2, Reason::BadWord),
+    (
+        "a distance that isn't whole",
+        "p dist 4 1\nt 1 1\nd 2 0.5 1\n",
+        3,
+        3,
+        Reason::BadNumber,
+    ),
+    (
+        "a distance that is too great",
+        "p dist 4 1\nt 1 1\nd 2 1000000000000000000000000000001 1\n",
+        3,
+        3,
+        Reason::NumberRange,
+    ),
+    (
+        "label before a block",
+        "p dist 4 1\nd 2 5 1\n",
+        2,
+        0,
+        Reason::RecordOrder,
+    ),
+    (
+        "source out of range",
+        "p dist 4 1\nt 5 0\n",
+        2,
+        2,
+        Reason::NodeRange,
+    ),
+    (
+        "node out of range",
+        "p dist 4 1\nt 1 1\nd 5 5 1\n",
+        3,
+        2,
+        Reason::NodeRange,
+    ),
+    (
+        "predecessor out of range",
+        "p dist 4 1\nt 1 1\nd 2 5 5\n",
+        3,
+        4,
+        Reason::NodeRange,
+    ),
+    (
+        "a second block of a source",
+        "p dist 4 2\nt 1 0\nt 1 0\n",
+        3,
+        2,
+        Reason::NodeTwice,
+    ),
+    (
+        "a second block of the first of two sources",
+        "p dist 4 3\nt 1 0\nt 2 0\nt 1 0\n",
+        4,
+        2,
+        Reason::NodeTwice,
+    ),
+    (
+        "label of the source",
+        "p dist 4 1\nt 1 1\nd 1 0 1\n",
+        3,
+        2,
+        Reason::NodeTwice,
+    ),
+    (
+        "a second label of a node",
+        "p dist 4 1\nt 1 3\nd 2 5 1\nd 3 5 1\nd 2 6 1\n",
+        5,
+        2,
+        Reason::NodeTwice,
+    ),
+    (
+        "a block more",
+        "p dist 4 1\nt 1 0\nt 2 0\n",
+        3,
+        0,
+        Reason::TooMany,
+    ),
+    (
+        "a label more",
+        "p dist 4 1\nt 1 1\nd 2 5 1\nd 3 5 1\n",
+        4,
+        0,
+        Reason::TooMany,
+    ),
+    (
+        "a block behind an unfinished one",
+        "p dist 3 2\nt 1 1\nt 2 0\n",
+        3,
+        0,
+        Reason::TooFew,
+    ),
+    (
+        "a block too few",
+        "p dist 4 2\nt 1 0\n",
+        3,
+        0,
+        Reason::TooFew,
+    ),
+    (
+        "a label too few at the end",
+        "p dist 3 1\nt 1 2\nd 2 5 1\n",
+        4,
+        0,
+        Reason::TooFew,
+    ),
+    (
+        "predecessor without a label",
+        "p dist 4 1\nt 1 1\nd 2 5 3\n",
+        3,
+        0,
+        Reason::PredUnknown,
+    ),
+    (
+        "predecessor of a later line",
+        "p dist 4 1\nt 1 2\nd 3 0 4\nd 4 0 3\n",
+        3,
+        0,
+        Reason::PredUnknown,
+    ),
+    (
+        "predecessor of another block",
+        "p dist 4 2\nt 1 1\nd 2 5 1\nt 3 1\nd 4 1 2\n",
+        5,
+        0,
+        Reason::PredUnknown,
+    ),
+    (
+        "source of another block",
+        "p dist 4 2\nt 1 0\nt 3 1\nd 4 1 1\n",
+        4,
+        0,
+        Reason::PredUnknown,
+    ),
+];
+
+#[test]
+fn texts_are_refused_at_their_first_fault(rt: HostRuntime) -> Result<(), Fail> {
+    refuses_each(&rt, rt.alloc(), &REFUSED_TEXTS)
+}
+
+/// Texts with a line that has several faults.
+static REFUSED_LINES: [Refused; 15] = [
+    (
+        "the letter before the number of fields",
+        "D\n",
+        1,
+        1,
+        Reason::UnknownLine,
+    ),
+    (
+        "the number of fields before the word",
+        "p cut 4\n",
+        1,
+        0,
+        Reason::FieldCount,
+    ),
+    (
+        "the node before its distance",
+        "d 0 x 1\n",
+        1,
+        2,
+        Reason::NumberRange,
+    ),
+    (
+        "the predecessor before the missing problem",
+        "d 1 0 x\n",
+        1,
+        4,
+        Reason::BadNumber,
+    ),
+    (
+        "the problem's numbers before a second problem",
+        "p dist 4 1\np dist 4 x\n",
+        2,
+        4,
+        Reason::BadNumber,
+    ),
+    (
+        "the missing block before NODES",
+        "p dist 4 1\nd 5 5 1\n",
+        2,
+        0,
+        Reason::RecordOrder,
+    ),
+    (
+        "NODES before a source named twice, the count and an unfinished block",
+        "p dist 4 1\nt 1 1\nt 5 0\n",
+        3,
+        2,
+        Reason::NodeRange,
+    ),
+    (
+        "a source named twice before the count and an unfinished block",
+        "p dist 4 1\nt 1 1\nt 1 0\n",
+        3,
+        2,
+        Reason::NodeTwice,
+    ),
+    (
+        "the count of blocks before an unfinished block",
+        "p dist 4 1\nt 1 1\nt 2 0\n",
+        3,
+        0,
+        Reason::TooMany,
+    ),
+    (
+        "the node above NODES before its predecessor, the count and the predecessor's label",
+        "p dist 4 1\nt 1 0\nd 5 5 6\n",
+        3,
+        2,
+        Reason::NodeRange,
+    ),
+    (
+        "the predecessor above NODES before the source as node",
+        "p dist 4 1\nt 1 0\nd 1 5 5\n",
+        3,
+        4,
+        Reason::NodeRange,
+    ),
+    (
+        "the source as node before the count and the predecessor's label",
+        "p dist 4 1\nt 1 0\nd 1 5 2\n",
+        3,
+        2,
+        Reason::NodeTwice,
+    ),
+    (
+        "a node named twice before the count and the predecessor's label",
+        "p dist 4 1\nt 1 1\nd 2 5 1\nd 2 5 3\n",
+        4,
+        2,
+        Reason::NodeTwice,
+    ),
+    (
+        "the count before the predecessor's label",
+        "p dist 4 1\nt 1 0\nd 2 5 2\n",
+        3,
+        0,
+        Reason::TooMany,
+    ),
+    (
+        "a label that is its own predecessor",
+        "p dist 4 1\nt 1 1\nd 2 5 2\n",
+        3,
+        0,
+        Reason::PredUnknown,
+    ),
+];
+
 #[test]
 fn a_line_is_refused_for_its_first_reason(rt: HostRuntime) -> Result<(), Fail> {
-    for (name, text, line, field, reason) in [
-        (
-            "the letter before the number of fields",
-            "D\n",
-            1,
-            1,
-            Reason::UnknownLine,
-        ),
-        (
-            "the number of fields before the word",
-            "p cut 4\n",
-            1,
-            0,
-            Reason::FieldCount,
-        ),
-        (
-            "the node before its distance",
-            "d 0 x 1\n",
-            1,
-            2,
-            Reason::NumberRange,
-        ),
-        (
-            "the predecessor before the missing problem",
-            "d 1 0 x\n",
-            1,
-            4,
-            Reason::BadNumber,
-        ),
-        (
-            "the problem's numbers before a second problem",
-            "p dist 4 1\np dist 4 x\n",
-            2,
-            4,
-            Reason::BadNumber,
-        ),
-        (
-            "the missing block before NODES",
-            "p dist 4 1\nd 5 5 1\n",
-            2,
-            0,
-            Reason::RecordOrder,
-        ),
-        (
-            "NODES before a source named twice, the count and an unfinished block",
-            "p dist 4 1\nt 1 1\nt 5 0\n",
-            3,
-            2,
-            Reason::NodeRange,
-        ),
-        (
-            "a source named twice before the count and an unfinished block",
-            "p dist 4 1\nt 1 1\nt 1 0\n",
-            3,
-            2,
-            Reason::NodeTwice,
-        ),
-        (
-            "the count of blocks before an unfinished block",
-            "p dist 4 1\nt 1 1\nt 2 0\n",
-            3,
-            0,
-            Reason::TooMany,
-        ),
-        (
-            "the node above NODES before its predecessor, the count and the predecessor's label",
-            "p dist 4 1\nt 1 0\nd 5 5 6\n",
-            3,
-            2,
-            Reason::NodeRange,
-        ),
-        (
-            "the predecessor above NODES before the source as node",
-            "p dist 4 1\nt 1 0\nd 1 5 5\n",
-            3,
-            4,
-            Reason::NodeRange,
-        ),
-        (
-            "the source as node before the count and the predecessor's label",
-            "p dist 4 1\nt 1 0\nd 1 5 2\n",
-            3,
-            2,
-            Reason::NodeTwice,
-        ),
-        (
-            "a node named twice before the count and the predecessor's label",
-            "p dist 4 1\nt 1 1\nd 2 5 1\nd 2 5 3\n",
-            4,
-            2,
-            Reason::NodeTwice,
-        ),
-        (
-            "the count before the predecessor's label",
-            "p dist 4 1\nt 1 0\nd 2 5 2\n",
-            3,
-            0,
-            Reason::TooMany,
-        ),
-        (
-            "a label that is its own predecessor",
-            "p dist 4 1\nt 1 1\nd 2 5 2\n",
-            3,
-            0,
-            Reason::PredUnknown,
-        ),
-    ] {
-        refuses(&rt, rt.alloc(), name, text, At { line, field }, reason)?;
-    }
-    Ok(())
+    refuses_each(&rt, rt.alloc(), &REFUSED_LINES)
 }
 
 /// Gives a reading what a line says.
@@ -413,53 +461,75 @@ fn take(reading: &mut LabelsReading, number: u64, line: &str) -> Result<(), Take
     }
 }
 
-fn refused(field: u32, reason: Reason) -> Result<(), TakeError> {
-    Err(TakeError::Refused(LineFault { field, reason }))
+/// What a reading answers to a record that it refuses so, or takes.
+fn answer(refusal: Option<(u32, Reason)>) -> Result<(), TakeError> {
+    match refusal {
+        Some((field, reason)) => Err(TakeError::refused(field, reason)),
+        None => Ok(()),
+    }
 }
+
+/// Gives a reading a line, and once more where it is refused.
+fn answers(
+    rt: &impl Abort,
+    reading: &mut LabelsReading,
+    number: u64,
+    line: &str,
+    refusal: Option<(u32, Reason)>,
+) {
+    let wanted = answer(refusal);
+    assert_eq!(rt; take(reading, number, line), wanted, "line {number}");
+    if refusal.is_some() {
+        let again = take(reading, number, line);
+        assert_eq!(rt; again, wanted, "line {number}, once more");
+    }
+}
+
+/// Lines by number, and why each is refused, if it is.
+static RECORDS: [(u64, &str, Option<(u32, Reason)>); 17] = [
+    (1, "t 1 0", Some((0, Reason::ProblemMissing))),
+    (2, "p dist 4 2", None),
+    (3, "d 2 1 1", Some((0, Reason::RecordOrder))),
+    (4, "t 5 2", Some((2, Reason::NodeRange))),
+    (5, "t 1 2", None),
+    (6, "d 5 1 1", Some((2, Reason::NodeRange))),
+    (7, "d 2 1 5", Some((4, Reason::NodeRange))),
+    (8, "d 2 1 3", Some((0, Reason::PredUnknown))),
+    (9, "d 2 1 1", None),
+    (10, "d 2 1 1", Some((2, Reason::NodeTwice))),
+    (11, "t 3 0", Some((0, Reason::TooFew))),
+    (12, "d 3 1 2", None),
+    (13, "d 4 1 2", Some((0, Reason::TooMany))),
+    (14, "t 1 0", Some((2, Reason::NodeTwice))),
+    (15, "t 3 0", None),
+    (16, "t 4 0", Some((0, Reason::TooMany))),
+    (17, "p dist 4 2", Some((0, Reason::ProblemTwice))),
+];
+
+/// Blocks and nodes, each with its distance, where all refused records are left out.
+static TAKEN_DISTANCES: [(usize, u32, Option<i128>); 4] = [
+    (0, 2, Some(1)),
+    (0, 3, Some(1)),
+    (0, 4, None),
+    (1, 3, Some(0)),
+];
 
 #[test]
 fn a_refused_record_leaves_the_reading_as_it_was(rt: HostRuntime) -> Result<(), Fail> {
     let mut reading = LabelsReading::new(rt.alloc());
-    for (number, line, answer) in [
-        (1, "t 1 0", refused(0, Reason::ProblemMissing)),
-        (2, "p dist 4 2", Ok(())),
-        (3, "d 2 1 1", refused(0, Reason::RecordOrder)),
-        (4, "t 5 2", refused(2, Reason::NodeRange)),
-        (5, "t 1 2", Ok(())),
-        (6, "d 5 1 1", refused(2, Reason::NodeRange)),
-        (7, "d 2 1 5", refused(4, Reason::NodeRange)),
-        (8, "d 2 1 3", refused(0, Reason::PredUnknown)),
-        (9, "d 2 1 1", Ok(())),
-        (10, "d 2 1 1", refused(2, Reason::NodeTwice)),
-        (11, "t 3 0", refused(0, Reason::TooFew)),
-        (12, "d 3 1 2", Ok(())),
-        (13, "d 4 1 2", refused(0, Reason::TooMany)),
-        (14, "t 1 0", refused(2, Reason::NodeTwice)),
-        (15, "t 3 0", Ok(())),
-        (16, "t 4 0", refused(0, Reason::TooMany)),
-        (17, "p dist 4 2", refused(0, Reason::ProblemTwice)),
-    ] {
-        assert_eq!(rt; take(&mut reading, number, line), answer, "line {number}");
-        if answer.is_err() {
-            let again = take(&mut reading, number, line);
-            assert_eq!(rt; again, answer, "line {number}, once more");
-        }
+    for &(number, line, refusal) in &RECORDS {
+        answers(&rt, &mut reading, number, line, refusal);
     }
     let labels = reading.finish()?;
     assert_eq!(rt; labels.blocks().len(), 2);
-    for (block, id, dist) in [
-        (0, 2, Some(1)),
-        (0, 3, Some(1)),
-        (0, 4, None),
-        (1, 3, Some(0)),
-    ] {
+    for &(block, id, dist) in &TAKEN_DISTANCES {
         assert_eq!(rt; labels.label(block, id), dist, "block {block}, node {id}");
     }
     Ok(())
 }
 
 #[test]
-fn each_pull_and_each_put_that_fails_is_told(rt: HostRuntime) -> Result<(), Fail> {
+fn each_pull_that_fails_is_told(rt: HostRuntime) -> Result<(), Fail> {
     let text = TWO_BLOCKS.as_bytes();
     let ones = Vec::from_elem(rt.alloc(), 1, text.len())?;
     // One pull for each byte, and one that finds the end.
@@ -469,6 +539,13 @@ fn each_pull_and_each_put_that_fails_is_told(rt: HostRuntime) -> Result<(), Fail
         let error = read_labels(rt.alloc(), &mut source).err();
         assert_eq!(rt; error, Some(ReadError::Device), "at pull {failing}");
     }
+    Ok(())
+}
+
+#[test]
+fn each_put_that_fails_is_told(rt: HostRuntime) -> Result<(), Fail> {
+    let text = TWO_BLOCKS.as_bytes();
+    let ones = Vec::from_elem(rt.alloc(), 1, text.len())?;
     let labels = read_labels(rt.alloc(), &mut MemorySource::new(text))?;
     for failing in 1..=text.len() as u64 {
         let fails = [failing];

@@ -19,43 +19,86 @@ fn convert<S: Source>(alloc: Global, source: &mut S) -> Result<MemorySink, Fail>
     Ok(sink)
 }
 
+/// Whether what a source gives gets this canonical form.
+fn becomes<S: Source>(
+    rt: &impl Abort,
+    alloc: Global,
+    name: &str,
+    way: &str,
+    source: &mut S,
+    canonical: &str,
+) -> Result<(), Fail> {
+    let sink = convert(alloc, source)?;
+    assert!(rt; sink.bytes() == canonical.as_bytes(), "{name}, {way}");
+    Ok(())
+}
+
+/// Converts a text in one piece and byte by byte, and its canonical form once more.
+fn converts(
+    rt: &impl Abort,
+    alloc: Global,
+    name: &str,
+    text: &str,
+    canonical: &str,
+) -> Result<(), Fail> {
+    let mut whole = MemorySource::new(text.as_bytes());
+    becomes(rt, alloc, name, "in one piece", &mut whole, canonical)?;
+    let ones = Vec::from_elem(alloc, 1, text.len())?;
+    let mut pieces = CutSource::new(text.as_bytes(), &ones);
+    becomes(rt, alloc, name, "in pieces", &mut pieces, canonical)?;
+    let mut again = MemorySource::new(canonical.as_bytes());
+    becomes(rt, alloc, name, "once more", &mut again, canonical)
+}
+
+/// Texts, each with its canonical form.
+static CANONICAL_FORMS: [(&str, &str, &str); 7] = [
+    ("already canonical", TWO_OF_FOUR, TWO_OF_FOUR),
+    ("the nodes by ID", "p pot 4 2\ny 3 -2\ny 1 4\n", TWO_OF_FOUR),
+    ("no node", "p pot 0 0", "p pot 0 0\n"),
+    (
+        "potentials of 0 left out and not counted",
+        "p pot 2 2\ny 2 -0\ny 1 +05\n",
+        "p pot 2 1\ny 1 5\n",
+    ),
+    (
+        "potentials of 0 alone",
+        "p pot 3 3\ny 3 0\ny 2 0\ny 1 0\n",
+        "p pot 3 0\n",
+    ),
+    (
+        "comments, blanks, CR, empty line, zeros, no last line end",
+        "c x\n p  pot +4 01\r\n\ncy 1 1\n\ty +003 -0007",
+        "p pot 4 1\ny 3 -7\n",
+    ),
+    (
+        "the greatest and the least potential",
+        "p pot 2 2\ny 2 -1000000000000000000000000000000\ny 1 1000000000000000000000000000000\n",
+        "p pot 2 2\ny 1 1000000000000000000000000000000\ny 2 -1000000000000000000000000000000\n",
+    ),
+];
+
 #[test]
 fn texts_get_their_canonical_form(rt: HostRuntime) -> Result<(), Fail> {
-    for (name, text, canonical) in [
-        ("already canonical", TWO_OF_FOUR, TWO_OF_FOUR),
-        ("the nodes by ID", "p pot 4 2\ny 3 -2\ny 1 4\n", TWO_OF_FOUR),
-        ("no node", "p pot 0 0", "p pot 0 0\n"),
-        (
-            "potentials of 0 left out and not counted",
-            "p pot 2 2\ny 2 -0\ny 1 +05\n",
-            "p pot 2 1\ny 1 5\n",
-        ),
-        (
-            "potentials of 0 alone",
-            "p pot 3 3\ny 3 0\ny 2 0\ny 1 0\n",
-            "p pot 3 0\n",
-        ),
-        (
-            "comments, blanks, CR, empty line, zeros, no last line end",
-            "c x\n p  pot +4 01\r\n\ncy 1 1\n\ty +003 -0007",
-            "p pot 4 1\ny 3 -7\n",
-        ),
-        (
-            "the greatest and the least potential",
-            "p pot 2 2\ny 2 -1000000000000000000000000000000\ny 1 1000000000000000000000000000000\n",
-            "p pot 2 2\ny 1 1000000000000000000000000000000\ny 2 -1000000000000000000000000000000\n",
-        ),
-    ] {
-        let whole = convert(rt.alloc(), &mut MemorySource::new(text.as_bytes()))?;
-        assert!(rt; whole.bytes() == canonical.as_bytes(), "{name}");
-        let ones = Vec::from_elem(rt.alloc(), 1, text.len())?;
-        let pieces = convert(rt.alloc(), &mut CutSource::new(text.as_bytes(), &ones))?;
-        assert!(rt; pieces.bytes() == canonical.as_bytes(), "{name}, in pieces");
-        let again = convert(rt.alloc(), &mut MemorySource::new(canonical.as_bytes()))?;
-        assert!(rt; again.bytes() == canonical.as_bytes(), "{name}, once more");
+    for &(name, text, canonical) in &CANONICAL_FORMS {
+        converts(&rt, rt.alloc(), name, text, canonical)?;
     }
     Ok(())
 }
+
+/// Nodes, each with its potential.
+static VALUES: [(u32, i128); 11] = [
+    (0, 0),
+    (1, -5),
+    (2, 0),
+    (3, 0),
+    (255, 0),
+    (256, 1),
+    (257, 0),
+    (300, 7),
+    (301, 0),
+    (512, 0),
+    (u32::MAX, 0),
+];
 
 #[test]
 fn potentials_are_those_of_the_text(rt: HostRuntime) -> Result<(), Fail> {
@@ -63,19 +106,7 @@ fn potentials_are_those_of_the_text(rt: HostRuntime) -> Result<(), Fail> {
     let potentials = read_potentials(rt.alloc(), &mut MemorySource::new(text))?;
     assert_eq!(rt; potentials.nodes(), 300);
     assert_eq!(rt; potentials.count_nonzero(), 3);
-    for (id, value) in [
-        (0, 0),
-        (1, -5),
-        (2, 0),
-        (3, 0),
-        (255, 0),
-        (256, 1),
-        (257, 0),
-        (300, 7),
-        (301, 0),
-        (512, 0),
-        (u32::MAX, 0),
-    ] {
+    for &(id, value) in &VALUES {
         assert_eq!(rt; potentials.of(id), value, "node {id}");
     }
     Ok(())
@@ -117,188 +148,199 @@ fn refuses(
     Ok(())
 }
 
-#[test]
-fn texts_are_refused_at_their_first_fault(rt: HostRuntime) -> Result<(), Fail> {
-    for (name, text, line, field, reason) in [
-        ("empty text", "", 1, 0, Reason::ProblemMissing),
-        (
-            "node before the problem",
-            "y 1 0\n",
-            1,
-            0,
-            Reason::ProblemMissing,
-        ),
-        (
-            "a second problem",
-            "p pot 1 0\n\np pot 1 0\n",
-            3,
-            0,
-            Reason::ProblemTwice,
-        ),
-        (
-            "a line of a cut",
-            "p pot 1 1\nu 1\n",
-            2,
-            1,
-            Reason::UnknownLine,
-        ),
-        ("no potential", "p pot 4 2\ny 1\n", 2, 0, Reason::FieldCount),
-        ("another problem", "p cut 4 2\n", 1, 2, Reason::BadWord),
-        (
-            "a node of 0",
-            "p pot 4 1\ny 0 1\n",
-            2,
-            2,
-            Reason::NumberRange,
-        ),
-        (
-            "the greatest potential and one",
-            "p pot 4 1\ny 1 1000000000000000000000000000001\n",
-            2,
-            3,
-            Reason::NumberRange,
-        ),
-        (
-            "the least potential less one",
-            "p pot 4 1\ny 1 -1000000000000000000000000000001\n",
-            2,
-            3,
-            Reason::NumberRange,
-        ),
-        (
-            "a potential that isn't whole",
-            "p pot 4 1\ny 1 1e3\n",
-            2,
-            3,
-            Reason::BadNumber,
-        ),
-        (
-            "node out of range",
-            "p pot 4 1\ny 5 1\n",
-            2,
-            2,
-            Reason::NodeRange,
-        ),
-        (
-            "a node named twice",
-            "p pot 4 3\ny 3 1\ny 1 1\ny 3 2\n",
-            4,
-            2,
-            Reason::NodeTwice,
-        ),
-        (
-            "a node named twice, first with 0",
-            "p pot 4 3\ny 3 0\ny 3 2\n",
-            3,
-            2,
-            Reason::NodeTwice,
-        ),
-        (
-            "a node named twice, then with 0",
-            "p pot 4 3\ny 3 2\ny 3 0\n",
-            3,
-            2,
-            Reason::NodeTwice,
-        ),
-        (
-            "a node named twice with 0",
-            "p pot 4 3\ny 3 0\ny 3 -0\n",
-            3,
-            2,
-            Reason::NodeTwice,
-        ),
-        (
-            "a node more",
-            "p pot 4 1\ny 3 0\ny 1 0\n",
-            3,
-            0,
-            Reason::TooMany,
-        ),
-        ("a node too few", "p pot 4 2\ny 3 0\n", 3, 0, Reason::TooFew),
-        (
-            "nothing behind a refused line matters",
-            "p pot 4 1\ny 5 0\ny 0 x\np\n",
-            2,
-            2,
-            Reason::NodeRange,
-        ),
-    ] {
-        refuses(&rt, rt.alloc(), name, text, At { line, field }, reason)?;
+/// A text that is refused: its name, the text, the line, the field and the reason.
+type Refused = (&'static str, &'static str, u64, u32, Reason);
+
+/// Reads each text in one piece, and byte by byte.
+fn refuses_each(rt: &impl Abort, alloc: Global, texts: &[Refused]) -> Result<(), Fail> {
+    for &(name, text, line, field, reason) in texts {
+        refuses(rt, alloc, name, text, At { line, field }, reason)?;
     }
     Ok(())
 }
 
+/// Texts that are refused for their first fault.
+static REFUSED_TEXTS: [Refused; 18] = [
+    ("empty text", "", 1, 0, Reason::ProblemMissing),
+    (
+        "node before the problem",
+        "y 1 0\n",
+        1,
+        0,
+        Reason::ProblemMissing,
+    ),
+    (
+        "a second problem",
+        "p pot 1 0\n\np pot 1 0\n",
+        3,
+        0,
+        Reason::ProblemTwice,
+    ),
+    (
+        "a line of a cut",
+        "p pot 1 1\nu 1\n",
+        2,
+        1,
+        Reason::UnknownLine,
+    ),
+    ("no potential", "p pot 4 2\ny 1\n", 2, 0, Reason::FieldCount),
+    ("another problem", "p cut 4 2\n", 1, 2, Reason::BadWord),
+    (
+        "a node of 0",
+        "p pot 4 1\ny 0 1\n",
+        2,
+        2,
+        Reason::NumberRange,
+    ),
+    (
+        "the greatest potential and one",
+        "p pot 4 1\ny 1 1000000000000000000000000000001\n",
+        2,
+        3,
+        Reason::NumberRange,
+    ),
+    (
+        "the least potential less one",
+        "p pot 4 1\ny 1 -1000000000000000000000000000001\n",
+        2,
+        3,
+        Reason::NumberRange,
+    ),
+    (
+        "a potential that isn't whole",
+        "p pot 4 1\ny 1 1e3\n",
+        2,
+        3,
+        Reason::BadNumber,
+    ),
+    (
+        "node out of range",
+        "p pot 4 1\ny 5 1\n",
+        2,
+        2,
+        Reason::NodeRange,
+    ),
+    (
+        "a node named twice",
+        "p pot 4 3\ny 3 1\ny 1 1\ny 3 2\n",
+        4,
+        2,
+        Reason::NodeTwice,
+    ),
+    (
+        "a node named twice, first with 0",
+        "p pot 4 3\ny 3 0\ny 3 2\n",
+        3,
+        2,
+        Reason::NodeTwice,
+    ),
+    (
+        "a node named twice, then with 0",
+        "p pot 4 3\ny 3 2\ny 3 0\n",
+        3,
+        2,
+        Reason::NodeTwice,
+    ),
+    (
+        "a node named twice with 0",
+        "p pot 4 3\ny 3 0\ny 3 -0\n",
+        3,
+        2,
+        Reason::NodeTwice,
+    ),
+    (
+        "a node more",
+        "p pot 4 1\ny 3 0\ny 1 0\n",
+        3,
+        0,
+        Reason::TooMany,
+    ),
+    ("a node too few", "p pot 4 2\ny 3 0\n", 3, 0, Reason::TooFew),
+    (
+        "nothing behind a refused line matters",
+        "p pot 4 1\ny 5 0\ny 0 x\np\n",
+        2,
+        2,
+        Reason::NodeRange,
+    ),
+];
+
+#[test]
+fn texts_are_refused_at_their_first_fault(rt: HostRuntime) -> Result<(), Fail> {
+    refuses_each(&rt, rt.alloc(), &REFUSED_TEXTS)
+}
+
+/// Texts with a line that has several faults.
+static REFUSED_LINES: [Refused; 10] = [
+    (
+        "the letter before the number of fields",
+        "Y\n",
+        1,
+        1,
+        Reason::UnknownLine,
+    ),
+    (
+        "the number of fields before the word",
+        "p cut 4\n",
+        1,
+        0,
+        Reason::FieldCount,
+    ),
+    (
+        "the word before NODES",
+        "p cut x x\n",
+        1,
+        2,
+        Reason::BadWord,
+    ),
+    ("NODES before K", "p pot -1 x\n", 1, 3, Reason::NumberRange),
+    (
+        "the node before its potential",
+        "p pot 4 1\ny 0 x\n",
+        2,
+        2,
+        Reason::NumberRange,
+    ),
+    (
+        "the potential before the missing problem",
+        "y 1 x\n",
+        1,
+        3,
+        Reason::BadNumber,
+    ),
+    (
+        "the potential before NODES",
+        "p pot 4 1\ny 5 x\n",
+        2,
+        3,
+        Reason::BadNumber,
+    ),
+    (
+        "the problem's numbers before a second problem",
+        "p pot 4 0\np pot 4 x\n",
+        2,
+        4,
+        Reason::BadNumber,
+    ),
+    (
+        "NODES before the count",
+        "p pot 4 0\ny 5 1\n",
+        2,
+        2,
+        Reason::NodeRange,
+    ),
+    (
+        "a node named twice before the count",
+        "p pot 4 1\ny 1 0\ny 1 1\n",
+        3,
+        2,
+        Reason::NodeTwice,
+    ),
+];
+
 #[test]
 fn a_line_is_refused_for_its_first_reason(rt: HostRuntime) -> Result<(), Fail> {
-    for (name, text, line, field, reason) in [
-        (
-            "the letter before the number of fields",
-            "Y\n",
-            1,
-            1,
-            Reason::UnknownLine,
-        ),
-        (
-            "the number of fields before the word",
-            "p cut 4\n",
-            1,
-            0,
-            Reason::FieldCount,
-        ),
-        (
-            "the word before NODES",
-            "p cut x x\n",
-            1,
-            2,
-            Reason::BadWord,
-        ),
-        ("NODES before K", "p pot -1 x\n", 1, 3, Reason::NumberRange),
-        (
-            "the node before its potential",
-            "p pot 4 1\ny 0 x\n",
-            2,
-            2,
-            Reason::NumberRange,
-        ),
-        (
-            "the potential before the missing problem",
-            "y 1 x\n",
-            1,
-            3,
-            Reason::BadNumber,
-        ),
-        (
-            "the potential before NODES",
-            "p pot 4 1\ny 5 x\n",
-            2,
-            3,
-            Reason::BadNumber,
-        ),
-        (
-            "the problem's numbers before a second problem",
-            "p pot 4 0\np pot 4 x\n",
-            2,
-            4,
-            Reason::BadNumber,
-        ),
-        (
-            "NODES before the count",
-            "p pot 4 0\ny 5 1\n",
-            2,
-            2,
-            Reason::NodeRange,
-        ),
-        (
-            "a node named twice before the count",
-            "p pot 4 1\ny 1 0\ny 1 1\n",
-            3,
-            2,
-            Reason::NodeTwice,
-        ),
-    ] {
-        refuses(&rt, rt.alloc(), name, text, At { line, field }, reason)?;
-    }
-    Ok(())
+    refuses_each(&rt, rt.alloc(), &REFUSED_LINES)
 }
 
 /// Gives a reading what a line says.
@@ -310,29 +352,48 @@ fn take(reading: &mut PotentialsReading, number: u64, line: &str) -> Result<(), 
     }
 }
 
-fn refused(field: u32, reason: Reason) -> Result<(), TakeError> {
-    Err(TakeError::Refused(LineFault { field, reason }))
+/// What a reading answers to a record that it refuses so, or takes.
+fn answer(refusal: Option<(u32, Reason)>) -> Result<(), TakeError> {
+    match refusal {
+        Some((field, reason)) => Err(TakeError::refused(field, reason)),
+        None => Ok(()),
+    }
 }
+
+/// Gives a reading a line, and once more where it is refused.
+fn answers(
+    rt: &impl Abort,
+    reading: &mut PotentialsReading,
+    number: u64,
+    line: &str,
+    refusal: Option<(u32, Reason)>,
+) {
+    let wanted = answer(refusal);
+    assert_eq!(rt; take(reading, number, line), wanted, "line {number}");
+    if refusal.is_some() {
+        let again = take(reading, number, line);
+        assert_eq!(rt; again, wanted, "line {number}, once more");
+    }
+}
+
+/// Lines by number, and why each is refused, if it is.
+static RECORDS: [(u64, &str, Option<(u32, Reason)>); 9] = [
+    (1, "y 1 5", Some((0, Reason::ProblemMissing))),
+    (2, "p pot 4 2", None),
+    (3, "p pot 9 9", Some((0, Reason::ProblemTwice))),
+    (4, "y 5 1", Some((2, Reason::NodeRange))),
+    (5, "y 3 0", None),
+    (6, "y 3 6", Some((2, Reason::NodeTwice))),
+    (7, "y 1 5", None),
+    (8, "y 1 0", Some((2, Reason::NodeTwice))),
+    (9, "y 2 7", Some((0, Reason::TooMany))),
+];
 
 #[test]
 fn a_refused_record_leaves_the_reading_as_it_was(rt: HostRuntime) -> Result<(), Fail> {
     let mut reading = PotentialsReading::new(rt.alloc());
-    for (number, line, answer) in [
-        (1, "y 1 5", refused(0, Reason::ProblemMissing)),
-        (2, "p pot 4 2", Ok(())),
-        (3, "p pot 9 9", refused(0, Reason::ProblemTwice)),
-        (4, "y 5 1", refused(2, Reason::NodeRange)),
-        (5, "y 3 0", Ok(())),
-        (6, "y 3 6", refused(2, Reason::NodeTwice)),
-        (7, "y 1 5", Ok(())),
-        (8, "y 1 0", refused(2, Reason::NodeTwice)),
-        (9, "y 2 7", refused(0, Reason::TooMany)),
-    ] {
-        assert_eq!(rt; take(&mut reading, number, line), answer, "line {number}");
-        if answer.is_err() {
-            let again = take(&mut reading, number, line);
-            assert_eq!(rt; again, answer, "line {number}, once more");
-        }
+    for &(number, line, refusal) in &RECORDS {
+        answers(&rt, &mut reading, number, line, refusal);
     }
     let potentials = reading.finish()?;
     assert_eq!(rt; potentials.nodes(), 4);
@@ -343,7 +404,7 @@ fn a_refused_record_leaves_the_reading_as_it_was(rt: HostRuntime) -> Result<(), 
 }
 
 #[test]
-fn each_pull_and_each_put_that_fails_is_told(rt: HostRuntime) -> Result<(), Fail> {
+fn each_pull_that_fails_is_told(rt: HostRuntime) -> Result<(), Fail> {
     let text = TWO_OF_FOUR.as_bytes();
     let ones = Vec::from_elem(rt.alloc(), 1, text.len())?;
     // One pull for each byte, and one that finds the end.
@@ -353,6 +414,13 @@ fn each_pull_and_each_put_that_fails_is_told(rt: HostRuntime) -> Result<(), Fail
         let error = read_potentials(rt.alloc(), &mut source).err();
         assert_eq!(rt; error, Some(ReadError::Device), "at pull {failing}");
     }
+    Ok(())
+}
+
+#[test]
+fn each_put_that_fails_is_told(rt: HostRuntime) -> Result<(), Fail> {
+    let text = TWO_OF_FOUR.as_bytes();
+    let ones = Vec::from_elem(rt.alloc(), 1, text.len())?;
     let potentials = read_potentials(rt.alloc(), &mut MemorySource::new(text))?;
     for failing in 1..=text.len() as u64 {
         let fails = [failing];

@@ -19,57 +19,88 @@ fn convert<S: Source>(alloc: Global, source: &mut S) -> Result<MemorySink, Fail>
     Ok(sink)
 }
 
+/// Whether what a source gives gets this canonical form.
+fn becomes<S: Source>(
+    rt: &impl Abort,
+    alloc: Global,
+    name: &str,
+    way: &str,
+    source: &mut S,
+    canonical: &str,
+) -> Result<(), Fail> {
+    let sink = convert(alloc, source)?;
+    assert!(rt; sink.bytes() == canonical.as_bytes(), "{name}, {way}");
+    Ok(())
+}
+
+/// Converts a text in one piece and byte by byte, and its canonical form once more.
+fn converts(
+    rt: &impl Abort,
+    alloc: Global,
+    name: &str,
+    text: &str,
+    canonical: &str,
+) -> Result<(), Fail> {
+    let mut whole = MemorySource::new(text.as_bytes());
+    becomes(rt, alloc, name, "in one piece", &mut whole, canonical)?;
+    let ones = Vec::from_elem(alloc, 1, text.len())?;
+    let mut pieces = CutSource::new(text.as_bytes(), &ones);
+    becomes(rt, alloc, name, "in pieces", &mut pieces, canonical)?;
+    let mut again = MemorySource::new(canonical.as_bytes());
+    becomes(rt, alloc, name, "once more", &mut again, canonical)
+}
+
+/// Texts, each with its canonical form.
+static CANONICAL_FORMS: [(&str, &str, &str); 9] = [
+    ("already canonical", FLOW, FLOW),
+    ("a value alone", "s 0", "s 0\n"),
+    (
+        "the value in the middle",
+        "f 1 2 4\ns 6\nf 1 3 2\n",
+        "s 6\nf 1 2 4\nf 1 3 2\n",
+    ),
+    (
+        "the value behind the entries",
+        "f 2 1 4\nf 1 2 -4\ns -9",
+        "s -9\nf 2 1 4\nf 1 2 -4\n",
+    ),
+    (
+        "comment, blanks, CR, empty line, signs, zeros, no last line end",
+        "c x\n  f 01\t+2  -0\r\n\ns +007",
+        "s 7\nf 1 2 0\n",
+    ),
+    (
+        "entries that are repeated, and loops",
+        "s 1\nf 2 2 0\nf 1 2 3\nf 1 2 3\nf 1 2 4\n",
+        "s 1\nf 2 2 0\nf 1 2 3\nf 1 2 3\nf 1 2 4\n",
+    ),
+    (
+        "the greatest numbers",
+        "s 1000000000000000000000000000000\nf 134217728 134217728 9223372036854775807\n",
+        "s 1000000000000000000000000000000\nf 134217728 134217728 9223372036854775807\n",
+    ),
+    (
+        "the least numbers",
+        "s -1000000000000000000000000000000\nf 1 1 -9223372036854775808\n",
+        "s -1000000000000000000000000000000\nf 1 1 -9223372036854775808\n",
+    ),
+    (
+        "comments that look like lines of a solution",
+        "cs 2\ns 1\nc s 3\ncf 1 2 3\n",
+        "s 1\n",
+    ),
+];
+
 #[test]
 fn texts_get_their_canonical_form(rt: HostRuntime) -> Result<(), Fail> {
-    for (name, text, canonical) in [
-        ("already canonical", FLOW, FLOW),
-        ("a value alone", "s 0", "s 0\n"),
-        (
-            "the value in the middle",
-            "f 1 2 4\ns 6\nf 1 3 2\n",
-            "s 6\nf 1 2 4\nf 1 3 2\n",
-        ),
-        (
-            "the value behind the entries",
-            "f 2 1 4\nf 1 2 -4\ns -9",
-            "s -9\nf 2 1 4\nf 1 2 -4\n",
-        ),
-        (
-            "comment, blanks, CR, empty line, signs, zeros, no last line end",
-            "c x\n  f 01\t+2  -0\r\n\ns +007",
-            "s 7\nf 1 2 0\n",
-        ),
-        (
-            "entries that are repeated, and loops",
-            "s 1\nf 2 2 0\nf 1 2 3\nf 1 2 3\nf 1 2 4\n",
-            "s 1\nf 2 2 0\nf 1 2 3\nf 1 2 3\nf 1 2 4\n",
-        ),
-        (
-            "the greatest numbers",
-            "s 1000000000000000000000000000000\nf 134217728 134217728 9223372036854775807\n",
-            "s 1000000000000000000000000000000\nf 134217728 134217728 9223372036854775807\n",
-        ),
-        (
-            "the least numbers",
-            "s -1000000000000000000000000000000\nf 1 1 -9223372036854775808\n",
-            "s -1000000000000000000000000000000\nf 1 1 -9223372036854775808\n",
-        ),
-        (
-            "comments that look like lines of a solution",
-            "cs 2\ns 1\nc s 3\ncf 1 2 3\n",
-            "s 1\n",
-        ),
-    ] {
-        let whole = convert(rt.alloc(), &mut MemorySource::new(text.as_bytes()))?;
-        assert!(rt; whole.bytes() == canonical.as_bytes(), "{name}");
-        let ones = Vec::from_elem(rt.alloc(), 1, text.len())?;
-        let pieces = convert(rt.alloc(), &mut CutSource::new(text.as_bytes(), &ones))?;
-        assert!(rt; pieces.bytes() == canonical.as_bytes(), "{name}, in pieces");
-        let again = convert(rt.alloc(), &mut MemorySource::new(canonical.as_bytes()))?;
-        assert!(rt; again.bytes() == canonical.as_bytes(), "{name}, once more");
+    for &(name, text, canonical) in &CANONICAL_FORMS {
+        converts(&rt, rt.alloc(), name, text, canonical)?;
     }
     Ok(())
 }
+
+/// The value behind an entry, with comments and empty lines between.
+const SCATTERED: &[u8] = b"c x\nf 1 2 4\n\ns 6\nf 3 4 -2\nf 1 2 4";
 
 fn entry(tail: u32, head: u32, flow: i64, line: u64) -> Entry {
     Entry {
@@ -82,16 +113,19 @@ fn entry(tail: u32, head: u32, flow: i64, line: u64) -> Entry {
 
 #[test]
 fn a_solution_knows_the_lines_of_its_text(rt: HostRuntime) -> Result<(), Fail> {
-    let text = b"c x\nf 1 2 4\n\ns 6\nf 3 4 -2\nf 1 2 4";
-    let solution = read_solution(rt.alloc(), &mut MemorySource::new(text))?;
+    let solution = read_solution(rt.alloc(), &mut MemorySource::new(SCATTERED))?;
     assert_eq!(rt; solution.value, 6);
     assert_eq!(rt; solution.value_line, 4);
     assert_eq!(rt;
         solution.entries.as_slice(),
         [entry(1, 2, 4, 2), entry(3, 4, -2, 5), entry(1, 2, 4, 6)].as_slice()
     );
+    Ok(())
+}
 
-    let written = convert(rt.alloc(), &mut MemorySource::new(text))?;
+#[test]
+fn a_solution_that_was_written_knows_its_new_lines(rt: HostRuntime) -> Result<(), Fail> {
+    let written = convert(rt.alloc(), &mut MemorySource::new(SCATTERED))?;
     let again = read_solution(rt.alloc(), &mut MemorySource::new(written.bytes()))?;
     assert_eq!(rt; again.value, 6);
     assert_eq!(rt; again.value_line, 1);
@@ -134,121 +168,132 @@ fn refuses(
     Ok(())
 }
 
-#[test]
-fn texts_are_refused_at_their_first_fault(rt: HostRuntime) -> Result<(), Fail> {
-    for (name, text, line, field, reason) in [
-        ("empty text", "", 1, 0, Reason::SolutionMissing),
-        ("comments alone", "c x\n\n", 3, 0, Reason::SolutionMissing),
-        (
-            "entries alone",
-            "f 1 2 3\nf 1 2 4",
-            3,
-            0,
-            Reason::SolutionMissing,
-        ),
-        ("a second value", "s 1\ns 2\n", 2, 0, Reason::SolutionTwice),
-        (
-            "the same value twice",
-            "s 1\nf 1 2 3\nc\ns 1\n",
-            4,
-            0,
-            Reason::SolutionTwice,
-        ),
-        (
-            "the greatest value and one",
-            "s 1000000000000000000000000000001\n",
-            1,
-            2,
-            Reason::NumberRange,
-        ),
-        (
-            "the least value less one",
-            "f 1 2 3\ns -1000000000000000000000000000001\n",
-            2,
-            2,
-            Reason::NumberRange,
-        ),
-        ("a problem line", "p max 1 0\n", 1, 1, Reason::UnknownLine),
-        ("an arc line", "s 1\na 1 2 3\n", 2, 1, Reason::UnknownLine),
-        ("value without number", "s\n", 1, 0, Reason::FieldCount),
-        ("value and more", "s 1 2\n", 1, 0, Reason::FieldCount),
-        (
-            "entry without flow",
-            "s 1\nf 1 2\n",
-            2,
-            0,
-            Reason::FieldCount,
-        ),
-        (
-            "entry and more",
-            "s 1\nf 1 2 3 4\n",
-            2,
-            0,
-            Reason::FieldCount,
-        ),
-        (
-            "flow past the range",
-            "s 1\nf 1 2 9223372036854775808\n",
-            2,
-            4,
-            Reason::NumberRange,
-        ),
-        ("flow no number", "f 1 2 1.5\n", 1, 4, Reason::BadNumber),
-        (
-            "nothing behind a refused line matters",
-            "s 1\ns 2\ns x\np\n",
-            2,
-            0,
-            Reason::SolutionTwice,
-        ),
-    ] {
-        refuses(&rt, rt.alloc(), name, text, At { line, field }, reason)?;
+/// A text that is refused: its name, the text, the line, the field and the reason.
+type Refused = (&'static str, &'static str, u64, u32, Reason);
+
+/// Reads each text in one piece, and byte by byte.
+fn refuses_each(rt: &impl Abort, alloc: Global, texts: &[Refused]) -> Result<(), Fail> {
+    for &(name, text, line, field, reason) in texts {
+        refuses(rt, alloc, name, text, At { line, field }, reason)?;
     }
     Ok(())
 }
 
+/// Texts that are refused for their first fault.
+static REFUSED_TEXTS: [Refused; 16] = [
+    ("empty text", "", 1, 0, Reason::SolutionMissing),
+    ("comments alone", "c x\n\n", 3, 0, Reason::SolutionMissing),
+    (
+        "entries alone",
+        "f 1 2 3\nf 1 2 4",
+        3,
+        0,
+        Reason::SolutionMissing,
+    ),
+    ("a second value", "s 1\ns 2\n", 2, 0, Reason::SolutionTwice),
+    (
+        "the same value twice",
+        "s 1\nf 1 2 3\nc\ns 1\n",
+        4,
+        0,
+        Reason::SolutionTwice,
+    ),
+    (
+        "the greatest value and one",
+        "s 1000000000000000000000000000001\n",
+        1,
+        2,
+        Reason::NumberRange,
+    ),
+    (
+        "the least value less one",
+        "f 1 2 3\ns -1000000000000000000000000000001\n",
+        2,
+        2,
+        Reason::NumberRange,
+    ),
+    ("a problem line", "p max 1 0\n", 1, 1, Reason::UnknownLine),
+    ("an arc line", "s 1\na 1 2 3\n", 2, 1, Reason::UnknownLine),
+    ("value without number", "s\n", 1, 0, Reason::FieldCount),
+    ("value and more", "s 1 2\n", 1, 0, Reason::FieldCount),
+    (
+        "entry without flow",
+        "s 1\nf 1 2\n",
+        2,
+        0,
+        Reason::FieldCount,
+    ),
+    (
+        "entry and more",
+        "s 1\nf 1 2 3 4\n",
+        2,
+        0,
+        Reason::FieldCount,
+    ),
+    (
+        "flow past the range",
+        "s 1\nf 1 2 9223372036854775808\n",
+        2,
+        4,
+        Reason::NumberRange,
+    ),
+    ("flow no number", "f 1 2 1.5\n", 1, 4, Reason::BadNumber),
+    (
+        "nothing behind a refused line matters",
+        "s 1\ns 2\ns x\np\n",
+        2,
+        0,
+        Reason::SolutionTwice,
+    ),
+];
+
+#[test]
+fn texts_are_refused_at_their_first_fault(rt: HostRuntime) -> Result<(), Fail> {
+    refuses_each(&rt, rt.alloc(), &REFUSED_TEXTS)
+}
+
+/// Texts with a line that has several faults.
+static REFUSED_LINES: [Refused; 5] = [
+    (
+        "the letter before the number of fields",
+        "S\n",
+        1,
+        1,
+        Reason::UnknownLine,
+    ),
+    (
+        "the number of fields before the fields",
+        "f 0 x\n",
+        1,
+        0,
+        Reason::FieldCount,
+    ),
+    (
+        "the tail before the head and the flow",
+        "s 1\nf 0 0 x\n",
+        2,
+        2,
+        Reason::NumberRange,
+    ),
+    (
+        "the head before the flow",
+        "f 1 134217729 x\n",
+        1,
+        3,
+        Reason::NumberRange,
+    ),
+    (
+        "a value's own fault before a second value",
+        "s 1\ns x\n",
+        2,
+        2,
+        Reason::BadNumber,
+    ),
+];
+
 #[test]
 fn a_line_is_refused_for_its_first_reason(rt: HostRuntime) -> Result<(), Fail> {
-    for (name, text, line, field, reason) in [
-        (
-            "the letter before the number of fields",
-            "S\n",
-            1,
-            1,
-            Reason::UnknownLine,
-        ),
-        (
-            "the number of fields before the fields",
-            "f 0 x\n",
-            1,
-            0,
-            Reason::FieldCount,
-        ),
-        (
-            "the tail before the head and the flow",
-            "s 1\nf 0 0 x\n",
-            2,
-            2,
-            Reason::NumberRange,
-        ),
-        (
-            "the head before the flow",
-            "f 1 134217729 x\n",
-            1,
-            3,
-            Reason::NumberRange,
-        ),
-        (
-            "a value's own fault before a second value",
-            "s 1\ns x\n",
-            2,
-            2,
-            Reason::BadNumber,
-        ),
-    ] {
-        refuses(&rt, rt.alloc(), name, text, At { line, field }, reason)?;
-    }
-    Ok(())
+    refuses_each(&rt, rt.alloc(), &REFUSED_LINES)
 }
 
 /// Gives a reading what a line says.
@@ -260,25 +305,44 @@ fn take(reading: &mut SolutionReading, number: u64, line: &str) -> Result<(), Ta
     }
 }
 
-fn refused(field: u32, reason: Reason) -> Result<(), TakeError> {
-    Err(TakeError::Refused(LineFault { field, reason }))
+/// What a reading answers to a record that it refuses so, or takes.
+fn answer(refusal: Option<(u32, Reason)>) -> Result<(), TakeError> {
+    match refusal {
+        Some((field, reason)) => Err(TakeError::refused(field, reason)),
+        None => Ok(()),
+    }
 }
+
+/// Gives a reading a line, and once more where it is refused.
+fn answers(
+    rt: &impl Abort,
+    reading: &mut SolutionReading,
+    number: u64,
+    line: &str,
+    refusal: Option<(u32, Reason)>,
+) {
+    let wanted = answer(refusal);
+    assert_eq!(rt; take(reading, number, line), wanted, "line {number}");
+    if refusal.is_some() {
+        let again = take(reading, number, line);
+        assert_eq!(rt; again, wanted, "line {number}, once more");
+    }
+}
+
+/// Lines by number, and why each is refused, if it is.
+static RECORDS: [(u64, &str, Option<(u32, Reason)>); 5] = [
+    (1, "f 1 2 3", None),
+    (3, "s 5", None),
+    (4, "s 5", Some((0, Reason::SolutionTwice))),
+    (7, "f 2 1 0", None),
+    (8, "s 6", Some((0, Reason::SolutionTwice))),
+];
 
 #[test]
 fn a_refused_record_leaves_the_reading_as_it_was(rt: HostRuntime) -> Result<(), Fail> {
     let mut reading = SolutionReading::new(rt.alloc());
-    for (number, line, answer) in [
-        (1, "f 1 2 3", Ok(())),
-        (3, "s 5", Ok(())),
-        (4, "s 5", refused(0, Reason::SolutionTwice)),
-        (7, "f 2 1 0", Ok(())),
-        (8, "s 6", refused(0, Reason::SolutionTwice)),
-    ] {
-        assert_eq!(rt; take(&mut reading, number, line), answer, "line {number}");
-        if answer.is_err() {
-            let again = take(&mut reading, number, line);
-            assert_eq!(rt; again, answer, "line {number}, once more");
-        }
+    for &(number, line, refusal) in &RECORDS {
+        answers(&rt, &mut reading, number, line, refusal);
     }
     let solution = reading.finish()?;
     assert_eq!(rt; solution.value, 5);
@@ -292,7 +356,7 @@ fn a_refused_record_leaves_the_reading_as_it_was(rt: HostRuntime) -> Result<(), 
 
 #[test]
 fn a_reading_without_a_value_is_refused_at_its_end(rt: HostRuntime) -> Result<(), Fail> {
-    let missing = refused(0, Reason::SolutionMissing).err();
+    let missing = Some(TakeError::refused(0, Reason::SolutionMissing));
     let reading = SolutionReading::new(rt.alloc());
     assert_eq!(rt; reading.finish().err(), missing, "no record");
 
