@@ -14,7 +14,7 @@ use Rattle.dimacs_records.proofs.SplitLemmas.{two_places, same, sooner, later}
 use Rattle.dimacs_claims.specs.declared.block.Label.{Label}
 use Rattle.dimacs_claims.specs.Labels.{BlockValue, label, label_at, distance_in, with_label, EachBehind, IsFresh, HasPred, IsLabel, IsBlock}
 use Rattle.dimacs_records.specs.Ranges.{IsWide}
-use Rattle.dimacs_claims.specs.Distances.{AreDistances}
+use Rattle.dimacs_claims.specs.Distances.{HasDistances}
 
 -- a test before a choice
 test_first : (b : Bool) (d : ℤ) (rest other : Option ℤ) → (if b then Some d else or_else rest other) ≡ or_else (if b then Some d else rest) other
@@ -40,7 +40,7 @@ one_more_at : (c : Bool) (d : ℤ) (x : Option ℤ) → (c ≡ true → x ≡ No
 one_more_at true d x h = sym (ap (λ y. or_else y (Some d)) (h refl))
 one_more_at false d x h = sym (or_else-none x)
 
-pub are_distances_more : (old new : BTreeMap ℕ ℤ) (b : BlockValue) (l : Label) → AreDistances old b → label b l.id ≡ None → ((q : ℕ) → get nat_cmp new q ≡ cond (is_at (nat_cmp l.id) q) (Some l.dist) (get nat_cmp old q)) → AreDistances new (with_label b l)
+pub are_distances_more : (old new : BTreeMap ℕ ℤ) (b : BlockValue) (l : Label) → HasDistances old b → label b l.id ≡ None → ((q : ℕ) → get nat_cmp new q ≡ cond (is_at (nat_cmp l.id) q) (Some l.dist) (get nat_cmp old q)) → HasDistances new (with_label b l)
 are_distances_more old new b l are fresh more v =
     more v ∙ (ap (λ t. cond t (Some l.dist) (get nat_cmp old v)) (unsigned_tied l.id v) ∙ (ap (cond (l.id == v) (Some l.dist)) (are v)
     ∙ (one_more_at (l.id == v) l.dist (label b v) (λ e. subst (λ w. label b w ≡ None) (eqb-true l.id v e) fresh) ∙ sym (label-push b l v))))

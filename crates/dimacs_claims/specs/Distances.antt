@@ -5,5 +5,5 @@ use Rattle.std.specs.BTreeMap.{BTreeMap, get}
 use Rattle.dimacs_claims.specs.Labels.{BlockValue, label}
 
 -- the map has the distances of the block
-abbrev pub AreDistances : BTreeMap ℕ ℤ → BlockValue → Type 0
-AreDistances distances b = (id : ℕ) → get nat_cmp distances id ≡ label b id
+abbrev pub HasDistances : BTreeMap ℕ ℤ → BlockValue → Type 0
+HasDistances distances b = (id : ℕ) → get nat_cmp distances id ≡ label b id

@@ -28,13 +28,13 @@ pub struct Block {
 
 impl Model for Block {
     ghost use Rattle.dimacs_claims.specs.Labels.{BlockValue};
-    ghost use Rattle.dimacs_claims.specs.Distances.{AreDistances};
+    ghost use Rattle.dimacs_claims.specs.Distances.{HasDistances};
 
     ghost Value = { BlockValue };
 
     ghost view = { λ b. record { source = b.source; labels = b.labels.items } };
 
-    ghost invariant = { λ b. AreDistances b.distances (record { source = b.source; labels = b.labels.items }) };
+    ghost invariant = { λ b. HasDistances b.distances (record { source = b.source; labels = b.labels.items }) };
 }
 
 impl Block {

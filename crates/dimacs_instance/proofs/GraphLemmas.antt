@@ -25,8 +25,8 @@ use Rattle.dimacs_records.specs.Readings.{LineRecord, records_of}
 use Rattle.dimacs_records.specs.Texts.{AreFaultless}
 use Rattle.dimacs_records.proofs.SplitLemmas.{image_at, All-at}
 use Rattle.dimacs_records.proofs.CanonicalLaws.{canonical_spelled, numbered_all}
-use Rattle.dimacs_instance.specs.Arcs.{JoinsNodes}
-use Rattle.dimacs_instance.specs.Graph.{GraphValue, IsGraph, HasWeightAlone, GivesGraph, SpellsGraph, canonical_graph, graph_records, graph_arc}
+use Rattle.dimacs_instance.specs.Arcs.{JoinsNodes, NetworkValue}
+use Rattle.dimacs_instance.specs.Graph.{IsGraph, HasWeightAlone, GivesGraph, SpellsGraph, canonical_graph, graph_records, graph_arc}
 use Rattle.dimacs_instance.specs.GraphReading.{GraphBegun, graph_records_so_far}
 use Rattle.dimacs_instance.proofs.ArcLemmas.{take_next}
 
@@ -90,7 +90,7 @@ arc_allowed : (nodes declared : ℕ) (arcs : List ArcView) (a : ArcView) (before
 arc_allowed nodes declared arcs a before r before_is r_is joins room = rw (before_is, r_is) (one_more_arc nodes declared arcs a.tail a.head a.cost joins.0.1 joins.1.1 room)
 
 -- the records of a graph are refused for nothing
-graph_allowed : (g : GraphValue) → IsGraph g → (before after : List Record) (r : Record) → graph_records g ≡ before ++ r ∷ after → IsAllowed before r
+graph_allowed : (g : NetworkValue) → IsGraph g → (before after : List Record) (r : Record) → graph_records g ≡ before ++ r ∷ after → IsAllowed before r
 graph_allowed g is [] after r e = let first : r ≡ GraphProblem g.nodes (length g.arcs) = cc in rw first (first_problem g.nodes (length g.arcs))
 graph_allowed g is (b ∷ bs) after r e =
     let first : b ≡ GraphProblem g.nodes (length g.arcs) = cc in
@@ -99,7 +99,7 @@ graph_allowed g is (b ∷ bs) after r e =
     let room : length at.front < length g.arcs = omega (arith, ap length at.xs_are, length-append at.front (at.x ∷ at.back)) in
     arc_allowed g.nodes (length g.arcs) at.front at.x (b ∷ bs) r (ap (λ t. t ∷ bs) first ∙ ap (λ ts. GraphProblem g.nodes (length g.arcs) ∷ ts) at.before_is) at.y_is joins room
 
-pub graph_faultless : (rs : List LineRecord) (g : GraphValue) → GivesGraph rs g → AreFaultless Graph (records_of rs)
+pub graph_faultless : (rs : List LineRecord) (g : NetworkValue) → GivesGraph rs g → AreFaultless Graph (records_of rs)
 graph_faultless rs g h = rw h.0 (record { allowed = graph_allowed g h.1; complete = all_arcs g.nodes (length g.arcs) g.arcs (omega arith) })
 
 -- the arc that a record names, and the graph of a problem line and arcs
@@ -107,7 +107,7 @@ arc_of : Record → ArcView
 arc_of (GraphArc t h w) = weight_arc t h w
 arc_of r = weight_arc 0 0 (pos 0)
 
-graph_of : List Record → GraphValue
+graph_of : List Record → NetworkValue
 graph_of (GraphProblem n m ∷ rs) = record { nodes = n; arcs = map arc_of rs }
 graph_of rs = record { nodes = 0; arcs = [] }
 
@@ -119,15 +119,15 @@ arcs_of-graph_arcs : (arcs : List ArcView) → All HasWeightAlone arcs → map a
 arcs_of-graph_arcs [] alone = refl
 arcs_of-graph_arcs (a ∷ arcs) alone = ap₂ (λ x xs. x ∷ xs) (arc_of-graph_arc a (All-head HasWeightAlone a arcs alone)) (arcs_of-graph_arcs arcs (All-tail HasWeightAlone a arcs alone))
 
-graph_of-graph_records : (g : GraphValue) → IsGraph g → graph_of (graph_records g) ≡ g
+graph_of-graph_records : (g : NetworkValue) → IsGraph g → graph_of (graph_records g) ≡ g
 unfolding graph_of
 graph_of-graph_records g is = ap (λ arcs. record { nodes = g.nodes; arcs = arcs }) (arcs_of-graph_arcs g.arcs is.weights)
 
 -- the records of a graph are those of no other
-pub one_graph : (rs : List LineRecord) (g h : GraphValue) → GivesGraph rs g → GivesGraph rs h → g ≡ h
+pub one_graph : (rs : List LineRecord) (g h : NetworkValue) → GivesGraph rs g → GivesGraph rs h → g ≡ h
 one_graph rs g h a b = sym (graph_of-graph_records g a.1) ∙ (ap graph_of (sym a.0 ∙ b.0) ∙ graph_of-graph_records h b.1)
 
-problem_fits : (g : GraphValue) → IsGraph g → CanBeSpelled Graph (GraphProblem g.nodes (length g.arcs))
+problem_fits : (g : NetworkValue) → IsGraph g → CanBeSpelled Graph (GraphProblem g.nodes (length g.arcs))
 problem_fits g is = record {
   form = form (codes "p") (Word (codes "sp") ∷ Nodes ∷ Count ∷ []);
   of_kind = (0, omega arith, refl);
@@ -152,7 +152,7 @@ arcs_fit nodes (a ∷ arcs) few joined alone =
     (arcs_fit nodes arcs few (All-tail (JoinsNodes nodes) a arcs joined) (All-tail HasWeightAlone a arcs alone))
 
 -- the canonical text of a graph spells it
-pub graph_round_trip : (g : GraphValue) → IsGraph g → SpellsGraph (canonical_graph g) g
+pub graph_round_trip : (g : NetworkValue) → IsGraph g → SpellsGraph (canonical_graph g) g
 graph_round_trip g is =
     let fit : All (CanBeSpelled Graph) (graph_records g) = All-cons (CanBeSpelled Graph) (GraphProblem g.nodes (length g.arcs)) (map graph_arc g.arcs) (problem_fits g is) (arcs_fit g.nodes g.arcs is.nodes_few is.joined is.weights) in
     record {

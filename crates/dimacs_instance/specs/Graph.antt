@@ -10,18 +10,14 @@ use Rattle.dimacs_records.specs.Ranges.{IsWhole}
 use Rattle.dimacs_records.specs.Readings.{LineRecord, records_of}
 use Rattle.dimacs_records.specs.Texts.{SpellsValue}
 use Rattle.dimacs_instance.specs.declared.network.ArcView.{ArcView}
-use Rattle.dimacs_instance.specs.Arcs.{JoinsNodes}
-
-pub record GraphValue : Type 0 where
-  pub nodes : ℕ
-  pub arcs : List ArcView
+use Rattle.dimacs_instance.specs.Arcs.{NetworkValue, JoinsNodes}
 
 -- an arc with a weight alone
 abbrev pub HasWeightAlone : ArcView → Type 0
 HasWeightAlone a = (a.low ≡ pos 0) × (a.cap ≡ pos 0) × IsWhole a.cost
 
 -- the counts lie within their limits, and each arc joins nodes of the graph
-pub record IsGraph (g : GraphValue) : Type 0 where
+pub record IsGraph (g : NetworkValue) : Type 0 where
   pub nodes_few : g.nodes ≤ 134217728
   pub arcs_few : length g.arcs ≤ 268435456
   pub joined : All (JoinsNodes g.nodes) g.arcs
@@ -31,15 +27,15 @@ abbrev pub graph_arc : ArcView → Record
 graph_arc a = GraphArc a.tail a.head a.cost
 
 -- the problem line, and then the arcs
-abbrev pub graph_records : GraphValue → List Record
+abbrev pub graph_records : NetworkValue → List Record
 graph_records g = GraphProblem g.nodes (length g.arcs) ∷ map graph_arc g.arcs
 
-abbrev pub GivesGraph : List LineRecord → GraphValue → Type 0
+abbrev pub GivesGraph : List LineRecord → NetworkValue → Type 0
 GivesGraph rs g = (records_of rs ≡ graph_records g) × IsGraph g
 
 -- the text spells this graph
-abbrev pub SpellsGraph : List ℕ → GraphValue → Type 0
+abbrev pub SpellsGraph : List ℕ → NetworkValue → Type 0
 SpellsGraph text g = SpellsValue Graph GivesGraph (lines text) g
 
-abbrev pub canonical_graph : GraphValue → List ℕ
+abbrev pub canonical_graph : NetworkValue → List ℕ
 canonical_graph g = canonical_text (graph_records g)

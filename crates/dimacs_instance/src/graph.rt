@@ -9,7 +9,8 @@ ghost use Rattle.dimacs_records.specs.Readings.{CountsRead, TakesRecord, records
 ghost use Rattle.dimacs_records.specs.Faults.{Fault};
 ghost use Rattle.dimacs_records.specs.Texts.{Reads};
 ghost use Rattle.dimacs_lines.specs.Lines.{lines};
-ghost use Rattle.dimacs_instance.specs.Graph.{GraphValue, IsGraph, GivesGraph, SpellsGraph, canonical_graph, graph_arc};
+ghost use Rattle.dimacs_instance.specs.Graph.{IsGraph, GivesGraph, SpellsGraph, canonical_graph, graph_arc};
+ghost use Rattle.dimacs_instance.specs.Arcs.{NetworkValue};
 ghost use Rattle.dimacs_instance.specs.GraphReading.{begun_records};
 
 use crate::network::{ArcView, Network};
@@ -28,9 +29,10 @@ pub struct Graph<N: Network> {
 }
 
 impl<N: Network> Model for Graph<N> {
-    ghost use Rattle.dimacs_instance.specs.Graph.{GraphValue, IsGraph};
+    ghost use Rattle.dimacs_instance.specs.Graph.{IsGraph};
+    ghost use Rattle.dimacs_instance.specs.Arcs.{NetworkValue};
 
-    ghost Value = { GraphValue };
+    ghost Value = { NetworkValue };
 
     ghost view = { λ g. record { nodes = N.node_count g.network; arcs = N.list g.network } };
 
@@ -183,7 +185,7 @@ pub fn write_graph<N: Network, S: Sink>(graph: &Graph<N>, sink: &mut S) -> Resul
     ensures puts { Puts result (S.accepted sink.old) (canonical_graph graph.now) (S.accepted sink.new) }
     ensures fault { CountsFault result (S.faults sink.old) (S.faults sink.new) }
     ensures round_trip { SpellsGraph (canonical_graph graph.now) graph.now }
-    ensures again { (read : GraphValue) → SpellsGraph (canonical_graph graph.now) read → canonical_graph read ≡ canonical_graph graph.now }
+    ensures again { (read : NetworkValue) → SpellsGraph (canonical_graph graph.now) read → canonical_graph read ≡ canonical_graph graph.now }
 {
     let network = graph.network();
     let nodes = network.nodes();

@@ -3,7 +3,7 @@ use Rattle.std.proofs.Common.{◌≡◌, ℕ, List, [], ◌∷◌, All, map, Res
 use Rattle.std.specs.Prelude.{IsErrAnd}
 use Rattle.std.proofs.lemmas.List.Elements.{All-nil, All-cons, All-head, All-tail}
 use Rattle.dimacs_instance.specs.declared.network.ArcView.{ArcView}
-use Rattle.dimacs_instance.specs.Graph.{GraphValue}
+use Rattle.dimacs_instance.specs.Arcs.{NetworkValue}
 use Rattle.dimacs_instance.specs.QueryTexts.{QueriesValue}
 use Rattle.dimacs_instance.specs.QueryTexts as queries
 use Rattle.dimacs_claims.specs.Labels.{BlockValue, LabelsValue, label}
@@ -27,7 +27,7 @@ use Rattle.dimacs_judge.proofs.QueriesPassing.{query_node_one_way, block_one_way
 use Rattle.dimacs_judge.proofs.Reasons.{labels_one_way}
 use Rattle.dimacs_judge.proofs.Settling.{error_judges}
 
-paths_pass : (g : GraphValue) (q : QueriesValue) (l : LabelsValue) → AllClear (paths_rows g q l) → PassesPaths g q l
+paths_pass : (g : NetworkValue) (q : QueriesValue) (l : LabelsValue) → AllClear (paths_rows g q l) → PassesPaths g q l
 paths_pass g q l clear = record {
   nodes = nodes_are g.nodes l.nodes clear.0;
   queries = query_nodes_hold g.nodes q clear.1.0;
@@ -35,11 +35,11 @@ paths_pass g q l clear = record {
   labels = labels_hold g.arcs l.blocks clear.1.1.1;
 }
 
-paths_clear : (g : GraphValue) (q : QueriesValue) (l : LabelsValue) → PassesPaths g q l → AllClear (paths_rows g q l)
+paths_clear : (g : NetworkValue) (q : QueriesValue) (l : LabelsValue) → PassesPaths g q l → AllClear (paths_rows g q l)
 paths_clear g q l passes =
     (nodes_clear g.nodes l.nodes passes.nodes, (query_nodes_clear g.nodes q passes.queries, (query_blocks_clear l.blocks q passes.blocks, labels_clear g.arcs l.blocks passes.labels)))
 
-paths_one_way : (g : GraphValue) (q : QueriesValue) (l : LabelsValue) → AllOneWay (paths_rows g q l)
+paths_one_way : (g : NetworkValue) (q : QueriesValue) (l : LabelsValue) → AllOneWay (paths_rows g q l)
 paths_one_way g q l = (one_test_one_way places.Certificate reasons.NodesDiffer _, (query_node_one_way g.nodes q, (block_one_way l.blocks q, labels_one_way g.arcs l.blocks)))
 
 -- ---- distances
@@ -65,16 +65,16 @@ answers_are_distances arcs blocks (queries.Sources ids) all has = tt
 answers_are_distances arcs blocks (queries.Pairs pairs) all has = answered arcs blocks pairs all has
 
 -- ---- what passing shows
-pub paths_shown : (g : GraphValue) (q : QueriesValue) (l : LabelsValue) → AllClear (paths_rows g q l) → AreDistances g.arcs l.blocks → ShowsDistances g q l
+pub paths_shown : (g : NetworkValue) (q : QueriesValue) (l : LabelsValue) → AllClear (paths_rows g q l) → AreDistances g.arcs l.blocks → ShowsDistances g q l
 paths_shown g q l clear labels =
     let passes = paths_pass g q l clear in
     record { passes = passes; labels = labels; answers = answers_are_distances g.arcs l.blocks q labels passes.blocks }
 
 -- the first test that fails is the judge's error
-pub paths_judged : (g : GraphValue) (q : QueriesValue) (l : LabelsValue) (error : JudgeError) → Refuses (First (paths_rows g q l)) error → (result : Result Verdict JudgeError) → IsErrAnd result (λ e. e ≡ error)
+pub paths_judged : (g : NetworkValue) (q : QueriesValue) (l : LabelsValue) (error : JudgeError) → Refuses (First (paths_rows g q l)) error → (result : Result Verdict JudgeError) → IsErrAnd result (λ e. e ≡ error)
     → Judges (paths_rows g q l) (ShowsDistances g q l) (AnswersQueries l.blocks q) result
 paths_judged g q l error first result is = error_judges (paths_rows g q l) (ShowsDistances g q l) (AnswersQueries l.blocks q) (paths_one_way g q l) (λ shows. paths_clear g q l shows.passes) error first result is
 
-pub blocks_refused : (g : GraphValue) (q : QueriesValue) (l : LabelsValue) → Clear (nodes_row g.nodes l.nodes) → Clear (query_node_row g.nodes q) → (error : JudgeError) → Refuses (FirstOfRow (block_row l.blocks q)) error → Refuses (First (paths_rows g q l)) error
+pub blocks_refused : (g : NetworkValue) (q : QueriesValue) (l : LabelsValue) → Clear (nodes_row g.nodes l.nodes) → Clear (query_node_row g.nodes q) → (error : JudgeError) → Refuses (FirstOfRow (block_row l.blocks q)) error → Refuses (First (paths_rows g q l)) error
 blocks_refused g q l nodes named (Refused place reason) first = inr (nodes, inr (named, inl first))
 blocks_refused g q l nodes named Memory first = tt

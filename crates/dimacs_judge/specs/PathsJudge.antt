@@ -1,7 +1,7 @@
 -- The tests of distances, what passes them, and what then holds.
 use Rattle.std.specs.Prelude.{◌≡◌, ◌≤◌, List, ◌∷◌, All}
 use Rattle.dimacs_instance.specs.declared.network.ArcView.{ArcView}
-use Rattle.dimacs_instance.specs.Graph.{GraphValue}
+use Rattle.dimacs_instance.specs.Arcs.{NetworkValue}
 use Rattle.dimacs_instance.specs.QueryTexts.{QueriesValue, Sources, Pairs}
 use Rattle.dimacs_claims.specs.Labels.{BlockValue, LabelsValue}
 use Rattle.dimacs_judge.specs.Agreement.{nodes_row}
@@ -13,11 +13,11 @@ use Rattle.dimacs_judge.specs.Tests.{Row}
 use Rattle.dimacs_judge.specs.Walks.{IsDistance}
 
 -- the tests of queries and of labels
-abbrev pub paths_rows : GraphValue → QueriesValue → LabelsValue → List Row
+abbrev pub paths_rows : NetworkValue → QueriesValue → LabelsValue → List Row
 paths_rows g q l = nodes_row g.nodes l.nodes ∷ query_node_row g.nodes q ∷ block_row l.blocks q ∷ label_rows g.arcs l.blocks
 
 -- the labels are of as many nodes as the graph, the queries name its nodes and have blocks, and the labels of every block pass
-pub record PassesPaths (g : GraphValue) (q : QueriesValue) (l : LabelsValue) : Type 0 where
+pub record PassesPaths (g : NetworkValue) (q : QueriesValue) (l : LabelsValue) : Type 0 where
   pub nodes : l.nodes ≡ g.nodes
   pub queries : All (λ id. id ≤ g.nodes) (nodes_asked q)
   pub blocks : All (HasBlock l.blocks) (sources_asked q)
@@ -29,7 +29,7 @@ AnswersAreDistances arcs blocks (Sources ids) = Unit {0}
 AnswersAreDistances arcs blocks (Pairs pairs) = All (λ pair. IsDistance arcs pair.0 pair.1 (distance_from blocks pair.0 pair.1)) pairs
 
 -- the labels pass and are distances, and so are the answers
-pub record ShowsDistances (g : GraphValue) (q : QueriesValue) (l : LabelsValue) : Type 0 where
+pub record ShowsDistances (g : NetworkValue) (q : QueriesValue) (l : LabelsValue) : Type 0 where
   pub passes : PassesPaths g q l
   pub labels : AreDistances g.arcs l.blocks
   pub answers : AnswersAreDistances g.arcs l.blocks q

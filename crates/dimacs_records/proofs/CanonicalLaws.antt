@@ -8,7 +8,8 @@ use Rattle.dimacs_lines.specs.declared.reader.TheConstants.{MAX_LINE, MAX_LINES}
 use Rattle.dimacs_records.specs.declared.kinds.TextKind.{TextKind}
 use Rattle.dimacs_records.specs.declared.records.Record.{Record}
 use Rattle.dimacs_records.specs.Spelling.{SpellsRecord, letter_of, parts_of, texts_in, is_skip}
-use Rattle.dimacs_records.specs.Canonical.{text_of, behind_blank, canonical_line, canonical_text, CanBeSpelled}
+use Rattle.dimacs_records.specs.Canonical.{text_of, canonical_line, canonical_text, CanBeSpelled}
+use Rattle.dimacs_records.specs.Printed.{behind_blank}
 use Rattle.dimacs_records.specs.Faults.{Spell}
 use Rattle.dimacs_records.specs.Texts.{AreSpelled}
 use Rattle.dimacs_records.specs.Readings.{numbered, records_of}
@@ -17,7 +18,7 @@ use Rattle.dimacs_records.proofs.PlainForms.{IsPlainForm, plain_form, plain_part
 
 -- the line of a record without its byte 10
 abbrev body_of : Record → List ℕ
-body_of r = letter_of r ++ flat_map behind_blank (parts_of r)
+body_of r = letter_of r ++ flat_map behind_blank (map text_of (parts_of r))
 
 -- the same bytes, cut before byte 10
 regrouped : (letter fields rest : List ℕ) → (letter ++ (fields ++ 10 ∷ [])) ++ rest ≡ (letter ++ fields) ++ 10 ∷ rest
@@ -39,7 +40,7 @@ module _ (kind : TextKind) (r : Record) (can : CanBeSpelled kind r) where
 
   lines-canonical : (rest : List ℕ) → lines (canonical_line r ++ rest) ≡ body_of r ∷ lines rest
   lines-canonical rest =
-      ap lines (regrouped (letter_of r) (flat_map behind_blank (parts_of r)) rest) ∙ lines-spaced (letter_of r) (parts_of r) rest letter_is parts_are
+      ap lines (regrouped (letter_of r) (flat_map behind_blank (map text_of (parts_of r))) rest) ∙ lines-spaced (letter_of r) (parts_of r) rest letter_is parts_are
 
   body_spells : SpellsRecord kind (texts_in (body_of r)) r
   body_spells = record {

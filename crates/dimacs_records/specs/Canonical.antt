@@ -1,24 +1,20 @@
 -- The line that spells a record in the canonical form.
-use Rattle.std.specs.Prelude.{ℕ, ◌≡◌, ◌⊎◌, List, [], ◌∷◌, ◌++◌}
+use Rattle.std.specs.Prelude.{ℕ, ◌≡◌, ◌⊎◌, List, [], ◌∷◌, map}
 use Rattle.std.specs.List.{flat_map, Contains}
 use Rattle.std.specs.Fmt.{signed_decimal}
 use Rattle.dimacs_lines.specs.Number.{IsWithin}
 use Rattle.dimacs_records.specs.declared.kinds.TextKind.{TextKind}
 use Rattle.dimacs_records.specs.declared.records.Record.{Record}
 use Rattle.dimacs_records.specs.Forms.{FieldType, Word, Either, Number, Form, forms}
+use Rattle.dimacs_records.specs.Printed.{spaced_line}
 use Rattle.dimacs_records.specs.Spelling.{Part, Text, Amount, kind_of, letter_of, parts_of}
 
 abbrev pub text_of : Part → List ℕ
 text_of (Text word) = word
 text_of (Amount n) = signed_decimal n
 
--- a field behind another, with one blank between them
-abbrev pub behind_blank : Part → List ℕ
-behind_blank part = 32 ∷ text_of part
-
--- a letter and fields with one blank between them, and byte 10
 abbrev pub line_of : List ℕ → List Part → List ℕ
-line_of letter parts = letter ++ (flat_map behind_blank parts ++ 10 ∷ [])
+line_of letter parts = spaced_line letter (map text_of parts)
 
 abbrev pub canonical_line : Record → List ℕ
 canonical_line r = line_of (letter_of r) (parts_of r)

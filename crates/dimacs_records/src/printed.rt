@@ -4,7 +4,7 @@ ghost use Rattle.std.specs.Prelude.{◌++◌, List, Option, ℕ};
 ghost use Rattle.dimacs_lines.specs.Devices.{CountsFault};
 ghost use Rattle.dimacs_lines.specs.Pages.{FaultsAre, IsWritten};
 ghost use Rattle.dimacs_lines.specs.Puts.{Puts};
-ghost use Rattle.dimacs_records.specs.Printed.{blank_and, printed_line};
+ghost use Rattle.dimacs_records.specs.Printed.{behind_blank, printed, printed_line};
 
 use dimacs_lines::{DeviceFault, Page, Sink};
 
@@ -41,7 +41,7 @@ pub fn write_line<S: Sink>(page: &mut Page, sink: &mut S, word: &[u8], parts: &[
 /// Writes a blank and a field.
 #[inline(always)]
 fn write_part<S: Sink>(page: &mut Page, sink: &mut S, part: &Part<'_>)
-    ensures written { (start : Option (List ℕ)) (text : List ℕ) → IsWritten start text (S.accepted sink.old) page.old → IsWritten start (text ++ blank_and part.now) (S.accepted sink.new) page.new }
+    ensures written { (start : Option (List ℕ)) (text : List ℕ) → IsWritten start text (S.accepted sink.old) page.old → IsWritten start (text ++ behind_blank (printed part.now)) (S.accepted sink.new) page.new }
     ensures faults { (start : ℕ) → FaultsAre start (S.faults sink.old) page.old → FaultsAre start (S.faults sink.new) page.new }
 {
     page.write(sink, b" ");

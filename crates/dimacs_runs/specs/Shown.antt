@@ -7,7 +7,7 @@ use Rattle.dimacs_claims.specs.Labels.{LabelsValue}
 use Rattle.dimacs_claims.specs.Potentials.{PotentialsValue, nonzero_ids}
 use Rattle.dimacs_claims.specs.SolutionTexts.{SolutionValue}
 use Rattle.dimacs_instance.specs.MaxFlows.{MaxValue}
-use Rattle.dimacs_instance.specs.Graph.{GraphValue}
+use Rattle.dimacs_instance.specs.Arcs.{NetworkValue}
 use Rattle.dimacs_instance.specs.MinFlows.{MinValue, supplied, demanded}
 use Rattle.dimacs_instance.specs.QueryTexts.{QueriesValue, Sources, Pairs}
 
@@ -21,7 +21,7 @@ shown_max m = shown (codes "max" ∷ decimal m.nodes ∷ decimal (length m.arcs)
 abbrev pub shown_min : MinValue → List ℕ
 shown_min m = shown (codes "min" ∷ decimal m.nodes ∷ decimal (length m.arcs) ∷ decimal (supplied m) ∷ decimal (demanded m) ∷ [])
 
-abbrev pub shown_graph : GraphValue → List ℕ
+abbrev pub shown_graph : NetworkValue → List ℕ
 shown_graph g = shown (codes "sp" ∷ decimal g.nodes ∷ decimal (length g.arcs) ∷ [])
 
 abbrev pub shown_queries : QueriesValue → List ℕ

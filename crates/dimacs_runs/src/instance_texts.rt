@@ -6,7 +6,8 @@ ghost use Rattle.dimacs_lines.specs.Devices.{CountsFault};
 ghost use Rattle.dimacs_lines.specs.Puts.{Puts};
 ghost use Rattle.dimacs_records.specs.declared.kinds.TextKind.TheVariants as kinds;
 ghost use Rattle.dimacs_instance.specs.MaxFlows.{MaxValue};
-ghost use Rattle.dimacs_instance.specs.Graph.{GraphValue, SpellsGraph, canonical_graph};
+ghost use Rattle.dimacs_instance.specs.Graph.{SpellsGraph, canonical_graph};
+ghost use Rattle.dimacs_instance.specs.Arcs.{NetworkValue};
 ghost use Rattle.dimacs_instance.specs.MaxTexts.{SpellsMax, canonical_max};
 ghost use Rattle.dimacs_instance.specs.MinFlows.{MinValue};
 ghost use Rattle.dimacs_instance.specs.MinTexts.{SpellsMin, canonical_min};
@@ -112,7 +113,7 @@ impl Text for MinInstance<PlainArcs<ArcView>> {
 impl Text for Graph<PlainArcs<WeightArc>> {
     ghost kind = { kinds.Graph };
 
-    ghost Said = { GraphValue };
+    ghost Said = { NetworkValue };
 
     ghost said = { λ g. g };
 
