@@ -6,38 +6,54 @@ use dimacs_lines::{Field, Fields, Scan, fields};
 use std::alloc::Global;
 use std::test::Fail;
 
+/// Lines, each with its fields and where they start.
+static LINES: [(&str, &str, &str); 13] = [
+    ("an empty line", "", ""),
+    ("blanks alone", " \t\r ", ""),
+    ("a field alone", "abc", "0:abc|"),
+    ("a field between blanks", "  abc ", "2:abc|"),
+    ("fields between blanks", "a 1 23", "0:a|2:1|4:23|"),
+    ("several blanks", "a   b", "0:a|4:b|"),
+    ("tabs", "a\tb\t\tc", "0:a|2:b|5:c|"),
+    ("a CR behind", "a 1\r", "0:a|2:1|"),
+    ("a CR between", "a\rb", "0:a|2:b|"),
+    ("blanks of all kinds", "\r\t a\t \rb", "3:a|7:b|"),
+    (
+        "bytes that are no blanks",
+        "a\u{b}b\u{c}c\u{0}d",
+        "0:a\u{b}b\u{c}c\u{0}d|",
+    ),
+    ("a space that is not ASCII", "a\u{a0}b", "0:aÂ\u{a0}b|"),
+    (
+        "numbers of many digits",
+        "123456789 -1",
+        "0:123456789|10:-1|",
+    ),
+];
+
 #[test]
 fn gives_the_fields_of_a_line(rt: HostRuntime) -> Result<(), Fail> {
-    let cases = [
-        ("an empty line", "", ""),
-        ("blanks alone", " \t\r ", ""),
-        ("a field alone", "abc", "0:abc|"),
-        ("a field between blanks", "  abc ", "2:abc|"),
-        ("fields between blanks", "a 1 23", "0:a|2:1|4:23|"),
-        ("several blanks", "a   b", "0:a|4:b|"),
-        ("tabs", "a\tb\t\tc", "0:a|2:b|5:c|"),
-        ("a CR behind", "a 1\r", "0:a|2:1|"),
-        ("a CR between", "a\rb", "0:a|2:b|"),
-        ("blanks of all kinds", "\r\t a\t \rb", "3:a|7:b|"),
-        (
-            "bytes that are no blanks",
-            "a\u{b}b\u{c}c\u{0}d",
-            "0:a\u{b}b\u{c}c\u{0}d|",
-        ),
-        ("a space that is not ASCII", "a\u{a0}b", "0:aÂ\u{a0}b|"),
-        (
-            "numbers of many digits",
-            "123456789 -1",
-            "0:123456789|10:-1|",
-        ),
-    ];
-    for (name, line, wanted) in cases {
+    for &(name, line, wanted) in &LINES {
         let spelled = spell_fields(rt.alloc(), fields(line.as_bytes()))?;
         assert_eq!(rt; spelled.as_str(), wanted, "{name}");
+    }
+    Ok(())
+}
+
+#[test]
+fn gives_the_fields_when_made_by_its_type(rt: HostRuntime) -> Result<(), Fail> {
+    for &(name, line, wanted) in &LINES {
         let spelled = spell_fields(rt.alloc(), Fields::new(line.as_bytes()))?;
-        assert_eq!(rt; spelled.as_str(), wanted, "{name}, made by its type");
+        assert_eq!(rt; spelled.as_str(), wanted, "{name}");
+    }
+    Ok(())
+}
+
+#[test]
+fn gives_the_fields_that_are_scanned(rt: HostRuntime) -> Result<(), Fail> {
+    for &(name, line, wanted) in &LINES {
         let spelled = spell_tokens(rt.alloc(), line.as_bytes())?;
-        assert_eq!(rt; spelled.as_str(), wanted, "{name}, scanned");
+        assert_eq!(rt; spelled.as_str(), wanted, "{name}");
     }
     Ok(())
 }
@@ -60,69 +76,74 @@ fn gives_no_field_behind_the_last(rt: HostRuntime) {
     }
 }
 
+/// Fields, each with its number and its wide number.
+static NUMBERS: [(
+    &str,
+    &str,
+    Result<i64, NumberFault>,
+    Result<i128, NumberFault>,
+); 16] = [
+    ("a digit", "7", Ok(7), Ok(7)),
+    ("a plus", "+5", Ok(5), Ok(5)),
+    ("a minus", "-12", Ok(-12), Ok(-12)),
+    ("a minus and nought", "-0", Ok(0), Ok(0)),
+    ("leading noughts", "007", Ok(7), Ok(7)),
+    ("eight digits", "12345678", Ok(12_345_678), Ok(12_345_678)),
+    (
+        "eight digits behind a minus",
+        "-12345678",
+        Ok(-12_345_678),
+        Ok(-12_345_678),
+    ),
+    ("nine digits", "123456789", Ok(123_456_789), Ok(123_456_789)),
+    (
+        "leading noughts of a long field",
+        "000000000012",
+        Ok(12),
+        Ok(12),
+    ),
+    ("a minus alone", "-", Err(BadNumber), Err(BadNumber)),
+    ("a plus alone", "+", Err(BadNumber), Err(BadNumber)),
+    ("a fraction", "1.0", Err(BadNumber), Err(BadNumber)),
+    (
+        "a letter behind digits",
+        "12x",
+        Err(BadNumber),
+        Err(BadNumber),
+    ),
+    (
+        "a letter behind eight digits",
+        "12345678x",
+        Err(BadNumber),
+        Err(BadNumber),
+    ),
+    (
+        "one past the greatest of 64 bits",
+        "9223372036854775808",
+        Err(NumberRange),
+        Ok(9_223_372_036_854_775_808),
+    ),
+    (
+        "one past the greatest wide number",
+        "1000000000000000000000000000001",
+        Err(NumberRange),
+        Err(NumberRange),
+    ),
+];
+
+/// What stands before a field, and behind it.
+static SURROUNDINGS: [(&str, &str); 5] = [
+    ("", ""),
+    ("a ", ""),
+    ("", " b"),
+    ("a\t", "\r"),
+    ("12 ", " 345678901"),
+];
+
 #[test]
 fn reads_the_number_of_a_field_in_passing(rt: HostRuntime) -> Result<(), Fail> {
-    let cases: [(
-        &str,
-        &str,
-        Result<i64, NumberFault>,
-        Result<i128, NumberFault>,
-    ); 16] = [
-        ("a digit", "7", Ok(7), Ok(7)),
-        ("a plus", "+5", Ok(5), Ok(5)),
-        ("a minus", "-12", Ok(-12), Ok(-12)),
-        ("a minus and nought", "-0", Ok(0), Ok(0)),
-        ("leading noughts", "007", Ok(7), Ok(7)),
-        ("eight digits", "12345678", Ok(12_345_678), Ok(12_345_678)),
-        (
-            "eight digits behind a minus",
-            "-12345678",
-            Ok(-12_345_678),
-            Ok(-12_345_678),
-        ),
-        ("nine digits", "123456789", Ok(123_456_789), Ok(123_456_789)),
-        (
-            "leading noughts of a long field",
-            "000000000012",
-            Ok(12),
-            Ok(12),
-        ),
-        ("a minus alone", "-", Err(BadNumber), Err(BadNumber)),
-        ("a plus alone", "+", Err(BadNumber), Err(BadNumber)),
-        ("a fraction", "1.0", Err(BadNumber), Err(BadNumber)),
-        (
-            "a letter behind digits",
-            "12x",
-            Err(BadNumber),
-            Err(BadNumber),
-        ),
-        (
-            "a letter behind eight digits",
-            "12345678x",
-            Err(BadNumber),
-            Err(BadNumber),
-        ),
-        (
-            "one past the greatest of 64 bits",
-            "9223372036854775808",
-            Err(NumberRange),
-            Ok(9_223_372_036_854_775_808),
-        ),
-        (
-            "one past the greatest wide number",
-            "1000000000000000000000000000001",
-            Err(NumberRange),
-            Err(NumberRange),
-        ),
-    ];
-    for (name, text, wanted, wanted_wide) in cases {
-        for (before, behind) in [
-            ("", ""),
-            ("a ", ""),
-            ("", " b"),
-            ("a\t", "\r"),
-            ("12 ", " 345678901"),
-        ] {
+    for &(name, text, wanted, wanted_wide) in &NUMBERS {
+        for &(before, behind) in &SURROUNDINGS {
             let line = format!(in rt.alloc(); "{before}{text}{behind}")?;
             let mut scan = Scan::new(line.as_bytes());
             if !before.is_empty() {

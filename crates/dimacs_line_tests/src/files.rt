@@ -64,19 +64,17 @@ fn a_file_source_gives_what_the_file_gives(rt: HostRuntime) -> Result<(), Fail> 
     Ok(())
 }
 
+/// The calls that are refused, and what is given.
+static REFUSED_READS: [(&str, &[u8], &str); 4] = [
+    ("no refusal", &[], "ab|cd|e|"),
+    ("a refusal at once", &[1], "fault|ab|cd|e|"),
+    ("a refusal in mid-stream", &[4], "ab|fault|cd|e|"),
+    ("a refusal in place of the end", &[8], "ab|cd|e|fault|"),
+];
+
 #[test]
 fn a_read_is_made_again_when_interrupted_and_not_when_refused(rt: HostRuntime) -> Result<(), Fail> {
-    let cases = [
-        ("no refusal", [].as_slice(), "ab|cd|e|"),
-        ("a refusal at once", [1].as_slice(), "fault|ab|cd|e|"),
-        ("a refusal in mid-stream", [4].as_slice(), "ab|fault|cd|e|"),
-        (
-            "a refusal in place of the end",
-            [8].as_slice(),
-            "ab|cd|e|fault|",
-        ),
-    ];
-    for (name, fails, wanted) in cases {
+    for &(name, fails, wanted) in &REFUSED_READS {
         let mut source = FileSource::new(Troubled::new(b"abcde".as_slice(), fails));
         let spelled = spell_pulls(&rt, rt.alloc(), &mut source, 9)?;
         assert_eq!(rt; spelled.as_str(), wanted, "{name}");
@@ -84,27 +82,19 @@ fn a_read_is_made_again_when_interrupted_and_not_when_refused(rt: HostRuntime) -
     Ok(())
 }
 
+/// The calls that are refused, the answer, and what the file has then.
+static REFUSED_WRITES: [(&str, &[u8], Result<(), DeviceFault>, &str); 4] = [
+    ("no refusal", &[], Ok(()), "abcde"),
+    ("a refusal at once", &[1], Err(DeviceFault), ""),
+    ("a refusal in mid-stream", &[4], Err(DeviceFault), "ab"),
+    ("a refusal behind the last byte", &[7], Ok(()), "abcde"),
+];
+
 #[test]
 fn a_write_is_made_again_when_interrupted_and_not_when_refused(
     rt: HostRuntime,
 ) -> Result<(), Fail> {
-    let cases = [
-        ("no refusal", [].as_slice(), Ok(()), "abcde"),
-        ("a refusal at once", [1].as_slice(), Err(DeviceFault), ""),
-        (
-            "a refusal in mid-stream",
-            [4].as_slice(),
-            Err(DeviceFault),
-            "ab",
-        ),
-        (
-            "a refusal behind the last byte",
-            [7].as_slice(),
-            Ok(()),
-            "abcde",
-        ),
-    ];
-    for (name, fails, wanted, taken) in cases {
+    for &(name, fails, wanted, taken) in &REFUSED_WRITES {
         let mut bytes = Vec::new(rt.alloc());
         let mut sink = FileSink::new(Troubled::new(&mut bytes, fails));
         assert_eq!(rt; put_all(&mut sink, b"abcde"), wanted, "{name}");
@@ -126,32 +116,32 @@ fn a_file_that_takes_no_more_is_a_fault(rt: HostRuntime) -> Result<(), Fail> {
 }
 
 #[test]
-fn a_real_file_is_read_and_written(rt: HostRuntime) -> Result<(), Fail> {
+fn an_empty_file_gives_no_line(rt: HostRuntime) -> Result<(), Fail> {
     let mut source = FileSource::new(fs::open(&rt, "/dev/null")?);
     let spelled = spell_lines(&rt, rt.alloc(), &mut source)?;
-    assert_eq!(rt; spelled.as_str(), "end", "an empty file");
+    assert_eq!(rt; spelled.as_str(), "end");
+    Ok(())
+}
 
+#[test]
+fn a_folder_cannot_be_read(rt: HostRuntime) -> Result<(), Fail> {
     let mut source = FileSource::new(fs::open(&rt, "/")?);
     let spelled = spell_lines(&rt, rt.alloc(), &mut source)?;
-    assert_eq!(rt;
-        spelled.as_str(),
-        "Device",
-        "a folder, which cannot be read"
-    );
+    assert_eq!(rt; spelled.as_str(), "Device");
+    Ok(())
+}
 
+#[test]
+fn a_real_file_takes_all(rt: HostRuntime) -> Result<(), Fail> {
     let mut sink = FileSink::new(fs::create(&rt, "/dev/null")?);
-    assert_eq!(rt;
-        put_all(&mut sink, b"gone"),
-        Ok(()),
-        "a file that takes all"
-    );
+    assert_eq!(rt; put_all(&mut sink, b"gone"), Ok(()));
+    Ok(())
+}
 
+#[test]
+fn a_full_device_is_a_fault(rt: HostRuntime) -> Result<(), Fail> {
     let mut sink = FileSink::new(fs::create(&rt, "/dev/full")?);
-    assert_eq!(rt;
-        put_all(&mut sink, b"gone"),
-        Err(DeviceFault),
-        "a full device"
-    );
+    assert_eq!(rt; put_all(&mut sink, b"gone"), Err(DeviceFault));
     Ok(())
 }
 

@@ -6,6 +6,8 @@ use crate::spelling::spell_lines;
 use dimacs_lines::{
     CutSource, DeviceFault, FlakySource, Lines, MAX_HELD, MAX_LINE, MAX_LINES, MemorySource, Source,
 };
+use std::alloc::Global;
+use std::process::Abort;
 use std::test::Fail;
 
 /// The greatest length of a line.
@@ -18,32 +20,57 @@ fn has_the_limits_of_the_texts(rt: HostRuntime) {
     assert_eq!(rt; MAX_HELD, 1_114_112, "bytes held");
 }
 
+/// Whether a text that comes in one piece has these lines.
+fn gives(
+    rt: &impl Abort,
+    alloc: Global,
+    name: &str,
+    text: &[u8],
+    wanted: &str,
+) -> Result<(), Fail> {
+    let spelled = spell_lines(rt, alloc, &mut MemorySource::new(text))?;
+    assert_eq!(rt; spelled.as_str(), wanted, "{name}, in one piece");
+    Ok(())
+}
+
+/// Whether a text that comes in pieces of this size has these lines.
+fn gives_in_pieces(
+    rt: &impl Abort,
+    alloc: Global,
+    name: &str,
+    text: &[u8],
+    size: usize,
+    wanted: &str,
+) -> Result<(), Fail> {
+    let sizes = Vec::from_elem(alloc, size, text.len())?;
+    let spelled = spell_lines(rt, alloc, &mut CutSource::new(text, &sizes))?;
+    assert_eq!(rt; spelled.as_str(), wanted, "{name}, in pieces of {size}");
+    Ok(())
+}
+
+/// Texts, each with its lines.
+static TEXTS: [(&str, &str, &str); 13] = [
+    ("the empty text", "", "end"),
+    ("a line end alone", "\n", "1:|end"),
+    ("two line ends", "\n\n", "1:|2:|end"),
+    ("a last line with its end", "a\nbc\n", "1:a|2:bc|end"),
+    ("a last line without its end", "a\nbc", "1:a|2:bc|end"),
+    ("a line alone, without its end", "a", "1:a|end"),
+    ("an empty line between two", "a\n\nb\n", "1:a|2:|3:b|end"),
+    ("CR LF", "a\r\nb\r\n", "1:a\r|2:b\r|end"),
+    ("CR LF and a CR behind", "a\r\n\r", "1:a\r|2:\r|end"),
+    ("CR alone, which ends no line", "a\rb\n", "1:a\rb|end"),
+    ("lines of blanks", " \n\t\n \t", "1: |2:\t|3: \t|end"),
+    ("comments", "c one\nc\n", "1:c one|2:c|end"),
+    ("bytes of several a character", "é\nß", "1:Ã©|2:Ã\u{9f}|end"),
+];
+
 #[test]
 fn gives_the_lines_of_a_text(rt: HostRuntime) -> Result<(), Fail> {
-    let cases = [
-        ("the empty text", "", "end"),
-        ("a line end alone", "\n", "1:|end"),
-        ("two line ends", "\n\n", "1:|2:|end"),
-        ("a last line with its end", "a\nbc\n", "1:a|2:bc|end"),
-        ("a last line without its end", "a\nbc", "1:a|2:bc|end"),
-        ("a line alone, without its end", "a", "1:a|end"),
-        ("an empty line between two", "a\n\nb\n", "1:a|2:|3:b|end"),
-        ("CR LF", "a\r\nb\r\n", "1:a\r|2:b\r|end"),
-        ("CR LF and a CR behind", "a\r\n\r", "1:a\r|2:\r|end"),
-        ("CR alone, which ends no line", "a\rb\n", "1:a\rb|end"),
-        ("lines of blanks", " \n\t\n \t", "1: |2:\t|3: \t|end"),
-        ("comments", "c one\nc\n", "1:c one|2:c|end"),
-        ("bytes of several a character", "é\nß", "1:Ã©|2:Ã\u{9f}|end"),
-    ];
-    for (name, text, wanted) in cases {
-        let bytes = text.as_bytes();
-        let spelled = spell_lines(&rt, rt.alloc(), &mut MemorySource::new(bytes))?;
-        assert_eq!(rt; spelled.as_str(), wanted, "{name}, in one piece");
+    for &(name, text, wanted) in &TEXTS {
+        gives(&rt, rt.alloc(), name, text.as_bytes(), wanted)?;
         for size in [1, 2, 7] {
-            let sizes = Vec::from_elem(rt.alloc(), size, bytes.len())?;
-            let mut source = CutSource::new(bytes, sizes.as_slice());
-            let spelled = spell_lines(&rt, rt.alloc(), &mut source)?;
-            assert_eq!(rt; spelled.as_str(), wanted, "{name}, in pieces of {size}");
+            gives_in_pieces(&rt, rt.alloc(), name, text.as_bytes(), size, wanted)?;
         }
     }
     Ok(())
@@ -62,19 +89,21 @@ fn gives_the_same_lines_wherever_one_is_cut(rt: HostRuntime) -> Result<(), Fail>
     Ok(())
 }
 
+/// The size of the first piece, the pull that fails, and what is told.
+static FAULTS: [(&str, usize, u64, &str); 7] = [
+    ("at the first pull", 8, 1, "Device"),
+    ("within the first line", 1, 2, "Device"),
+    ("behind the first line", 3, 2, "1:ab|Device"),
+    ("within the second line", 4, 2, "1:ab|Device"),
+    ("within the last line", 7, 2, "1:ab|2:cd|Device"),
+    ("in place of the end", 8, 2, "1:ab|2:cd|Device"),
+    ("behind every pull", 8, 9, "1:ab|2:cd|3:ef|end"),
+];
+
 #[test]
 fn tells_a_fault_and_not_the_end(rt: HostRuntime) -> Result<(), Fail> {
     let text = "ab\ncd\nef";
-    let cases = [
-        ("at the first pull", 8, 1, "Device"),
-        ("within the first line", 1, 2, "Device"),
-        ("behind the first line", 3, 2, "1:ab|Device"),
-        ("within the second line", 4, 2, "1:ab|Device"),
-        ("within the last line", 7, 2, "1:ab|2:cd|Device"),
-        ("in place of the end", 8, 2, "1:ab|2:cd|Device"),
-        ("behind every pull", 8, 9, "1:ab|2:cd|3:ef|end"),
-    ];
-    for (name, size, fail, wanted) in cases {
+    for &(name, size, fail, wanted) in &FAULTS {
         let sizes = [size];
         let fails = [fail];
         let mut source = FlakySource::new(text.as_bytes(), &sizes, &fails);
@@ -117,53 +146,53 @@ fn holds_little_of_a_long_text(rt: HostRuntime) -> Result<(), Fail> {
     Ok(())
 }
 
+/// The length of a line, what stands behind it, and what is told.
+static LONG_LINES: [(&str, usize, &str, &str); 6] = [
+    ("the longest", LONGEST, "\nz", "1:(1048576 bytes)|2:z|end"),
+    (
+        "the longest, with its end alone",
+        LONGEST,
+        "\n",
+        "1:(1048576 bytes)|end",
+    ),
+    (
+        "the longest, without its end",
+        LONGEST,
+        "",
+        "1:(1048576 bytes)|end",
+    ),
+    ("a byte more", LONGEST + 1, "\nz", "TooLong(1)"),
+    (
+        "a byte more, without its end",
+        LONGEST + 1,
+        "",
+        "TooLong(1)",
+    ),
+    ("a CR more", LONGEST, "\r\n", "TooLong(1)"),
+];
+
 #[test]
 fn gives_a_line_of_the_greatest_length_and_no_longer_one(rt: HostRuntime) -> Result<(), Fail> {
-    let cases = [
-        ("the longest", LONGEST, "\nz", "1:(1048576 bytes)|2:z|end"),
-        (
-            "the longest, with its end alone",
-            LONGEST,
-            "\n",
-            "1:(1048576 bytes)|end",
-        ),
-        (
-            "the longest, without its end",
-            LONGEST,
-            "",
-            "1:(1048576 bytes)|end",
-        ),
-        ("a byte more", LONGEST + 1, "\nz", "TooLong(1)"),
-        (
-            "a byte more, without its end",
-            LONGEST + 1,
-            "",
-            "TooLong(1)",
-        ),
-        ("a CR more", LONGEST, "\r\n", "TooLong(1)"),
-    ];
-    for (name, length, behind, wanted) in cases {
+    for &(name, length, behind, wanted) in &LONG_LINES {
         let mut text = Vec::from_elem(rt.alloc(), b'x', length)?;
         text.extend_from_slice(behind.as_bytes())?;
-        let spelled = spell_lines(&rt, rt.alloc(), &mut MemorySource::new(text.as_slice()))?;
-        assert_eq!(rt; spelled.as_str(), wanted, "{name}, in one piece");
+        gives(&rt, rt.alloc(), name, &text, wanted)?;
         for size in [7, 65_535] {
-            let sizes = Vec::from_elem(rt.alloc(), size, text.len() / size)?;
-            let mut source = CutSource::new(text.as_slice(), sizes.as_slice());
-            let spelled = spell_lines(&rt, rt.alloc(), &mut source)?;
-            assert_eq!(rt; spelled.as_str(), wanted, "{name}, in pieces of {size}");
+            gives_in_pieces(&rt, rt.alloc(), name, &text, size, wanted)?;
         }
     }
     Ok(())
 }
 
+/// The length of a text of one line, and what is told.
+static LONG_TEXTS: [(&str, usize, &str); 2] = [
+    ("the longest", LONGEST, "1:(1048576 bytes)|end"),
+    ("a byte more", LONGEST + 1, "TooLong(1)"),
+];
+
 #[test]
 fn gives_the_longest_line_a_byte_at_a_time(rt: HostRuntime) -> Result<(), Fail> {
-    let cases = [
-        ("the longest", LONGEST, "1:(1048576 bytes)|end"),
-        ("a byte more", LONGEST + 1, "TooLong(1)"),
-    ];
-    for (name, length, wanted) in cases {
+    for &(name, length, wanted) in &LONG_TEXTS {
         let text = Vec::from_elem(rt.alloc(), b'x', length)?;
         let sizes = Vec::from_elem(rt.alloc(), 1, length)?;
         let mut source = CutSource::new(text.as_slice(), sizes.as_slice());

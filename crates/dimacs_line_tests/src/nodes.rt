@@ -6,42 +6,46 @@ use std::test::Fail;
 /// The greatest ID of a node.
 const GREATEST: u32 = 134_217_728;
 
+/// Neighbours, the ends of a page, other pages, and IDs that are alike in their low bits.
+static VALUES: [(u32, i64); 8] = [
+    (0, -7),
+    (1, 10),
+    (255, 11),
+    (256, 12),
+    (511, 13),
+    (65_792, 14),
+    (GREATEST, i64::MAX),
+    (257, 15),
+];
+
+/// Nodes without a value.
+static UNSET: [u32; 11] = [
+    2,
+    254,
+    258,
+    510,
+    512,
+    65_536,
+    65_791,
+    65_793,
+    GREATEST - 1,
+    GREATEST + 1,
+    u32::MAX,
+];
+
 #[test]
 fn nodes_have_the_values_that_were_set(rt: HostRuntime) -> Result<(), Fail> {
     let mut nodes = NodeMap::new(rt.alloc());
     for id in [0, 1, 255, 256, GREATEST, u32::MAX] {
         assert_eq!(rt; nodes.get(id), None, "{id} before any is set");
     }
-    // Neighbours, the ends of a page, other pages, and IDs that are alike in their low bits.
-    let all = [
-        (0, -7),
-        (1, 10),
-        (255, 11),
-        (256, 12),
-        (511, 13),
-        (65_792, 14),
-        (GREATEST, i64::MAX),
-        (257, 15),
-    ];
-    for (id, value) in all {
+    for &(id, value) in &VALUES {
         assert_eq!(rt; nodes.set(id, value), Ok(()), "{id}");
     }
-    for (id, value) in all {
+    for &(id, value) in &VALUES {
         assert_eq!(rt; nodes.get(id), Some(value), "{id}");
     }
-    for id in [
-        2,
-        254,
-        258,
-        510,
-        512,
-        65_536,
-        65_791,
-        65_793,
-        GREATEST - 1,
-        GREATEST + 1,
-        u32::MAX,
-    ] {
+    for &id in &UNSET {
         assert_eq!(rt; nodes.get(id), None, "{id} was never set");
     }
     Ok(())

@@ -4,7 +4,8 @@ use dimacs_lines::NumberFault::{self, BadNumber, NumberRange};
 use dimacs_lines::{WIDE, number, wide};
 use std::test::Fail;
 
-const NO_NUMBERS: [(&str, &str); 14] = [
+/// What spells no number.
+static NO_NUMBERS: [(&str, &str); 14] = [
     ("nothing", ""),
     ("a minus alone", "-"),
     ("a plus alone", "+"),
@@ -23,134 +24,146 @@ const NO_NUMBERS: [(&str, &str); 14] = [
 
 #[test]
 fn refuses_what_spells_no_number(rt: HostRuntime) {
-    for (name, text) in NO_NUMBERS {
+    for &(name, text) in &NO_NUMBERS {
         assert_eq!(rt; number(text.as_bytes()), Err(BadNumber), "{name}");
         assert_eq!(rt; wide(text.as_bytes()), Err(BadNumber), "{name}, wide");
     }
 }
 
+/// Fields, each with its number.
+static NUMBERS: [(&str, &str, Result<i64, NumberFault>); 18] = [
+    ("nought", "0", Ok(0)),
+    ("a minus and nought", "-0", Ok(0)),
+    ("a plus and nought", "+0", Ok(0)),
+    ("a digit", "7", Ok(7)),
+    ("a plus", "+5", Ok(5)),
+    ("a minus", "-5", Ok(-5)),
+    ("leading noughts", "007", Ok(7)),
+    ("leading noughts behind a minus", "-007", Ok(-7)),
+    ("eight digits", "12345678", Ok(12_345_678)),
+    ("nine digits", "123456789", Ok(123_456_789)),
+    (
+        "nineteen digits",
+        "1234567890123456789",
+        Ok(1_234_567_890_123_456_789),
+    ),
+    (
+        "the greatest",
+        "9223372036854775807",
+        Ok(9_223_372_036_854_775_807),
+    ),
+    (
+        "one past the greatest",
+        "9223372036854775808",
+        Err(NumberRange),
+    ),
+    (
+        "the least",
+        "-9223372036854775808",
+        Ok(-9_223_372_036_854_775_808),
+    ),
+    (
+        "one past the least",
+        "-9223372036854775809",
+        Err(NumberRange),
+    ),
+    ("2^64", "18446744073709551616", Err(NumberRange)),
+    ("2^64 and 5", "+18446744073709551621", Err(NumberRange)),
+    ("10^30", "1000000000000000000000000000000", Err(NumberRange)),
+];
+
 #[test]
 fn reads_numbers_of_64_bits(rt: HostRuntime) {
-    let cases: [(&str, &str, Result<i64, NumberFault>); 18] = [
-        ("nought", "0", Ok(0)),
-        ("a minus and nought", "-0", Ok(0)),
-        ("a plus and nought", "+0", Ok(0)),
-        ("a digit", "7", Ok(7)),
-        ("a plus", "+5", Ok(5)),
-        ("a minus", "-5", Ok(-5)),
-        ("leading noughts", "007", Ok(7)),
-        ("leading noughts behind a minus", "-007", Ok(-7)),
-        ("eight digits", "12345678", Ok(12_345_678)),
-        ("nine digits", "123456789", Ok(123_456_789)),
-        (
-            "nineteen digits",
-            "1234567890123456789",
-            Ok(1_234_567_890_123_456_789),
-        ),
-        (
-            "the greatest",
-            "9223372036854775807",
-            Ok(9_223_372_036_854_775_807),
-        ),
-        (
-            "one past the greatest",
-            "9223372036854775808",
-            Err(NumberRange),
-        ),
-        (
-            "the least",
-            "-9223372036854775808",
-            Ok(-9_223_372_036_854_775_808),
-        ),
-        (
-            "one past the least",
-            "-9223372036854775809",
-            Err(NumberRange),
-        ),
-        ("2^64", "18446744073709551616", Err(NumberRange)),
-        ("2^64 and 5", "+18446744073709551621", Err(NumberRange)),
-        ("10^30", "1000000000000000000000000000000", Err(NumberRange)),
-    ];
-    for (name, text, wanted) in cases {
+    for &(name, text, wanted) in &NUMBERS {
         assert_eq!(rt; number(text.as_bytes()), wanted, "{name}");
     }
 }
 
+/// Fields, each with its wide number.
+static WIDE_NUMBERS: [(&str, &str, Result<i128, NumberFault>); 12] = [
+    ("a minus and nought", "-0", Ok(0)),
+    ("a plus", "+5", Ok(5)),
+    ("leading noughts", "007", Ok(7)),
+    (
+        "past 64 bits",
+        "9223372036854775808",
+        Ok(9_223_372_036_854_775_808),
+    ),
+    (
+        "past 64 bits, negative",
+        "-9223372036854775809",
+        Ok(-9_223_372_036_854_775_809),
+    ),
+    (
+        "2^64",
+        "18446744073709551616",
+        Ok(18_446_744_073_709_551_616),
+    ),
+    (
+        "10^30",
+        "1000000000000000000000000000000",
+        Ok(1_000_000_000_000_000_000_000_000_000_000),
+    ),
+    (
+        "10^30 + 1",
+        "1000000000000000000000000000001",
+        Err(NumberRange),
+    ),
+    (
+        "-10^30",
+        "-1000000000000000000000000000000",
+        Ok(-1_000_000_000_000_000_000_000_000_000_000),
+    ),
+    (
+        "-10^30 - 1",
+        "-1000000000000000000000000000001",
+        Err(NumberRange),
+    ),
+    (
+        "2^128",
+        "340282366920938463463374607431768211456",
+        Err(NumberRange),
+    ),
+    (
+        "2^128 + 5",
+        "340282366920938463463374607431768211461",
+        Err(NumberRange),
+    ),
+];
+
 #[test]
 fn reads_wide_numbers(rt: HostRuntime) {
     assert_eq!(rt; WIDE, 1_000_000_000_000_000_000_000_000_000_000);
-    let cases: [(&str, &str, Result<i128, NumberFault>); 12] = [
-        ("a minus and nought", "-0", Ok(0)),
-        ("a plus", "+5", Ok(5)),
-        ("leading noughts", "007", Ok(7)),
-        (
-            "past 64 bits",
-            "9223372036854775808",
-            Ok(9_223_372_036_854_775_808),
-        ),
-        (
-            "past 64 bits, negative",
-            "-9223372036854775809",
-            Ok(-9_223_372_036_854_775_809),
-        ),
-        (
-            "2^64",
-            "18446744073709551616",
-            Ok(18_446_744_073_709_551_616),
-        ),
-        (
-            "10^30",
-            "1000000000000000000000000000000",
-            Ok(1_000_000_000_000_000_000_000_000_000_000),
-        ),
-        (
-            "10^30 + 1",
-            "1000000000000000000000000000001",
-            Err(NumberRange),
-        ),
-        (
-            "-10^30",
-            "-1000000000000000000000000000000",
-            Ok(-1_000_000_000_000_000_000_000_000_000_000),
-        ),
-        (
-            "-10^30 - 1",
-            "-1000000000000000000000000000001",
-            Err(NumberRange),
-        ),
-        (
-            "2^128",
-            "340282366920938463463374607431768211456",
-            Err(NumberRange),
-        ),
-        (
-            "2^128 + 5",
-            "340282366920938463463374607431768211461",
-            Err(NumberRange),
-        ),
-    ];
-    for (name, text, wanted) in cases {
+    for &(name, text, wanted) in &WIDE_NUMBERS {
         assert_eq!(rt; wide(text.as_bytes()), wanted, "{name}");
     }
 }
 
+/// The sign and the digits around hundreds of noughts, the number and the wide number.
+static LONG_NUMBERS: [(
+    &str,
+    &str,
+    &str,
+    Result<i64, NumberFault>,
+    Result<i128, NumberFault>,
+); 6] = [
+    ("a digit", "", "5", Ok(5), Ok(5)),
+    ("a digit behind a plus", "+", "5", Ok(5), Ok(5)),
+    ("a digit behind a minus", "-", "5", Ok(-5), Ok(-5)),
+    ("nothing", "", "", Ok(0), Ok(0)),
+    ("a letter", "", "x", Err(BadNumber), Err(BadNumber)),
+    (
+        "one past the greatest of 64 bits",
+        "",
+        "9223372036854775808",
+        Err(NumberRange),
+        Ok(9_223_372_036_854_775_808),
+    ),
+];
+
 #[test]
 fn reads_any_number_of_digits(rt: HostRuntime) -> Result<(), Fail> {
-    let cases = [
-        ("a digit", "", "5", Ok(5), Ok(5)),
-        ("a digit behind a plus", "+", "5", Ok(5), Ok(5)),
-        ("a digit behind a minus", "-", "5", Ok(-5), Ok(-5)),
-        ("nothing", "", "", Ok(0), Ok(0)),
-        ("a letter", "", "x", Err(BadNumber), Err(BadNumber)),
-        (
-            "one past the greatest of 64 bits",
-            "",
-            "9223372036854775808",
-            Err(NumberRange),
-            Ok(9_223_372_036_854_775_808),
-        ),
-    ];
-    for (name, sign, digits, wanted, wanted_wide) in cases {
+    for &(name, sign, digits, wanted, wanted_wide) in &LONG_NUMBERS {
         let mut text = Vec::new(rt.alloc());
         text.extend_from_slice(sign.as_bytes())?;
         text.resize(700, b'0')?;

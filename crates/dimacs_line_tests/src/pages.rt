@@ -108,16 +108,18 @@ fn writes_many_short_pieces(rt: HostRuntime) -> Result<(), Fail> {
     Ok(())
 }
 
+/// The put that fails, and how many bytes were put before it.
+static FAULTS: [(&str, u64, usize); 4] = [
+    ("a fault at the first put", 1, 0),
+    ("a fault within the first page", 2, 10),
+    ("a fault at the second page", 3, ROOM),
+    ("a fault at the last page", 5, 3 * ROOM),
+];
+
 #[test]
 fn puts_nothing_behind_a_fault_and_tells_it_at_the_end(rt: HostRuntime) -> Result<(), Fail> {
-    let cases = [
-        ("a fault at the first put", 1, 0),
-        ("a fault within the first page", 2, 10),
-        ("a fault at the second page", 3, ROOM),
-        ("a fault at the last page", 5, 3 * ROOM),
-    ];
     let text = counted_bytes(rt.alloc(), 3 * ROOM + 5)?;
-    for (name, fail, taken) in cases {
+    for &(name, fail, taken) in &FAULTS {
         let fails = [fail];
         let mut sink = FlakySink::new(rt.alloc(), &[10], &fails);
         let mut page = Page::new();
