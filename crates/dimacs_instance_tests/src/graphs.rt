@@ -6,6 +6,7 @@ use dimacs_lines::{
 };
 use dimacs_records::ReadError;
 use std::alloc::Global;
+use std::process::Abort;
 use std::test::Fail;
 
 const CYCLE: &str = "p sp 4 3\na 1 2 5\na 3 4 0\na 4 3 0\n";
@@ -18,56 +19,84 @@ fn convert<S: Source>(alloc: Global, source: &mut S) -> Result<MemorySink, Fail>
     Ok(sink)
 }
 
+/// Whether what a source gives gets this canonical form.
+fn becomes<S: Source>(
+    rt: &impl Abort,
+    alloc: Global,
+    name: &str,
+    way: &str,
+    source: &mut S,
+    canonical: &str,
+) -> Result<(), Fail> {
+    let sink = convert(alloc, source)?;
+    assert!(rt; sink.bytes() == canonical.as_bytes(), "{name}, {way}");
+    Ok(())
+}
+
+/// Converts a text in one piece and byte by byte, and its canonical form once more.
+fn converts(
+    rt: &impl Abort,
+    alloc: Global,
+    name: &str,
+    text: &str,
+    canonical: &str,
+) -> Result<(), Fail> {
+    let mut whole = MemorySource::new(text.as_bytes());
+    becomes(rt, alloc, name, "in one piece", &mut whole, canonical)?;
+    let ones = Vec::from_elem(alloc, 1, text.len())?;
+    let mut pieces = CutSource::new(text.as_bytes(), &ones);
+    becomes(rt, alloc, name, "in pieces", &mut pieces, canonical)?;
+    let mut again = MemorySource::new(canonical.as_bytes());
+    becomes(rt, alloc, name, "once more", &mut again, canonical)
+}
+
+/// Texts, each with its canonical form.
+static CANONICAL_FORMS: [(&str, &str, &str); 11] = [
+    (
+        "comment, blanks, CR, empty line, sign, zeros, no last line end",
+        "c x\n  p  sp 2 1\r\n\na 1 2 +007",
+        "p sp 2 1\na 1 2 7\n",
+    ),
+    (
+        "the greatest weight",
+        "p sp 2 1\na 1 2 9223372036854775807\n",
+        "p sp 2 1\na 1 2 9223372036854775807\n",
+    ),
+    (
+        "the least weight",
+        "p sp 2 1\na 1 2 -9223372036854775808\n",
+        "p sp 2 1\na 1 2 -9223372036854775808\n",
+    ),
+    ("no node", "p sp 0 0\n", "p sp 0 0\n"),
+    ("nodes and no arc", "p sp 9 0", "p sp 9 0\n"),
+    ("already canonical", CYCLE, CYCLE),
+    (
+        "parallel arcs and loops keep their order",
+        "p sp 2 5\na 2 1 -3\na 1 1 0\na 2 1 -3\na 1 2 9\na 2 1 4\n",
+        "p sp 2 5\na 2 1 -3\na 1 1 0\na 2 1 -3\na 1 2 9\na 2 1 4\n",
+    ),
+    ("minus zero", "p sp 1 1\na 1 1 -0\n", "p sp 1 1\na 1 1 0\n"),
+    (
+        "tabs and blanks behind",
+        "p\tsp\t1\t1\t \na 1 1\t3 \r\n",
+        "p sp 1 1\na 1 1 3\n",
+    ),
+    (
+        "comments and empty lines behind the last arc",
+        "p sp 1 1\na 1 1 3\n\n \nc x\nc a 1 1 4",
+        "p sp 1 1\na 1 1 3\n",
+    ),
+    (
+        "comment that looks like a problem line",
+        "cp sp 7 7\np sp 1 0\n",
+        "p sp 1 0\n",
+    ),
+];
+
 #[test]
 fn texts_get_their_canonical_form(rt: HostRuntime) -> Result<(), Fail> {
-    for (name, text, canonical) in [
-        (
-            "comment, blanks, CR, empty line, sign, zeros, no last line end",
-            "c x\n  p  sp 2 1\r\n\na 1 2 +007",
-            "p sp 2 1\na 1 2 7\n",
-        ),
-        (
-            "the greatest weight",
-            "p sp 2 1\na 1 2 9223372036854775807\n",
-            "p sp 2 1\na 1 2 9223372036854775807\n",
-        ),
-        (
-            "the least weight",
-            "p sp 2 1\na 1 2 -9223372036854775808\n",
-            "p sp 2 1\na 1 2 -9223372036854775808\n",
-        ),
-        ("no node", "p sp 0 0\n", "p sp 0 0\n"),
-        ("nodes and no arc", "p sp 9 0", "p sp 9 0\n"),
-        ("already canonical", CYCLE, CYCLE),
-        (
-            "parallel arcs and loops keep their order",
-            "p sp 2 5\na 2 1 -3\na 1 1 0\na 2 1 -3\na 1 2 9\na 2 1 4\n",
-            "p sp 2 5\na 2 1 -3\na 1 1 0\na 2 1 -3\na 1 2 9\na 2 1 4\n",
-        ),
-        ("minus zero", "p sp 1 1\na 1 1 -0\n", "p sp 1 1\na 1 1 0\n"),
-        (
-            "tabs and blanks behind",
-            "p\tsp\t1\t1\t \na 1 1\t3 \r\n",
-            "p sp 1 1\na 1 1 3\n",
-        ),
-        (
-            "comments and empty lines behind the last arc",
-            "p sp 1 1\na 1 1 3\n\n \nc x\nc a 1 1 4",
-            "p sp 1 1\na 1 1 3\n",
-        ),
-        (
-            "comment that looks like a problem line",
-            "cp sp 7 7\np sp 1 0\n",
-            "p sp 1 0\n",
-        ),
-    ] {
-        let whole = convert(rt.alloc(), &mut MemorySource::new(text.as_bytes()))?;
-        assert!(rt; whole.bytes() == canonical.as_bytes(), "{name}");
-        let ones = Vec::from_elem(rt.alloc(), 1, text.len())?;
-        let pieces = convert(rt.alloc(), &mut CutSource::new(text.as_bytes(), &ones))?;
-        assert!(rt; pieces.bytes() == canonical.as_bytes(), "{name}, in pieces");
-        let again = convert(rt.alloc(), &mut MemorySource::new(canonical.as_bytes()))?;
-        assert!(rt; again.bytes() == canonical.as_bytes(), "{name}, once more");
+    for &(name, text, canonical) in &CANONICAL_FORMS {
+        converts(&rt, rt.alloc(), name, text, canonical)?;
     }
     Ok(())
 }

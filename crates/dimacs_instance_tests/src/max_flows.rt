@@ -17,38 +17,66 @@ fn convert<S: Source>(alloc: Global, source: &mut S) -> Result<MemorySink, Fail>
     Ok(sink)
 }
 
+/// Whether what a source gives gets this canonical form.
+fn becomes<S: Source>(
+    rt: &impl Abort,
+    alloc: Global,
+    name: &str,
+    way: &str,
+    source: &mut S,
+    canonical: &str,
+) -> Result<(), Fail> {
+    let sink = convert(alloc, source)?;
+    assert!(rt; sink.bytes() == canonical.as_bytes(), "{name}, {way}");
+    Ok(())
+}
+
+/// Converts a text in one piece and byte by byte, and its canonical form once more.
+fn converts(
+    rt: &impl Abort,
+    alloc: Global,
+    name: &str,
+    text: &str,
+    canonical: &str,
+) -> Result<(), Fail> {
+    let mut whole = MemorySource::new(text.as_bytes());
+    becomes(rt, alloc, name, "in one piece", &mut whole, canonical)?;
+    let ones = Vec::from_elem(alloc, 1, text.len())?;
+    let mut pieces = CutSource::new(text.as_bytes(), &ones);
+    becomes(rt, alloc, name, "in pieces", &mut pieces, canonical)?;
+    let mut again = MemorySource::new(canonical.as_bytes());
+    becomes(rt, alloc, name, "once more", &mut again, canonical)
+}
+
+/// Texts, each with its canonical form.
+static CANONICAL_FORMS: [(&str, &str, &str); 5] = [
+    ("already canonical", DIAMOND, DIAMOND),
+    (
+        "node lines stand by ID, the sink's line first",
+        "p max 2 1\nn 2 t\nn 1 s\na 1 2 1\n",
+        "p max 2 1\nn 1 s\nn 2 t\na 1 2 1\n",
+    ),
+    (
+        "node lines stand by ID, the sink having the lesser one",
+        "p max 3 0\nn 3 s\nn 2 t\n",
+        "p max 3 0\nn 2 t\nn 3 s\n",
+    ),
+    (
+        "loops, an arc back, no capacity and the greatest one",
+        "p max 2 4\nn 1 s\nn 2 t\na 1 1 0\na 2 1 9223372036854775807\na 1 2 0\na 2 2 1\n",
+        "p max 2 4\nn 1 s\nn 2 t\na 1 1 0\na 2 1 9223372036854775807\na 1 2 0\na 2 2 1\n",
+    ),
+    (
+        "comments, blanks, CR, empty line, signs, zeros, no last line end",
+        "c x\n  p  max 2 1\r\n\nn 2\tt\nc y\nn +01 s\na 1 2 -0",
+        "p max 2 1\nn 1 s\nn 2 t\na 1 2 0\n",
+    ),
+];
+
 #[test]
 fn texts_get_their_canonical_form(rt: HostRuntime) -> Result<(), Fail> {
-    for (name, text, canonical) in [
-        ("already canonical", DIAMOND, DIAMOND),
-        (
-            "node lines stand by ID, the sink's line first",
-            "p max 2 1\nn 2 t\nn 1 s\na 1 2 1\n",
-            "p max 2 1\nn 1 s\nn 2 t\na 1 2 1\n",
-        ),
-        (
-            "node lines stand by ID, the sink having the lesser one",
-            "p max 3 0\nn 3 s\nn 2 t\n",
-            "p max 3 0\nn 2 t\nn 3 s\n",
-        ),
-        (
-            "loops, an arc back, no capacity and the greatest one",
-            "p max 2 4\nn 1 s\nn 2 t\na 1 1 0\na 2 1 9223372036854775807\na 1 2 0\na 2 2 1\n",
-            "p max 2 4\nn 1 s\nn 2 t\na 1 1 0\na 2 1 9223372036854775807\na 1 2 0\na 2 2 1\n",
-        ),
-        (
-            "comments, blanks, CR, empty line, signs, zeros, no last line end",
-            "c x\n  p  max 2 1\r\n\nn 2\tt\nc y\nn +01 s\na 1 2 -0",
-            "p max 2 1\nn 1 s\nn 2 t\na 1 2 0\n",
-        ),
-    ] {
-        let whole = convert(rt.alloc(), &mut MemorySource::new(text.as_bytes()))?;
-        assert!(rt; whole.bytes() == canonical.as_bytes(), "{name}");
-        let ones = Vec::from_elem(rt.alloc(), 1, text.len())?;
-        let pieces = convert(rt.alloc(), &mut CutSource::new(text.as_bytes(), &ones))?;
-        assert!(rt; pieces.bytes() == canonical.as_bytes(), "{name}, in pieces");
-        let again = convert(rt.alloc(), &mut MemorySource::new(canonical.as_bytes()))?;
-        assert!(rt; again.bytes() == canonical.as_bytes(), "{name}, once more");
+    for &(name, text, canonical) in &CANONICAL_FORMS {
+        converts(&rt, rt.alloc(), name, text, canonical)?;
     }
     Ok(())
 }
@@ -89,111 +117,114 @@ fn refuses(
     Ok(())
 }
 
+/// Texts that are refused for their first fault.
+static REFUSED_TEXTS: [(&str, &str, u64, u32, Reason); 17] = [
+    ("empty text", "", 1, 0, Reason::ProblemMissing),
+    (
+        "node before the problem",
+        "n 1 s\n",
+        1,
+        0,
+        Reason::ProblemMissing,
+    ),
+    (
+        "arc before the problem",
+        "c\na 1 2 1\n",
+        2,
+        0,
+        Reason::ProblemMissing,
+    ),
+    ("another problem", "p min 2 1\n", 1, 2, Reason::BadWord),
+    (
+        "problem twice",
+        "p max 2 1\nn 1 s\np max 2 1\n",
+        3,
+        0,
+        Reason::ProblemTwice,
+    ),
+    (
+        "one node for both ends",
+        "p max 2 1\nn 1 s\nn 1 t\n",
+        3,
+        2,
+        Reason::NodeTwice,
+    ),
+    (
+        "two sources",
+        "p max 2 1\nn 1 s\nn 2 s\n",
+        3,
+        3,
+        Reason::EndTwice,
+    ),
+    (
+        "two sinks",
+        "p max 2 1\nn 2 t\nn 1 t\n",
+        3,
+        3,
+        Reason::EndTwice,
+    ),
+    (
+        "arc with no sink before",
+        "p max 2 1\nn 1 s\na 1 2 1\n",
+        3,
+        0,
+        Reason::EndMissing,
+    ),
+    (
+        "arc with no end before",
+        "p max 2 1\na 1 2 1\n",
+        2,
+        0,
+        Reason::EndMissing,
+    ),
+    (
+        "capacity past the range",
+        "p max 2 1\nn 1 s\nn 2 t\na 1 2 9223372036854775808\n",
+        4,
+        4,
+        Reason::NumberRange,
+    ),
+    (
+        "two arcs with the same ends",
+        "p max 2 2\nn 1 s\nn 2 t\na 1 2 1\na 1 2 1\n",
+        5,
+        0,
+        Reason::ParallelArc,
+    ),
+    (
+        "two loops at one node",
+        "p max 2 2\nn 1 s\nn 2 t\na 2 2 1\nc\na 2 2 3\n",
+        6,
+        0,
+        Reason::ParallelArc,
+    ),
+    ("no end", "p max 2 1\n", 2, 0, Reason::EndMissing),
+    (
+        "no end and no node",
+        "p max 0 0\n",
+        2,
+        0,
+        Reason::EndMissing,
+    ),
+    (
+        "no sink, and an arc too few",
+        "p max 2 1\nn 1 s\n",
+        3,
+        0,
+        Reason::EndMissing,
+    ),
+    (
+        "an arc too few",
+        "p max 2 1\nn 1 s\nn 2 t\nc\n",
+        5,
+        0,
+        Reason::TooFew,
+    ),
+];
+
 #[test]
 fn texts_are_refused_at_their_first_fault(rt: HostRuntime) -> Result<(), Fail> {
-    for (name, text, line, field, reason) in [
-        ("empty text", "", 1, 0, Reason::ProblemMissing),
-        (
-            "node before the problem",
-            "n 1 s\n",
-            1,
-            0,
-            Reason::ProblemMissing,
-        ),
-        (
-            "arc before the problem",
-            "c\na 1 2 1\n",
-            2,
-            0,
-            Reason::ProblemMissing,
-        ),
-        ("another problem", "p min 2 1\n", 1, 2, Reason::BadWord),
-        (
-            "problem twice",
-            "p max 2 1\nn 1 s\np max 2 1\n",
-            3,
-            0,
-            Reason::ProblemTwice,
-        ),
-        (
-            "one node for both ends",
-            "p max 2 1\nn 1 s\nn 1 t\n",
-            3,
-            2,
-            Reason::NodeTwice,
-        ),
-        (
-            "two sources",
-            "p max 2 1\nn 1 s\nn 2 s\n",
-            3,
-            3,
-            Reason::EndTwice,
-        ),
-        (
-            "two sinks",
-            "p max 2 1\nn 2 t\nn 1 t\n",
-            3,
-            3,
-            Reason::EndTwice,
-        ),
-        (
-            "arc with no sink before",
-            "p max 2 1\nn 1 s\na 1 2 1\n",
-            3,
-            0,
-            Reason::EndMissing,
-        ),
-        (
-            "arc with no end before",
-            "p max 2 1\na 1 2 1\n",
-            2,
-            0,
-            Reason::EndMissing,
-        ),
-        (
-            "capacity past the range",
-            "p max 2 1\nn 1 s\nn 2 t\na 1 2 9223372036854775808\n",
-            4,
-            4,
-            Reason::NumberRange,
-        ),
-        (
-            "two arcs with the same ends",
-            "p max 2 2\nn 1 s\nn 2 t\na 1 2 1\na 1 2 1\n",
-            5,
-            0,
-            Reason::ParallelArc,
-        ),
-        (
-            "two loops at one node",
-            "p max 2 2\nn 1 s\nn 2 t\na 2 2 1\nc\na 2 2 3\n",
-            6,
-            0,
-            Reason::ParallelArc,
-        ),
-        ("no end", "p max 2 1\n", 2, 0, Reason::EndMissing),
-        (
-            "no end and no node",
-            "p max 0 0\n",
-            2,
-            0,
-            Reason::EndMissing,
-        ),
-        (
-            "no sink, and an arc too few",
-            "p max 2 1\nn 1 s\n",
-            3,
-            0,
-            Reason::EndMissing,
-        ),
-        (
-            "an arc too few",
-            "p max 2 1\nn 1 s\nn 2 t\nc\n",
-            5,
-            0,
-            Reason::TooFew,
-        ),
-    ] {
+    for &(name, text, line, field, reason) in &REFUSED_TEXTS {
         refuses(
             &rt,
             rt.alloc(),
@@ -206,135 +237,142 @@ fn texts_are_refused_at_their_first_fault(rt: HostRuntime) -> Result<(), Fail> {
     Ok(())
 }
 
+/// A text that has a source, one that has a sink too, and one that has all its arcs.
+const SOURCE: &str = "p max 3 1\nn 1 s\n";
+
+const BOTH: &str = "p max 3 1\nn 1 s\nn 2 t\n";
+
+const FULL: &str = "p max 3 1\nn 1 s\nn 2 t\na 1 2 1\n";
+
+/// The lines in front, a line that has several faults, and its place and first reason.
+static REFUSED_LINES: [(&str, &str, &str, u64, u32, Reason); 17] = [
+    (
+        "number before word",
+        SOURCE,
+        "n 0 x",
+        3,
+        2,
+        Reason::NumberRange,
+    ),
+    ("word", SOURCE, "n 1 x", 3, 3, Reason::BadWord),
+    (
+        "order before NODES",
+        FULL,
+        "n 4 s",
+        5,
+        0,
+        Reason::RecordOrder,
+    ),
+    (
+        "order before the node",
+        FULL,
+        "n 1 s",
+        5,
+        0,
+        Reason::RecordOrder,
+    ),
+    (
+        "NODES before the end",
+        SOURCE,
+        "n 4 s",
+        3,
+        2,
+        Reason::NodeRange,
+    ),
+    (
+        "the node before the end",
+        SOURCE,
+        "n 1 s",
+        3,
+        2,
+        Reason::NodeTwice,
+    ),
+    (
+        "third line, same node",
+        BOTH,
+        "n 2 s",
+        4,
+        2,
+        Reason::NodeTwice,
+    ),
+    (
+        "third line, other node",
+        BOTH,
+        "n 3 t",
+        4,
+        3,
+        Reason::EndTwice,
+    ),
+    (
+        "fields before NODES",
+        FULL,
+        "a 4 4 x",
+        5,
+        4,
+        Reason::BadNumber,
+    ),
+    (
+        "tail before head",
+        FULL,
+        "a 4 4 -1",
+        5,
+        2,
+        Reason::NodeRange,
+    ),
+    (
+        "head before the bound",
+        FULL,
+        "a 1 4 -1",
+        5,
+        3,
+        Reason::NodeRange,
+    ),
+    (
+        "NODES before the count",
+        FULL,
+        "a 1 4 1",
+        5,
+        3,
+        Reason::NodeRange,
+    ),
+    (
+        "NODES before the ends",
+        SOURCE,
+        "a 1 4 -1",
+        3,
+        3,
+        Reason::NodeRange,
+    ),
+    (
+        "the ends before the bound",
+        SOURCE,
+        "a 1 2 -1",
+        3,
+        0,
+        Reason::EndMissing,
+    ),
+    (
+        "the bound before the arc",
+        FULL,
+        "a 1 2 -1",
+        5,
+        4,
+        Reason::BoundOrder,
+    ),
+    (
+        "the arc before the count",
+        FULL,
+        "a 1 2 1",
+        5,
+        0,
+        Reason::ParallelArc,
+    ),
+    ("the count", FULL, "a 2 1 1", 5, 0, Reason::TooMany),
+];
+
 #[test]
 fn one_line_tells_its_first_reason(rt: HostRuntime) -> Result<(), Fail> {
-    let source = "p max 3 1\nn 1 s\n";
-    let both = "p max 3 1\nn 1 s\nn 2 t\n";
-    let full = "p max 3 1\nn 1 s\nn 2 t\na 1 2 1\n";
-    for (name, before, said, line, field, reason) in [
-        (
-            "number before word",
-            source,
-            "n 0 x",
-            3,
-            2,
-            Reason::NumberRange,
-        ),
-        ("word", source, "n 1 x", 3, 3, Reason::BadWord),
-        (
-            "order before NODES",
-            full,
-            "n 4 s",
-            5,
-            0,
-            Reason::RecordOrder,
-        ),
-        (
-            "order before the node",
-            full,
-            "n 1 s",
-            5,
-            0,
-            Reason::RecordOrder,
-        ),
-        (
-            "NODES before the end",
-            source,
-            "n 4 s",
-            3,
-            2,
-            Reason::NodeRange,
-        ),
-        (
-            "the node before the end",
-            source,
-            "n 1 s",
-            3,
-            2,
-            Reason::NodeTwice,
-        ),
-        (
-            "third line, same node",
-            both,
-            "n 2 s",
-            4,
-            2,
-            Reason::NodeTwice,
-        ),
-        (
-            "third line, other node",
-            both,
-            "n 3 t",
-            4,
-            3,
-            Reason::EndTwice,
-        ),
-        (
-            "fields before NODES",
-            full,
-            "a 4 4 x",
-            5,
-            4,
-            Reason::BadNumber,
-        ),
-        (
-            "tail before head",
-            full,
-            "a 4 4 -1",
-            5,
-            2,
-            Reason::NodeRange,
-        ),
-        (
-            "head before the bound",
-            full,
-            "a 1 4 -1",
-            5,
-            3,
-            Reason::NodeRange,
-        ),
-        (
-            "NODES before the count",
-            full,
-            "a 1 4 1",
-            5,
-            3,
-            Reason::NodeRange,
-        ),
-        (
-            "NODES before the ends",
-            source,
-            "a 1 4 -1",
-            3,
-            3,
-            Reason::NodeRange,
-        ),
-        (
-            "the ends before the bound",
-            source,
-            "a 1 2 -1",
-            3,
-            0,
-            Reason::EndMissing,
-        ),
-        (
-            "the bound before the arc",
-            full,
-            "a 1 2 -1",
-            5,
-            4,
-            Reason::BoundOrder,
-        ),
-        (
-            "the arc before the count",
-            full,
-            "a 1 2 1",
-            5,
-            0,
-            Reason::ParallelArc,
-        ),
-        ("the count", full, "a 2 1 1", 5, 0, Reason::TooMany),
-    ] {
+    for &(name, before, said, line, field, reason) in &REFUSED_LINES {
         let text = format!(in rt.alloc(); "{before}{said}\n")?;
         refuses(
             &rt,
@@ -357,33 +395,44 @@ fn take(reading: &mut MaxReading, number: u64, line: &str) -> Result<(), TakeErr
     }
 }
 
-fn refused(field: u32, reason: Reason) -> Result<(), TakeError> {
-    Err(TakeError::Refused(LineFault { field, reason }))
+/// What a reading answers to a record that it refuses so, or takes.
+fn answer(refusal: Option<(u32, Reason)>) -> Result<(), TakeError> {
+    match refusal {
+        Some((field, reason)) => Err(TakeError::refused(field, reason)),
+        None => Ok(()),
+    }
 }
+
+/// Lines by number, and why each is refused, if it is.
+static RECORDS: [(u64, &str, Option<(u32, Reason)>); 17] = [
+    (1, "n 2 s", Some((0, Reason::ProblemMissing))),
+    (2, "p max 3 2", None),
+    (3, "n 4 s", Some((2, Reason::NodeRange))),
+    (4, "a 1 2 1", Some((0, Reason::EndMissing))),
+    (5, "n 3 t", None),
+    (6, "n 3 s", Some((2, Reason::NodeTwice))),
+    (7, "n 1 t", Some((3, Reason::EndTwice))),
+    (8, "a 1 2 1", Some((0, Reason::EndMissing))),
+    (9, "n 2 s", None),
+    (10, "n 1 s", Some((3, Reason::EndTwice))),
+    (11, "a 1 2 -1", Some((4, Reason::BoundOrder))),
+    (12, "a 1 2 5", None),
+    (13, "a 1 2 5", Some((0, Reason::ParallelArc))),
+    (14, "n 1 s", Some((0, Reason::RecordOrder))),
+    (15, "a 2 1 6", None),
+    (16, "a 2 1 6", Some((0, Reason::ParallelArc))),
+    (17, "a 2 2 6", Some((0, Reason::TooMany))),
+];
 
 #[test]
 fn a_refused_record_leaves_the_reading_as_it_was(rt: HostRuntime) -> Result<(), Fail> {
     let mut reading = MaxReading::new(rt.alloc());
-    for (number, line, answer) in [
-        (1, "n 2 s", refused(0, Reason::ProblemMissing)),
-        (2, "p max 3 2", Ok(())),
-        (3, "n 4 s", refused(2, Reason::NodeRange)),
-        (4, "a 1 2 1", refused(0, Reason::EndMissing)),
-        (5, "n 3 t", Ok(())),
-        (6, "n 3 s", refused(2, Reason::NodeTwice)),
-        (7, "n 1 t", refused(3, Reason::EndTwice)),
-        (8, "a 1 2 1", refused(0, Reason::EndMissing)),
-        (9, "n 2 s", Ok(())),
-        (10, "n 1 s", refused(3, Reason::EndTwice)),
-        (11, "a 1 2 -1", refused(4, Reason::BoundOrder)),
-        (12, "a 1 2 5", Ok(())),
-        (13, "a 1 2 5", refused(0, Reason::ParallelArc)),
-        (14, "n 1 s", refused(0, Reason::RecordOrder)),
-        (15, "a 2 1 6", Ok(())),
-        (16, "a 2 1 6", refused(0, Reason::ParallelArc)),
-        (17, "a 2 2 6", refused(0, Reason::TooMany)),
-    ] {
-        assert_eq!(rt; take(&mut reading, number, line), answer, "line {number}");
+    for &(number, line, refusal) in &RECORDS {
+        assert_eq!(rt;
+            take(&mut reading, number, line),
+            answer(refusal),
+            "line {number}"
+        );
     }
     let max = reading.finish()?;
     assert_eq!(rt; max.source(), 2);
@@ -406,17 +455,19 @@ fn all_arcs(alloc: Global) -> Result<Vec<u8>, Fail> {
     Ok(text)
 }
 
+/// Arcs that the text has already.
+static REPEATED_ARCS: [(&str, &str); 3] = [
+    ("one of the first of its tail", "a 17 3 1\n"),
+    ("one behind many of its tail", "a 17 42 1\n"),
+    ("the last of all", "a 60 60 1\n"),
+];
+
 #[test]
 fn a_repeated_arc_is_found_among_many(rt: HostRuntime) -> Result<(), Fail> {
     let text = all_arcs(rt.alloc())?;
     let max = read_max(rt.alloc(), &mut MemorySource::new(&text))?;
     assert_eq!(rt; max.network().arcs(), 3_600);
-    let repeated = [
-        ("one of the first of its tail", "a 17 3 1\n"),
-        ("one behind many of its tail", "a 17 42 1\n"),
-        ("the last of all", "a 60 60 1\n"),
-    ];
-    for (name, line) in repeated {
+    for &(name, line) in &REPEATED_ARCS {
         let mut text = all_arcs(rt.alloc())?;
         text.extend_from_slice(line.as_bytes())?;
         refuses(

@@ -4,6 +4,7 @@ use dimacs_instance::{Network, SupplySums, read_min, write_min};
 use dimacs_lines::{CutSource, DeviceFault, FlakySink, MemorySink, MemorySource, Source};
 use dimacs_records::{At, ReadError, Reason};
 use std::alloc::Global;
+use std::process::Abort;
 use std::test::Fail;
 
 const SHIPPING: &str =
@@ -17,54 +18,82 @@ fn convert<S: Source>(alloc: Global, source: &mut S) -> Result<MemorySink, Fail>
     Ok(sink)
 }
 
+/// Whether what a source gives gets this canonical form.
+fn becomes<S: Source>(
+    rt: &impl Abort,
+    alloc: Global,
+    name: &str,
+    way: &str,
+    source: &mut S,
+    canonical: &str,
+) -> Result<(), Fail> {
+    let sink = convert(alloc, source)?;
+    assert!(rt; sink.bytes() == canonical.as_bytes(), "{name}, {way}");
+    Ok(())
+}
+
+/// Converts a text in one piece and byte by byte, and its canonical form once more.
+fn converts(
+    rt: &impl Abort,
+    alloc: Global,
+    name: &str,
+    text: &str,
+    canonical: &str,
+) -> Result<(), Fail> {
+    let mut whole = MemorySource::new(text.as_bytes());
+    becomes(rt, alloc, name, "in one piece", &mut whole, canonical)?;
+    let ones = Vec::from_elem(alloc, 1, text.len())?;
+    let mut pieces = CutSource::new(text.as_bytes(), &ones);
+    becomes(rt, alloc, name, "in pieces", &mut pieces, canonical)?;
+    let mut again = MemorySource::new(canonical.as_bytes());
+    becomes(rt, alloc, name, "once more", &mut again, canonical)
+}
+
+/// Texts, each with its canonical form.
+static CANONICAL_FORMS: [(&str, &str, &str); 9] = [
+    ("already canonical", SHIPPING, SHIPPING),
+    (
+        "a supply of zero is left out",
+        "p min 2 1\nn 2 -5\nn 1 0\na 1 2 0 2 -7\n",
+        "p min 2 1\nn 2 -5\na 1 2 0 2 -7\n",
+    ),
+    (
+        "node lines stand by ID",
+        "p min 300 0\nn 300 -1\nn 7 +02\nn 257 5\nn 1 -6\n",
+        "p min 300 0\nn 1 -6\nn 7 2\nn 257 5\nn 300 -1\n",
+    ),
+    ("no node", "p min 0 0\n", "p min 0 0\n"),
+    (
+        "no node line",
+        "p min 2 1\na 1 2 1 3 0",
+        "p min 2 1\na 1 2 1 3 0\n",
+    ),
+    (
+        "equal bounds",
+        "p min 1 1\na 1 1 7 7 0\n",
+        "p min 1 1\na 1 1 7 7 0\n",
+    ),
+    (
+        "an arc, the arc back and a loop",
+        "p min 2 3\na 1 2 0 1 0\na 2 1 0 1 0\na 1 1 0 1 0\n",
+        "p min 2 3\na 1 2 0 1 0\na 2 1 0 1 0\na 1 1 0 1 0\n",
+    ),
+    (
+        "the greatest numbers",
+        "p min 1 1\nn 1 9223372036854775807\na 1 1 9223372036854775807 9223372036854775807 9223372036854775807\n",
+        "p min 1 1\nn 1 9223372036854775807\na 1 1 9223372036854775807 9223372036854775807 9223372036854775807\n",
+    ),
+    (
+        "the least numbers",
+        "p min 1 1\nn 1 -9223372036854775808\na 1 1 -0 0 -9223372036854775808\n",
+        "p min 1 1\nn 1 -9223372036854775808\na 1 1 0 0 -9223372036854775808\n",
+    ),
+];
+
 #[test]
 fn texts_get_their_canonical_form(rt: HostRuntime) -> Result<(), Fail> {
-    for (name, text, canonical) in [
-        ("already canonical", SHIPPING, SHIPPING),
-        (
-            "a supply of zero is left out",
-            "p min 2 1\nn 2 -5\nn 1 0\na 1 2 0 2 -7\n",
-            "p min 2 1\nn 2 -5\na 1 2 0 2 -7\n",
-        ),
-        (
-            "node lines stand by ID",
-            "p min 300 0\nn 300 -1\nn 7 +02\nn 257 5\nn 1 -6\n",
-            "p min 300 0\nn 1 -6\nn 7 2\nn 257 5\nn 300 -1\n",
-        ),
-        ("no node", "p min 0 0\n", "p min 0 0\n"),
-        (
-            "no node line",
-            "p min 2 1\na 1 2 1 3 0",
-            "p min 2 1\na 1 2 1 3 0\n",
-        ),
-        (
-            "equal bounds",
-            "p min 1 1\na 1 1 7 7 0\n",
-            "p min 1 1\na 1 1 7 7 0\n",
-        ),
-        (
-            "an arc, the arc back and a loop",
-            "p min 2 3\na 1 2 0 1 0\na 2 1 0 1 0\na 1 1 0 1 0\n",
-            "p min 2 3\na 1 2 0 1 0\na 2 1 0 1 0\na 1 1 0 1 0\n",
-        ),
-        (
-            "the greatest numbers",
-            "p min 1 1\nn 1 9223372036854775807\na 1 1 9223372036854775807 9223372036854775807 9223372036854775807\n",
-            "p min 1 1\nn 1 9223372036854775807\na 1 1 9223372036854775807 9223372036854775807 9223372036854775807\n",
-        ),
-        (
-            "the least numbers",
-            "p min 1 1\nn 1 -9223372036854775808\na 1 1 -0 0 -9223372036854775808\n",
-            "p min 1 1\nn 1 -9223372036854775808\na 1 1 0 0 -9223372036854775808\n",
-        ),
-    ] {
-        let whole = convert(rt.alloc(), &mut MemorySource::new(text.as_bytes()))?;
-        assert!(rt; whole.bytes() == canonical.as_bytes(), "{name}");
-        let ones = Vec::from_elem(rt.alloc(), 1, text.len())?;
-        let pieces = convert(rt.alloc(), &mut CutSource::new(text.as_bytes(), &ones))?;
-        assert!(rt; pieces.bytes() == canonical.as_bytes(), "{name}, in pieces");
-        let again = convert(rt.alloc(), &mut MemorySource::new(canonical.as_bytes()))?;
-        assert!(rt; again.bytes() == canonical.as_bytes(), "{name}, once more");
+    for &(name, text, canonical) in &CANONICAL_FORMS {
+        converts(&rt, rt.alloc(), name, text, canonical)?;
     }
     Ok(())
 }
@@ -108,201 +137,216 @@ fn sums_of_supplies_leave_64_bits(rt: HostRuntime) -> Result<(), Fail> {
     Ok(())
 }
 
+/// Reads a text in one piece, and in pieces of one byte.
+fn refuses(
+    rt: &impl Abort,
+    alloc: Global,
+    name: &str,
+    text: &str,
+    at: At,
+    reason: Reason,
+) -> Result<(), Fail> {
+    let want = Some(ReadError::Refused(at, reason));
+    let whole = read_min(alloc, &mut MemorySource::new(text.as_bytes())).err();
+    assert_eq!(rt; whole, want, "{name}");
+    let ones = Vec::from_elem(alloc, 1, text.len())?;
+    let pieces = read_min(alloc, &mut CutSource::new(text.as_bytes(), &ones)).err();
+    assert_eq!(rt; pieces, want, "{name}, in pieces");
+    Ok(())
+}
+
+/// Texts that are refused for their first fault.
+static REFUSED_TEXTS: [(&str, &str, u64, u32, Reason); 28] = [
+    ("empty text", "", 1, 0, Reason::ProblemMissing),
+    (
+        "node line before the problem",
+        "n 1 0\n",
+        1,
+        0,
+        Reason::ProblemMissing,
+    ),
+    (
+        "arc before the problem",
+        "a 1 1 0 0 0\n",
+        1,
+        0,
+        Reason::ProblemMissing,
+    ),
+    (
+        "problem twice",
+        "p min 1 0\np min 1 0\n",
+        2,
+        0,
+        Reason::ProblemTwice,
+    ),
+    (
+        "problem of another kind",
+        "p max 1 0\n",
+        1,
+        2,
+        Reason::BadWord,
+    ),
+    (
+        "letter of another kind",
+        "p min 1 0\ns 1\n",
+        2,
+        1,
+        Reason::UnknownLine,
+    ),
+    (
+        "five fields of an arc",
+        "p min 1 1\na 1 1 0 1\n",
+        2,
+        0,
+        Reason::FieldCount,
+    ),
+    (
+        "a word for a supply",
+        "p min 1 0\nn 1 s\n",
+        2,
+        3,
+        Reason::BadNumber,
+    ),
+    ("node zero", "p min 1 0\nn 0 s\n", 2, 2, Reason::NumberRange),
+    (
+        "supply past the range",
+        "p min 1 0\nn 1 -9223372036854775809\n",
+        2,
+        3,
+        Reason::NumberRange,
+    ),
+    (
+        "cost past the range",
+        "p min 1 1\na 1 1 0 1 9223372036854775808\n",
+        2,
+        6,
+        Reason::NumberRange,
+    ),
+    (
+        "node line behind an arc",
+        "p min 2 1\na 1 2 0 1 0\nn 1 1\n",
+        3,
+        0,
+        Reason::RecordOrder,
+    ),
+    (
+        "its place before its node",
+        "p min 2 1\na 1 2 0 1 0\nn 3 1\n",
+        3,
+        0,
+        Reason::RecordOrder,
+    ),
+    (
+        "node above NODES",
+        "p min 2 0\nn 3 0\n",
+        2,
+        2,
+        Reason::NodeRange,
+    ),
+    (
+        "node twice",
+        "p min 2 0\nn 2 1\nn 2 1\n",
+        3,
+        2,
+        Reason::NodeTwice,
+    ),
+    (
+        "node twice, with a supply of zero first",
+        "p min 2 0\nn 2 0\nn 2 1\n",
+        3,
+        2,
+        Reason::NodeTwice,
+    ),
+    (
+        "node twice, with a supply of zero second",
+        "p min 2 0\nn 2 1\nn 2 0\n",
+        3,
+        2,
+        Reason::NodeTwice,
+    ),
+    (
+        "tail above NODES",
+        "p min 2 1\na 3 3 -1 -2 0\n",
+        2,
+        2,
+        Reason::NodeRange,
+    ),
+    (
+        "head above NODES",
+        "p min 2 1\na 1 3 -1 -2 0\n",
+        2,
+        3,
+        Reason::NodeRange,
+    ),
+    (
+        "an ID above NODES past ARCS",
+        "p min 2 0\na 1 3 0 0 0\n",
+        2,
+        3,
+        Reason::NodeRange,
+    ),
+    (
+        "capacity below the lower bound",
+        "p min 2 1\nn 1 0\na 1 2 3 2 0\n",
+        3,
+        5,
+        Reason::BoundOrder,
+    ),
+    (
+        "negative lower bound",
+        "p min 2 1\nn 1 0\na 1 2 -3 2 0\n",
+        3,
+        4,
+        Reason::BoundOrder,
+    ),
+    (
+        "both bounds out of order",
+        "p min 2 1\na 1 2 -3 -4 0\n",
+        2,
+        4,
+        Reason::BoundOrder,
+    ),
+    (
+        "bounds before ends",
+        "p min 2 2\na 1 2 0 1 0\na 1 2 1 0 0\n",
+        3,
+        5,
+        Reason::BoundOrder,
+    ),
+    (
+        "the same ends again",
+        "p min 2 2\na 1 2 0 1 0\na 1 2 0 2 5\n",
+        3,
+        0,
+        Reason::ParallelArc,
+    ),
+    (
+        "the same ends past ARCS",
+        "p min 2 1\na 1 2 0 1 0\na 1 2 0 1 0\n",
+        3,
+        0,
+        Reason::ParallelArc,
+    ),
+    (
+        "one more than declared",
+        "p min 2 1\na 1 2 0 1 0\na 2 1 0 1 0\n",
+        3,
+        0,
+        Reason::TooMany,
+    ),
+    (
+        "fewer than declared",
+        "p min 2 2\nn 1 1\na 1 2 0 1 0\n",
+        4,
+        0,
+        Reason::TooFew,
+    ),
+];
+
 #[test]
 fn texts_are_refused_at_their_first_fault(rt: HostRuntime) -> Result<(), Fail> {
-    for (name, text, line, field, reason) in [
-        ("empty text", "", 1, 0, Reason::ProblemMissing),
-        (
-            "node line before the problem",
-            "n 1 0\n",
-            1,
-            0,
-            Reason::ProblemMissing,
-        ),
-        (
-            "arc before the problem",
-            "a 1 1 0 0 0\n",
-            1,
-            0,
-            Reason::ProblemMissing,
-        ),
-        (
-            "problem twice",
-            "p min 1 0\np min 1 0\n",
-            2,
-            0,
-            Reason::ProblemTwice,
-        ),
-        (
-            "problem of another kind",
-            "p max 1 0\n",
-            1,
-            2,
-            Reason::BadWord,
-        ),
-        (
-            "letter of another kind",
-            "p min 1 0\ns 1\n",
-            2,
-            1,
-            Reason::UnknownLine,
-        ),
-        (
-            "five fields of an arc",
-            "p min 1 1\na 1 1 0 1\n",
-            2,
-            0,
-            Reason::FieldCount,
-        ),
-        (
-            "a word for a supply",
-            "p min 1 0\nn 1 s\n",
-            2,
-            3,
-            Reason::BadNumber,
-        ),
-        ("node zero", "p min 1 0\nn 0 s\n", 2, 2, Reason::NumberRange),
-        (
-            "supply past the range",
-            "p min 1 0\nn 1 -9223372036854775809\n",
-            2,
-            3,
-            Reason::NumberRange,
-        ),
-        (
-            "cost past the range",
-            "p min 1 1\na 1 1 0 1 9223372036854775808\n",
-            2,
-            6,
-            Reason::NumberRange,
-        ),
-        (
-            "node line behind an arc",
-            "p min 2 1\na 1 2 0 1 0\nn 1 1\n",
-            3,
-            0,
-            Reason::RecordOrder,
-        ),
-        (
-            "its place before its node",
-            "p min 2 1\na 1 2 0 1 0\nn 3 1\n",
-            3,
-            0,
-            Reason::RecordOrder,
-        ),
-        (
-            "node above NODES",
-            "p min 2 0\nn 3 0\n",
-            2,
-            2,
-            Reason::NodeRange,
-        ),
-        (
-            "node twice",
-            "p min 2 0\nn 2 1\nn 2 1\n",
-            3,
-            2,
-            Reason::NodeTwice,
-        ),
-        (
-            "node twice, with a supply of zero first",
-            "p min 2 0\nn 2 0\nn 2 1\n",
-            3,
-            2,
-            Reason::NodeTwice,
-        ),
-        (
-            "node twice, with a supply of zero second",
-            "p min 2 0\nn 2 1\nn 2 0\n",
-            3,
-            2,
-            Reason::NodeTwice,
-        ),
-        (
-            "tail above NODES",
-            "p min 2 1\na 3 3 -1 -2 0\n",
-            2,
-            2,
-            Reason::NodeRange,
-        ),
-        (
-            "head above NODES",
-            "p min 2 1\na 1 3 -1 -2 0\n",
-            2,
-            3,
-            Reason::NodeRange,
-        ),
-        (
-            "an ID above NODES past ARCS",
-            "p min 2 0\na 1 3 0 0 0\n",
-            2,
-            3,
-            Reason::NodeRange,
-        ),
-        (
-            "capacity below the lower bound",
-            "p min 2 1\nn 1 0\na 1 2 3 2 0\n",
-            3,
-            5,
-            Reason::BoundOrder,
-        ),
-        (
-            "negative lower bound",
-            "p min 2 1\nn 1 0\na 1 2 -3 2 0\n",
-            3,
-            4,
-            Reason::BoundOrder,
-        ),
-        (
-            "both bounds out of order",
-            "p min 2 1\na 1 2 -3 -4 0\n",
-            2,
-            4,
-            Reason::BoundOrder,
-        ),
-        (
-            "bounds before ends",
-            "p min 2 2\na 1 2 0 1 0\na 1 2 1 0 0\n",
-            3,
-            5,
-            Reason::BoundOrder,
-        ),
-        (
-            "the same ends again",
-            "p min 2 2\na 1 2 0 1 0\na 1 2 0 2 5\n",
-            3,
-            0,
-            Reason::ParallelArc,
-        ),
-        (
-            "the same ends past ARCS",
-            "p min 2 1\na 1 2 0 1 0\na 1 2 0 1 0\n",
-            3,
-            0,
-            Reason::ParallelArc,
-        ),
-        (
-            "one more than declared",
-            "p min 2 1\na 1 2 0 1 0\na 2 1 0 1 0\n",
-            3,
-            0,
-            Reason::TooMany,
-        ),
-        (
-            "fewer than declared",
-            "p min 2 2\nn 1 1\na 1 2 0 1 0\n",
-            4,
-            0,
-            Reason::TooFew,
-        ),
-    ] {
-        let at = At { line, field };
-        let want = Some(ReadError::Refused(at, reason));
-        let whole = read_min(rt.alloc(), &mut MemorySource::new(text.as_bytes())).err();
-        assert_eq!(rt; whole, want, "{name}");
-        let ones = Vec::from_elem(rt.alloc(), 1, text.len())?;
-        let pieces = read_min(rt.alloc(), &mut CutSource::new(text.as_bytes(), &ones)).err();
-        assert_eq!(rt; pieces, want, "{name}, in pieces");
+    for &(name, text, line, field, reason) in &REFUSED_TEXTS {
+        refuses(&rt, rt.alloc(), name, text, At { line, field }, reason)?;
     }
     Ok(())
 }

@@ -6,17 +6,20 @@ use std::alloc::Global;
 use std::process::Abort;
 use std::test::Fail;
 
+/// The tail, the head and the weight of each arc.
+static ARCS: [(u32, u32, i64); 6] = [
+    (1, 2, 10),
+    (2, 1, 11),
+    (1, 2, -12),
+    (3, 3, 0),
+    (1, 2, 10),
+    (3, 3, 9),
+];
+
 /// Three arcs from 1 to 2, one back, and two loops at 3.
 fn sample(rt: &impl Abort, alloc: Global) -> Result<PlainArcs<WeightArc>, Memory> {
     let mut network = PlainArcs::new(alloc, 4);
-    for (tail, head, weight) in [
-        (1, 2, 10),
-        (2, 1, 11),
-        (1, 2, -12),
-        (3, 3, 0),
-        (1, 2, 10),
-        (3, 3, 9),
-    ] {
+    for &(tail, head, weight) in &ARCS {
         assert!(rt; network.arcs() < MAX_ARCS);
         network.push(WeightArc { tail, head, weight })?;
     }
@@ -68,24 +71,27 @@ fn arcs_keep_their_order_and_weights(rt: HostRuntime) -> Result<(), Fail> {
     Ok(())
 }
 
+/// Two nodes, how many arcs between them are passed over, and the arc that is found.
+static FOUND: [(&str, u32, u32, u32, Option<u32>); 13] = [
+    ("the first of three", 1, 2, 0, Some(0)),
+    ("the second of three", 1, 2, 1, Some(2)),
+    ("the third of three", 1, 2, 2, Some(4)),
+    ("one too many", 1, 2, 3, None),
+    ("the greatest k", 1, 2, u32::MAX, None),
+    ("the one back", 2, 1, 0, Some(1)),
+    ("a second one back", 2, 1, 1, None),
+    ("first loop", 3, 3, 0, Some(3)),
+    ("second loop", 3, 3, 1, Some(5)),
+    ("third loop", 3, 3, 2, None),
+    ("nodes without arc", 1, 4, 0, None),
+    ("tail of an arc, head of another", 1, 3, 0, None),
+    ("no nodes of the network", 0, 5, 0, None),
+];
+
 #[test]
 fn find_counts_the_arcs_between_two_nodes(rt: HostRuntime) -> Result<(), Fail> {
     let network = sample(&rt, rt.alloc())?;
-    for (name, tail, head, k, found) in [
-        ("the first of three", 1, 2, 0, Some(0)),
-        ("the second of three", 1, 2, 1, Some(2)),
-        ("the third of three", 1, 2, 2, Some(4)),
-        ("one too many", 1, 2, 3, None),
-        ("the greatest k", 1, 2, u32::MAX, None),
-        ("the one back", 2, 1, 0, Some(1)),
-        ("a second one back", 2, 1, 1, None),
-        ("first loop", 3, 3, 0, Some(3)),
-        ("second loop", 3, 3, 1, Some(5)),
-        ("third loop", 3, 3, 2, None),
-        ("nodes without arc", 1, 4, 0, None),
-        ("tail of an arc, head of another", 1, 3, 0, None),
-        ("no nodes of the network", 0, 5, 0, None),
-    ] {
+    for &(name, tail, head, k, found) in &FOUND {
         assert_eq!(rt; network.find(tail, head, k), found, "{name}");
     }
     Ok(())
