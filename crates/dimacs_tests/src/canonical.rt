@@ -4,43 +4,46 @@ use dimacs_lines::{DeviceFault, FlakySink, MemorySink, Page};
 use dimacs_records::{Part, Record, put_line, put_record, write_record};
 use std::test::Fail;
 
+/// Records, each with its line.
+static RECORDS: [(Record, &str); 6] = [
+    (Record::GraphProblem { nodes: 2, arcs: 1 }, "p sp 2 1\n"),
+    (Record::GraphProblem { nodes: 0, arcs: 0 }, "p sp 0 0\n"),
+    (
+        Record::GraphProblem {
+            nodes: 134_217_728,
+            arcs: 268_435_456,
+        },
+        "p sp 134217728 268435456\n",
+    ),
+    (
+        Record::GraphArc {
+            tail: 1,
+            head: 2,
+            weight: 7,
+        },
+        "a 1 2 7\n",
+    ),
+    (
+        Record::GraphArc {
+            tail: 134_217_728,
+            head: 1,
+            weight: i64::MIN,
+        },
+        "a 134217728 1 -9223372036854775808\n",
+    ),
+    (
+        Record::GraphArc {
+            tail: 3,
+            head: 3,
+            weight: 0,
+        },
+        "a 3 3 0\n",
+    ),
+];
+
 #[test]
 fn records_have_one_canonical_line(rt: HostRuntime) -> Result<(), Fail> {
-    for (said, line) in [
-        (Record::GraphProblem { nodes: 2, arcs: 1 }, "p sp 2 1\n"),
-        (Record::GraphProblem { nodes: 0, arcs: 0 }, "p sp 0 0\n"),
-        (
-            Record::GraphProblem {
-                nodes: 134_217_728,
-                arcs: 268_435_456,
-            },
-            "p sp 134217728 268435456\n",
-        ),
-        (
-            Record::GraphArc {
-                tail: 1,
-                head: 2,
-                weight: 7,
-            },
-            "a 1 2 7\n",
-        ),
-        (
-            Record::GraphArc {
-                tail: 134_217_728,
-                head: 1,
-                weight: i64::MIN,
-            },
-            "a 134217728 1 -9223372036854775808\n",
-        ),
-        (
-            Record::GraphArc {
-                tail: 3,
-                head: 3,
-                weight: 0,
-            },
-            "a 3 3 0\n",
-        ),
-    ] {
+    for &(said, line) in &RECORDS {
         let mut sink = MemorySink::new(rt.alloc());
         assert_eq!(rt; put_record(&mut sink, &said), Ok(()), "{line}");
         assert!(rt; sink.bytes() == line.as_bytes(), "{line}");

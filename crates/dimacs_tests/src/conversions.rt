@@ -34,385 +34,374 @@ fn converts(
     Ok(())
 }
 
-#[test]
-fn graphs_get_their_canonical_text(rt: HostRuntime) -> Result<(), Fail> {
-    for (name, text, canonical) in [
-        (
-            "CR, comment, empty line, zeros in front, no last line end",
-            "c x\n  p  sp 2 1\r\n\na 1 2 +007",
-            "p sp 2 1\na 1 2 7\n",
-        ),
-        (
-            "the greatest weight",
-            "p sp 2 1\na 1 2 9223372036854775807\n",
-            "p sp 2 1\na 1 2 9223372036854775807\n",
-        ),
-        ("no node", "p sp 0 0\n", "p sp 0 0\n"),
-        (
-            "loops, parallel arcs and a negative weight",
-            "p sp 2 3\na 1 1 0\na 2 1 -5\na 2 1 -5\n",
-            "p sp 2 3\na 1 1 0\na 2 1 -5\na 2 1 -5\n",
-        ),
-    ] {
-        converts(
-            &rt,
-            rt.alloc(),
-            TextKind::Graph,
-            name,
-            text.as_bytes(),
-            Status::Done,
-            canonical,
-        )?;
+/// A text that is converted: its name, its kind, the text, and what is put.
+type Case = (&'static str, TextKind, &'static str, &'static str);
+
+/// Converts each text in one piece, and in pieces of 1, 2 and 7 bytes.
+fn converts_each(
+    rt: &impl Abort,
+    alloc: Global,
+    status: Status,
+    cases: &[Case],
+) -> Result<(), Fail> {
+    for &(name, kind, text, output) in cases {
+        converts(rt, alloc, kind, name, text.as_bytes(), status, output)?;
     }
     Ok(())
 }
+
+static GRAPHS: [Case; 4] = [
+    (
+        "CR, comment, empty line, zeros in front, no last line end",
+        TextKind::Graph,
+        "c x\n  p  sp 2 1\r\n\na 1 2 +007",
+        "p sp 2 1\na 1 2 7\n",
+    ),
+    (
+        "the greatest weight",
+        TextKind::Graph,
+        "p sp 2 1\na 1 2 9223372036854775807\n",
+        "p sp 2 1\na 1 2 9223372036854775807\n",
+    ),
+    ("no node", TextKind::Graph, "p sp 0 0\n", "p sp 0 0\n"),
+    (
+        "loops, parallel arcs and a negative weight",
+        TextKind::Graph,
+        "p sp 2 3\na 1 1 0\na 2 1 -5\na 2 1 -5\n",
+        "p sp 2 3\na 1 1 0\na 2 1 -5\na 2 1 -5\n",
+    ),
+];
+
+#[test]
+fn graphs_get_their_canonical_text(rt: HostRuntime) -> Result<(), Fail> {
+    converts_each(&rt, rt.alloc(), Status::Done, &GRAPHS)
+}
+
+static FAULTY_GRAPHS: [Case; 9] = [
+    (
+        "the empty text",
+        TextKind::Graph,
+        "",
+        "x instance 1 0 ProblemMissing\n",
+    ),
+    (
+        "a weight one past the greatest",
+        TextKind::Graph,
+        "p sp 2 1\na 1 2 9223372036854775808\n",
+        "x instance 2 4 NumberRange\n",
+    ),
+    (
+        "an arc too few",
+        TextKind::Graph,
+        "p sp 3 2\na 1 2 5\n",
+        "x instance 3 0 TooFew\n",
+    ),
+    (
+        "an arc too many",
+        TextKind::Graph,
+        "p sp 3 0\na 1 2 5\n",
+        "x instance 2 0 TooMany\n",
+    ),
+    (
+        "a letter of no graph",
+        TextKind::Graph,
+        "p sp 1 1\ne 1 1 0\n",
+        "x instance 2 1 UnknownLine\n",
+    ),
+    (
+        "a field too few",
+        TextKind::Graph,
+        "p sp 1 1\na 1 1\n",
+        "x instance 2 0 FieldCount\n",
+    ),
+    (
+        "a head above NODES",
+        TextKind::Graph,
+        "p sp 1 1\na 1 2 0\n",
+        "x instance 2 3 NodeRange\n",
+    ),
+    (
+        "a tail of 0",
+        TextKind::Graph,
+        "p sp 1 1\na 0 1 0\n",
+        "x instance 2 2 NumberRange\n",
+    ),
+    (
+        "a weight that isn't whole",
+        TextKind::Graph,
+        "p sp 1 1\na 1 1 1.0\n",
+        "x instance 2 4 BadNumber\n",
+    ),
+];
 
 #[test]
 fn faulty_graphs_get_one_line(rt: HostRuntime) -> Result<(), Fail> {
-    for (name, text, line) in [
-        ("the empty text", "", "x instance 1 0 ProblemMissing\n"),
-        (
-            "a weight one past the greatest",
-            "p sp 2 1\na 1 2 9223372036854775808\n",
-            "x instance 2 4 NumberRange\n",
-        ),
-        (
-            "an arc too few",
-            "p sp 3 2\na 1 2 5\n",
-            "x instance 3 0 TooFew\n",
-        ),
-        (
-            "an arc too many",
-            "p sp 3 0\na 1 2 5\n",
-            "x instance 2 0 TooMany\n",
-        ),
-        (
-            "a letter of no graph",
-            "p sp 1 1\ne 1 1 0\n",
-            "x instance 2 1 UnknownLine\n",
-        ),
-        (
-            "a field too few",
-            "p sp 1 1\na 1 1\n",
-            "x instance 2 0 FieldCount\n",
-        ),
-        (
-            "a head above NODES",
-            "p sp 1 1\na 1 2 0\n",
-            "x instance 2 3 NodeRange\n",
-        ),
-        (
-            "a tail of 0",
-            "p sp 1 1\na 0 1 0\n",
-            "x instance 2 2 NumberRange\n",
-        ),
-        (
-            "a weight that isn't whole",
-            "p sp 1 1\na 1 1 1.0\n",
-            "x instance 2 4 BadNumber\n",
-        ),
-    ] {
-        converts(
-            &rt,
-            rt.alloc(),
-            TextKind::Graph,
-            name,
-            text.as_bytes(),
-            Status::Refused,
-            line,
-        )?;
-    }
-    Ok(())
+    converts_each(&rt, rt.alloc(), Status::Refused, &FAULTY_GRAPHS)
 }
+
+static FLOW_INSTANCES: [Case; 4] = [
+    (
+        "the node lines by ID",
+        TextKind::Max,
+        "p max 3 2\nn 3 s\nn 1 t\na 3 2 5\na 2 1 +05\n",
+        "p max 3 2\nn 1 t\nn 3 s\na 3 2 5\na 2 1 5\n",
+    ),
+    (
+        "no arc",
+        TextKind::Max,
+        "p max 2 0\nn 1 s\nn 2 t",
+        "p max 2 0\nn 1 s\nn 2 t\n",
+    ),
+    (
+        "a supply of 0 left out",
+        TextKind::Min,
+        "p min 2 1\nn 2 -5\nn 1 0\na 1 2 0 2 -7\n",
+        "p min 2 1\nn 2 -5\na 1 2 0 2 -7\n",
+    ),
+    (
+        "the supplies by ID, the arcs in their order",
+        TextKind::Min,
+        "p min 4 2\nn 4 -3\nn 1 3\na 3 4 0 1 1\na 1 3 1 1 -1\n",
+        "p min 4 2\nn 1 3\nn 4 -3\na 3 4 0 1 1\na 1 3 1 1 -1\n",
+    ),
+];
 
 #[test]
 fn flow_instances_get_their_canonical_text(rt: HostRuntime) -> Result<(), Fail> {
-    for (name, kind, text, canonical) in [
-        (
-            "the node lines by ID",
-            TextKind::Max,
-            "p max 3 2\nn 3 s\nn 1 t\na 3 2 5\na 2 1 +05\n",
-            "p max 3 2\nn 1 t\nn 3 s\na 3 2 5\na 2 1 5\n",
-        ),
-        (
-            "no arc",
-            TextKind::Max,
-            "p max 2 0\nn 1 s\nn 2 t",
-            "p max 2 0\nn 1 s\nn 2 t\n",
-        ),
-        (
-            "a supply of 0 left out",
-            TextKind::Min,
-            "p min 2 1\nn 2 -5\nn 1 0\na 1 2 0 2 -7\n",
-            "p min 2 1\nn 2 -5\na 1 2 0 2 -7\n",
-        ),
-        (
-            "the supplies by ID, the arcs in their order",
-            TextKind::Min,
-            "p min 4 2\nn 4 -3\nn 1 3\na 3 4 0 1 1\na 1 3 1 1 -1\n",
-            "p min 4 2\nn 1 3\nn 4 -3\na 3 4 0 1 1\na 1 3 1 1 -1\n",
-        ),
-    ] {
-        converts(
-            &rt,
-            rt.alloc(),
-            kind,
-            name,
-            text.as_bytes(),
-            Status::Done,
-            canonical,
-        )?;
-    }
-    Ok(())
+    converts_each(&rt, rt.alloc(), Status::Done, &FLOW_INSTANCES)
 }
+
+static QUERIES: [Case; 3] = [
+    (
+        "sources, one of them twice",
+        TextKind::Queries,
+        "p aux sp ss 2\ns 1\n s  1\n",
+        "p aux sp ss 2\ns 1\ns 1\n",
+    ),
+    (
+        "pairs",
+        TextKind::Queries,
+        "c\np aux sp p2p 2\nq 1 02\nq 2 1",
+        "p aux sp p2p 2\nq 1 2\nq 2 1\n",
+    ),
+    (
+        "no query",
+        TextKind::Queries,
+        "p aux sp p2p 0\n",
+        "p aux sp p2p 0\n",
+    ),
+];
 
 #[test]
 fn queries_get_their_canonical_text(rt: HostRuntime) -> Result<(), Fail> {
-    for (name, text, canonical) in [
-        (
-            "sources, one of them twice",
-            "p aux sp ss 2\ns 1\n s  1\n",
-            "p aux sp ss 2\ns 1\ns 1\n",
-        ),
-        (
-            "pairs",
-            "c\np aux sp p2p 2\nq 1 02\nq 2 1",
-            "p aux sp p2p 2\nq 1 2\nq 2 1\n",
-        ),
-        ("no query", "p aux sp p2p 0\n", "p aux sp p2p 0\n"),
-    ] {
-        converts(
-            &rt,
-            rt.alloc(),
-            TextKind::Queries,
-            name,
-            text.as_bytes(),
-            Status::Done,
-            canonical,
-        )?;
-    }
-    Ok(())
+    converts_each(&rt, rt.alloc(), Status::Done, &QUERIES)
 }
+
+static FAULTY_INSTANCES_AND_QUERIES: [Case; 10] = [
+    (
+        "parallel arcs",
+        TextKind::Max,
+        "p max 2 2\nn 1 s\nn 2 t\na 1 2 1\na 1 2 1\n",
+        "x instance 5 0 ParallelArc\n",
+    ),
+    (
+        "a node named twice",
+        TextKind::Max,
+        "p max 2 1\nn 1 s\nn 1 t\n",
+        "x instance 3 2 NodeTwice\n",
+    ),
+    (
+        "two sources",
+        TextKind::Max,
+        "p max 2 1\nn 1 s\nn 2 s\n",
+        "x instance 3 3 EndTwice\n",
+    ),
+    (
+        "an arc before the sink",
+        TextKind::Max,
+        "p max 2 1\nn 1 s\na 1 2 1\n",
+        "x instance 3 0 EndMissing\n",
+    ),
+    (
+        "a capacity below the lower bound",
+        TextKind::Min,
+        "p min 2 1\nn 1 0\na 1 2 3 2 0\n",
+        "x instance 3 5 BoundOrder\n",
+    ),
+    (
+        "a negative lower bound",
+        TextKind::Min,
+        "p min 2 1\nn 1 0\na 1 2 -3 2 0\n",
+        "x instance 3 4 BoundOrder\n",
+    ),
+    (
+        "a node line behind an arc",
+        TextKind::Min,
+        "p min 2 1\na 1 2 0 1 0\nn 1 1\n",
+        "x instance 3 0 RecordOrder\n",
+    ),
+    (
+        "a source in a point-to-point text",
+        TextKind::Queries,
+        "p aux sp p2p 1\ns 1\n",
+        "x query 2 0 RecordOrder\n",
+    ),
+    (
+        "neither ss nor p2p",
+        TextKind::Queries,
+        "p aux sp foo 1\n",
+        "x query 1 4 BadWord\n",
+    ),
+    (
+        "no count",
+        TextKind::Queries,
+        "p aux sp ss\n",
+        "x query 1 0 FieldCount\n",
+    ),
+];
 
 #[test]
 fn faulty_instances_and_queries_get_one_line(rt: HostRuntime) -> Result<(), Fail> {
-    for (name, kind, text, line) in [
-        (
-            "parallel arcs",
-            TextKind::Max,
-            "p max 2 2\nn 1 s\nn 2 t\na 1 2 1\na 1 2 1\n",
-            "x instance 5 0 ParallelArc\n",
-        ),
-        (
-            "a node named twice",
-            TextKind::Max,
-            "p max 2 1\nn 1 s\nn 1 t\n",
-            "x instance 3 2 NodeTwice\n",
-        ),
-        (
-            "two sources",
-            TextKind::Max,
-            "p max 2 1\nn 1 s\nn 2 s\n",
-            "x instance 3 3 EndTwice\n",
-        ),
-        (
-            "an arc before the sink",
-            TextKind::Max,
-            "p max 2 1\nn 1 s\na 1 2 1\n",
-            "x instance 3 0 EndMissing\n",
-        ),
-        (
-            "a capacity below the lower bound",
-            TextKind::Min,
-            "p min 2 1\nn 1 0\na 1 2 3 2 0\n",
-            "x instance 3 5 BoundOrder\n",
-        ),
-        (
-            "a negative lower bound",
-            TextKind::Min,
-            "p min 2 1\nn 1 0\na 1 2 -3 2 0\n",
-            "x instance 3 4 BoundOrder\n",
-        ),
-        (
-            "a node line behind an arc",
-            TextKind::Min,
-            "p min 2 1\na 1 2 0 1 0\nn 1 1\n",
-            "x instance 3 0 RecordOrder\n",
-        ),
-        (
-            "a source in a point-to-point text",
-            TextKind::Queries,
-            "p aux sp p2p 1\ns 1\n",
-            "x query 2 0 RecordOrder\n",
-        ),
-        (
-            "neither ss nor p2p",
-            TextKind::Queries,
-            "p aux sp foo 1\n",
-            "x query 1 4 BadWord\n",
-        ),
-        (
-            "no count",
-            TextKind::Queries,
-            "p aux sp ss\n",
-            "x query 1 0 FieldCount\n",
-        ),
-    ] {
-        converts(
-            &rt,
-            rt.alloc(),
-            kind,
-            name,
-            text.as_bytes(),
-            Status::Refused,
-            line,
-        )?;
-    }
-    Ok(())
+    converts_each(
+        &rt,
+        rt.alloc(),
+        Status::Refused,
+        &FAULTY_INSTANCES_AND_QUERIES,
+    )
 }
+
+static CLAIMS_AND_CERTIFICATES: [Case; 5] = [
+    (
+        "a value behind an entry",
+        TextKind::Solution,
+        "f 1 2 3\ns 5\n",
+        "s 5\nf 1 2 3\n",
+    ),
+    (
+        "the greatest value",
+        TextKind::Solution,
+        "s 1000000000000000000000000000000\n",
+        "s 1000000000000000000000000000000\n",
+    ),
+    (
+        "the nodes of a cut by ID",
+        TextKind::Cut,
+        "p cut 4 2\nu 3\nu 1\n",
+        "p cut 4 2\nu 1\nu 3\n",
+    ),
+    (
+        "a potential of 0 left out",
+        TextKind::Potentials,
+        "p pot 2 2\ny 2 -0\ny 1 +05\n",
+        "p pot 2 1\ny 1 5\n",
+    ),
+    (
+        "blocks and labels in their order",
+        TextKind::Labels,
+        "p dist 4 2\nt 4 2\nd 2 5 4\nd 1 -1 02\nt 1 0",
+        "p dist 4 2\nt 4 2\nd 2 5 4\nd 1 -1 2\nt 1 0\n",
+    ),
+];
 
 #[test]
 fn claims_and_certificates_get_their_canonical_text(rt: HostRuntime) -> Result<(), Fail> {
-    for (name, kind, text, canonical) in [
-        (
-            "a value behind an entry",
-            TextKind::Solution,
-            "f 1 2 3\ns 5\n",
-            "s 5\nf 1 2 3\n",
-        ),
-        (
-            "the greatest value",
-            TextKind::Solution,
-            "s 1000000000000000000000000000000\n",
-            "s 1000000000000000000000000000000\n",
-        ),
-        (
-            "the nodes of a cut by ID",
-            TextKind::Cut,
-            "p cut 4 2\nu 3\nu 1\n",
-            "p cut 4 2\nu 1\nu 3\n",
-        ),
-        (
-            "a potential of 0 left out",
-            TextKind::Potentials,
-            "p pot 2 2\ny 2 -0\ny 1 +05\n",
-            "p pot 2 1\ny 1 5\n",
-        ),
-        (
-            "blocks and labels in their order",
-            TextKind::Labels,
-            "p dist 4 2\nt 4 2\nd 2 5 4\nd 1 -1 02\nt 1 0",
-            "p dist 4 2\nt 4 2\nd 2 5 4\nd 1 -1 2\nt 1 0\n",
-        ),
-    ] {
-        converts(
-            &rt,
-            rt.alloc(),
-            kind,
-            name,
-            text.as_bytes(),
-            Status::Done,
-            canonical,
-        )?;
-    }
-    Ok(())
+    converts_each(&rt, rt.alloc(), Status::Done, &CLAIMS_AND_CERTIFICATES)
 }
+
+static FAULTY_CLAIMS_AND_CERTIFICATES: [Case; 12] = [
+    (
+        "no value",
+        TextKind::Solution,
+        "f 1 2 3\n",
+        "x solution 2 0 SolutionMissing\n",
+    ),
+    (
+        "two values",
+        TextKind::Solution,
+        "s 1\ns 1\n",
+        "x solution 2 0 SolutionTwice\n",
+    ),
+    (
+        "a value one past the greatest",
+        TextKind::Solution,
+        "s 1000000000000000000000000000001\n",
+        "x solution 1 2 NumberRange\n",
+    ),
+    (
+        "a node of a cut too few",
+        TextKind::Cut,
+        "p cut 4 1\n",
+        "x certificate 2 0 TooFew\n",
+    ),
+    (
+        "a potential set twice",
+        TextKind::Potentials,
+        "p pot 2 2\ny 2 0\ny 2 1\n",
+        "x certificate 3 2 NodeTwice\n",
+    ),
+    (
+        "a label too few",
+        TextKind::Labels,
+        "p dist 3 1\nt 1 2\nd 2 5 1\n",
+        "x certificate 4 0 TooFew\n",
+    ),
+    (
+        "a block behind an unfinished one",
+        TextKind::Labels,
+        "p dist 3 2\nt 1 1\nt 2 0\n",
+        "x certificate 3 0 TooFew\n",
+    ),
+    (
+        "a block too many behind an unfinished one",
+        TextKind::Labels,
+        "p dist 3 1\nt 1 1\nt 2 0\n",
+        "x certificate 3 0 TooMany\n",
+    ),
+    (
+        "a label before the first block",
+        TextKind::Labels,
+        "p dist 3 1\nd 2 5 1\n",
+        "x certificate 2 0 RecordOrder\n",
+    ),
+    (
+        "a label of the source",
+        TextKind::Labels,
+        "p dist 3 1\nt 1 1\nd 1 0 1\n",
+        "x certificate 3 2 NodeTwice\n",
+    ),
+    (
+        "a predecessor without a label",
+        TextKind::Labels,
+        "p dist 3 1\nt 1 1\nd 2 5 3\n",
+        "x certificate 3 0 PredUnknown\n",
+    ),
+    (
+        "two nodes that are each other's predecessor",
+        TextKind::Labels,
+        "p dist 4 1\nt 1 3\nd 2 5 1\nd 3 0 4\nd 4 0 3\n",
+        "x certificate 4 0 PredUnknown\n",
+    ),
+];
 
 #[test]
 fn faulty_claims_and_certificates_get_one_line(rt: HostRuntime) -> Result<(), Fail> {
-    for (name, kind, text, line) in [
-        (
-            "no value",
-            TextKind::Solution,
-            "f 1 2 3\n",
-            "x solution 2 0 SolutionMissing\n",
-        ),
-        (
-            "two values",
-            TextKind::Solution,
-            "s 1\ns 1\n",
-            "x solution 2 0 SolutionTwice\n",
-        ),
-        (
-            "a value one past the greatest",
-            TextKind::Solution,
-            "s 1000000000000000000000000000001\n",
-            "x solution 1 2 NumberRange\n",
-        ),
-        (
-            "a node of a cut too few",
-            TextKind::Cut,
-            "p cut 4 1\n",
-            "x certificate 2 0 TooFew\n",
-        ),
-        (
-            "a potential set twice",
-            TextKind::Potentials,
-            "p pot 2 2\ny 2 0\ny 2 1\n",
-            "x certificate 3 2 NodeTwice\n",
-        ),
-        (
-            "a label too few",
-            TextKind::Labels,
-            "p dist 3 1\nt 1 2\nd 2 5 1\n",
-            "x certificate 4 0 TooFew\n",
-        ),
-        (
-            "a block behind an unfinished one",
-            TextKind::Labels,
-            "p dist 3 2\nt 1 1\nt 2 0\n",
-            "x certificate 3 0 TooFew\n",
-        ),
-        (
-            "a block too many behind an unfinished one",
-            TextKind::Labels,
-            "p dist 3 1\nt 1 1\nt 2 0\n",
-            "x certificate 3 0 TooMany\n",
-        ),
-        (
-            "a label before the first block",
-            TextKind::Labels,
-            "p dist 3 1\nd 2 5 1\n",
-            "x certificate 2 0 RecordOrder\n",
-        ),
-        (
-            "a label of the source",
-            TextKind::Labels,
-            "p dist 3 1\nt 1 1\nd 1 0 1\n",
-            "x certificate 3 2 NodeTwice\n",
-        ),
-        (
-            "a predecessor without a label",
-            TextKind::Labels,
-            "p dist 3 1\nt 1 1\nd 2 5 3\n",
-            "x certificate 3 0 PredUnknown\n",
-        ),
-        (
-            "two nodes that are each other's predecessor",
-            TextKind::Labels,
-            "p dist 4 1\nt 1 3\nd 2 5 1\nd 3 0 4\nd 4 0 3\n",
-            "x certificate 4 0 PredUnknown\n",
-        ),
-    ] {
-        converts(
-            &rt,
-            rt.alloc(),
-            kind,
-            name,
-            text.as_bytes(),
-            Status::Refused,
-            line,
-        )?;
-    }
-    Ok(())
+    converts_each(
+        &rt,
+        rt.alloc(),
+        Status::Refused,
+        &FAULTY_CLAIMS_AND_CERTIFICATES,
+    )
 }
+
+/// The length of a line of blanks, and the line that is put.
+static LONG_LINES: [(usize, &str); 2] = [
+    (1_048_576, "x instance 2 0 ProblemMissing\n"),
+    (1_048_577, "x instance 1 0 LineTooLong\n"),
+];
 
 #[test]
 fn a_long_line_is_refused_whatever_stands_in_it(rt: HostRuntime) -> Result<(), Fail> {
-    for (length, line) in [
-        (1_048_576, "x instance 2 0 ProblemMissing\n"),
-        (1_048_577, "x instance 1 0 LineTooLong\n"),
-    ] {
+    for &(length, line) in &LONG_LINES {
         let blanks = Vec::from_elem(rt.alloc(), b' ', length)?;
         let mut sink = MemorySink::new(rt.alloc());
         let mut text = MemorySource::new(&blanks);

@@ -2,59 +2,65 @@
 
 use dimacs_records::{LineFault, Reason, TakeError};
 
+/// Reasons, each with its name.
+static REASONS_OF_TEXTS: [(Reason, &str); 21] = [
+    (Reason::LineTooLong, "LineTooLong"),
+    (Reason::UnknownLine, "UnknownLine"),
+    (Reason::FieldCount, "FieldCount"),
+    (Reason::BadNumber, "BadNumber"),
+    (Reason::NumberRange, "NumberRange"),
+    (Reason::BadWord, "BadWord"),
+    (Reason::ProblemMissing, "ProblemMissing"),
+    (Reason::ProblemTwice, "ProblemTwice"),
+    (Reason::RecordOrder, "RecordOrder"),
+    (Reason::NodeRange, "NodeRange"),
+    (Reason::NodeTwice, "NodeTwice"),
+    (Reason::EndTwice, "EndTwice"),
+    (Reason::EndMissing, "EndMissing"),
+    (Reason::BoundOrder, "BoundOrder"),
+    (Reason::ParallelArc, "ParallelArc"),
+    (Reason::TooMany, "TooMany"),
+    (Reason::TooFew, "TooFew"),
+    (Reason::SolutionMissing, "SolutionMissing"),
+    (Reason::SolutionTwice, "SolutionTwice"),
+    (Reason::PredUnknown, "PredUnknown"),
+    (Reason::LineLimit, "LineLimit"),
+];
+
 #[test]
 fn reasons_of_texts_have_their_names(rt: HostRuntime) {
-    for (reason, name) in [
-        (Reason::LineTooLong, "LineTooLong"),
-        (Reason::UnknownLine, "UnknownLine"),
-        (Reason::FieldCount, "FieldCount"),
-        (Reason::BadNumber, "BadNumber"),
-        (Reason::NumberRange, "NumberRange"),
-        (Reason::BadWord, "BadWord"),
-        (Reason::ProblemMissing, "ProblemMissing"),
-        (Reason::ProblemTwice, "ProblemTwice"),
-        (Reason::RecordOrder, "RecordOrder"),
-        (Reason::NodeRange, "NodeRange"),
-        (Reason::NodeTwice, "NodeTwice"),
-        (Reason::EndTwice, "EndTwice"),
-        (Reason::EndMissing, "EndMissing"),
-        (Reason::BoundOrder, "BoundOrder"),
-        (Reason::ParallelArc, "ParallelArc"),
-        (Reason::TooMany, "TooMany"),
-        (Reason::TooFew, "TooFew"),
-        (Reason::SolutionMissing, "SolutionMissing"),
-        (Reason::SolutionTwice, "SolutionTwice"),
-        (Reason::PredUnknown, "PredUnknown"),
-        (Reason::LineLimit, "LineLimit"),
-    ] {
+    for &(reason, name) in &REASONS_OF_TEXTS {
         assert!(rt; reason.name().as_bytes() == name.as_bytes(), "{reason:?}");
     }
 }
 
+/// Reasons, each with its name.
+static REASONS_OF_CLAIMS: [(Reason, &str); 20] = [
+    (Reason::UnknownArc, "UnknownArc"),
+    (Reason::ArcTwice, "ArcTwice"),
+    (Reason::BelowLow, "BelowLow"),
+    (Reason::AboveCap, "AboveCap"),
+    (Reason::Balance, "Balance"),
+    (Reason::CostRange, "CostRange"),
+    (Reason::ValueDiffers, "ValueDiffers"),
+    (Reason::NodesDiffer, "NodesDiffer"),
+    (Reason::SourceOutside, "SourceOutside"),
+    (Reason::SinkInside, "SinkInside"),
+    (Reason::NotSaturated, "NotSaturated"),
+    (Reason::BackFlow, "BackFlow"),
+    (Reason::NotTight, "NotTight"),
+    (Reason::NotViolated, "NotViolated"),
+    (Reason::QueryNode, "QueryNode"),
+    (Reason::BlockMissing, "BlockMissing"),
+    (Reason::NoTightArc, "NoTightArc"),
+    (Reason::Escapes, "Escapes"),
+    (Reason::NotShortest, "NotShortest"),
+    (Reason::NegativeWeight, "NegativeWeight"),
+];
+
 #[test]
 fn reasons_of_claims_have_their_names(rt: HostRuntime) {
-    for (reason, name) in [
-        (Reason::UnknownArc, "UnknownArc"),
-        (Reason::ArcTwice, "ArcTwice"),
-        (Reason::BelowLow, "BelowLow"),
-        (Reason::AboveCap, "AboveCap"),
-        (Reason::Balance, "Balance"),
-        (Reason::CostRange, "CostRange"),
-        (Reason::ValueDiffers, "ValueDiffers"),
-        (Reason::NodesDiffer, "NodesDiffer"),
-        (Reason::SourceOutside, "SourceOutside"),
-        (Reason::SinkInside, "SinkInside"),
-        (Reason::NotSaturated, "NotSaturated"),
-        (Reason::BackFlow, "BackFlow"),
-        (Reason::NotTight, "NotTight"),
-        (Reason::NotViolated, "NotViolated"),
-        (Reason::QueryNode, "QueryNode"),
-        (Reason::BlockMissing, "BlockMissing"),
-        (Reason::NoTightArc, "NoTightArc"),
-        (Reason::Escapes, "Escapes"),
-        (Reason::NotShortest, "NotShortest"),
-        (Reason::NegativeWeight, "NegativeWeight"),
-    ] {
+    for &(reason, name) in &REASONS_OF_CLAIMS {
         assert!(rt; reason.name().as_bytes() == name.as_bytes(), "{reason:?}");
     }
 }

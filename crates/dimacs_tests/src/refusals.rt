@@ -28,215 +28,218 @@ fn refuses(
     Ok(())
 }
 
+/// Texts that are refused for their first fault.
+static REFUSED_TEXTS: [(&str, &str, u64, u32, Reason); 31] = [
+    ("empty text", "", 1, 0, Reason::ProblemMissing),
+    ("one empty line", "\n", 2, 0, Reason::ProblemMissing),
+    (
+        "comments alone",
+        "c x\n\nc y\n",
+        4,
+        0,
+        Reason::ProblemMissing,
+    ),
+    (
+        "comment without line end",
+        "c x\nc",
+        3,
+        0,
+        Reason::ProblemMissing,
+    ),
+    (
+        "arc before the problem",
+        "a 1 1 0\np sp 1 1\n",
+        1,
+        0,
+        Reason::ProblemMissing,
+    ),
+    (
+        "the arc's own fault comes first",
+        "a 0 1 0\n",
+        1,
+        2,
+        Reason::NumberRange,
+    ),
+    (
+        "problem twice",
+        "p sp 1 0\np sp 1 0\n",
+        2,
+        0,
+        Reason::ProblemTwice,
+    ),
+    (
+        "problem twice behind arcs",
+        "p sp 1 1\na 1 1 0\n\np sp 1 1\n",
+        4,
+        0,
+        Reason::ProblemTwice,
+    ),
+    (
+        "the second problem's own fault comes first",
+        "p sp 1 0\np max 1 0\n",
+        2,
+        2,
+        Reason::BadWord,
+    ),
+    (
+        "problem of a flow text",
+        "p max 4 5\n",
+        1,
+        2,
+        Reason::BadWord,
+    ),
+    (
+        "query problem without count",
+        "p aux sp ss\n",
+        1,
+        2,
+        Reason::BadWord,
+    ),
+    (
+        "query problem with count",
+        "p aux sp ss 1\n",
+        1,
+        0,
+        Reason::FieldCount,
+    ),
+    (
+        "weight past the range",
+        "p sp 2 1\na 1 2 9223372036854775808\n",
+        2,
+        4,
+        Reason::NumberRange,
+    ),
+    (
+        "unknown letter",
+        "p sp 1 1\ne 1 1 0\n",
+        2,
+        1,
+        Reason::UnknownLine,
+    ),
+    (
+        "field missing",
+        "p sp 1 1\na 1 1\n",
+        2,
+        0,
+        Reason::FieldCount,
+    ),
+    (
+        "head above NODES",
+        "p sp 1 1\na 1 2 0\n",
+        2,
+        3,
+        Reason::NodeRange,
+    ),
+    (
+        "tail zero",
+        "p sp 1 1\na 0 1 0\n",
+        2,
+        2,
+        Reason::NumberRange,
+    ),
+    (
+        "weight with a point",
+        "p sp 1 1\na 1 1 1.0\n",
+        2,
+        4,
+        Reason::BadNumber,
+    ),
+    (
+        "tail above NODES",
+        "p sp 2 1\na 3 1 0\n",
+        2,
+        2,
+        Reason::NodeRange,
+    ),
+    (
+        "tail before head",
+        "p sp 2 1\na 3 3 0\n",
+        2,
+        2,
+        Reason::NodeRange,
+    ),
+    (
+        "no node at all",
+        "p sp 0 1\na 1 1 0\n",
+        2,
+        2,
+        Reason::NodeRange,
+    ),
+    (
+        "fields before NODES",
+        "p sp 1 1\na 2 1 x\n",
+        2,
+        4,
+        Reason::BadNumber,
+    ),
+    (
+        "NODES before the count",
+        "p sp 1 0\na 1 2 0\n",
+        2,
+        3,
+        Reason::NodeRange,
+    ),
+    (
+        "more than declared",
+        "p sp 3 0\na 1 2 5\n",
+        2,
+        0,
+        Reason::TooMany,
+    ),
+    (
+        "one more than declared",
+        "p sp 1 1\na 1 1 0\nc\na 1 1 0\n",
+        4,
+        0,
+        Reason::TooMany,
+    ),
+    (
+        "fewer than declared",
+        "p sp 3 2\na 1 2 5\n",
+        3,
+        0,
+        Reason::TooFew,
+    ),
+    (
+        "fewer, without line end",
+        "p sp 3 2\na 1 2 5",
+        3,
+        0,
+        Reason::TooFew,
+    ),
+    (
+        "skipped lines count",
+        "c\np sp 1 1\n\nc\n",
+        5,
+        0,
+        Reason::TooFew,
+    ),
+    (
+        "place behind skipped lines",
+        "c\n\np sp 1 1\n \na 2 1 0\n",
+        5,
+        2,
+        Reason::NodeRange,
+    ),
+    (
+        "the first of two faulty lines",
+        "p sp 1 1\na 1 2 0\na 0 0 0\n",
+        2,
+        3,
+        Reason::NodeRange,
+    ),
+    (
+        "a fault behind the last arc",
+        "p sp 1 1\na 1 1 0\nx\n",
+        3,
+        1,
+        Reason::UnknownLine,
+    ),
+];
+
 #[test]
 fn texts_are_refused_at_their_first_fault(rt: HostRuntime) -> Result<(), Fail> {
-    for (name, text, line, field, reason) in [
-        ("empty text", "", 1, 0, Reason::ProblemMissing),
-        ("one empty line", "\n", 2, 0, Reason::ProblemMissing),
-        (
-            "comments alone",
-            "c x\n\nc y\n",
-            4,
-            0,
-            Reason::ProblemMissing,
-        ),
-        (
-            "comment without line end",
-            "c x\nc",
-            3,
-            0,
-            Reason::ProblemMissing,
-        ),
-        (
-            "arc before the problem",
-            "a 1 1 0\np sp 1 1\n",
-            1,
-            0,
-            Reason::ProblemMissing,
-        ),
-        (
-            "the arc's own fault comes first",
-            "a 0 1 0\n",
-            1,
-            2,
-            Reason::NumberRange,
-        ),
-        (
-            "problem twice",
-            "p sp 1 0\np sp 1 0\n",
-            2,
-            0,
-            Reason::ProblemTwice,
-        ),
-        (
-            "problem twice behind arcs",
-            "p sp 1 1\na 1 1 0\n\np sp 1 1\n",
-            4,
-            0,
-            Reason::ProblemTwice,
-        ),
-        (
-            "the second problem's own fault comes first",
-            "p sp 1 0\np max 1 0\n",
-            2,
-            2,
-            Reason::BadWord,
-        ),
-        (
-            "problem of a flow text",
-            "p max 4 5\n",
-            1,
-            2,
-            Reason::BadWord,
-        ),
-        (
-            "query problem without count",
-            "p aux sp ss\n",
-            1,
-            2,
-            Reason::BadWord,
-        ),
-        (
-            "query problem with count",
-            "p aux sp ss 1\n",
-            1,
-            0,
-            Reason::FieldCount,
-        ),
-        (
-            "weight past the range",
-            "p sp 2 1\na 1 2 9223372036854775808\n",
-            2,
-            4,
-            Reason::NumberRange,
-        ),
-        (
-            "unknown letter",
-            "p sp 1 1\ne 1 1 0\n",
-            2,
-            1,
-            Reason::UnknownLine,
-        ),
-        (
-            "field missing",
-            "p sp 1 1\na 1 1\n",
-            2,
-            0,
-            Reason::FieldCount,
-        ),
-        (
-            "head above NODES",
-            "p sp 1 1\na 1 2 0\n",
-            2,
-            3,
-            Reason::NodeRange,
-        ),
-        (
-            "tail zero",
-            "p sp 1 1\na 0 1 0\n",
-            2,
-            2,
-            Reason::NumberRange,
-        ),
-        (
-            "weight with a point",
-            "p sp 1 1\na 1 1 1.0\n",
-            2,
-            4,
-            Reason::BadNumber,
-        ),
-        (
-            "tail above NODES",
-            "p sp 2 1\na 3 1 0\n",
-            2,
-            2,
-            Reason::NodeRange,
-        ),
-        (
-            "tail before head",
-            "p sp 2 1\na 3 3 0\n",
-            2,
-            2,
-            Reason::NodeRange,
-        ),
-        (
-            "no node at all",
-            "p sp 0 1\na 1 1 0\n",
-            2,
-            2,
-            Reason::NodeRange,
-        ),
-        (
-            "fields before NODES",
-            "p sp 1 1\na 2 1 x\n",
-            2,
-            4,
-            Reason::BadNumber,
-        ),
-        (
-            "NODES before the count",
-            "p sp 1 0\na 1 2 0\n",
-            2,
-            3,
-            Reason::NodeRange,
-        ),
-        (
-            "more than declared",
-            "p sp 3 0\na 1 2 5\n",
-            2,
-            0,
-            Reason::TooMany,
-        ),
-        (
-            "one more than declared",
-            "p sp 1 1\na 1 1 0\nc\na 1 1 0\n",
-            4,
-            0,
-            Reason::TooMany,
-        ),
-        (
-            "fewer than declared",
-            "p sp 3 2\na 1 2 5\n",
-            3,
-            0,
-            Reason::TooFew,
-        ),
-        (
-            "fewer, without line end",
-            "p sp 3 2\na 1 2 5",
-            3,
-            0,
-            Reason::TooFew,
-        ),
-        (
-            "skipped lines count",
-            "c\np sp 1 1\n\nc\n",
-            5,
-            0,
-            Reason::TooFew,
-        ),
-        (
-            "place behind skipped lines",
-            "c\n\np sp 1 1\n \na 2 1 0\n",
-            5,
-            2,
-            Reason::NodeRange,
-        ),
-        (
-            "the first of two faulty lines",
-            "p sp 1 1\na 1 2 0\na 0 0 0\n",
-            2,
-            3,
-            Reason::NodeRange,
-        ),
-        (
-            "a fault behind the last arc",
-            "p sp 1 1\na 1 1 0\nx\n",
-            3,
-            1,
-            Reason::UnknownLine,
-        ),
-    ] {
+    for &(name, text, line, field, reason) in &REFUSED_TEXTS {
         refuses(
             &rt,
             rt.alloc(),
@@ -249,15 +252,18 @@ fn texts_are_refused_at_their_first_fault(rt: HostRuntime) -> Result<(), Fail> {
     Ok(())
 }
 
+/// A line that is refused, and what stands behind it.
+static REFUSED_LINES: [(&str, &str); 5] = [
+    ("the end", "p sp 1 1\ne 1 1 0"),
+    ("a good line", "p sp 1 1\ne 1 1 0\na 1 1 0\n"),
+    ("another fault", "p sp 1 1\ne 1 1 0\na 0 0 0\n"),
+    ("a second problem", "p sp 1 1\ne 1 1 0\np sp 1 1\n"),
+    ("empty lines", "p sp 1 1\ne 1 1 0\n\n\n\n"),
+];
+
 #[test]
 fn nothing_behind_a_refused_line_matters(rt: HostRuntime) -> Result<(), Fail> {
-    for (name, text) in [
-        ("the end", "p sp 1 1\ne 1 1 0"),
-        ("a good line", "p sp 1 1\ne 1 1 0\na 1 1 0\n"),
-        ("another fault", "p sp 1 1\ne 1 1 0\na 0 0 0\n"),
-        ("a second problem", "p sp 1 1\ne 1 1 0\np sp 1 1\n"),
-        ("empty lines", "p sp 1 1\ne 1 1 0\n\n\n\n"),
-    ] {
+    for &(name, text) in &REFUSED_LINES {
         let at = At { line: 2, field: 1 };
         refuses(
             &rt,
@@ -271,94 +277,91 @@ fn nothing_behind_a_refused_line_matters(rt: HostRuntime) -> Result<(), Fail> {
     Ok(())
 }
 
-#[test]
-fn lines_have_a_greatest_length(rt: HostRuntime) -> Result<(), Fail> {
-    let alloc = rt.alloc();
-    let first = At { line: 1, field: 0 };
-    let second = At { line: 2, field: 0 };
-    let third = At { line: 3, field: 0 };
+/// The greatest length of a line.
+const LONGEST: usize = 1_048_576;
 
-    let mut blanks = Vec::from_elem(alloc, b' ', 1_048_576)?;
+#[test]
+fn the_longest_line_of_blanks_is_skipped(rt: HostRuntime) -> Result<(), Fail> {
+    let at = At { line: 2, field: 0 };
+    let mut blanks = Vec::from_elem(rt.alloc(), b' ', LONGEST)?;
     refuses(
         &rt,
-        alloc,
+        rt.alloc(),
         "blanks within",
         &blanks,
-        second,
+        at,
         Reason::ProblemMissing,
     )?;
     blanks.push(b'\n')?;
     refuses(
         &rt,
-        alloc,
+        rt.alloc(),
         "the end is not counted",
         &blanks,
-        second,
+        at,
         Reason::ProblemMissing,
-    )?;
-
-    let blanks = Vec::from_elem(alloc, b' ', 1_048_577)?;
-    refuses(
-        &rt,
-        alloc,
-        "one blank more",
-        &blanks,
-        first,
-        Reason::LineTooLong,
-    )?;
-
-    let unknown = Vec::from_elem(alloc, b'x', 1_048_577)?;
-    refuses(
-        &rt,
-        alloc,
-        "length before letter",
-        &unknown,
-        first,
-        Reason::LineTooLong,
-    )?;
-
-    let mut comment = b"p sp 1 0\n".to_vec(alloc)?;
-    let letters = Vec::from_elem(alloc, b'c', 1_048_577)?;
-    comment.extend_from_slice(&letters)?;
-    refuses(
-        &rt,
-        alloc,
-        "comments too",
-        &comment,
-        second,
-        Reason::LineTooLong,
-    )?;
-
-    let mut returns = b"p sp 1 1\n".to_vec(alloc)?;
-    let line = Vec::from_elem(alloc, b'c', 1_048_576)?;
-    returns.extend_from_slice(&line)?;
-    refuses(
-        &rt,
-        alloc,
-        "as long as it may be",
-        &returns,
-        third,
-        Reason::TooFew,
-    )?;
-    returns.extend_from_slice(b"\r\n")?;
-    refuses(
-        &rt,
-        alloc,
-        "CR is counted",
-        &returns,
-        second,
-        Reason::LineTooLong,
     )?;
     Ok(())
 }
 
 #[test]
+fn a_longer_line_is_refused_whatever_stands_in_it(rt: HostRuntime) -> Result<(), Fail> {
+    let at = At { line: 1, field: 0 };
+    for (name, byte) in [("one blank more", b' '), ("length before letter", b'x')] {
+        let line = Vec::from_elem(rt.alloc(), byte, LONGEST + 1)?;
+        refuses(&rt, rt.alloc(), name, &line, at, Reason::LineTooLong)?;
+    }
+    Ok(())
+}
+
+#[test]
+fn a_longer_comment_is_refused(rt: HostRuntime) -> Result<(), Fail> {
+    let mut text = b"p sp 1 0\n".to_vec(rt.alloc())?;
+    text.resize(9 + LONGEST + 1, b'c')?;
+    let at = At { line: 2, field: 0 };
+    refuses(
+        &rt,
+        rt.alloc(),
+        "comments too",
+        &text,
+        at,
+        Reason::LineTooLong,
+    )
+}
+
+#[test]
+fn a_carriage_return_is_counted(rt: HostRuntime) -> Result<(), Fail> {
+    let mut text = b"p sp 1 1\n".to_vec(rt.alloc())?;
+    text.resize(9 + LONGEST, b'c')?;
+    refuses(
+        &rt,
+        rt.alloc(),
+        "as long as it may be",
+        &text,
+        At { line: 3, field: 0 },
+        Reason::TooFew,
+    )?;
+    text.extend_from_slice(b"\r\n")?;
+    refuses(
+        &rt,
+        rt.alloc(),
+        "CR is counted",
+        &text,
+        At { line: 2, field: 0 },
+        Reason::LineTooLong,
+    )
+}
+
+/// The length of a line of blanks, and where and why the text is refused.
+static LONG_LINES: [(usize, u64, Reason); 2] = [
+    (1_048_576, 2, Reason::ProblemMissing),
+    (1_048_577, 1, Reason::LineTooLong),
+];
+
+#[test]
 fn a_long_line_may_come_byte_by_byte(rt: HostRuntime) -> Result<(), Fail> {
     let ones = Vec::from_elem(rt.alloc(), 1, 1_048_577)?;
-    for (length, line, reason) in [
-        (1_048_576, 2, Reason::ProblemMissing),
-        (1_048_577, 1, Reason::LineTooLong),
-    ] {
+    for &(length, line, reason) in &LONG_LINES {
         let blanks = Vec::from_elem(rt.alloc(), b' ', length)?;
         let error = read_graph(rt.alloc(), &mut CutSource::new(&blanks, &ones)).err();
         let at = At { line, field: 0 };

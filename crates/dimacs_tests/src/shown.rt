@@ -1,110 +1,143 @@
 //! The lines that tell what a text is.
 
-use dimacs_lines::{CutSource, FlakySource, MemorySink, MemorySource};
+use dimacs_lines::{CutSource, FlakySource, MemorySink, MemorySource, Source};
 use dimacs_records::TextKind;
 use dimacs_runs::{RunError, Status, run_show};
+use std::alloc::Global;
+use std::process::Abort;
 use std::test::Fail;
+
+/// Whether what a source gives is shown by this line.
+fn shows<S: Source>(
+    rt: &impl Abort,
+    alloc: Global,
+    name: &str,
+    way: &str,
+    kind: TextKind,
+    source: &mut S,
+    status: Status,
+    line: &str,
+) {
+    let mut sink = MemorySink::new(alloc);
+    let ended = run_show(alloc, kind, source, &mut sink);
+    assert_eq!(rt; ended, Ok(status), "{name}, {way}");
+    assert!(rt; sink.bytes() == line.as_bytes(), "{name}, {way}");
+}
+
+/// Texts, each with how the run ends and the line that is put.
+static SHOWN: [(&str, TextKind, &str, Status, &str); 12] = [
+    (
+        "a maximum flow instance",
+        TextKind::Max,
+        "p max 4 5\nn 1 s\nn 4 t\na 1 2 4\na 1 3 2\na 2 3 2\na 2 4 3\na 3 4 5\n",
+        Status::Done,
+        "i max 4 5 1 4\n",
+    ),
+    (
+        "a minimum cost flow instance",
+        TextKind::Min,
+        "p min 4 5\nn 1 4\nn 4 -4\na 1 2 0 4 2\na 1 3 0 2 2\na 2 3 0 2 1\na 2 4 0 3 3\na 3 4 0 5 1\n",
+        Status::Done,
+        "i min 4 5 4 4\n",
+    ),
+    (
+        "sums past 64 bits",
+        TextKind::Min,
+        "p min 4 0\nn 1 9223372036854775807\nn 2 9223372036854775807\nn 3 -9223372036854775808\nn 4 -9223372036854775808\n",
+        Status::Done,
+        "i min 4 0 18446744073709551614 18446744073709551616\n",
+    ),
+    (
+        "a graph",
+        TextKind::Graph,
+        "p sp 4 3\na 1 2 5\na 3 4 0\na 4 3 0\n",
+        Status::Done,
+        "i sp 4 3\n",
+    ),
+    (
+        "a source asked for twice",
+        TextKind::Queries,
+        "p aux sp ss 2\ns 1\ns 1\n",
+        Status::Done,
+        "i ss 2\n",
+    ),
+    (
+        "pairs",
+        TextKind::Queries,
+        "p aux sp p2p 1\nq 1 2\n",
+        Status::Done,
+        "i p2p 1\n",
+    ),
+    (
+        "a solution",
+        TextKind::Solution,
+        "s 6\nf 1 2 4\nf 1 3 2\nf 2 3 1\nf 2 4 3\nf 3 4 3\n",
+        Status::Done,
+        "i solution 6 5\n",
+    ),
+    (
+        "a cut",
+        TextKind::Cut,
+        "p cut 4 2\nu 3\nu 1\n",
+        Status::Done,
+        "i cut 4 2\n",
+    ),
+    (
+        "potentials, one of them 0",
+        TextKind::Potentials,
+        "p pot 2 2\ny 2 -0\ny 1 +05\n",
+        Status::Done,
+        "i pot 2 1\n",
+    ),
+    (
+        "labels",
+        TextKind::Labels,
+        "p dist 4 1\nt 1 1\nd 2 5 1\n",
+        Status::Done,
+        "i dist 4 1\n",
+    ),
+    (
+        "a faulty graph",
+        TextKind::Graph,
+        "p sp 3 2\na 1 2 5\n",
+        Status::Refused,
+        "x instance 3 0 TooFew\n",
+    ),
+    (
+        "faulty queries",
+        TextKind::Queries,
+        "",
+        Status::Refused,
+        "x query 1 0 ProblemMissing\n",
+    ),
+];
 
 #[test]
 fn texts_are_shown_in_one_line(rt: HostRuntime) -> Result<(), Fail> {
-    for (name, kind, text, status, line) in [
-        (
-            "a maximum flow instance",
-            TextKind::Max,
-            "p max 4 5\nn 1 s\nn 4 t\na 1 2 4\na 1 3 2\na 2 3 2\na 2 4 3\na 3 4 5\n",
-            Status::Done,
-            "i max 4 5 1 4\n",
-        ),
-        (
-            "a minimum cost flow instance",
-            TextKind::Min,
-            "p min 4 5\nn 1 4\nn 4 -4\na 1 2 0 4 2\na 1 3 0 2 2\na 2 3 0 2 1\na 2 4 0 3 3\na 3 4 0 5 1\n",
-            Status::Done,
-            "i min 4 5 4 4\n",
-        ),
-        (
-            "sums past 64 bits",
-            TextKind::Min,
-            "p min 4 0\nn 1 9223372036854775807\nn 2 9223372036854775807\nn 3 -9223372036854775808\nn 4 -9223372036854775808\n",
-            Status::Done,
-            "i min 4 0 18446744073709551614 18446744073709551616\n",
-        ),
-        (
-            "a graph",
-            TextKind::Graph,
-            "p sp 4 3\na 1 2 5\na 3 4 0\na 4 3 0\n",
-            Status::Done,
-            "i sp 4 3\n",
-        ),
-        (
-            "a source asked for twice",
-            TextKind::Queries,
-            "p aux sp ss 2\ns 1\ns 1\n",
-            Status::Done,
-            "i ss 2\n",
-        ),
-        (
-            "pairs",
-            TextKind::Queries,
-            "p aux sp p2p 1\nq 1 2\n",
-            Status::Done,
-            "i p2p 1\n",
-        ),
-        (
-            "a solution",
-            TextKind::Solution,
-            "s 6\nf 1 2 4\nf 1 3 2\nf 2 3 1\nf 2 4 3\nf 3 4 3\n",
-            Status::Done,
-            "i solution 6 5\n",
-        ),
-        (
-            "a cut",
-            TextKind::Cut,
-            "p cut 4 2\nu 3\nu 1\n",
-            Status::Done,
-            "i cut 4 2\n",
-        ),
-        (
-            "potentials, one of them 0",
-            TextKind::Potentials,
-            "p pot 2 2\ny 2 -0\ny 1 +05\n",
-            Status::Done,
-            "i pot 2 1\n",
-        ),
-        (
-            "labels",
-            TextKind::Labels,
-            "p dist 4 1\nt 1 1\nd 2 5 1\n",
-            Status::Done,
-            "i dist 4 1\n",
-        ),
-        (
-            "a faulty graph",
-            TextKind::Graph,
-            "p sp 3 2\na 1 2 5\n",
-            Status::Refused,
-            "x instance 3 0 TooFew\n",
-        ),
-        (
-            "faulty queries",
-            TextKind::Queries,
-            "",
-            Status::Refused,
-            "x query 1 0 ProblemMissing\n",
-        ),
-    ] {
-        let mut sink = MemorySink::new(rt.alloc());
+    for &(name, kind, text, status, line) in &SHOWN {
         let mut whole = MemorySource::new(text.as_bytes());
-        let ended = run_show(rt.alloc(), kind, &mut whole, &mut sink);
-        assert_eq!(rt; ended, Ok(status), "{name}");
-        assert!(rt; sink.bytes() == line.as_bytes(), "{name}");
-
+        shows(
+            &rt,
+            rt.alloc(),
+            name,
+            "in one piece",
+            kind,
+            &mut whole,
+            status,
+            line,
+        );
         let ones = Vec::from_elem(rt.alloc(), 1, text.len())?;
-        let mut sink = MemorySink::new(rt.alloc());
         let mut pieces = CutSource::new(text.as_bytes(), &ones);
-        let ended = run_show(rt.alloc(), kind, &mut pieces, &mut sink);
-        assert_eq!(rt; ended, Ok(status), "{name}, in pieces");
-        assert!(rt; sink.bytes() == line.as_bytes(), "{name}, in pieces");
+        shows(
+            &rt,
+            rt.alloc(),
+            name,
+            "in pieces",
+            kind,
+            &mut pieces,
+            status,
+            line,
+        );
     }
     Ok(())
 }

@@ -14,18 +14,21 @@ fn words(alloc: Global, line: &str) -> Result<Vec<String>, Fail> {
     Ok(words)
 }
 
+/// Words of kinds.
+static KINDS: [(&str, TextKind); 8] = [
+    ("max", TextKind::Max),
+    ("min", TextKind::Min),
+    ("gr", TextKind::Graph),
+    ("query", TextKind::Queries),
+    ("solution", TextKind::Solution),
+    ("cut", TextKind::Cut),
+    ("pot", TextKind::Potentials),
+    ("dist", TextKind::Labels),
+];
+
 #[test]
 fn words_ask_for_each_kind(rt: HostRuntime) -> Result<(), Fail> {
-    for (word, kind) in [
-        ("max", TextKind::Max),
-        ("min", TextKind::Min),
-        ("gr", TextKind::Graph),
-        ("query", TextKind::Queries),
-        ("solution", TextKind::Solution),
-        ("cut", TextKind::Cut),
-        ("pot", TextKind::Potentials),
-        ("dist", TextKind::Labels),
-    ] {
+    for &(word, kind) in &KINDS {
         let converted = words(rt.alloc(), &format!(in rt.alloc(); "convert {word} file")?)?;
         assert_eq!(rt; job(&converted), Some(Job::Convert(kind, "file")), "{word}");
         let shown = words(rt.alloc(), &format!(in rt.alloc(); "show {word} file")?)?;
@@ -34,34 +37,35 @@ fn words_ask_for_each_kind(rt: HostRuntime) -> Result<(), Fail> {
     Ok(())
 }
 
+/// Command lines that ask for the conversion of a graph, each with its file.
+static CONVERSIONS: [(&str, &str); 4] = [
+    ("convert gr road.gr", "road.gr"),
+    ("convert gr -", "-"),
+    ("convert gr --help", "--help"),
+    ("convert gr convert", "convert"),
+];
+
 #[test]
 fn words_ask_for_a_conversion(rt: HostRuntime) -> Result<(), Fail> {
-    for (line, wanted) in [
-        (
-            "convert gr road.gr",
-            Job::Convert(TextKind::Graph, "road.gr"),
-        ),
-        ("convert gr -", Job::Convert(TextKind::Graph, "-")),
-        ("convert gr --help", Job::Convert(TextKind::Graph, "--help")),
-        (
-            "convert gr convert",
-            Job::Convert(TextKind::Graph, "convert"),
-        ),
-    ] {
+    for &(line, file) in &CONVERSIONS {
         let given = words(rt.alloc(), line)?;
-        assert_eq!(rt; job(&given), Some(wanted), "{line}");
+        let wanted = Some(Job::Convert(TextKind::Graph, file));
+        assert_eq!(rt; job(&given), wanted, "{line}");
     }
     Ok(())
 }
 
+/// Command lines that ask for a judge.
+static JUDGES: [(&str, JudgeKind); 4] = [
+    ("judge-max instance solution cut", JudgeKind::Max),
+    ("judge-min instance solution potentials", JudgeKind::Min),
+    ("judge-infeasible instance cut", JudgeKind::Infeasible),
+    ("judge-paths graph query labels", JudgeKind::Paths),
+];
+
 #[test]
 fn words_ask_for_each_judge(rt: HostRuntime) -> Result<(), Fail> {
-    for (line, kind) in [
-        ("judge-max instance solution cut", JudgeKind::Max),
-        ("judge-min instance solution potentials", JudgeKind::Min),
-        ("judge-infeasible instance cut", JudgeKind::Infeasible),
-        ("judge-paths graph query labels", JudgeKind::Paths),
-    ] {
+    for &(line, kind) in &JUDGES {
         let given = words(rt.alloc(), line)?;
         let files = given.get(1..).unwrap_or_default();
         assert_eq!(rt; job(&given), Some(Job::Judge(kind, files)), "{line}");
@@ -69,31 +73,34 @@ fn words_ask_for_each_judge(rt: HostRuntime) -> Result<(), Fail> {
     Ok(())
 }
 
+/// Command lines that ask for nothing.
+static OTHER_WORDS: [&str; 21] = [
+    "",
+    "convert",
+    "convert gr",
+    "convert foo road.gr",
+    "convert GR road.gr",
+    "convert gr road.gr road.gr",
+    "Convert gr road.gr",
+    "--help",
+    "--version",
+    "-",
+    "gr convert road.gr",
+    "show",
+    "show gr",
+    "show foo road.gr",
+    "show gr road.gr road.gr",
+    "judge-max",
+    "judge-max instance solution",
+    "judge-max instance solution cut cut",
+    "judge-infeasible instance",
+    "judge-infeasible instance solution cut",
+    "judge instance solution cut",
+];
+
 #[test]
 fn other_words_ask_for_nothing(rt: HostRuntime) -> Result<(), Fail> {
-    for line in [
-        "",
-        "convert",
-        "convert gr",
-        "convert foo road.gr",
-        "convert GR road.gr",
-        "convert gr road.gr road.gr",
-        "Convert gr road.gr",
-        "--help",
-        "--version",
-        "-",
-        "gr convert road.gr",
-        "show",
-        "show gr",
-        "show foo road.gr",
-        "show gr road.gr road.gr",
-        "judge-max",
-        "judge-max instance solution",
-        "judge-max instance solution cut cut",
-        "judge-infeasible instance",
-        "judge-infeasible instance solution cut",
-        "judge instance solution cut",
-    ] {
+    for &line in &OTHER_WORDS {
         let given = words(rt.alloc(), line)?;
         assert_eq!(rt; job(&given), None, "{line}");
     }
@@ -102,14 +109,17 @@ fn other_words_ask_for_nothing(rt: HostRuntime) -> Result<(), Fail> {
     Ok(())
 }
 
+/// Outcomes of runs, each with its exit status.
+static STATUSES: [(Result<Status, RunError>, u8); 4] = [
+    (Ok(Status::Done), 0),
+    (Ok(Status::Refused), 1),
+    (Err(RunError::Device), 3),
+    (Err(RunError::Memory), 4),
+];
+
 #[test]
 fn runs_have_their_exit_statuses(rt: HostRuntime) {
-    for (outcome, number) in [
-        (Ok(Status::Done), 0),
-        (Ok(Status::Refused), 1),
-        (Err(RunError::Device), 3),
-        (Err(RunError::Memory), 4),
-    ] {
+    for &(outcome, number) in &STATUSES {
         assert_eq!(rt; exit_status(&outcome), number);
     }
 }
