@@ -10,3 +10,5 @@ mod labels;
 mod potentials;
 #[cfg(test)]
 mod solutions;
+#[cfg(test)]
+mod texts;

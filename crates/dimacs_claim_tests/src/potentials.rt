@@ -1,57 +1,18 @@
 //! Potentials: texts that are read and written again, potentials that are set, and texts that are refused.
 
-use dimacs_claims::{Potentials, PotentialsReading, read_potentials, write_potentials};
-use dimacs_lines::{
-    CutSource, DeviceFault, FlakySink, FlakySource, MemorySink, MemorySource, Source,
+use crate::texts::{
+    Converted, Line, Refused, Taking, answers_each, converts_each, refuses_each,
+    tells_each_failed_pull, tells_each_failed_put,
 };
-use dimacs_records::{At, LineFault, ReadError, Reading, Reason, TakeError, TextKind, record};
-use std::alloc::Global;
-use std::process::Abort;
+use dimacs_claims::{Potentials, PotentialsReading, read_potentials, write_potentials};
+use dimacs_lines::{MemorySink, MemorySource};
+use dimacs_records::{LineFault, Reading, Reason, TakeError, TextKind, record};
 use std::test::Fail;
 
 const TWO_OF_FOUR: &str = "p pot 4 2\ny 1 4\ny 3 -2\n";
 
-/// Puts the canonical text of the potentials that a text spells.
-fn convert<S: Source>(alloc: Global, source: &mut S) -> Result<MemorySink, Fail> {
-    let potentials = read_potentials(alloc, source)?;
-    let mut sink = MemorySink::new(alloc);
-    write_potentials(&potentials, &mut sink)?;
-    Ok(sink)
-}
-
-/// Whether what a source gives gets this canonical form.
-fn becomes<S: Source>(
-    rt: &impl Abort,
-    alloc: Global,
-    name: &str,
-    way: &str,
-    source: &mut S,
-    canonical: &str,
-) -> Result<(), Fail> {
-    let sink = convert(alloc, source)?;
-    assert!(rt; sink.bytes() == canonical.as_bytes(), "{name}, {way}");
-    Ok(())
-}
-
-/// Converts a text in one piece and byte by byte, and its canonical form once more.
-fn converts(
-    rt: &impl Abort,
-    alloc: Global,
-    name: &str,
-    text: &str,
-    canonical: &str,
-) -> Result<(), Fail> {
-    let mut whole = MemorySource::new(text.as_bytes());
-    becomes(rt, alloc, name, "in one piece", &mut whole, canonical)?;
-    let ones = Vec::from_elem(alloc, 1, text.len())?;
-    let mut pieces = CutSource::new(text.as_bytes(), &ones);
-    becomes(rt, alloc, name, "in pieces", &mut pieces, canonical)?;
-    let mut again = MemorySource::new(canonical.as_bytes());
-    becomes(rt, alloc, name, "once more", &mut again, canonical)
-}
-
 /// Texts, each with its canonical form.
-static CANONICAL_FORMS: [(&str, &str, &str); 7] = [
+static CANONICAL_FORMS: [Converted; 7] = [
     ("already canonical", TWO_OF_FOUR, TWO_OF_FOUR),
     ("the nodes by ID", "p pot 4 2\ny 3 -2\ny 1 4\n", TWO_OF_FOUR),
     ("no node", "p pot 0 0", "p pot 0 0\n"),
@@ -79,10 +40,7 @@ static CANONICAL_FORMS: [(&str, &str, &str); 7] = [
 
 #[test]
 fn texts_get_their_canonical_form(rt: HostRuntime) -> Result<(), Fail> {
-    for &(name, text, canonical) in &CANONICAL_FORMS {
-        converts(&rt, rt.alloc(), name, text, canonical)?;
-    }
-    Ok(())
+    converts_each::<Potentials>(&rt, rt.alloc(), &CANONICAL_FORMS)
 }
 
 /// Nodes, each with its potential.
@@ -127,35 +85,6 @@ fn potentials_are_set_one_by_one(rt: HostRuntime) -> Result<(), Fail> {
     let mut sink = MemorySink::new(rt.alloc());
     write_potentials(&potentials, &mut sink)?;
     assert!(rt; sink.bytes() == b"p pot 2 1\ny 1 5\n".as_slice());
-    Ok(())
-}
-
-/// Reads a text in one piece, and byte by byte.
-fn refuses(
-    rt: &impl Abort,
-    alloc: Global,
-    name: &str,
-    text: &str,
-    at: At,
-    reason: Reason,
-) -> Result<(), Fail> {
-    let want = Some(ReadError::Refused(at, reason));
-    let whole = read_potentials(alloc, &mut MemorySource::new(text.as_bytes())).err();
-    assert_eq!(rt; whole, want, "{name}");
-    let ones = Vec::from_elem(alloc, 1, text.len())?;
-    let pieces = read_potentials(alloc, &mut CutSource::new(text.as_bytes(), &ones)).err();
-    assert_eq!(rt; pieces, want, "{name}, in pieces");
-    Ok(())
-}
-
-/// A text that is refused: its name, the text, the line, the field and the reason.
-type Refused = (&'static str, &'static str, u64, u32, Reason);
-
-/// Reads each text in one piece, and byte by byte.
-fn refuses_each(rt: &impl Abort, alloc: Global, texts: &[Refused]) -> Result<(), Fail> {
-    for &(name, text, line, field, reason) in texts {
-        refuses(rt, alloc, name, text, At { line, field }, reason)?;
-    }
     Ok(())
 }
 
@@ -267,7 +196,7 @@ static REFUSED_TEXTS: [Refused; 18] = [
 
 #[test]
 fn texts_are_refused_at_their_first_fault(rt: HostRuntime) -> Result<(), Fail> {
-    refuses_each(&rt, rt.alloc(), &REFUSED_TEXTS)
+    refuses_each::<Potentials>(&rt, rt.alloc(), &REFUSED_TEXTS)
 }
 
 /// Texts with a line that has several faults.
@@ -340,44 +269,21 @@ static REFUSED_LINES: [Refused; 10] = [
 
 #[test]
 fn a_line_is_refused_for_its_first_reason(rt: HostRuntime) -> Result<(), Fail> {
-    refuses_each(&rt, rt.alloc(), &REFUSED_LINES)
+    refuses_each::<Potentials>(&rt, rt.alloc(), &REFUSED_LINES)
 }
 
-/// Gives a reading what a line says.
-fn take(reading: &mut PotentialsReading, number: u64, line: &str) -> Result<(), TakeError> {
-    match record(TextKind::Potentials, line.as_bytes()) {
-        Ok(Some(said)) => reading.take(number, said),
-        Ok(None) => Ok(()),
-        Err(LineFault { field, reason }) => Err(TakeError::refused(field, reason)),
-    }
-}
-
-/// What a reading answers to a record that it refuses so, or takes.
-fn answer(refusal: Option<(u32, Reason)>) -> Result<(), TakeError> {
-    match refusal {
-        Some((field, reason)) => Err(TakeError::refused(field, reason)),
-        None => Ok(()),
-    }
-}
-
-/// Gives a reading a line, and once more where it is refused.
-fn answers(
-    rt: &impl Abort,
-    reading: &mut PotentialsReading,
-    number: u64,
-    line: &str,
-    refusal: Option<(u32, Reason)>,
-) {
-    let wanted = answer(refusal);
-    assert_eq!(rt; take(reading, number, line), wanted, "line {number}");
-    if refusal.is_some() {
-        let again = take(reading, number, line);
-        assert_eq!(rt; again, wanted, "line {number}, once more");
+impl Taking for PotentialsReading {
+    fn take_line(&mut self, number: u64, line: &str) -> Result<(), TakeError> {
+        match record(TextKind::Potentials, line.as_bytes()) {
+            Ok(Some(said)) => self.take(number, said),
+            Ok(None) => Ok(()),
+            Err(LineFault { field, reason }) => Err(TakeError::refused(field, reason)),
+        }
     }
 }
 
 /// Lines by number, and why each is refused, if it is.
-static RECORDS: [(u64, &str, Option<(u32, Reason)>); 9] = [
+static RECORDS: [Line; 9] = [
     (1, "y 1 5", Some((0, Reason::ProblemMissing))),
     (2, "p pot 4 2", None),
     (3, "p pot 9 9", Some((0, Reason::ProblemTwice))),
@@ -392,9 +298,7 @@ static RECORDS: [(u64, &str, Option<(u32, Reason)>); 9] = [
 #[test]
 fn a_refused_record_leaves_the_reading_as_it_was(rt: HostRuntime) -> Result<(), Fail> {
     let mut reading = PotentialsReading::new(rt.alloc());
-    for &(number, line, refusal) in &RECORDS {
-        answers(&rt, &mut reading, number, line, refusal);
-    }
+    answers_each(&rt, &mut reading, &RECORDS);
     let potentials = reading.finish()?;
     assert_eq!(rt; potentials.nodes(), 4);
     for (id, value) in [(1, 5), (2, 0), (3, 0), (4, 0), (5, 0)] {
@@ -405,33 +309,10 @@ fn a_refused_record_leaves_the_reading_as_it_was(rt: HostRuntime) -> Result<(), 
 
 #[test]
 fn each_pull_that_fails_is_told(rt: HostRuntime) -> Result<(), Fail> {
-    let text = TWO_OF_FOUR.as_bytes();
-    let ones = Vec::from_elem(rt.alloc(), 1, text.len())?;
-    // One pull for each byte, and one that finds the end.
-    for failing in 1..=text.len() as u64 + 1 {
-        let fails = [failing];
-        let mut source = FlakySource::new(text, &ones, &fails);
-        let error = read_potentials(rt.alloc(), &mut source).err();
-        assert_eq!(rt; error, Some(ReadError::Device), "at pull {failing}");
-    }
-    Ok(())
+    tells_each_failed_pull::<Potentials>(&rt, rt.alloc(), TWO_OF_FOUR)
 }
 
 #[test]
 fn each_put_that_fails_is_told(rt: HostRuntime) -> Result<(), Fail> {
-    let text = TWO_OF_FOUR.as_bytes();
-    let ones = Vec::from_elem(rt.alloc(), 1, text.len())?;
-    let potentials = read_potentials(rt.alloc(), &mut MemorySource::new(text))?;
-    for failing in 1..=text.len() as u64 {
-        let fails = [failing];
-        let mut sink = FlakySink::new(rt.alloc(), &ones, &fails);
-        let put = write_potentials(&potentials, &mut sink);
-        assert_eq!(rt; put, Err(DeviceFault), "at put {failing}");
-        assert!(rt;
-            sink.bytes().len() as u64 == failing - 1,
-            "at put {failing}"
-        );
-        assert!(rt; text.starts_with(sink.bytes()), "at put {failing}");
-    }
-    Ok(())
+    tells_each_failed_put::<Potentials>(&rt, rt.alloc(), TWO_OF_FOUR)
 }

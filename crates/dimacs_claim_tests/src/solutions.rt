@@ -1,57 +1,18 @@
 //! Solutions: texts that are read and written again, and texts that are refused.
 
-use dimacs_claims::{Entry, Solution, SolutionReading, read_solution, write_solution};
-use dimacs_lines::{
-    CutSource, DeviceFault, FlakySink, FlakySource, MemorySink, MemorySource, Source,
+use crate::texts::{
+    Converted, Line, Refused, Taking, answers_each, converts_each, refuses_each,
+    tells_each_failed_pull, tells_each_failed_put,
 };
-use dimacs_records::{At, LineFault, ReadError, Reading, Reason, TakeError, TextKind, record};
-use std::alloc::Global;
-use std::process::Abort;
+use dimacs_claims::{Entry, Solution, SolutionReading, read_solution, write_solution};
+use dimacs_lines::{MemorySink, MemorySource};
+use dimacs_records::{LineFault, Reading, Reason, TakeError, TextKind, record};
 use std::test::Fail;
 
 const FLOW: &str = "s 6\nf 1 2 4\nf 1 3 2\nf 2 3 1\nf 2 4 3\nf 3 4 3\n";
 
-/// Puts the canonical text of the solution that a text spells.
-fn convert<S: Source>(alloc: Global, source: &mut S) -> Result<MemorySink, Fail> {
-    let solution = read_solution(alloc, source)?;
-    let mut sink = MemorySink::new(alloc);
-    write_solution(&solution, &mut sink)?;
-    Ok(sink)
-}
-
-/// Whether what a source gives gets this canonical form.
-fn becomes<S: Source>(
-    rt: &impl Abort,
-    alloc: Global,
-    name: &str,
-    way: &str,
-    source: &mut S,
-    canonical: &str,
-) -> Result<(), Fail> {
-    let sink = convert(alloc, source)?;
-    assert!(rt; sink.bytes() == canonical.as_bytes(), "{name}, {way}");
-    Ok(())
-}
-
-/// Converts a text in one piece and byte by byte, and its canonical form once more.
-fn converts(
-    rt: &impl Abort,
-    alloc: Global,
-    name: &str,
-    text: &str,
-    canonical: &str,
-) -> Result<(), Fail> {
-    let mut whole = MemorySource::new(text.as_bytes());
-    becomes(rt, alloc, name, "in one piece", &mut whole, canonical)?;
-    let ones = Vec::from_elem(alloc, 1, text.len())?;
-    let mut pieces = CutSource::new(text.as_bytes(), &ones);
-    becomes(rt, alloc, name, "in pieces", &mut pieces, canonical)?;
-    let mut again = MemorySource::new(canonical.as_bytes());
-    becomes(rt, alloc, name, "once more", &mut again, canonical)
-}
-
 /// Texts, each with its canonical form.
-static CANONICAL_FORMS: [(&str, &str, &str); 9] = [
+static CANONICAL_FORMS: [Converted; 9] = [
     ("already canonical", FLOW, FLOW),
     ("a value alone", "s 0", "s 0\n"),
     (
@@ -93,10 +54,7 @@ static CANONICAL_FORMS: [(&str, &str, &str); 9] = [
 
 #[test]
 fn texts_get_their_canonical_form(rt: HostRuntime) -> Result<(), Fail> {
-    for &(name, text, canonical) in &CANONICAL_FORMS {
-        converts(&rt, rt.alloc(), name, text, canonical)?;
-    }
-    Ok(())
+    converts_each::<Solution>(&rt, rt.alloc(), &CANONICAL_FORMS)
 }
 
 /// The value behind an entry, with comments and empty lines between.
@@ -125,7 +83,9 @@ fn a_solution_knows_the_lines_of_its_text(rt: HostRuntime) -> Result<(), Fail> {
 
 #[test]
 fn a_solution_that_was_written_knows_its_new_lines(rt: HostRuntime) -> Result<(), Fail> {
-    let written = convert(rt.alloc(), &mut MemorySource::new(SCATTERED))?;
+    let solution = read_solution(rt.alloc(), &mut MemorySource::new(SCATTERED))?;
+    let mut written = MemorySink::new(rt.alloc());
+    write_solution(&solution, &mut written)?;
     let again = read_solution(rt.alloc(), &mut MemorySource::new(written.bytes()))?;
     assert_eq!(rt; again.value, 6);
     assert_eq!(rt; again.value_line, 1);
@@ -147,35 +107,6 @@ fn open_solutions_are_written_as_they_are(rt: HostRuntime) -> Result<(), Fail> {
     write_solution(&solution, &mut sink)?;
     let text = b"s -170141183460469231731687303715884105728\nf 0 4294967295 -9223372036854775808\n";
     assert!(rt; sink.bytes() == text.as_slice());
-    Ok(())
-}
-
-/// Reads a text in one piece, and byte by byte.
-fn refuses(
-    rt: &impl Abort,
-    alloc: Global,
-    name: &str,
-    text: &str,
-    at: At,
-    reason: Reason,
-) -> Result<(), Fail> {
-    let want = Some(ReadError::Refused(at, reason));
-    let whole = read_solution(alloc, &mut MemorySource::new(text.as_bytes())).err();
-    assert_eq!(rt; whole, want, "{name}");
-    let ones = Vec::from_elem(alloc, 1, text.len())?;
-    let pieces = read_solution(alloc, &mut CutSource::new(text.as_bytes(), &ones)).err();
-    assert_eq!(rt; pieces, want, "{name}, in pieces");
-    Ok(())
-}
-
-/// A text that is refused: its name, the text, the line, the field and the reason.
-type Refused = (&'static str, &'static str, u64, u32, Reason);
-
-/// Reads each text in one piece, and byte by byte.
-fn refuses_each(rt: &impl Abort, alloc: Global, texts: &[Refused]) -> Result<(), Fail> {
-    for &(name, text, line, field, reason) in texts {
-        refuses(rt, alloc, name, text, At { line, field }, reason)?;
-    }
     Ok(())
 }
 
@@ -249,7 +180,7 @@ static REFUSED_TEXTS: [Refused; 16] = [
 
 #[test]
 fn texts_are_refused_at_their_first_fault(rt: HostRuntime) -> Result<(), Fail> {
-    refuses_each(&rt, rt.alloc(), &REFUSED_TEXTS)
+    refuses_each::<Solution>(&rt, rt.alloc(), &REFUSED_TEXTS)
 }
 
 /// Texts with a line that has several faults.
@@ -293,44 +224,21 @@ static REFUSED_LINES: [Refused; 5] = [
 
 #[test]
 fn a_line_is_refused_for_its_first_reason(rt: HostRuntime) -> Result<(), Fail> {
-    refuses_each(&rt, rt.alloc(), &REFUSED_LINES)
+    refuses_each::<Solution>(&rt, rt.alloc(), &REFUSED_LINES)
 }
 
-/// Gives a reading what a line says.
-fn take(reading: &mut SolutionReading, number: u64, line: &str) -> Result<(), TakeError> {
-    match record(TextKind::Solution, line.as_bytes()) {
-        Ok(Some(said)) => reading.take(number, said),
-        Ok(None) => Ok(()),
-        Err(LineFault { field, reason }) => Err(TakeError::refused(field, reason)),
-    }
-}
-
-/// What a reading answers to a record that it refuses so, or takes.
-fn answer(refusal: Option<(u32, Reason)>) -> Result<(), TakeError> {
-    match refusal {
-        Some((field, reason)) => Err(TakeError::refused(field, reason)),
-        None => Ok(()),
-    }
-}
-
-/// Gives a reading a line, and once more where it is refused.
-fn answers(
-    rt: &impl Abort,
-    reading: &mut SolutionReading,
-    number: u64,
-    line: &str,
-    refusal: Option<(u32, Reason)>,
-) {
-    let wanted = answer(refusal);
-    assert_eq!(rt; take(reading, number, line), wanted, "line {number}");
-    if refusal.is_some() {
-        let again = take(reading, number, line);
-        assert_eq!(rt; again, wanted, "line {number}, once more");
+impl Taking for SolutionReading {
+    fn take_line(&mut self, number: u64, line: &str) -> Result<(), TakeError> {
+        match record(TextKind::Solution, line.as_bytes()) {
+            Ok(Some(said)) => self.take(number, said),
+            Ok(None) => Ok(()),
+            Err(LineFault { field, reason }) => Err(TakeError::refused(field, reason)),
+        }
     }
 }
 
 /// Lines by number, and why each is refused, if it is.
-static RECORDS: [(u64, &str, Option<(u32, Reason)>); 5] = [
+static RECORDS: [Line; 5] = [
     (1, "f 1 2 3", None),
     (3, "s 5", None),
     (4, "s 5", Some((0, Reason::SolutionTwice))),
@@ -341,9 +249,7 @@ static RECORDS: [(u64, &str, Option<(u32, Reason)>); 5] = [
 #[test]
 fn a_refused_record_leaves_the_reading_as_it_was(rt: HostRuntime) -> Result<(), Fail> {
     let mut reading = SolutionReading::new(rt.alloc());
-    for &(number, line, refusal) in &RECORDS {
-        answers(&rt, &mut reading, number, line, refusal);
-    }
+    answers_each(&rt, &mut reading, &RECORDS);
     let solution = reading.finish()?;
     assert_eq!(rt; solution.value, 5);
     assert_eq!(rt; solution.value_line, 3);
@@ -361,45 +267,17 @@ fn a_reading_without_a_value_is_refused_at_its_end(rt: HostRuntime) -> Result<()
     assert_eq!(rt; reading.finish().err(), missing, "no record");
 
     let mut reading = SolutionReading::new(rt.alloc());
-    take(&mut reading, 1, "f 1 2 3")?;
+    reading.take_line(1, "f 1 2 3")?;
     assert_eq!(rt; reading.finish().err(), missing, "an entry");
     Ok(())
 }
 
 #[test]
 fn each_pull_that_fails_is_told(rt: HostRuntime) -> Result<(), Fail> {
-    let text = "f 1 2 3\ns 5";
-    let ones = Vec::from_elem(rt.alloc(), 1, text.len())?;
-    // One pull for each byte, and one that finds the end.
-    for failing in 1..=text.len() as u64 + 1 {
-        let fails = [failing];
-        let mut source = FlakySource::new(text.as_bytes(), &ones, &fails);
-        let error = read_solution(rt.alloc(), &mut source).err();
-        assert_eq!(rt; error, Some(ReadError::Device), "at pull {failing}");
-    }
-    Ok(())
+    tells_each_failed_pull::<Solution>(&rt, rt.alloc(), "f 1 2 3\ns 5")
 }
 
 #[test]
 fn each_put_that_fails_is_told(rt: HostRuntime) -> Result<(), Fail> {
-    let solution = read_solution(rt.alloc(), &mut MemorySource::new(FLOW.as_bytes()))?;
-    let ones = Vec::from_elem(rt.alloc(), 1, FLOW.len())?;
-    for failing in 1..=FLOW.len() as u64 {
-        let fails = [failing];
-        let mut sink = FlakySink::new(rt.alloc(), &ones, &fails);
-        assert_eq!(rt;
-            write_solution(&solution, &mut sink),
-            Err(DeviceFault),
-            "at put {failing}"
-        );
-        assert!(rt;
-            sink.bytes().len() as u64 == failing - 1,
-            "at put {failing}"
-        );
-        assert!(rt;
-            FLOW.as_bytes().starts_with(sink.bytes()),
-            "at put {failing}"
-        );
-    }
-    Ok(())
+    tells_each_failed_put::<Solution>(&rt, rt.alloc(), FLOW)
 }
