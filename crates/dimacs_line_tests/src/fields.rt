@@ -159,6 +159,52 @@ fn reads_the_number_of_a_field_in_passing(rt: HostRuntime) -> Result<(), Fail> {
     Ok(())
 }
 
+/// The digits that numbers begin with, each with the number that they say.
+static BEGINNINGS: [(&str, i64); 10] = [
+    ("1", 1),
+    ("10", 10),
+    ("102", 102),
+    ("1023", 1_023),
+    ("10234", 10_234),
+    ("102345", 102_345),
+    ("1023456", 1_023_456),
+    ("10234567", 10_234_567),
+    ("102345678", 102_345_678),
+    ("1023456789", 1_023_456_789),
+];
+
+#[test]
+fn reads_a_number_at_each_place_of_a_line(rt: HostRuntime) -> Result<(), Fail> {
+    for &(digits, wanted) in &BEGINNINGS {
+        for before in 0..10 {
+            for behind in 0..10 {
+                let line = between_blanks(rt.alloc(), before, digits, behind)?;
+                let found = Scan::new(&line).next_token().ok_or("a field")?.number();
+                assert_eq!(rt;
+                    found,
+                    Ok(wanted),
+                    "{before} blanks before {digits}, {behind} behind"
+                );
+            }
+        }
+    }
+    Ok(())
+}
+
+/// A field with so many blanks before it, and behind it.
+fn between_blanks(
+    alloc: Global,
+    before: usize,
+    field: &str,
+    behind: usize,
+) -> Result<Vec<u8>, Fail> {
+    let mut line = Vec::from_elem(alloc, b' ', before)?;
+    line.extend_from_slice(field.as_bytes())?;
+    let blanks = Vec::from_elem(alloc, b' ', behind)?;
+    line.extend_from_slice(&blanks)?;
+    Ok(line)
+}
+
 /// Each field behind the place where it starts, as in `0:a|2:12|`.
 fn spell_fields(alloc: Global, left: Fields<'_>) -> Result<String, Fail> {
     let mut spelled = String::new(alloc);

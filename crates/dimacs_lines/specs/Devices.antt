@@ -29,3 +29,16 @@ CountsPut (Err error) bytes old new = new ≡ one_more old
 pub record InMemory : Type 0 where
   pub bytes : List ℕ
   pub faults : ℕ
+
+-- a source in memory that cuts its text: the bytes to come, and the sizes of the pieces, as far as they are listed
+pub record InPieces : Type 0 where
+  pub bytes : List ℕ
+  pub sizes : List ℕ
+
+-- a device in memory that cuts what passes it, and fails at the listed calls, of which there were so many
+pub record Flaky : Type 0 where
+  pub bytes : List ℕ
+  pub faults : ℕ
+  pub sizes : List ℕ
+  pub fails : List ℕ
+  pub calls : ℕ

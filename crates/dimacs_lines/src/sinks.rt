@@ -1,7 +1,7 @@
 //! Sinks over memory: one that keeps all that it accepts, and one for tests, which cuts what is put and fails.
 
 ghost use Rattle.std.specs.Prelude.{◌≡◌, [], List, ℕ, Some};
-ghost use Rattle.dimacs_lines.specs.Devices.{InMemory};
+ghost use Rattle.dimacs_lines.specs.Devices.{InMemory, Flaky};
 
 use crate::device::{DeviceFault, Sink};
 use std::alloc::Global;
@@ -66,14 +66,14 @@ pub struct FlakySink<'a> {
 }
 
 impl<'a> Model for FlakySink<'a> {
-    ghost Value = { InMemory };
+    ghost Value = { Flaky };
 
-    ghost view = { λ s. s.kept };
+    ghost view = { λ s. record { bytes = s.kept.bytes; faults = s.kept.faults; sizes = s.sizes.now; fails = s.fails.now; calls = s.puts } };
 }
 
 impl<'a> FlakySink<'a> {
     pub fn new(alloc: Global, sizes: &'a [usize], fails: &'a [u64]) -> FlakySink<'a>
-        ensures { result ≡ record { bytes = []; faults = 0 } }
+        ensures { result ≡ record { bytes = []; faults = 0; sizes = sizes.now; fails = fails.now; calls = 0 } }
     {
         FlakySink {
             kept: MemorySink::new(alloc),

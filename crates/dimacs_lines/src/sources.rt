@@ -1,7 +1,7 @@
 //! Sources over memory: one that gives all there is room for, and two for tests, which cut the text and fail.
 
 ghost use Rattle.std.specs.Prelude.{◌≡◌, List, ℕ, Some};
-ghost use Rattle.dimacs_lines.specs.Devices.{InMemory};
+ghost use Rattle.dimacs_lines.specs.Devices.{InPieces, Flaky};
 
 use crate::device::{DeviceFault, Source};
 use std::marker::Model;
@@ -49,21 +49,21 @@ pub struct CutSource<'a> {
 }
 
 impl<'a> Model for CutSource<'a> {
-    ghost Value = { List ℕ };
+    ghost Value = { InPieces };
 
-    ghost view = { λ s. s.rest.now };
+    ghost view = { λ s. record { bytes = s.rest.now; sizes = s.sizes.now } };
 }
 
 impl<'a> CutSource<'a> {
     pub fn new(bytes: &'a [u8], sizes: &'a [usize]) -> CutSource<'a>
-        ensures { result ≡ bytes.now }
+        ensures { result ≡ record { bytes = bytes.now; sizes = sizes.now } }
     {
         CutSource { rest: bytes, sizes }
     }
 }
 
 impl<'a> Source for CutSource<'a> {
-    ghost coming = { λ s. Some s };
+    ghost coming = { λ s. Some s.bytes };
 
     ghost faults = { λ s. 0 };
 
@@ -91,14 +91,14 @@ pub struct FlakySource<'a> {
 }
 
 impl<'a> Model for FlakySource<'a> {
-    ghost Value = { InMemory };
+    ghost Value = { Flaky };
 
-    ghost view = { λ s. record { bytes = s.text; faults = s.faults } };
+    ghost view = { λ s. record { bytes = s.text.bytes; faults = s.faults; sizes = s.text.sizes; fails = s.fails.now; calls = s.pulls } };
 }
 
 impl<'a> FlakySource<'a> {
     pub fn new(bytes: &'a [u8], sizes: &'a [usize], fails: &'a [u64]) -> FlakySource<'a>
-        ensures { result ≡ record { bytes = bytes.now; faults = 0 } }
+        ensures { result ≡ record { bytes = bytes.now; faults = 0; sizes = sizes.now; fails = fails.now; calls = 0 } }
     {
         FlakySource {
             text: CutSource::new(bytes, sizes),

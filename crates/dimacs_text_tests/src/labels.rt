@@ -1,12 +1,12 @@
 //! Labels: texts that are read and written again, look-ups, and texts that are refused.
 
 use crate::texts::{
-    Converted, Line, Refused, Taking, answers_each, converts_each, refuses_each,
-    tells_each_failed_pull, tells_each_failed_put,
+    Converted, Line, Refused, answers_each, converts_each, refuses_each, tells_each_failed_pull,
+    tells_each_failed_put,
 };
 use dimacs_claims::{Label, Labels, LabelsReading, read_labels};
 use dimacs_lines::MemorySource;
-use dimacs_records::{LineFault, Reading, Reason, TakeError, TextKind, record};
+use dimacs_records::{Reading, Reason, TextKind};
 use std::test::Fail;
 
 const TWO_BLOCKS: &str = "p dist 4 2\nt 1 2\nd 2 5 1\nd 3 -7 2\nt 4 0\n";
@@ -381,16 +381,6 @@ fn a_line_is_refused_for_its_first_reason(rt: HostRuntime) -> Result<(), Fail> {
     refuses_each::<Labels>(&rt, rt.alloc(), &REFUSED_LINES)
 }
 
-impl Taking for LabelsReading {
-    fn take_line(&mut self, number: u64, line: &str) -> Result<(), TakeError> {
-        match record(TextKind::Labels, line.as_bytes()) {
-            Ok(Some(said)) => self.take(number, said),
-            Ok(None) => Ok(()),
-            Err(LineFault { field, reason }) => Err(TakeError::refused(field, reason)),
-        }
-    }
-}
-
 /// Lines by number, and why each is refused, if it is.
 static RECORDS: [Line; 17] = [
     (1, "t 1 0", Some((0, Reason::ProblemMissing))),
@@ -423,7 +413,7 @@ static TAKEN_DISTANCES: [(usize, u32, Option<i128>); 4] = [
 #[test]
 fn a_refused_record_leaves_the_reading_as_it_was(rt: HostRuntime) -> Result<(), Fail> {
     let mut reading = LabelsReading::new(rt.alloc());
-    answers_each(&rt, &mut reading, &RECORDS);
+    answers_each(&rt, &mut reading, TextKind::Labels, &RECORDS);
     let labels = reading.finish()?;
     assert_eq!(rt; labels.blocks().len(), 2);
     for &(block, id, dist) in &TAKEN_DISTANCES {

@@ -1,59 +1,18 @@
 //! Queries: texts that are read and written again, and texts that are refused.
 
+use crate::texts::{
+    Converted, Line, Refused, answers_each, converts_each, refuses_each, tells_each_failed_pull,
+    tells_each_failed_put,
+};
 use dimacs_instance::{Queries, QueriesReading, read_queries, write_queries};
-use dimacs_lines::{
-    CutSource, DeviceFault, FlakySink, FlakySource, MemorySink, MemorySource, Source,
-};
-use dimacs_records::{
-    At, LineFault, QueryKind, ReadError, Reading, Reason, TakeError, TextKind, record,
-};
-use std::alloc::Global;
-use std::process::Abort;
+use dimacs_lines::{MemorySink, MemorySource};
+use dimacs_records::{QueryKind, Reading, Reason, TextKind};
 use std::test::Fail;
 
 const TWO_PAIRS: &str = "p aux sp p2p 2\nq 1 2\nq 1 4\n";
 
-/// Puts the canonical text of the queries that a text spells.
-fn convert<S: Source>(alloc: Global, source: &mut S) -> Result<MemorySink, Fail> {
-    let queries = read_queries(alloc, source)?;
-    let mut sink = MemorySink::new(alloc);
-    write_queries(&queries, &mut sink)?;
-    Ok(sink)
-}
-
-/// Whether what a source gives gets this canonical form.
-fn becomes<S: Source>(
-    rt: &impl Abort,
-    alloc: Global,
-    name: &str,
-    way: &str,
-    source: &mut S,
-    canonical: &str,
-) -> Result<(), Fail> {
-    let sink = convert(alloc, source)?;
-    assert!(rt; sink.bytes() == canonical.as_bytes(), "{name}, {way}");
-    Ok(())
-}
-
-/// Converts a text in one piece and byte by byte, and its canonical form once more.
-fn converts(
-    rt: &impl Abort,
-    alloc: Global,
-    name: &str,
-    text: &str,
-    canonical: &str,
-) -> Result<(), Fail> {
-    let mut whole = MemorySource::new(text.as_bytes());
-    becomes(rt, alloc, name, "in one piece", &mut whole, canonical)?;
-    let ones = Vec::from_elem(alloc, 1, text.len())?;
-    let mut pieces = CutSource::new(text.as_bytes(), &ones);
-    becomes(rt, alloc, name, "in pieces", &mut pieces, canonical)?;
-    let mut again = MemorySource::new(canonical.as_bytes());
-    becomes(rt, alloc, name, "once more", &mut again, canonical)
-}
-
 /// Texts, each with its canonical form.
-static CANONICAL_FORMS: [(&str, &str, &str); 9] = [
+static CANONICAL_FORMS: [Converted; 9] = [
     ("a source", "p aux sp ss 1\ns 1\n", "p aux sp ss 1\ns 1\n"),
     (
         "a source that is repeated",
@@ -87,10 +46,7 @@ static CANONICAL_FORMS: [(&str, &str, &str); 9] = [
 
 #[test]
 fn texts_get_their_canonical_form(rt: HostRuntime) -> Result<(), Fail> {
-    for &(name, text, canonical) in &CANONICAL_FORMS {
-        converts(&rt, rt.alloc(), name, text, canonical)?;
-    }
-    Ok(())
+    converts_each::<Queries>(&rt, rt.alloc(), &CANONICAL_FORMS)
 }
 
 fn sources(queries: &Queries) -> &[u32] {
@@ -133,27 +89,8 @@ fn open_lists_are_written_as_they_are(rt: HostRuntime) -> Result<(), Fail> {
     Ok(())
 }
 
-/// Reads a text in one piece, and in pieces of one byte.
-fn refuses(
-    rt: &impl Abort,
-    alloc: Global,
-    name: &str,
-    text: &str,
-    at: At,
-    reason: Reason,
-) -> Result<(), Fail> {
-    let want = Some(ReadError::Refused(at, reason));
-    let whole = read_queries(alloc, &mut MemorySource::new(text.as_bytes())).err();
-    assert_eq!(rt; whole, want, "{name}");
-    let ones = Vec::from_elem(alloc, 1, text.len())?;
-    let mut source = CutSource::new(text.as_bytes(), &ones);
-    let pieces = read_queries(alloc, &mut source).err();
-    assert_eq!(rt; pieces, want, "{name}, in pieces");
-    Ok(())
-}
-
 /// Texts that are refused for their first fault.
-static REFUSED_TEXTS: [(&str, &str, u64, u32, Reason); 33] = [
+static REFUSED_TEXTS: [Refused; 33] = [
     ("empty text", "", 1, 0, Reason::ProblemMissing),
     (
         "comments alone",
@@ -359,31 +296,11 @@ static REFUSED_TEXTS: [(&str, &str, u64, u32, Reason); 33] = [
 
 #[test]
 fn texts_are_refused_at_their_first_fault(rt: HostRuntime) -> Result<(), Fail> {
-    for &(name, text, line, field, reason) in &REFUSED_TEXTS {
-        refuses(&rt, rt.alloc(), name, text, At { line, field }, reason)?;
-    }
-    Ok(())
-}
-
-/// Gives a reading what a line says.
-fn take(reading: &mut QueriesReading, number: u64, line: &str) -> Result<(), TakeError> {
-    match record(TextKind::Queries, line.as_bytes()) {
-        Ok(Some(said)) => reading.take(number, said),
-        Ok(None) => Ok(()),
-        Err(LineFault { field, reason }) => Err(TakeError::refused(field, reason)),
-    }
-}
-
-/// What a reading answers to a record that it refuses so, or takes.
-fn answer(refusal: Option<(u32, Reason)>) -> Result<(), TakeError> {
-    match refusal {
-        Some((field, reason)) => Err(TakeError::refused(field, reason)),
-        None => Ok(()),
-    }
+    refuses_each::<Queries>(&rt, rt.alloc(), &REFUSED_TEXTS)
 }
 
 /// Lines by number, and why each is refused, if it is.
-static RECORDS: [(u64, &str, Option<(u32, Reason)>); 9] = [
+static RECORDS: [Line; 9] = [
     (1, "q 1 2", Some((0, Reason::ProblemMissing))),
     (2, "s 1", Some((0, Reason::ProblemMissing))),
     (3, "p aux sp ss 2", None),
@@ -398,13 +315,7 @@ static RECORDS: [(u64, &str, Option<(u32, Reason)>); 9] = [
 #[test]
 fn a_refused_record_leaves_the_reading_as_it_was(rt: HostRuntime) -> Result<(), Fail> {
     let mut reading = QueriesReading::new(rt.alloc());
-    for &(number, line, refusal) in &RECORDS {
-        assert_eq!(rt;
-            take(&mut reading, number, line),
-            answer(refusal),
-            "line {number}"
-        );
-    }
+    answers_each(&rt, &mut reading, TextKind::Queries, &RECORDS);
     let queries = reading.finish()?.into_queries();
     assert_eq!(rt; sources(&queries), [3, 1].as_slice());
     Ok(())
@@ -412,38 +323,10 @@ fn a_refused_record_leaves_the_reading_as_it_was(rt: HostRuntime) -> Result<(), 
 
 #[test]
 fn each_pull_that_fails_is_told(rt: HostRuntime) -> Result<(), Fail> {
-    let text = "c x\np aux sp ss 1\ns 5";
-    let ones = Vec::from_elem(rt.alloc(), 1, text.len())?;
-    // One pull for each byte, and one that finds the end.
-    for failing in 1..=text.len() as u64 + 1 {
-        let fails = [failing];
-        let mut source = FlakySource::new(text.as_bytes(), &ones, &fails);
-        let error = read_queries(rt.alloc(), &mut source).err();
-        assert_eq!(rt; error, Some(ReadError::Device), "at pull {failing}");
-    }
-    Ok(())
+    tells_each_failed_pull::<Queries>(&rt, rt.alloc(), "c x\np aux sp ss 1\ns 5")
 }
 
 #[test]
 fn each_put_that_fails_is_told(rt: HostRuntime) -> Result<(), Fail> {
-    let queries = read_queries(rt.alloc(), &mut MemorySource::new(TWO_PAIRS.as_bytes()))?;
-    let ones = Vec::from_elem(rt.alloc(), 1, TWO_PAIRS.len())?;
-    for failing in 1..=TWO_PAIRS.len() as u64 {
-        let fails = [failing];
-        let mut sink = FlakySink::new(rt.alloc(), &ones, &fails);
-        assert_eq!(rt;
-            write_queries(&queries, &mut sink),
-            Err(DeviceFault),
-            "at put {failing}"
-        );
-        assert!(rt;
-            sink.bytes().len() as u64 == failing - 1,
-            "at put {failing}"
-        );
-        assert!(rt;
-            TWO_PAIRS.as_bytes().starts_with(sink.bytes()),
-            "at put {failing}"
-        );
-    }
-    Ok(())
+    tells_each_failed_put::<Queries>(&rt, rt.alloc(), TWO_PAIRS)
 }

@@ -1,12 +1,12 @@
 //! Cuts: texts that are read and written again, sets that are put together, and texts that are refused.
 
 use crate::texts::{
-    Converted, Line, Refused, Taking, answers_each, converts_each, refuses_each,
-    tells_each_failed_pull, tells_each_failed_put,
+    Converted, Line, Refused, answers_each, converts_each, refuses_each, tells_each_failed_pull,
+    tells_each_failed_put,
 };
 use dimacs_claims::{Cut, CutReading, read_cut, write_cut};
 use dimacs_lines::{MemorySink, MemorySource};
-use dimacs_records::{LineFault, Reading, Reason, TakeError, TextKind, record};
+use dimacs_records::{Reading, Reason, TextKind};
 use std::test::Fail;
 
 const TWO_OF_FOUR: &str = "p cut 4 2\nu 1\nu 3\n";
@@ -240,16 +240,6 @@ fn a_line_is_refused_for_its_first_reason(rt: HostRuntime) -> Result<(), Fail> {
     refuses_each::<Cut>(&rt, rt.alloc(), &REFUSED_LINES)
 }
 
-impl Taking for CutReading {
-    fn take_line(&mut self, number: u64, line: &str) -> Result<(), TakeError> {
-        match record(TextKind::Cut, line.as_bytes()) {
-            Ok(Some(said)) => self.take(number, said),
-            Ok(None) => Ok(()),
-            Err(LineFault { field, reason }) => Err(TakeError::refused(field, reason)),
-        }
-    }
-}
-
 /// Lines by number, and why each is refused, if it is.
 static RECORDS: [Line; 8] = [
     (1, "u 1", Some((0, Reason::ProblemMissing))),
@@ -265,7 +255,7 @@ static RECORDS: [Line; 8] = [
 #[test]
 fn a_refused_record_leaves_the_reading_as_it_was(rt: HostRuntime) -> Result<(), Fail> {
     let mut reading = CutReading::new(rt.alloc());
-    answers_each(&rt, &mut reading, &RECORDS);
+    answers_each(&rt, &mut reading, TextKind::Cut, &RECORDS);
     let cut = reading.finish()?;
     assert_eq!(rt; cut.nodes(), 4);
     assert_eq!(rt; cut.len(), 2);

@@ -1,12 +1,12 @@
 //! Potentials: texts that are read and written again, potentials that are set, and texts that are refused.
 
 use crate::texts::{
-    Converted, Line, Refused, Taking, answers_each, converts_each, refuses_each,
-    tells_each_failed_pull, tells_each_failed_put,
+    Converted, Line, Refused, answers_each, converts_each, refuses_each, tells_each_failed_pull,
+    tells_each_failed_put,
 };
 use dimacs_claims::{Potentials, PotentialsReading, read_potentials, write_potentials};
 use dimacs_lines::{MemorySink, MemorySource};
-use dimacs_records::{LineFault, Reading, Reason, TakeError, TextKind, record};
+use dimacs_records::{Reading, Reason, TextKind};
 use std::test::Fail;
 
 const TWO_OF_FOUR: &str = "p pot 4 2\ny 1 4\ny 3 -2\n";
@@ -272,16 +272,6 @@ fn a_line_is_refused_for_its_first_reason(rt: HostRuntime) -> Result<(), Fail> {
     refuses_each::<Potentials>(&rt, rt.alloc(), &REFUSED_LINES)
 }
 
-impl Taking for PotentialsReading {
-    fn take_line(&mut self, number: u64, line: &str) -> Result<(), TakeError> {
-        match record(TextKind::Potentials, line.as_bytes()) {
-            Ok(Some(said)) => self.take(number, said),
-            Ok(None) => Ok(()),
-            Err(LineFault { field, reason }) => Err(TakeError::refused(field, reason)),
-        }
-    }
-}
-
 /// Lines by number, and why each is refused, if it is.
 static RECORDS: [Line; 9] = [
     (1, "y 1 5", Some((0, Reason::ProblemMissing))),
@@ -298,7 +288,7 @@ static RECORDS: [Line; 9] = [
 #[test]
 fn a_refused_record_leaves_the_reading_as_it_was(rt: HostRuntime) -> Result<(), Fail> {
     let mut reading = PotentialsReading::new(rt.alloc());
-    answers_each(&rt, &mut reading, &RECORDS);
+    answers_each(&rt, &mut reading, TextKind::Potentials, &RECORDS);
     let potentials = reading.finish()?;
     assert_eq!(rt; potentials.nodes(), 4);
     for (id, value) in [(1, 5), (2, 0), (3, 0), (4, 0), (5, 0)] {

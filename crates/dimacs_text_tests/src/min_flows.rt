@@ -1,56 +1,19 @@
 //! Minimum cost flow texts: read and written again, looked up, and refused.
 
-use dimacs_instance::{Network, SupplySums, read_min, write_min};
-use dimacs_lines::{CutSource, DeviceFault, FlakySink, MemorySink, MemorySource, Source};
-use dimacs_records::{At, ReadError, Reason};
-use std::alloc::Global;
-use std::process::Abort;
+use crate::texts::{
+    Converted, MinFlow, Refused, converts_each, refuses_each, tells_each_failed_pull,
+    tells_each_failed_put,
+};
+use dimacs_instance::{Network, SupplySums, read_min};
+use dimacs_lines::MemorySource;
+use dimacs_records::Reason;
 use std::test::Fail;
 
 const SHIPPING: &str =
     "p min 4 5\nn 1 4\nn 4 -4\na 1 2 0 4 2\na 1 3 0 2 2\na 2 3 0 2 1\na 2 4 0 3 3\na 3 4 0 5 1\n";
 
-/// Puts the canonical text of the instance that a text spells.
-fn convert<S: Source>(alloc: Global, source: &mut S) -> Result<MemorySink, Fail> {
-    let instance = read_min(alloc, source)?;
-    let mut sink = MemorySink::new(alloc);
-    write_min(&instance, &mut sink)?;
-    Ok(sink)
-}
-
-/// Whether what a source gives gets this canonical form.
-fn becomes<S: Source>(
-    rt: &impl Abort,
-    alloc: Global,
-    name: &str,
-    way: &str,
-    source: &mut S,
-    canonical: &str,
-) -> Result<(), Fail> {
-    let sink = convert(alloc, source)?;
-    assert!(rt; sink.bytes() == canonical.as_bytes(), "{name}, {way}");
-    Ok(())
-}
-
-/// Converts a text in one piece and byte by byte, and its canonical form once more.
-fn converts(
-    rt: &impl Abort,
-    alloc: Global,
-    name: &str,
-    text: &str,
-    canonical: &str,
-) -> Result<(), Fail> {
-    let mut whole = MemorySource::new(text.as_bytes());
-    becomes(rt, alloc, name, "in one piece", &mut whole, canonical)?;
-    let ones = Vec::from_elem(alloc, 1, text.len())?;
-    let mut pieces = CutSource::new(text.as_bytes(), &ones);
-    becomes(rt, alloc, name, "in pieces", &mut pieces, canonical)?;
-    let mut again = MemorySource::new(canonical.as_bytes());
-    becomes(rt, alloc, name, "once more", &mut again, canonical)
-}
-
 /// Texts, each with its canonical form.
-static CANONICAL_FORMS: [(&str, &str, &str); 9] = [
+static CANONICAL_FORMS: [Converted; 9] = [
     ("already canonical", SHIPPING, SHIPPING),
     (
         "a supply of zero is left out",
@@ -92,10 +55,7 @@ static CANONICAL_FORMS: [(&str, &str, &str); 9] = [
 
 #[test]
 fn texts_get_their_canonical_form(rt: HostRuntime) -> Result<(), Fail> {
-    for &(name, text, canonical) in &CANONICAL_FORMS {
-        converts(&rt, rt.alloc(), name, text, canonical)?;
-    }
-    Ok(())
+    converts_each::<MinFlow>(&rt, rt.alloc(), &CANONICAL_FORMS)
 }
 
 #[test]
@@ -137,26 +97,8 @@ fn sums_of_supplies_leave_64_bits(rt: HostRuntime) -> Result<(), Fail> {
     Ok(())
 }
 
-/// Reads a text in one piece, and in pieces of one byte.
-fn refuses(
-    rt: &impl Abort,
-    alloc: Global,
-    name: &str,
-    text: &str,
-    at: At,
-    reason: Reason,
-) -> Result<(), Fail> {
-    let want = Some(ReadError::Refused(at, reason));
-    let whole = read_min(alloc, &mut MemorySource::new(text.as_bytes())).err();
-    assert_eq!(rt; whole, want, "{name}");
-    let ones = Vec::from_elem(alloc, 1, text.len())?;
-    let pieces = read_min(alloc, &mut CutSource::new(text.as_bytes(), &ones)).err();
-    assert_eq!(rt; pieces, want, "{name}, in pieces");
-    Ok(())
-}
-
 /// Texts that are refused for their first fault.
-static REFUSED_TEXTS: [(&str, &str, u64, u32, Reason); 28] = [
+static REFUSED_TEXTS: [Refused; 28] = [
     ("empty text", "", 1, 0, Reason::ProblemMissing),
     (
         "node line before the problem",
@@ -345,28 +287,15 @@ static REFUSED_TEXTS: [(&str, &str, u64, u32, Reason); 28] = [
 
 #[test]
 fn texts_are_refused_at_their_first_fault(rt: HostRuntime) -> Result<(), Fail> {
-    for &(name, text, line, field, reason) in &REFUSED_TEXTS {
-        refuses(&rt, rt.alloc(), name, text, At { line, field }, reason)?;
-    }
-    Ok(())
+    refuses_each::<MinFlow>(&rt, rt.alloc(), &REFUSED_TEXTS)
+}
+
+#[test]
+fn each_pull_that_fails_is_told(rt: HostRuntime) -> Result<(), Fail> {
+    tells_each_failed_pull::<MinFlow>(&rt, rt.alloc(), SHIPPING)
 }
 
 #[test]
 fn each_put_that_fails_is_told(rt: HostRuntime) -> Result<(), Fail> {
-    let instance = read_min(rt.alloc(), &mut MemorySource::new(SHIPPING.as_bytes()))?;
-    let ones = Vec::from_elem(rt.alloc(), 1, SHIPPING.len())?;
-    for failing in 1..=SHIPPING.len() as u64 {
-        let fails = [failing];
-        let mut sink = FlakySink::new(rt.alloc(), &ones, &fails);
-        assert_eq!(rt;
-            write_min(&instance, &mut sink),
-            Err(DeviceFault),
-            "at put {failing}"
-        );
-        assert!(rt;
-            SHIPPING.as_bytes().starts_with(sink.bytes()),
-            "at put {failing}"
-        );
-    }
-    Ok(())
+    tells_each_failed_put::<MinFlow>(&rt, rt.alloc(), SHIPPING)
 }

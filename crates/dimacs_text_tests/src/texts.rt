@@ -1,22 +1,74 @@
 //! What the tests of all kinds of text share.
 
+ghost use Rattle.std.specs.Prelude.{◌≡◌};
+
 use dimacs_claims::{
     Cut, Labels, Potentials, Solution, read_cut, read_labels, read_potentials, read_solution,
     write_cut, write_labels, write_potentials, write_solution,
 };
+use dimacs_instance::{
+    ArcView, CapacityArc, Graph, MaxInstance, MinInstance, PlainArcs, Queries, WeightArc,
+    read_graph, read_max, read_min, read_queries, write_graph, write_max, write_min, write_queries,
+};
 use dimacs_lines::{
     CutSource, DeviceFault, FlakySink, FlakySource, MemorySink, MemorySource, Sink, Source,
 };
-use dimacs_records::{At, ReadError, Reason, TakeError};
+use dimacs_records::{At, ReadError, Reading, Reason, TakeError, TextKind, record};
 use std::alloc::Global;
 use std::process::Abort;
 use std::test::Fail;
+
+pub type MaxFlow = MaxInstance<PlainArcs<CapacityArc>>;
+
+pub type MinFlow = MinInstance<PlainArcs<ArcView>>;
+
+pub type Weights = Graph<PlainArcs<WeightArc>>;
 
 /// A value that texts of one kind spell.
 pub trait Text: Drop {
     fn read<S: Source>(alloc: Global, source: &mut S) -> Result<Self, ReadError>;
 
     fn write<K: Sink>(&self, sink: &mut K) -> Result<(), DeviceFault>;
+}
+
+impl Text for MaxFlow {
+    fn read<S: Source>(alloc: Global, source: &mut S) -> Result<MaxFlow, ReadError> {
+        read_max(alloc, source)
+    }
+
+    fn write<K: Sink>(&self, sink: &mut K) -> Result<(), DeviceFault> {
+        write_max(self, sink)
+    }
+}
+
+impl Text for MinFlow {
+    fn read<S: Source>(alloc: Global, source: &mut S) -> Result<MinFlow, ReadError> {
+        read_min(alloc, source)
+    }
+
+    fn write<K: Sink>(&self, sink: &mut K) -> Result<(), DeviceFault> {
+        write_min(self, sink)
+    }
+}
+
+impl Text for Weights {
+    fn read<S: Source>(alloc: Global, source: &mut S) -> Result<Weights, ReadError> {
+        read_graph(alloc, source)
+    }
+
+    fn write<K: Sink>(&self, sink: &mut K) -> Result<(), DeviceFault> {
+        write_graph(self, sink)
+    }
+}
+
+impl Text for Queries {
+    fn read<S: Source>(alloc: Global, source: &mut S) -> Result<Queries, ReadError> {
+        read_queries(alloc, source)
+    }
+
+    fn write<K: Sink>(&self, sink: &mut K) -> Result<(), DeviceFault> {
+        write_queries(self, sink)
+    }
 }
 
 impl Text for Solution {
@@ -60,17 +112,17 @@ impl Text for Labels {
 }
 
 /// Whether what a source gives gets this canonical form.
-fn becomes<T: Text, S: Source>(
+pub fn becomes<T: Text, S: Source>(
     rt: &impl Abort,
     alloc: Global,
     name: &str,
     way: &str,
     source: &mut S,
-    canonical: &str,
+    canonical: &[u8],
 ) -> Result<(), Fail> {
     let mut sink = MemorySink::new(alloc);
     T::read(alloc, source)?.write(&mut sink)?;
-    assert!(rt; sink.bytes() == canonical.as_bytes(), "{name}, {way}");
+    assert!(rt; sink.bytes() == canonical, "{name}, {way}");
     Ok(())
 }
 
@@ -82,13 +134,14 @@ fn converts<T: Text>(
     text: &str,
     canonical: &str,
 ) -> Result<(), Fail> {
+    let wanted = canonical.as_bytes();
     let mut whole = MemorySource::new(text.as_bytes());
-    becomes::<T, MemorySource>(rt, alloc, name, "in one piece", &mut whole, canonical)?;
+    becomes::<T, MemorySource>(rt, alloc, name, "in one piece", &mut whole, wanted)?;
     let ones = Vec::from_elem(alloc, 1, text.len())?;
     let mut pieces = CutSource::new(text.as_bytes(), &ones);
-    becomes::<T, CutSource>(rt, alloc, name, "in pieces", &mut pieces, canonical)?;
-    let mut again = MemorySource::new(canonical.as_bytes());
-    becomes::<T, MemorySource>(rt, alloc, name, "once more", &mut again, canonical)
+    becomes::<T, CutSource>(rt, alloc, name, "in pieces", &mut pieces, wanted)?;
+    let mut again = MemorySource::new(wanted);
+    becomes::<T, MemorySource>(rt, alloc, name, "once more", &mut again, wanted)
 }
 
 /// A text and its canonical form: its name, the text, the form.
@@ -107,19 +160,19 @@ pub fn converts_each<T: Text>(
 }
 
 /// Reads a text in one piece, and byte by byte.
-fn refuses<T: Text>(
+pub fn refuses<T: Text>(
     rt: &impl Abort,
     alloc: Global,
     name: &str,
-    text: &str,
+    text: &[u8],
     at: At,
     reason: Reason,
 ) -> Result<(), Fail> {
     let want = Some(ReadError::Refused(at, reason));
-    let whole = T::read(alloc, &mut MemorySource::new(text.as_bytes())).err();
+    let whole = T::read(alloc, &mut MemorySource::new(text)).err();
     assert_eq!(rt; whole, want, "{name}");
     let ones = Vec::from_elem(alloc, 1, text.len())?;
-    let pieces = T::read(alloc, &mut CutSource::new(text.as_bytes(), &ones)).err();
+    let pieces = T::read(alloc, &mut CutSource::new(text, &ones)).err();
     assert_eq!(rt; pieces, want, "{name}, in pieces");
     Ok(())
 }
@@ -134,7 +187,24 @@ pub fn refuses_each<T: Text>(
     texts: &[Refused],
 ) -> Result<(), Fail> {
     for &(name, text, line, field, reason) in texts {
-        refuses::<T>(rt, alloc, name, text, At { line, field }, reason)?;
+        refuses::<T>(rt, alloc, name, text.as_bytes(), At { line, field }, reason)?;
+    }
+    Ok(())
+}
+
+/// Reads a text byte by byte, with each of the first pulls failing in turn.
+pub fn tells_failed_pulls<T: Text>(
+    rt: &impl Abort,
+    alloc: Global,
+    text: &str,
+    pulls: u64,
+) -> Result<(), Fail> {
+    let ones = Vec::from_elem(alloc, 1, text.len())?;
+    for failing in 1..=pulls {
+        let fails = [failing];
+        let mut source = FlakySource::new(text.as_bytes(), &ones, &fails);
+        let error = T::read(alloc, &mut source).err();
+        assert_eq!(rt; error, Some(ReadError::Device), "at pull {failing}");
     }
     Ok(())
 }
@@ -145,14 +215,13 @@ pub fn tells_each_failed_pull<T: Text>(
     alloc: Global,
     text: &str,
 ) -> Result<(), Fail> {
-    let ones = Vec::from_elem(alloc, 1, text.len())?;
     // One pull for each byte, and one that finds the end.
-    for failing in 1..=text.len() as u64 + 1 {
-        let fails = [failing];
-        let mut source = FlakySource::new(text.as_bytes(), &ones, &fails);
-        let error = T::read(alloc, &mut source).err();
-        assert_eq!(rt; error, Some(ReadError::Device), "at pull {failing}");
-    }
+    let pulls = text.len() as u64 + 1;
+    tells_failed_pulls::<T>(rt, alloc, text, pulls)?;
+    let ones = Vec::from_elem(alloc, 1, text.len())?;
+    // A pull that is never made.
+    let fails = [u64::MAX];
+    T::read(alloc, &mut FlakySource::new(text.as_bytes(), &ones, &fails))?;
     Ok(())
 }
 
@@ -165,7 +234,8 @@ pub fn tells_each_failed_put<T: Text>(
     let text = canonical.as_bytes();
     let ones = Vec::from_elem(alloc, 1, text.len())?;
     let value = T::read(alloc, &mut MemorySource::new(text))?;
-    for failing in 1..=text.len() as u64 {
+    let puts = text.len() as u64;
+    for failing in 1..=puts {
         let fails = [failing];
         let mut sink = FlakySink::new(alloc, &ones, &fails);
         let put = value.write(&mut sink);
@@ -176,13 +246,28 @@ pub fn tells_each_failed_put<T: Text>(
         );
         assert!(rt; text.starts_with(sink.bytes()), "at put {failing}");
     }
+    let fails = [puts + 1];
+    let mut sink = FlakySink::new(alloc, &ones, &fails);
+    value.write(&mut sink)?;
+    assert!(rt; sink.bytes() == text);
     Ok(())
 }
 
-/// A reading that is given lines.
-pub trait Taking: Drop {
-    /// Gives the reading what a line says.
-    fn take_line(&mut self, number: u64, line: &str) -> Result<(), TakeError>;
+/// Gives a reading what a line says.
+pub fn take_line<R: Reading>(
+    reading: &mut R,
+    kind: TextKind,
+    number: u64,
+    line: &str,
+) -> Result<(), TakeError>
+    requires { R.kind reading.old ≡ kind }
+    ensures { R.kind reading.new ≡ kind }
+{
+    match record(kind, line.as_bytes()) {
+        Ok(Some(said)) => reading.take(number, said),
+        Ok(None) => Ok(()),
+        Err(fault) => Err(TakeError::Refused(fault)),
+    }
 }
 
 /// What a reading answers to a record that it refuses so, or takes.
@@ -197,19 +282,25 @@ fn answer(refusal: Option<(u32, Reason)>) -> Result<(), TakeError> {
 pub type Line = (u64, &'static str, Option<(u32, Reason)>);
 
 /// Gives a reading a line, and once more where it is refused.
-fn answers<R: Taking>(rt: &impl Abort, reading: &mut R, line: &Line) {
+fn answers<R: Reading>(rt: &impl Abort, reading: &mut R, kind: TextKind, line: &Line)
+    requires { R.kind reading.old ≡ kind }
+    ensures { R.kind reading.new ≡ kind }
+{
     let (number, text, refusal) = *line;
     let wanted = answer(refusal);
-    assert_eq!(rt; reading.take_line(number, text), wanted, "line {number}");
+    let answered = take_line(reading, kind, number, text);
+    assert_eq!(rt; answered, wanted, "line {number}");
     if refusal.is_some() {
-        let again = reading.take_line(number, text);
+        let again = take_line(reading, kind, number, text);
         assert_eq!(rt; again, wanted, "line {number}, once more");
     }
 }
 
-/// Gives a reading each line, and once more where it is refused.
-pub fn answers_each<R: Taking>(rt: &impl Abort, reading: &mut R, lines: &[Line]) {
+/// Gives a reading of texts of this kind each line, and once more where it is refused.
+pub fn answers_each<R: Reading>(rt: &impl Abort, reading: &mut R, kind: TextKind, lines: &[Line])
+    requires { R.kind reading.old ≡ kind }
+{
     for line in lines {
-        answers(rt, reading, line);
+        answers(rt, reading, kind, line);
     }
 }

@@ -1,55 +1,19 @@
 //! Texts of maximum flow: read, written again, and refused.
 
-use dimacs_instance::{MaxReading, Network, read_max, write_max};
-use dimacs_lines::{CutSource, MemorySink, MemorySource, Source};
-use dimacs_records::{At, LineFault, ReadError, Reading, Reason, TakeError, TextKind, record};
+use crate::texts::{
+    Converted, Line, MaxFlow, Refused, answers_each, converts_each, refuses, refuses_each,
+    tells_each_failed_pull, tells_each_failed_put,
+};
+use dimacs_instance::{MaxReading, Network, read_max};
+use dimacs_lines::MemorySource;
+use dimacs_records::{At, Reading, Reason, TextKind};
 use std::alloc::Global;
-use std::process::Abort;
 use std::test::Fail;
 
 const DIAMOND: &str = "p max 4 5\nn 1 s\nn 4 t\na 1 2 4\na 1 3 2\na 2 3 2\na 2 4 3\na 3 4 5\n";
 
-/// Puts the canonical text of the instance that a text spells.
-fn convert<S: Source>(alloc: Global, source: &mut S) -> Result<MemorySink, Fail> {
-    let max = read_max(alloc, source)?;
-    let mut sink = MemorySink::new(alloc);
-    write_max(&max, &mut sink)?;
-    Ok(sink)
-}
-
-/// Whether what a source gives gets this canonical form.
-fn becomes<S: Source>(
-    rt: &impl Abort,
-    alloc: Global,
-    name: &str,
-    way: &str,
-    source: &mut S,
-    canonical: &str,
-) -> Result<(), Fail> {
-    let sink = convert(alloc, source)?;
-    assert!(rt; sink.bytes() == canonical.as_bytes(), "{name}, {way}");
-    Ok(())
-}
-
-/// Converts a text in one piece and byte by byte, and its canonical form once more.
-fn converts(
-    rt: &impl Abort,
-    alloc: Global,
-    name: &str,
-    text: &str,
-    canonical: &str,
-) -> Result<(), Fail> {
-    let mut whole = MemorySource::new(text.as_bytes());
-    becomes(rt, alloc, name, "in one piece", &mut whole, canonical)?;
-    let ones = Vec::from_elem(alloc, 1, text.len())?;
-    let mut pieces = CutSource::new(text.as_bytes(), &ones);
-    becomes(rt, alloc, name, "in pieces", &mut pieces, canonical)?;
-    let mut again = MemorySource::new(canonical.as_bytes());
-    becomes(rt, alloc, name, "once more", &mut again, canonical)
-}
-
 /// Texts, each with its canonical form.
-static CANONICAL_FORMS: [(&str, &str, &str); 5] = [
+static CANONICAL_FORMS: [Converted; 5] = [
     ("already canonical", DIAMOND, DIAMOND),
     (
         "node lines stand by ID, the sink's line first",
@@ -75,10 +39,7 @@ static CANONICAL_FORMS: [(&str, &str, &str); 5] = [
 
 #[test]
 fn texts_get_their_canonical_form(rt: HostRuntime) -> Result<(), Fail> {
-    for &(name, text, canonical) in &CANONICAL_FORMS {
-        converts(&rt, rt.alloc(), name, text, canonical)?;
-    }
-    Ok(())
+    converts_each::<MaxFlow>(&rt, rt.alloc(), &CANONICAL_FORMS)
 }
 
 #[test]
@@ -99,26 +60,8 @@ fn an_instance_has_the_ends_and_arcs_of_its_text(rt: HostRuntime) -> Result<(), 
     Ok(())
 }
 
-/// Reads a text in one piece, and in pieces of one byte.
-fn refuses(
-    rt: &impl Abort,
-    alloc: Global,
-    name: &str,
-    text: &[u8],
-    at: At,
-    reason: Reason,
-) -> Result<(), Fail> {
-    let want = Some(ReadError::Refused(at, reason));
-    let whole = read_max(alloc, &mut MemorySource::new(text)).err();
-    assert_eq!(rt; whole, want, "{name}");
-    let ones = Vec::from_elem(alloc, 1, text.len())?;
-    let pieces = read_max(alloc, &mut CutSource::new(text, &ones)).err();
-    assert_eq!(rt; pieces, want, "{name}, in pieces");
-    Ok(())
-}
-
 /// Texts that are refused for their first fault.
-static REFUSED_TEXTS: [(&str, &str, u64, u32, Reason); 17] = [
+static REFUSED_TEXTS: [Refused; 17] = [
     ("empty text", "", 1, 0, Reason::ProblemMissing),
     (
         "node before the problem",
@@ -224,17 +167,7 @@ static REFUSED_TEXTS: [(&str, &str, u64, u32, Reason); 17] = [
 
 #[test]
 fn texts_are_refused_at_their_first_fault(rt: HostRuntime) -> Result<(), Fail> {
-    for &(name, text, line, field, reason) in &REFUSED_TEXTS {
-        refuses(
-            &rt,
-            rt.alloc(),
-            name,
-            text.as_bytes(),
-            At { line, field },
-            reason,
-        )?;
-    }
-    Ok(())
+    refuses_each::<MaxFlow>(&rt, rt.alloc(), &REFUSED_TEXTS)
 }
 
 /// A text that has a source, one that has a sink too, and one that has all its arcs.
@@ -374,7 +307,7 @@ static REFUSED_LINES: [(&str, &str, &str, u64, u32, Reason); 17] = [
 fn one_line_tells_its_first_reason(rt: HostRuntime) -> Result<(), Fail> {
     for &(name, before, said, line, field, reason) in &REFUSED_LINES {
         let text = format!(in rt.alloc(); "{before}{said}\n")?;
-        refuses(
+        refuses::<MaxFlow>(
             &rt,
             rt.alloc(),
             name,
@@ -386,25 +319,8 @@ fn one_line_tells_its_first_reason(rt: HostRuntime) -> Result<(), Fail> {
     Ok(())
 }
 
-/// Gives a reading what a line says.
-fn take(reading: &mut MaxReading, number: u64, line: &str) -> Result<(), TakeError> {
-    match record(TextKind::Max, line.as_bytes()) {
-        Ok(Some(said)) => reading.take(number, said),
-        Ok(None) => Ok(()),
-        Err(LineFault { field, reason }) => Err(TakeError::refused(field, reason)),
-    }
-}
-
-/// What a reading answers to a record that it refuses so, or takes.
-fn answer(refusal: Option<(u32, Reason)>) -> Result<(), TakeError> {
-    match refusal {
-        Some((field, reason)) => Err(TakeError::refused(field, reason)),
-        None => Ok(()),
-    }
-}
-
 /// Lines by number, and why each is refused, if it is.
-static RECORDS: [(u64, &str, Option<(u32, Reason)>); 17] = [
+static RECORDS: [Line; 17] = [
     (1, "n 2 s", Some((0, Reason::ProblemMissing))),
     (2, "p max 3 2", None),
     (3, "n 4 s", Some((2, Reason::NodeRange))),
@@ -427,13 +343,7 @@ static RECORDS: [(u64, &str, Option<(u32, Reason)>); 17] = [
 #[test]
 fn a_refused_record_leaves_the_reading_as_it_was(rt: HostRuntime) -> Result<(), Fail> {
     let mut reading = MaxReading::new(rt.alloc());
-    for &(number, line, refusal) in &RECORDS {
-        assert_eq!(rt;
-            take(&mut reading, number, line),
-            answer(refusal),
-            "line {number}"
-        );
-    }
+    answers_each(&rt, &mut reading, TextKind::Max, &RECORDS);
     let max = reading.finish()?;
     assert_eq!(rt; max.source(), 2);
     assert_eq!(rt; max.sink(), 3);
@@ -470,7 +380,7 @@ fn a_repeated_arc_is_found_among_many(rt: HostRuntime) -> Result<(), Fail> {
     for &(name, line) in &REPEATED_ARCS {
         let mut text = all_arcs(rt.alloc())?;
         text.extend_from_slice(line.as_bytes())?;
-        refuses(
+        refuses::<MaxFlow>(
             &rt,
             rt.alloc(),
             name,
@@ -483,4 +393,14 @@ fn a_repeated_arc_is_found_among_many(rt: HostRuntime) -> Result<(), Fail> {
         )?;
     }
     Ok(())
+}
+
+#[test]
+fn each_pull_that_fails_is_told(rt: HostRuntime) -> Result<(), Fail> {
+    tells_each_failed_pull::<MaxFlow>(&rt, rt.alloc(), DIAMOND)
+}
+
+#[test]
+fn each_put_that_fails_is_told(rt: HostRuntime) -> Result<(), Fail> {
+    tells_each_failed_put::<MaxFlow>(&rt, rt.alloc(), DIAMOND)
 }

@@ -1,12 +1,12 @@
 //! Solutions: texts that are read and written again, and texts that are refused.
 
 use crate::texts::{
-    Converted, Line, Refused, Taking, answers_each, converts_each, refuses_each,
+    Converted, Line, Refused, answers_each, converts_each, refuses_each, take_line,
     tells_each_failed_pull, tells_each_failed_put,
 };
 use dimacs_claims::{Entry, Solution, SolutionReading, read_solution, write_solution};
 use dimacs_lines::{MemorySink, MemorySource};
-use dimacs_records::{LineFault, Reading, Reason, TakeError, TextKind, record};
+use dimacs_records::{Reading, Reason, TakeError, TextKind};
 use std::test::Fail;
 
 const FLOW: &str = "s 6\nf 1 2 4\nf 1 3 2\nf 2 3 1\nf 2 4 3\nf 3 4 3\n";
@@ -227,16 +227,6 @@ fn a_line_is_refused_for_its_first_reason(rt: HostRuntime) -> Result<(), Fail> {
     refuses_each::<Solution>(&rt, rt.alloc(), &REFUSED_LINES)
 }
 
-impl Taking for SolutionReading {
-    fn take_line(&mut self, number: u64, line: &str) -> Result<(), TakeError> {
-        match record(TextKind::Solution, line.as_bytes()) {
-            Ok(Some(said)) => self.take(number, said),
-            Ok(None) => Ok(()),
-            Err(LineFault { field, reason }) => Err(TakeError::refused(field, reason)),
-        }
-    }
-}
-
 /// Lines by number, and why each is refused, if it is.
 static RECORDS: [Line; 5] = [
     (1, "f 1 2 3", None),
@@ -249,7 +239,7 @@ static RECORDS: [Line; 5] = [
 #[test]
 fn a_refused_record_leaves_the_reading_as_it_was(rt: HostRuntime) -> Result<(), Fail> {
     let mut reading = SolutionReading::new(rt.alloc());
-    answers_each(&rt, &mut reading, &RECORDS);
+    answers_each(&rt, &mut reading, TextKind::Solution, &RECORDS);
     let solution = reading.finish()?;
     assert_eq!(rt; solution.value, 5);
     assert_eq!(rt; solution.value_line, 3);
@@ -267,7 +257,7 @@ fn a_reading_without_a_value_is_refused_at_its_end(rt: HostRuntime) -> Result<()
     assert_eq!(rt; reading.finish().err(), missing, "no record");
 
     let mut reading = SolutionReading::new(rt.alloc());
-    reading.take_line(1, "f 1 2 3")?;
+    take_line(&mut reading, TextKind::Solution, 1, "f 1 2 3")?;
     assert_eq!(rt; reading.finish().err(), missing, "an entry");
     Ok(())
 }

@@ -1,0 +1,135 @@
+//! Graph texts, read and written again.
+
+use crate::texts::{
+    Converted, Weights, becomes, converts_each, tells_each_failed_pull, tells_each_failed_put,
+    tells_failed_pulls,
+};
+use dimacs_instance::{Network, read_graph, write_graph};
+use dimacs_lines::{CutSource, DeviceFault, FlakySink, MemorySource};
+use std::alloc::Global;
+use std::test::Fail;
+
+const CYCLE: &str = "p sp 4 3\na 1 2 5\na 3 4 0\na 4 3 0\n";
+
+/// Texts, each with its canonical form.
+static CANONICAL_FORMS: [Converted; 11] = [
+    (
+        "comment, blanks, CR, empty line, sign, zeros, no last line end",
+        "c x\n  p  sp 2 1\r\n\na 1 2 +007",
+        "p sp 2 1\na 1 2 7\n",
+    ),
+    (
+        "the greatest weight",
+        "p sp 2 1\na 1 2 9223372036854775807\n",
+        "p sp 2 1\na 1 2 9223372036854775807\n",
+    ),
+    (
+        "the least weight",
+        "p sp 2 1\na 1 2 -9223372036854775808\n",
+        "p sp 2 1\na 1 2 -9223372036854775808\n",
+    ),
+    ("no node", "p sp 0 0\n", "p sp 0 0\n"),
+    ("nodes and no arc", "p sp 9 0", "p sp 9 0\n"),
+    ("already canonical", CYCLE, CYCLE),
+    (
+        "parallel arcs and loops keep their order",
+        "p sp 2 5\na 2 1 -3\na 1 1 0\na 2 1 -3\na 1 2 9\na 2 1 4\n",
+        "p sp 2 5\na 2 1 -3\na 1 1 0\na 2 1 -3\na 1 2 9\na 2 1 4\n",
+    ),
+    ("minus zero", "p sp 1 1\na 1 1 -0\n", "p sp 1 1\na 1 1 0\n"),
+    (
+        "tabs and blanks behind",
+        "p\tsp\t1\t1\t \na 1 1\t3 \r\n",
+        "p sp 1 1\na 1 1 3\n",
+    ),
+    (
+        "comments and empty lines behind the last arc",
+        "p sp 1 1\na 1 1 3\n\n \nc x\nc a 1 1 4",
+        "p sp 1 1\na 1 1 3\n",
+    ),
+    (
+        "comment that looks like a problem line",
+        "cp sp 7 7\np sp 1 0\n",
+        "p sp 1 0\n",
+    ),
+];
+
+#[test]
+fn texts_get_their_canonical_form(rt: HostRuntime) -> Result<(), Fail> {
+    converts_each::<Weights>(&rt, rt.alloc(), &CANONICAL_FORMS)
+}
+
+#[test]
+fn a_graph_has_the_arcs_of_its_text(rt: HostRuntime) -> Result<(), Fail> {
+    let graph = read_graph(rt.alloc(), &mut MemorySource::new(CYCLE.as_bytes()))?;
+    let network = graph.network();
+    assert_eq!(rt; network.nodes(), 4);
+    assert_eq!(rt; network.arcs(), 3);
+    assert_eq!(rt; network.arc(0).tail, 1);
+    assert_eq!(rt; network.arc(0).head, 2);
+    assert_eq!(rt; network.arc(0).cost, 5);
+    assert_eq!(rt; network.find(4, 3, 0), Some(2));
+    Ok(())
+}
+
+/// The canonical text of a ring.
+fn ring(alloc: Global, nodes: u32) -> Result<Vec<u8>, Fail> {
+    let mut text = Vec::new(alloc);
+    text.extend_from_slice(format!(in alloc; "p sp {nodes} {nodes}\n")?.as_bytes())?;
+    for i in 1..nodes {
+        text.extend_from_slice(format!(in alloc; "a {i} {} -{i}\n", i + 1)?.as_bytes())?;
+    }
+    text.extend_from_slice(format!(in alloc; "a {nodes} 1 0\n")?.as_bytes())?;
+    Ok(text)
+}
+
+#[test]
+fn long_texts_are_read_and_written_whole(rt: HostRuntime) -> Result<(), Fail> {
+    let text = ring(rt.alloc(), 20_000)?;
+    let mut whole = MemorySource::new(&text);
+    becomes::<Weights, MemorySource>(
+        &rt,
+        rt.alloc(),
+        "a ring",
+        "in large pieces",
+        &mut whole,
+        &text,
+    )?;
+    let mut pieces = CutSource::new(&text, &[7, 65_536, 1, 65_535, 3]);
+    becomes::<Weights, CutSource>(
+        &rt,
+        rt.alloc(),
+        "a ring",
+        "in uneven pieces",
+        &mut pieces,
+        &text,
+    )
+}
+
+#[test]
+fn each_pull_that_fails_is_told(rt: HostRuntime) -> Result<(), Fail> {
+    tells_each_failed_pull::<Weights>(&rt, rt.alloc(), "c x\np sp 2 1\na 1 2 5")
+}
+
+#[test]
+fn a_pull_that_fails_is_told_before_a_later_fault(rt: HostRuntime) -> Result<(), Fail> {
+    tells_failed_pulls::<Weights>(&rt, rt.alloc(), "p sp 2 1\ne\n", 10)
+}
+
+#[test]
+fn each_put_that_fails_is_told(rt: HostRuntime) -> Result<(), Fail> {
+    tells_each_failed_put::<Weights>(&rt, rt.alloc(), CYCLE)
+}
+
+#[test]
+fn a_put_that_fails_in_mid_stream_ends_the_text(rt: HostRuntime) -> Result<(), Fail> {
+    let text = ring(rt.alloc(), 5_000)?;
+    let graph = read_graph(rt.alloc(), &mut MemorySource::new(&text))?;
+    let fails = [2];
+    let mut sink = FlakySink::new(rt.alloc(), &[], &fails);
+    assert_eq!(rt; write_graph(&graph, &mut sink), Err(DeviceFault));
+    assert!(rt; !sink.bytes().is_empty());
+    assert!(rt; sink.bytes().len() < text.len());
+    assert!(rt; text.starts_with(sink.bytes()));
+    Ok(())
+}

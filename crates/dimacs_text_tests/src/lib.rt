@@ -1,0 +1,24 @@
+//! The tests of instances, queries, claims and certificates, a file for each kind of text. They say what no contract says,
+//! as those of the other test crates do.
+#![tactic(auto)]
+
+#[cfg(test)]
+mod cuts;
+#[cfg(test)]
+mod graphs;
+#[cfg(test)]
+mod labels;
+#[cfg(test)]
+mod max_flows;
+#[cfg(test)]
+mod min_flows;
+#[cfg(test)]
+mod networks;
+#[cfg(test)]
+mod potentials;
+#[cfg(test)]
+mod queries;
+#[cfg(test)]
+mod solutions;
+#[cfg(test)]
+mod texts;
