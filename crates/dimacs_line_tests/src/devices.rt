@@ -141,7 +141,11 @@ fn put_all_puts_all_or_a_beginning(rt: HostRuntime) -> Result<(), Fail> {
         assert_eq!(rt; put_all(&mut sink, b"abcdefg"), wanted, "{name}");
         assert_eq!(rt; sink.bytes(), taken.as_bytes(), "{name}");
     }
-    let mut sink = FlakySink::new(rt.alloc(), &[], &[1]);
-    assert_eq!(rt; put_all(&mut sink, b""), Ok(()), "nothing to put");
     Ok(())
+}
+
+#[test]
+fn put_all_puts_nothing_where_there_is_nothing(rt: HostRuntime) {
+    let mut sink = FlakySink::new(rt.alloc(), &[], &[1]);
+    assert_eq!(rt; put_all(&mut sink, b""), Ok(()));
 }

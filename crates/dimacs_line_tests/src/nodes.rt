@@ -1,6 +1,7 @@
 //! Values and sets by node.
 
 use dimacs_nodes::{NodeMap, NodeSet};
+use std::alloc::Global;
 use std::test::Fail;
 
 /// The greatest ID of a node.
@@ -34,19 +35,36 @@ static UNSET: [u32; 11] = [
 ];
 
 #[test]
-fn nodes_have_the_values_that_were_set(rt: HostRuntime) -> Result<(), Fail> {
-    let mut nodes = NodeMap::new(rt.alloc());
-    for id in [0, 1, 255, 256, GREATEST, u32::MAX] {
-        assert_eq!(rt; nodes.get(id), None, "{id} before any is set");
+fn nodes_have_no_value_before_one_is_set(rt: HostRuntime) {
+    let nodes: NodeMap<i64> = NodeMap::new(rt.alloc());
+    for &(id, _) in &VALUES {
+        assert_eq!(rt; nodes.get(id), None, "{id}");
     }
+}
+
+/// The nodes with their values.
+fn filled(alloc: Global) -> Result<NodeMap<i64>, Fail> {
+    let mut nodes = NodeMap::new(alloc);
     for &(id, value) in &VALUES {
-        assert_eq!(rt; nodes.set(id, value), Ok(()), "{id}");
+        nodes.set(id, value).ok().ok_or("memory")?;
     }
+    Ok(nodes)
+}
+
+#[test]
+fn nodes_have_the_values_that_were_set(rt: HostRuntime) -> Result<(), Fail> {
+    let nodes = filled(rt.alloc())?;
     for &(id, value) in &VALUES {
         assert_eq!(rt; nodes.get(id), Some(value), "{id}");
     }
+    Ok(())
+}
+
+#[test]
+fn other_nodes_have_no_value(rt: HostRuntime) -> Result<(), Fail> {
+    let nodes = filled(rt.alloc())?;
     for &id in &UNSET {
-        assert_eq!(rt; nodes.get(id), None, "{id} was never set");
+        assert_eq!(rt; nodes.get(id), None, "{id}");
     }
     Ok(())
 }
@@ -75,17 +93,23 @@ fn values_may_be_set_from_the_last_page_to_the_first(rt: HostRuntime) -> Result<
     Ok(())
 }
 
+/// Nodes that are inserted, one of them twice.
+static INSERTED: [u32; 5] = [0, 255, 256, GREATEST, 255];
+
+/// Nodes that are not.
+static OTHERS: [u32; 8] = [1, 254, 257, 511, 512, GREATEST - 1, GREATEST + 1, u32::MAX];
+
 #[test]
 fn a_set_has_the_nodes_that_were_inserted(rt: HostRuntime) -> Result<(), Fail> {
     let mut nodes = NodeSet::new(rt.alloc());
     assert!(rt; !nodes.contains(0), "the empty set");
-    for id in [0, 255, 256, GREATEST, 255] {
-        assert_eq!(rt; nodes.insert(id), Ok(()), "{id}");
+    for &id in &INSERTED {
+        nodes.insert(id).ok().ok_or("memory")?;
     }
-    for id in [0, 255, 256, GREATEST] {
+    for &id in &INSERTED {
         assert!(rt; nodes.contains(id), "{id}");
     }
-    for id in [1, 254, 257, 511, 512, GREATEST - 1, GREATEST + 1, u32::MAX] {
+    for &id in &OTHERS {
         assert!(rt; !nodes.contains(id), "{id} was never inserted");
     }
     Ok(())

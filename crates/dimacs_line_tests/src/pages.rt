@@ -1,33 +1,37 @@
 //! What is written through a page, and the sink's faults, which `finish` tells.
 
-use dimacs_lines::{DeviceFault, FlakySink, MemorySink, Page, Sink};
+use dimacs_lines::{DeviceFault, FlakySink, MemorySink, Page};
 use std::alloc::Global;
 use std::test::Fail;
 
 /// The bytes that a page has room for.
 const ROOM: usize = 16_384;
 
+static NARROW: [i64; 6] = [
+    0,
+    7,
+    -7,
+    10,
+    9_223_372_036_854_775_807,
+    -9_223_372_036_854_775_808,
+];
+
+static WIDE: [i128; 4] = [
+    0,
+    -1,
+    1_000_000_000_000_000_000_000_000_000_000,
+    -1_000_000_000_000_000_000_000_000_000_000,
+];
+
 /// Some numbers with words between them, as a writer of texts writes them.
-fn write_numbers<S: Sink>(sink: &mut S) -> Result<(), DeviceFault> {
+fn write_numbers(sink: &mut FlakySink<'_>) -> Result<(), DeviceFault> {
     let mut page = Page::new();
-    for n in [
-        0,
-        7,
-        -7,
-        10,
-        9_223_372_036_854_775_807,
-        -9_223_372_036_854_775_808,
-    ] {
+    for &n in &NARROW {
         page.number(sink, n);
         page.write(sink, b" ");
     }
     page.write(sink, b"");
-    for n in [
-        0,
-        -1,
-        1_000_000_000_000_000_000_000_000_000_000,
-        -1_000_000_000_000_000_000_000_000_000_000,
-    ] {
+    for &n in &WIDE {
         page.write(sink, b"w ");
         page.wide(sink, n);
         page.write(sink, b"\n");
@@ -38,16 +42,16 @@ fn write_numbers<S: Sink>(sink: &mut S) -> Result<(), DeviceFault> {
 const NUMBERS: &str =
     "0 7 -7 10 9223372036854775807 -9223372036854775808 w 0\nw -1\nw 1000000000000000000000000000000\nw -1000000000000000000000000000000\n";
 
+/// The sizes of the pieces that a sink takes.
+static SIZES: [usize; 4] = [1, 2, 7, 1_000];
+
 #[test]
 fn writes_numbers_and_words(rt: HostRuntime) -> Result<(), Fail> {
-    let mut sink = MemorySink::new(rt.alloc());
-    assert_eq!(rt; write_numbers(&mut sink), Ok(()));
-    assert_eq!(rt; sink.bytes(), NUMBERS.as_bytes(), "to a sink in memory");
-    for size in [1, 2, 7] {
+    for &size in &SIZES {
         let sizes = Vec::from_elem(rt.alloc(), size, NUMBERS.len())?;
-        let mut sink = FlakySink::new(rt.alloc(), sizes.as_slice(), &[]);
-        assert_eq!(rt; write_numbers(&mut sink), Ok(()), "in pieces of {size}");
-        assert_eq!(rt; sink.bytes(), NUMBERS.as_bytes(), "in pieces of {size}");
+        let mut sink = FlakySink::new(rt.alloc(), &sizes, &[]);
+        write_numbers(&mut sink)?;
+        assert!(rt; sink.bytes() == NUMBERS.as_bytes(), "in pieces of {size}");
     }
     Ok(())
 }
@@ -68,42 +72,51 @@ fn counted_bytes(alloc: Global, length: usize) -> Result<Vec<u8>, Fail> {
     Ok(bytes)
 }
 
+/// Three lengths that are written one after another.
+static LENGTHS: [(&str, usize, usize, usize); 8] = [
+    ("just a page", ROOM, 0, 0),
+    ("a page and a byte", ROOM, 1, 0),
+    ("all but a byte, and two", ROOM - 1, 2, 0),
+    ("two pages", ROOM, ROOM, 0),
+    ("more than a page at once", ROOM + 1, 0, 0),
+    ("more than a page behind a byte", 1, ROOM + 1, 1),
+    ("a page behind a byte", 1, ROOM, 1),
+    ("several pages", 5, 3 * ROOM, 2 * ROOM),
+];
+
 #[test]
 fn writes_past_the_end_of_a_page(rt: HostRuntime) -> Result<(), Fail> {
-    let cases = [
-        ("just a page", ROOM, 0, 0),
-        ("a page and a byte", ROOM, 1, 0),
-        ("all but a byte, and two", ROOM - 1, 2, 0),
-        ("two pages", ROOM, ROOM, 0),
-        ("more than a page at once", ROOM + 1, 0, 0),
-        ("more than a page behind a byte", 1, ROOM + 1, 1),
-        ("a page behind a byte", 1, ROOM, 1),
-        ("several pages", 5, 3 * ROOM, 2 * ROOM),
-    ];
-    for (name, first, second, third) in cases {
-        let text = counted_bytes(rt.alloc(), first + second + third)?;
-        assert_eq!(rt; text.len(), first + second + third);
+    for &(name, first, second, third) in &LENGTHS {
+        let pieces = [first, second, third];
+        let mut text = Vec::new(rt.alloc());
         let mut sink = MemorySink::new(rt.alloc());
         let mut page = Page::new();
-        page.write(&mut sink, &text[..first]);
-        page.write(&mut sink, &text[first..first + second]);
-        page.write(&mut sink, &text[first + second..]);
-        assert_eq!(rt; page.finish(&mut sink), Ok(()), "{name}");
+        for &length in &pieces {
+            let piece = counted_bytes(rt.alloc(), length)?;
+            text.extend_from_slice(&piece)?;
+            page.write(&mut sink, &piece);
+        }
+        page.finish(&mut sink)?;
         assert!(rt; sink.bytes() == text.as_slice(), "{name}");
     }
     Ok(())
 }
 
+/// Writes a text in pieces of this size.
+fn write_pieces(sink: &mut FlakySink<'_>, text: &[u8], size: usize) -> Result<(), DeviceFault> {
+    let mut page = Page::new();
+    for piece in text.chunks(size.max(1)) {
+        page.write(sink, piece);
+    }
+    page.finish(sink)
+}
+
 #[test]
 fn writes_many_short_pieces(rt: HostRuntime) -> Result<(), Fail> {
     let text = counted_bytes(rt.alloc(), 100_000)?;
-    let sizes = Vec::from_elem(rt.alloc(), 1, 50_000)?;
-    let mut sink = FlakySink::new(rt.alloc(), sizes.as_slice(), &[]);
-    let mut page = Page::new();
-    for piece in text.chunks(7) {
-        page.write(&mut sink, piece);
-    }
-    assert_eq!(rt; page.finish(&mut sink), Ok(()));
+    let ones = Vec::from_elem(rt.alloc(), 1, 50_000)?;
+    let mut sink = FlakySink::new(rt.alloc(), &ones, &[]);
+    write_pieces(&mut sink, &text, 7)?;
     assert!(rt; sink.bytes() == text.as_slice());
     Ok(())
 }
@@ -122,11 +135,8 @@ fn puts_nothing_behind_a_fault_and_tells_it_at_the_end(rt: HostRuntime) -> Resul
     for &(name, fail, taken) in &FAULTS {
         let fails = [fail];
         let mut sink = FlakySink::new(rt.alloc(), &[10], &fails);
-        let mut page = Page::new();
-        for piece in text.chunks(64) {
-            page.write(&mut sink, piece);
-        }
-        assert_eq!(rt; page.finish(&mut sink), Err(DeviceFault), "{name}");
+        let put = write_pieces(&mut sink, &text, 64);
+        assert_eq!(rt; put, Err(DeviceFault), "{name}");
         assert_eq!(rt; sink.bytes().len(), taken, "{name}");
         assert!(rt; text.starts_with(sink.bytes()), "{name}");
     }

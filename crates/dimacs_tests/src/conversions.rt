@@ -1,14 +1,46 @@
 //! Texts that are converted: what is put, and how the run ends.
 
-use dimacs_lines::{CutSource, FlakySink, FlakySource, MemorySink, MemorySource};
+use dimacs_lines::{FlakySink, FlakySource};
 use dimacs_records::TextKind;
 use dimacs_runs::{RunError, Status, run_convert};
 use std::alloc::Global;
 use std::process::Abort;
 use std::test::Fail;
 
-/// Converts a text in one piece, and in pieces of 1, 2 and 7 bytes.
+/// Converts what a source gives.
+fn convert(
+    alloc: Global,
+    kind: TextKind,
+    source: &mut FlakySource<'_>,
+    sink: &mut FlakySink<'_>,
+) -> Result<Status, RunError> {
+    run_convert(alloc, kind, source, sink)
+}
+
+/// Converts a text that comes in pieces of these sizes.
 fn converts(
+    rt: &impl Abort,
+    alloc: Global,
+    kind: TextKind,
+    name: &str,
+    text: &[u8],
+    sizes: &[usize],
+    status: Status,
+    output: &str,
+) {
+    let mut sink = FlakySink::new(alloc, &[], &[]);
+    let ended = convert(
+        alloc,
+        kind,
+        &mut FlakySource::new(text, sizes, &[]),
+        &mut sink,
+    );
+    assert_eq!(rt; ended, Ok(status), "{name}");
+    assert!(rt; sink.bytes() == output.as_bytes(), "{name}");
+}
+
+/// Converts a text in one piece, and in pieces of 1, 2 and 7 bytes.
+fn converts_in_pieces(
     rt: &impl Abort,
     alloc: Global,
     kind: TextKind,
@@ -17,19 +49,10 @@ fn converts(
     status: Status,
     output: &str,
 ) -> Result<(), Fail> {
-    let mut sink = MemorySink::new(alloc);
-    let ended = run_convert(alloc, kind, &mut MemorySource::new(text), &mut sink);
-    assert_eq!(rt; ended, Ok(status), "{name}");
-    assert!(rt; sink.bytes() == output.as_bytes(), "{name}");
+    converts(rt, alloc, kind, name, text, &[], status, output);
     for size in [1, 2, 7] {
         let sizes = Vec::from_elem(alloc, size, text.len())?;
-        let mut sink = MemorySink::new(alloc);
-        let ended = run_convert(alloc, kind, &mut CutSource::new(text, &sizes), &mut sink);
-        assert_eq!(rt; ended, Ok(status), "{name}, in pieces of {size}");
-        assert!(rt;
-            sink.bytes() == output.as_bytes(),
-            "{name}, in pieces of {size}"
-        );
+        converts(rt, alloc, kind, name, text, &sizes, status, output);
     }
     Ok(())
 }
@@ -45,7 +68,7 @@ fn converts_each(
     cases: &[Case],
 ) -> Result<(), Fail> {
     for &(name, kind, text, output) in cases {
-        converts(rt, alloc, kind, name, text.as_bytes(), status, output)?;
+        converts_in_pieces(rt, alloc, kind, name, text.as_bytes(), status, output)?;
     }
     Ok(())
 }
@@ -403,24 +426,31 @@ static LONG_LINES: [(usize, &str); 2] = [
 fn a_long_line_is_refused_whatever_stands_in_it(rt: HostRuntime) -> Result<(), Fail> {
     for &(length, line) in &LONG_LINES {
         let blanks = Vec::from_elem(rt.alloc(), b' ', length)?;
-        let mut sink = MemorySink::new(rt.alloc());
-        let mut text = MemorySource::new(&blanks);
-        let ended = run_convert(rt.alloc(), TextKind::Graph, &mut text, &mut sink);
-        assert_eq!(rt; ended, Ok(Status::Refused), "{length} blanks");
-        assert!(rt; sink.bytes() == line.as_bytes(), "{length} blanks");
+        converts(
+            &rt,
+            rt.alloc(),
+            TextKind::Graph,
+            "blanks",
+            &blanks,
+            &[],
+            Status::Refused,
+            line,
+        );
     }
     Ok(())
 }
 
+const GRAPH: &str = "p sp 2 1\na 1 2 7\n";
+
 #[test]
 fn a_pull_that_fails_puts_nothing(rt: HostRuntime) -> Result<(), Fail> {
-    let text = b"p sp 2 1\na 1 2 7\n";
-    let sizes = [1; 17];
+    let ones = Vec::from_elem(rt.alloc(), 1, GRAPH.len())?;
+    // One pull for each byte, and one that finds the end.
     for pull in 1..=18 {
         let fails = [pull];
-        let mut sink = MemorySink::new(rt.alloc());
-        let mut source = FlakySource::new(text, &sizes, &fails);
-        let ended = run_convert(rt.alloc(), TextKind::Graph, &mut source, &mut sink);
+        let mut sink = FlakySink::new(rt.alloc(), &[], &[]);
+        let mut source = FlakySource::new(GRAPH.as_bytes(), &ones, &fails);
+        let ended = convert(rt.alloc(), TextKind::Graph, &mut source, &mut sink);
         assert_eq!(rt; ended, Err(RunError::Device), "at pull {pull}");
         assert!(rt; sink.bytes().is_empty(), "at pull {pull}");
     }
@@ -429,35 +459,25 @@ fn a_pull_that_fails_puts_nothing(rt: HostRuntime) -> Result<(), Fail> {
 
 #[test]
 fn a_slow_sink_gets_the_same_bytes(rt: HostRuntime) -> Result<(), Fail> {
-    let text = b"p sp 2 1\na 1 2 7\n";
-    let sizes = [1; 17];
-    let mut sink = FlakySink::new(rt.alloc(), &sizes, &[]);
-    let ended = run_convert(
-        rt.alloc(),
-        TextKind::Graph,
-        &mut MemorySource::new(text),
-        &mut sink,
-    );
+    let ones = Vec::from_elem(rt.alloc(), 1, GRAPH.len())?;
+    let mut sink = FlakySink::new(rt.alloc(), &ones, &[]);
+    let mut source = FlakySource::new(GRAPH.as_bytes(), &[], &[]);
+    let ended = convert(rt.alloc(), TextKind::Graph, &mut source, &mut sink);
     assert_eq!(rt; ended, Ok(Status::Done));
-    assert!(rt; sink.bytes() == text.as_slice());
+    assert!(rt; sink.bytes() == GRAPH.as_bytes());
     Ok(())
 }
 
 #[test]
 fn a_put_that_fails_leaves_a_beginning(rt: HostRuntime) -> Result<(), Fail> {
-    let text = b"p sp 2 1\na 1 2 7\n";
-    let sizes = [1; 17];
+    let ones = Vec::from_elem(rt.alloc(), 1, GRAPH.len())?;
     for put in 1..=17 {
         let fails = [put];
-        let mut sink = FlakySink::new(rt.alloc(), &sizes, &fails);
-        let ended = run_convert(
-            rt.alloc(),
-            TextKind::Graph,
-            &mut MemorySource::new(text),
-            &mut sink,
-        );
+        let mut sink = FlakySink::new(rt.alloc(), &ones, &fails);
+        let mut source = FlakySource::new(GRAPH.as_bytes(), &[], &[]);
+        let ended = convert(rt.alloc(), TextKind::Graph, &mut source, &mut sink);
         assert_eq!(rt; ended, Err(RunError::Device), "at put {put}");
-        assert!(rt; text.starts_with(sink.bytes()), "at put {put}");
+        assert!(rt; GRAPH.as_bytes().starts_with(sink.bytes()), "at put {put}");
         assert!(rt; sink.bytes().len() as u64 == put - 1, "at put {put}");
     }
     Ok(())

@@ -1,21 +1,21 @@
-//! The tests of records and runs, a file for each subject. They say what no contract says: that a call succeeds
+//! The tests of judges and runs, a file for each subject. They say what no contract says: that a call succeeds
 //! while memory lasts, what a device does in mid-stream, and that the contracts mean what was meant, by answers worked
 //! out by hand.
 #![tactic(auto)]
 
 #[cfg(test)]
-mod canonical;
+mod calls;
 #[cfg(test)]
 mod conversions;
 #[cfg(test)]
-mod readings;
+mod flows;
 #[cfg(test)]
-mod reasons;
+mod judging;
 #[cfg(test)]
-mod records;
-#[cfg(test)]
-mod refusals;
+mod paths;
 #[cfg(test)]
 mod shown;
+#[cfg(test)]
+mod truncations;
 #[cfg(test)]
 mod words;

@@ -1,27 +1,38 @@
 //! The lines that tell what a text is.
 
-use dimacs_lines::{CutSource, FlakySource, MemorySink, MemorySource, Source};
+use dimacs_lines::{FlakySink, FlakySource};
 use dimacs_records::TextKind;
 use dimacs_runs::{RunError, Status, run_show};
 use std::alloc::Global;
 use std::process::Abort;
 use std::test::Fail;
 
-/// Whether what a source gives is shown by this line.
-fn shows<S: Source>(
+/// Shows what a source gives.
+fn show(
+    alloc: Global,
+    kind: TextKind,
+    source: &mut FlakySource<'_>,
+    sink: &mut FlakySink<'_>,
+) -> Result<Status, RunError> {
+    run_show(alloc, kind, source, sink)
+}
+
+/// Whether a text that comes in pieces of these sizes is shown by this line.
+fn shows(
     rt: &impl Abort,
     alloc: Global,
     name: &str,
-    way: &str,
     kind: TextKind,
-    source: &mut S,
+    text: &str,
+    sizes: &[usize],
     status: Status,
     line: &str,
 ) {
-    let mut sink = MemorySink::new(alloc);
-    let ended = run_show(alloc, kind, source, &mut sink);
-    assert_eq!(rt; ended, Ok(status), "{name}, {way}");
-    assert!(rt; sink.bytes() == line.as_bytes(), "{name}, {way}");
+    let mut source = FlakySource::new(text.as_bytes(), sizes, &[]);
+    let mut sink = FlakySink::new(alloc, &[], &[]);
+    let ended = show(alloc, kind, &mut source, &mut sink);
+    assert_eq!(rt; ended, Ok(status), "{name}");
+    assert!(rt; sink.bytes() == line.as_bytes(), "{name}");
 }
 
 /// Texts, each with how the run ends and the line that is put.
@@ -115,38 +126,18 @@ static SHOWN: [(&str, TextKind, &str, Status, &str); 12] = [
 #[test]
 fn texts_are_shown_in_one_line(rt: HostRuntime) -> Result<(), Fail> {
     for &(name, kind, text, status, line) in &SHOWN {
-        let mut whole = MemorySource::new(text.as_bytes());
-        shows(
-            &rt,
-            rt.alloc(),
-            name,
-            "in one piece",
-            kind,
-            &mut whole,
-            status,
-            line,
-        );
+        shows(&rt, rt.alloc(), name, kind, text, &[], status, line);
         let ones = Vec::from_elem(rt.alloc(), 1, text.len())?;
-        let mut pieces = CutSource::new(text.as_bytes(), &ones);
-        shows(
-            &rt,
-            rt.alloc(),
-            name,
-            "in pieces",
-            kind,
-            &mut pieces,
-            status,
-            line,
-        );
+        shows(&rt, rt.alloc(), name, kind, text, &ones, status, line);
     }
     Ok(())
 }
 
 #[test]
 fn a_pull_that_fails_shows_nothing(rt: HostRuntime) -> Result<(), Fail> {
-    let mut sink = MemorySink::new(rt.alloc());
+    let mut sink = FlakySink::new(rt.alloc(), &[], &[]);
     let mut source = FlakySource::new(b"p sp 2 0\n", &[4], &[2]);
-    let ended = run_show(rt.alloc(), TextKind::Graph, &mut source, &mut sink);
+    let ended = show(rt.alloc(), TextKind::Graph, &mut source, &mut sink);
     assert_eq!(rt; ended, Err(RunError::Device));
     assert!(rt; sink.bytes().is_empty());
     Ok(())

@@ -1,11 +1,10 @@
 //! Cuts: texts that are read and written again, sets that are put together, and texts that are refused.
 
 use crate::texts::{
-    Converted, Line, Refused, answers_each, converts_each, refuses_each, tells_each_failed_pull,
-    tells_each_failed_put,
+    Converted, Line, Refused, answers_each, converts_each, is_written, refuses_each, spelled,
+    tells_each_failed_pull, tells_each_failed_put,
 };
-use dimacs_claims::{Cut, CutReading, read_cut, write_cut};
-use dimacs_lines::{MemorySink, MemorySource};
+use dimacs_claims::{Cut, CutReading};
 use dimacs_records::{Reading, Reason, TextKind};
 use std::test::Fail;
 
@@ -46,41 +45,22 @@ static NODES_OF_TEXT: [(u32, bool); 10] = [
 
 #[test]
 fn a_cut_has_the_nodes_of_its_text(rt: HostRuntime) -> Result<(), Fail> {
-    let text = b"p cut 300 3\nu 300\nu 1\nu 256\n";
-    let cut = read_cut(rt.alloc(), &mut MemorySource::new(text))?;
-    assert_eq!(rt; cut.nodes(), 300);
-    assert_eq!(rt; cut.len(), 3);
+    let cut: Cut = spelled(rt.alloc(), "p cut 300 3\nu 300\nu 1\nu 256\n")?;
+    assert_eq!(rt; (cut.nodes(), cut.len()), (300, 3));
     for &(id, inside) in &NODES_OF_TEXT {
         assert_eq!(rt; cut.contains(id), inside, "node {id}");
     }
     Ok(())
 }
 
-/// Nodes, and whether each was put in.
-static NODES_PUT_IN: [(u32, bool); 6] = [
-    (0, false),
-    (1, true),
-    (2, false),
-    (3, true),
-    (4, false),
-    (5, false),
-];
-
 #[test]
 fn nodes_are_put_in_one_by_one(rt: HostRuntime) -> Result<(), Fail> {
     let mut cut = Cut::new(rt.alloc(), 4);
-    assert!(rt; !cut.contains(3));
     cut.add(3)?;
     cut.add(1)?;
     cut.add(3)?;
     assert_eq!(rt; cut.len(), 2);
-    for &(id, inside) in &NODES_PUT_IN {
-        assert_eq!(rt; cut.contains(id), inside, "node {id}");
-    }
-    let mut sink = MemorySink::new(rt.alloc());
-    write_cut(&cut, &mut sink)?;
-    assert!(rt; sink.bytes() == TWO_OF_FOUR.as_bytes());
-    Ok(())
+    is_written(&rt, rt.alloc(), &cut, TWO_OF_FOUR)
 }
 
 /// Texts that are refused for their first fault.

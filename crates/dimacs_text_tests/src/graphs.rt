@@ -1,11 +1,11 @@
 //! Graph texts, read and written again.
 
 use crate::texts::{
-    Converted, Weights, becomes, converts_each, tells_each_failed_pull, tells_each_failed_put,
-    tells_failed_pulls,
+    Arc, Converted, Text, Weights, becomes, converts_each, is_made_of, spelled,
+    tells_each_failed_pull, tells_each_failed_put, tells_failed_pulls,
 };
-use dimacs_instance::{Network, read_graph, write_graph};
-use dimacs_lines::{CutSource, DeviceFault, FlakySink, MemorySource};
+use dimacs_instance::Network;
+use dimacs_lines::{DeviceFault, FlakySink, FlakySource};
 use std::alloc::Global;
 use std::test::Fail;
 
@@ -59,16 +59,13 @@ fn texts_get_their_canonical_form(rt: HostRuntime) -> Result<(), Fail> {
     converts_each::<Weights>(&rt, rt.alloc(), &CANONICAL_FORMS)
 }
 
+static ARCS: [Arc; 3] = [(1, 2, 0, 0, 5), (3, 4, 0, 0, 0), (4, 3, 0, 0, 0)];
+
 #[test]
 fn a_graph_has_the_arcs_of_its_text(rt: HostRuntime) -> Result<(), Fail> {
-    let graph = read_graph(rt.alloc(), &mut MemorySource::new(CYCLE.as_bytes()))?;
-    let network = graph.network();
-    assert_eq!(rt; network.nodes(), 4);
-    assert_eq!(rt; network.arcs(), 3);
-    assert_eq!(rt; network.arc(0).tail, 1);
-    assert_eq!(rt; network.arc(0).head, 2);
-    assert_eq!(rt; network.arc(0).cost, 5);
-    assert_eq!(rt; network.find(4, 3, 0), Some(2));
+    let graph: Weights = spelled(rt.alloc(), CYCLE)?;
+    is_made_of(&rt, graph.network(), 4, &ARCS);
+    assert_eq!(rt; graph.network().find(4, 3, 0), Some(2));
     Ok(())
 }
 
@@ -86,24 +83,9 @@ fn ring(alloc: Global, nodes: u32) -> Result<Vec<u8>, Fail> {
 #[test]
 fn long_texts_are_read_and_written_whole(rt: HostRuntime) -> Result<(), Fail> {
     let text = ring(rt.alloc(), 20_000)?;
-    let mut whole = MemorySource::new(&text);
-    becomes::<Weights, MemorySource>(
-        &rt,
-        rt.alloc(),
-        "a ring",
-        "in large pieces",
-        &mut whole,
-        &text,
-    )?;
-    let mut pieces = CutSource::new(&text, &[7, 65_536, 1, 65_535, 3]);
-    becomes::<Weights, CutSource>(
-        &rt,
-        rt.alloc(),
-        "a ring",
-        "in uneven pieces",
-        &mut pieces,
-        &text,
-    )
+    becomes::<Weights>(&rt, rt.alloc(), "in large pieces", &text, &[], &text)?;
+    let sizes = [7, 65_536, 1, 65_535, 3];
+    becomes::<Weights>(&rt, rt.alloc(), "in uneven pieces", &text, &sizes, &text)
 }
 
 #[test]
@@ -124,10 +106,9 @@ fn each_put_that_fails_is_told(rt: HostRuntime) -> Result<(), Fail> {
 #[test]
 fn a_put_that_fails_in_mid_stream_ends_the_text(rt: HostRuntime) -> Result<(), Fail> {
     let text = ring(rt.alloc(), 5_000)?;
-    let graph = read_graph(rt.alloc(), &mut MemorySource::new(&text))?;
-    let fails = [2];
-    let mut sink = FlakySink::new(rt.alloc(), &[], &fails);
-    assert_eq!(rt; write_graph(&graph, &mut sink), Err(DeviceFault));
+    let graph = Weights::read(rt.alloc(), &mut FlakySource::new(&text, &[], &[]))?;
+    let mut sink = FlakySink::new(rt.alloc(), &[], &[2]);
+    assert_eq!(rt; graph.write(&mut sink), Err(DeviceFault));
     assert!(rt; !sink.bytes().is_empty());
     assert!(rt; sink.bytes().len() < text.len());
     assert!(rt; text.starts_with(sink.bytes()));

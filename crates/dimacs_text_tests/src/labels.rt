@@ -1,11 +1,10 @@
 //! Labels: texts that are read and written again, look-ups, and texts that are refused.
 
 use crate::texts::{
-    Converted, Line, Refused, answers_each, converts_each, refuses_each, tells_each_failed_pull,
-    tells_each_failed_put,
+    Converted, Line, Refused, answers_each, converts_each, refuses_each, spelled,
+    tells_each_failed_pull, tells_each_failed_put,
 };
-use dimacs_claims::{Label, Labels, LabelsReading, read_labels};
-use dimacs_lines::MemorySource;
+use dimacs_claims::{Label, Labels, LabelsReading};
 use dimacs_records::{Reading, Reason, TextKind};
 use std::test::Fail;
 
@@ -39,7 +38,7 @@ fn texts_get_their_canonical_form(rt: HostRuntime) -> Result<(), Fail> {
 
 #[test]
 fn blocks_are_those_of_the_text(rt: HostRuntime) -> Result<(), Fail> {
-    let labels: Labels = read_labels(rt.alloc(), &mut MemorySource::new(TWO_BLOCKS.as_bytes()))?;
+    let labels: Labels = spelled(rt.alloc(), TWO_BLOCKS)?;
     assert_eq!(rt; labels.nodes(), 4);
     let blocks = labels.blocks();
     assert_eq!(rt; blocks.len(), 2);
@@ -81,7 +80,7 @@ static DISTANCES: [(usize, u32, Option<i128>); 10] = [
 
 #[test]
 fn labels_are_those_of_the_text(rt: HostRuntime) -> Result<(), Fail> {
-    let labels: Labels = read_labels(rt.alloc(), &mut MemorySource::new(TWO_BLOCKS.as_bytes()))?;
+    let labels: Labels = spelled(rt.alloc(), TWO_BLOCKS)?;
     for &(block, id, dist) in &DISTANCES {
         assert_eq!(rt; labels.label(block, id), dist, "block {block}, node {id}");
     }

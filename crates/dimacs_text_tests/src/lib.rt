@@ -1,7 +1,9 @@
-//! The tests of instances, queries, claims and certificates, a file for each kind of text. They say what no contract says,
-//! as those of the other test crates do.
+//! The tests of records, instances, queries, claims and certificates, a file for each subject. They say what no contract
+//! says, as those of the other test crates do.
 #![tactic(auto)]
 
+#[cfg(test)]
+mod canonical;
 #[cfg(test)]
 mod cuts;
 #[cfg(test)]
@@ -18,6 +20,14 @@ mod networks;
 mod potentials;
 #[cfg(test)]
 mod queries;
+#[cfg(test)]
+mod readings;
+#[cfg(test)]
+mod reasons;
+#[cfg(test)]
+mod records;
+#[cfg(test)]
+mod refusals;
 #[cfg(test)]
 mod solutions;
 #[cfg(test)]

@@ -1,11 +1,11 @@
 //! Texts of maximum flow: read, written again, and refused.
 
 use crate::texts::{
-    Converted, Line, MaxFlow, Refused, answers_each, converts_each, refuses, refuses_each,
-    tells_each_failed_pull, tells_each_failed_put,
+    Arc, Converted, Line, MaxFlow, Refused, Text, answers_each, converts_each, is_made_of, refuses,
+    refuses_each, spelled, tells_each_failed_pull, tells_each_failed_put,
 };
-use dimacs_instance::{MaxReading, Network, read_max};
-use dimacs_lines::MemorySource;
+use dimacs_instance::{MaxReading, Network};
+use dimacs_lines::FlakySource;
 use dimacs_records::{At, Reading, Reason, TextKind};
 use std::alloc::Global;
 use std::test::Fail;
@@ -42,21 +42,27 @@ fn texts_get_their_canonical_form(rt: HostRuntime) -> Result<(), Fail> {
     converts_each::<MaxFlow>(&rt, rt.alloc(), &CANONICAL_FORMS)
 }
 
+static ARCS: [Arc; 5] = [
+    (1, 2, 0, 4, 0),
+    (1, 3, 0, 2, 0),
+    (2, 3, 0, 2, 0),
+    (2, 4, 0, 3, 0),
+    (3, 4, 0, 5, 0),
+];
+
 #[test]
 fn an_instance_has_the_ends_and_arcs_of_its_text(rt: HostRuntime) -> Result<(), Fail> {
-    let max = read_max(rt.alloc(), &mut MemorySource::new(DIAMOND.as_bytes()))?;
-    assert_eq!(rt; max.source(), 1);
-    assert_eq!(rt; max.sink(), 4);
-    let network = max.network();
-    assert_eq!(rt; network.nodes(), 4);
-    assert_eq!(rt; network.arcs(), 5);
-    assert_eq!(rt; network.arc(3).tail, 2);
-    assert_eq!(rt; network.arc(3).head, 4);
-    assert_eq!(rt; network.arc(3).cap, 3);
-    assert_eq!(rt; network.arc(3).low, 0);
-    assert_eq!(rt; network.arc(3).cost, 0);
-    assert_eq!(rt; network.find(3, 4, 0), Some(4));
-    assert_eq!(rt; network.find(4, 3, 0), None);
+    let max: MaxFlow = spelled(rt.alloc(), DIAMOND)?;
+    assert_eq!(rt; (max.source(), max.sink()), (1, 4));
+    is_made_of(&rt, max.network(), 4, &ARCS);
+    Ok(())
+}
+
+#[test]
+fn an_arc_is_found_by_its_ends(rt: HostRuntime) -> Result<(), Fail> {
+    let max: MaxFlow = spelled(rt.alloc(), DIAMOND)?;
+    assert_eq!(rt; max.network().find(3, 4, 0), Some(4));
+    assert_eq!(rt; max.network().find(4, 3, 0), None);
     Ok(())
 }
 
@@ -340,17 +346,15 @@ static RECORDS: [Line; 17] = [
     (17, "a 2 2 6", Some((0, Reason::TooMany))),
 ];
 
+static ARCS_TAKEN: [Arc; 2] = [(1, 2, 0, 5, 0), (2, 1, 0, 6, 0)];
+
 #[test]
 fn a_refused_record_leaves_the_reading_as_it_was(rt: HostRuntime) -> Result<(), Fail> {
     let mut reading = MaxReading::new(rt.alloc());
     answers_each(&rt, &mut reading, TextKind::Max, &RECORDS);
     let max = reading.finish()?;
-    assert_eq!(rt; max.source(), 2);
-    assert_eq!(rt; max.sink(), 3);
-    let network = max.network();
-    assert_eq!(rt; network.arcs(), 2);
-    assert_eq!(rt; network.arc(0).cap, 5);
-    assert_eq!(rt; network.arc(1).cap, 6);
+    assert_eq!(rt; (max.source(), max.sink()), (2, 3));
+    is_made_of(&rt, max.network(), 3, &ARCS_TAKEN);
     Ok(())
 }
 
@@ -375,8 +379,8 @@ static REPEATED_ARCS: [(&str, &str); 3] = [
 #[test]
 fn a_repeated_arc_is_found_among_many(rt: HostRuntime) -> Result<(), Fail> {
     let text = all_arcs(rt.alloc())?;
-    let max = read_max(rt.alloc(), &mut MemorySource::new(&text))?;
-    assert_eq!(rt; max.network().arcs(), 3_600);
+    let read = MaxFlow::read(rt.alloc(), &mut FlakySource::new(&text, &[], &[]));
+    assert!(rt; read.is_ok(), "all arcs once");
     for &(name, line) in &REPEATED_ARCS {
         let mut text = all_arcs(rt.alloc())?;
         text.extend_from_slice(line.as_bytes())?;

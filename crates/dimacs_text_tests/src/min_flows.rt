@@ -1,11 +1,10 @@
 //! Minimum cost flow texts: read and written again, looked up, and refused.
 
 use crate::texts::{
-    Converted, MinFlow, Refused, converts_each, refuses_each, tells_each_failed_pull,
-    tells_each_failed_put,
+    Arc, Converted, MinFlow, Refused, converts_each, is_made_of, refuses_each, spelled,
+    tells_each_failed_pull, tells_each_failed_put,
 };
-use dimacs_instance::{Network, SupplySums, read_min};
-use dimacs_lines::MemorySource;
+use dimacs_instance::{Network, SupplySums};
 use dimacs_records::Reason;
 use std::test::Fail;
 
@@ -58,31 +57,33 @@ fn texts_get_their_canonical_form(rt: HostRuntime) -> Result<(), Fail> {
     converts_each::<MinFlow>(&rt, rt.alloc(), &CANONICAL_FORMS)
 }
 
+/// Nodes, and what each supplies.
+static SUPPLIES: [(u32, i64); 6] = [(1, 4), (2, 0), (3, 0), (4, -4), (0, 0), (4_000_000_000, 0)];
+
 #[test]
-fn an_instance_has_the_supplies_and_arcs_of_its_text(rt: HostRuntime) -> Result<(), Fail> {
-    let instance = read_min(rt.alloc(), &mut MemorySource::new(SHIPPING.as_bytes()))?;
-    assert_eq!(rt; instance.supply(1), 4);
-    assert_eq!(rt; instance.supply(2), 0);
-    assert_eq!(rt; instance.supply(4), -4);
-    assert_eq!(rt; instance.supply(0), 0);
-    assert_eq!(rt; instance.supply(4_000_000_000), 0);
-    let sums = instance.supply_sums();
-    assert_eq!(rt;
-        sums,
-        SupplySums {
-            supplied: 4,
-            demanded: 4
-        }
-    );
-    let network = instance.network();
-    assert_eq!(rt; network.nodes(), 4);
-    assert_eq!(rt; network.arcs(), 5);
-    assert_eq!(rt; network.arc(3).tail, 2);
-    assert_eq!(rt; network.arc(3).head, 4);
-    assert_eq!(rt; network.arc(3).low, 0);
-    assert_eq!(rt; network.arc(3).cap, 3);
-    assert_eq!(rt; network.arc(3).cost, 3);
-    assert_eq!(rt; network.find(3, 4, 0), Some(4));
+fn an_instance_has_the_supplies_of_its_text(rt: HostRuntime) -> Result<(), Fail> {
+    let instance: MinFlow = spelled(rt.alloc(), SHIPPING)?;
+    for &(id, supply) in &SUPPLIES {
+        assert_eq!(rt; instance.supply(id), supply, "node {id}");
+    }
+    let SupplySums { supplied, demanded } = instance.supply_sums();
+    assert_eq!(rt; (supplied, demanded), (4, 4));
+    Ok(())
+}
+
+static ARCS: [Arc; 5] = [
+    (1, 2, 0, 4, 2),
+    (1, 3, 0, 2, 2),
+    (2, 3, 0, 2, 1),
+    (2, 4, 0, 3, 3),
+    (3, 4, 0, 5, 1),
+];
+
+#[test]
+fn an_instance_has_the_arcs_of_its_text(rt: HostRuntime) -> Result<(), Fail> {
+    let instance: MinFlow = spelled(rt.alloc(), SHIPPING)?;
+    is_made_of(&rt, instance.network(), 4, &ARCS);
+    assert_eq!(rt; instance.network().find(3, 4, 0), Some(4));
     Ok(())
 }
 
@@ -90,10 +91,10 @@ fn an_instance_has_the_supplies_and_arcs_of_its_text(rt: HostRuntime) -> Result<
 fn sums_of_supplies_leave_64_bits(rt: HostRuntime) -> Result<(), Fail> {
     let text =
         "p min 5 0\nn 5 -9223372036854775808\nn 1 9223372036854775807\nn 2 9223372036854775807\nn 3 3\nn 4 -9223372036854775808\n";
-    let instance = read_min(rt.alloc(), &mut MemorySource::new(text.as_bytes()))?;
-    let sums = instance.supply_sums();
-    assert_eq!(rt; sums.supplied, 18_446_744_073_709_551_617);
-    assert_eq!(rt; sums.demanded, 18_446_744_073_709_551_616);
+    let instance: MinFlow = spelled(rt.alloc(), text)?;
+    let SupplySums { supplied, demanded } = instance.supply_sums();
+    let wanted = (18_446_744_073_709_551_617, 18_446_744_073_709_551_616);
+    assert_eq!(rt; (supplied, demanded), wanted);
     Ok(())
 }
 

@@ -1,11 +1,10 @@
 //! Potentials: texts that are read and written again, potentials that are set, and texts that are refused.
 
 use crate::texts::{
-    Converted, Line, Refused, answers_each, converts_each, refuses_each, tells_each_failed_pull,
-    tells_each_failed_put,
+    Converted, Line, Refused, answers_each, converts_each, is_written, refuses_each, spelled,
+    tells_each_failed_pull, tells_each_failed_put,
 };
-use dimacs_claims::{Potentials, PotentialsReading, read_potentials, write_potentials};
-use dimacs_lines::{MemorySink, MemorySource};
+use dimacs_claims::{Potentials, PotentialsReading};
 use dimacs_records::{Reading, Reason, TextKind};
 use std::test::Fail;
 
@@ -60,10 +59,11 @@ static VALUES: [(u32, i128); 11] = [
 
 #[test]
 fn potentials_are_those_of_the_text(rt: HostRuntime) -> Result<(), Fail> {
-    let text = b"p pot 300 4\ny 300 7\ny 1 -5\ny 2 0\ny 256 1\n";
-    let potentials = read_potentials(rt.alloc(), &mut MemorySource::new(text))?;
-    assert_eq!(rt; potentials.nodes(), 300);
-    assert_eq!(rt; potentials.count_nonzero(), 3);
+    let potentials: Potentials = spelled(
+        rt.alloc(),
+        "p pot 300 4\ny 300 7\ny 1 -5\ny 2 0\ny 256 1\n",
+    )?;
+    assert_eq!(rt; (potentials.nodes(), potentials.count_nonzero()), (300, 3));
     for &(id, value) in &VALUES {
         assert_eq!(rt; potentials.of(id), value, "node {id}");
     }
@@ -73,19 +73,12 @@ fn potentials_are_those_of_the_text(rt: HostRuntime) -> Result<(), Fail> {
 #[test]
 fn potentials_are_set_one_by_one(rt: HostRuntime) -> Result<(), Fail> {
     let mut potentials = Potentials::new(rt.alloc(), 2);
-    assert_eq!(rt; potentials.of(1), 0);
     potentials.set(2, 8)?;
     potentials.set(1, -3)?;
     potentials.set(1, 5)?;
     assert_eq!(rt; potentials.of(2), 8);
     potentials.set(2, 0)?;
-    for (id, value) in [(0, 0), (1, 5), (2, 0), (3, 0)] {
-        assert_eq!(rt; potentials.of(id), value, "node {id}");
-    }
-    let mut sink = MemorySink::new(rt.alloc());
-    write_potentials(&potentials, &mut sink)?;
-    assert!(rt; sink.bytes() == b"p pot 2 1\ny 1 5\n".as_slice());
-    Ok(())
+    is_written(&rt, rt.alloc(), &potentials, "p pot 2 1\ny 1 5\n")
 }
 
 /// Texts that are refused for their first fault.

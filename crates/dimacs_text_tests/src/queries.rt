@@ -1,11 +1,10 @@
 //! Queries: texts that are read and written again, and texts that are refused.
 
 use crate::texts::{
-    Converted, Line, Refused, answers_each, converts_each, refuses_each, tells_each_failed_pull,
-    tells_each_failed_put,
+    Converted, Line, Refused, answers_each, converts_each, is_written, refuses_each, spelled,
+    tells_each_failed_pull, tells_each_failed_put,
 };
-use dimacs_instance::{Queries, QueriesReading, read_queries, write_queries};
-use dimacs_lines::{MemorySink, MemorySource};
+use dimacs_instance::{Queries, QueriesReading};
 use dimacs_records::{QueryKind, Reading, Reason, TextKind};
 use std::test::Fail;
 
@@ -64,17 +63,18 @@ fn pairs(queries: &Queries) -> &[(u32, u32)] {
 }
 
 #[test]
-fn queries_ask_for_what_their_text_does(rt: HostRuntime) -> Result<(), Fail> {
-    let text = b"p aux sp ss 3\ns 5\ns 1\ns 5\n";
-    let queries = read_queries(rt.alloc(), &mut MemorySource::new(text))?;
-    assert_eq!(rt; queries.kind(), QueryKind::Sources);
-    assert_eq!(rt; queries.len(), 3);
+fn sources_are_those_of_their_text(rt: HostRuntime) -> Result<(), Fail> {
+    let queries: Queries = spelled(rt.alloc(), "p aux sp ss 3\ns 5\ns 1\ns 5\n")?;
+    assert_eq!(rt; (queries.kind(), queries.len()), (QueryKind::Sources, 3));
     assert_eq!(rt; sources(&queries), [5, 1, 5].as_slice());
     assert!(rt; pairs(&queries).is_empty());
+    Ok(())
+}
 
-    let queries = read_queries(rt.alloc(), &mut MemorySource::new(TWO_PAIRS.as_bytes()))?;
-    assert_eq!(rt; queries.kind(), QueryKind::Pairs);
-    assert_eq!(rt; queries.len(), 2);
+#[test]
+fn pairs_are_those_of_their_text(rt: HostRuntime) -> Result<(), Fail> {
+    let queries: Queries = spelled(rt.alloc(), TWO_PAIRS)?;
+    assert_eq!(rt; (queries.kind(), queries.len()), (QueryKind::Pairs, 2));
     assert_eq!(rt; pairs(&queries), [(1, 2), (1, 4)].as_slice());
     assert!(rt; sources(&queries).is_empty());
     Ok(())
@@ -83,10 +83,12 @@ fn queries_ask_for_what_their_text_does(rt: HostRuntime) -> Result<(), Fail> {
 #[test]
 fn open_lists_are_written_as_they_are(rt: HostRuntime) -> Result<(), Fail> {
     let queries = Queries::Sources([0, u32::MAX].to_vec(rt.alloc())?);
-    let mut sink = MemorySink::new(rt.alloc());
-    write_queries(&queries, &mut sink)?;
-    assert!(rt; sink.bytes() == b"p aux sp ss 2\ns 0\ns 4294967295\n".as_slice());
-    Ok(())
+    is_written(
+        &rt,
+        rt.alloc(),
+        &queries,
+        "p aux sp ss 2\ns 0\ns 4294967295\n",
+    )
 }
 
 /// Texts that are refused for their first fault.

@@ -1,11 +1,11 @@
 //! Solutions: texts that are read and written again, and texts that are refused.
 
 use crate::texts::{
-    Converted, Line, Refused, answers_each, converts_each, refuses_each, take_line,
-    tells_each_failed_pull, tells_each_failed_put,
+    Converted, Line, Refused, Text, answers_each, converts_each, is_written, refuses_each, spelled,
+    take_line, tells_each_failed_pull, tells_each_failed_put,
 };
-use dimacs_claims::{Entry, Solution, SolutionReading, read_solution, write_solution};
-use dimacs_lines::{MemorySink, MemorySource};
+use dimacs_claims::{Entry, Solution, SolutionReading};
+use dimacs_lines::{FlakySink, FlakySource};
 use dimacs_records::{Reading, Reason, TakeError, TextKind};
 use std::test::Fail;
 
@@ -58,7 +58,7 @@ fn texts_get_their_canonical_form(rt: HostRuntime) -> Result<(), Fail> {
 }
 
 /// The value behind an entry, with comments and empty lines between.
-const SCATTERED: &[u8] = b"c x\nf 1 2 4\n\ns 6\nf 3 4 -2\nf 1 2 4";
+const SCATTERED: &str = "c x\nf 1 2 4\n\ns 6\nf 3 4 -2\nf 1 2 4";
 
 fn entry(tail: u32, head: u32, flow: i64, line: u64) -> Entry {
     Entry {
@@ -71,9 +71,8 @@ fn entry(tail: u32, head: u32, flow: i64, line: u64) -> Entry {
 
 #[test]
 fn a_solution_knows_the_lines_of_its_text(rt: HostRuntime) -> Result<(), Fail> {
-    let solution = read_solution(rt.alloc(), &mut MemorySource::new(SCATTERED))?;
-    assert_eq!(rt; solution.value, 6);
-    assert_eq!(rt; solution.value_line, 4);
+    let solution: Solution = spelled(rt.alloc(), SCATTERED)?;
+    assert_eq!(rt; (solution.value, solution.value_line), (6, 4));
     assert_eq!(rt;
         solution.entries.as_slice(),
         [entry(1, 2, 4, 2), entry(3, 4, -2, 5), entry(1, 2, 4, 6)].as_slice()
@@ -83,12 +82,11 @@ fn a_solution_knows_the_lines_of_its_text(rt: HostRuntime) -> Result<(), Fail> {
 
 #[test]
 fn a_solution_that_was_written_knows_its_new_lines(rt: HostRuntime) -> Result<(), Fail> {
-    let solution = read_solution(rt.alloc(), &mut MemorySource::new(SCATTERED))?;
-    let mut written = MemorySink::new(rt.alloc());
-    write_solution(&solution, &mut written)?;
-    let again = read_solution(rt.alloc(), &mut MemorySource::new(written.bytes()))?;
-    assert_eq!(rt; again.value, 6);
-    assert_eq!(rt; again.value_line, 1);
+    let solution: Solution = spelled(rt.alloc(), SCATTERED)?;
+    let mut written = FlakySink::new(rt.alloc(), &[], &[]);
+    solution.write(&mut written)?;
+    let again = Solution::read(rt.alloc(), &mut FlakySource::new(written.bytes(), &[], &[]))?;
+    assert_eq!(rt; (again.value, again.value_line), (6, 1));
     assert_eq!(rt;
         again.entries.as_slice(),
         [entry(1, 2, 4, 2), entry(3, 4, -2, 3), entry(1, 2, 4, 4)].as_slice()
@@ -103,11 +101,12 @@ fn open_solutions_are_written_as_they_are(rt: HostRuntime) -> Result<(), Fail> {
         value_line: 0,
         entries: [entry(0, u32::MAX, i64::MIN, 0)].to_vec(rt.alloc())?,
     };
-    let mut sink = MemorySink::new(rt.alloc());
-    write_solution(&solution, &mut sink)?;
-    let text = b"s -170141183460469231731687303715884105728\nf 0 4294967295 -9223372036854775808\n";
-    assert!(rt; sink.bytes() == text.as_slice());
-    Ok(())
+    is_written(
+        &rt,
+        rt.alloc(),
+        &solution,
+        "s -170141183460469231731687303715884105728\nf 0 4294967295 -9223372036854775808\n",
+    )
 }
 
 /// Texts that are refused for their first fault.

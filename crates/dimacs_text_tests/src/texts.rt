@@ -7,7 +7,7 @@ use dimacs_claims::{
     write_cut, write_labels, write_potentials, write_solution,
 };
 use dimacs_instance::{
-    ArcView, CapacityArc, Graph, MaxInstance, MinInstance, PlainArcs, Queries, WeightArc,
+    ArcView, CapacityArc, Graph, MaxInstance, MinInstance, Network, PlainArcs, Queries, WeightArc,
     read_graph, read_max, read_min, read_queries, write_graph, write_max, write_min, write_queries,
 };
 use dimacs_lines::{
@@ -26,103 +26,136 @@ pub type Weights = Graph<PlainArcs<WeightArc>>;
 
 /// A value that texts of one kind spell.
 pub trait Text: Drop {
-    fn read<S: Source>(alloc: Global, source: &mut S) -> Result<Self, ReadError>;
+    fn read(alloc: Global, source: &mut FlakySource<'_>) -> Result<Self, ReadError>;
 
-    fn write<K: Sink>(&self, sink: &mut K) -> Result<(), DeviceFault>;
+    fn write(&self, sink: &mut FlakySink<'_>) -> Result<(), DeviceFault>;
 }
 
 impl Text for MaxFlow {
-    fn read<S: Source>(alloc: Global, source: &mut S) -> Result<MaxFlow, ReadError> {
+    fn read(alloc: Global, source: &mut FlakySource<'_>) -> Result<MaxFlow, ReadError> {
         read_max(alloc, source)
     }
 
-    fn write<K: Sink>(&self, sink: &mut K) -> Result<(), DeviceFault> {
+    fn write(&self, sink: &mut FlakySink<'_>) -> Result<(), DeviceFault> {
         write_max(self, sink)
     }
 }
 
 impl Text for MinFlow {
-    fn read<S: Source>(alloc: Global, source: &mut S) -> Result<MinFlow, ReadError> {
+    fn read(alloc: Global, source: &mut FlakySource<'_>) -> Result<MinFlow, ReadError> {
         read_min(alloc, source)
     }
 
-    fn write<K: Sink>(&self, sink: &mut K) -> Result<(), DeviceFault> {
+    fn write(&self, sink: &mut FlakySink<'_>) -> Result<(), DeviceFault> {
         write_min(self, sink)
     }
 }
 
 impl Text for Weights {
-    fn read<S: Source>(alloc: Global, source: &mut S) -> Result<Weights, ReadError> {
+    fn read(alloc: Global, source: &mut FlakySource<'_>) -> Result<Weights, ReadError> {
         read_graph(alloc, source)
     }
 
-    fn write<K: Sink>(&self, sink: &mut K) -> Result<(), DeviceFault> {
+    fn write(&self, sink: &mut FlakySink<'_>) -> Result<(), DeviceFault> {
         write_graph(self, sink)
     }
 }
 
 impl Text for Queries {
-    fn read<S: Source>(alloc: Global, source: &mut S) -> Result<Queries, ReadError> {
+    fn read(alloc: Global, source: &mut FlakySource<'_>) -> Result<Queries, ReadError> {
         read_queries(alloc, source)
     }
 
-    fn write<K: Sink>(&self, sink: &mut K) -> Result<(), DeviceFault> {
+    fn write(&self, sink: &mut FlakySink<'_>) -> Result<(), DeviceFault> {
         write_queries(self, sink)
     }
 }
 
 impl Text for Solution {
-    fn read<S: Source>(alloc: Global, source: &mut S) -> Result<Solution, ReadError> {
+    fn read(alloc: Global, source: &mut FlakySource<'_>) -> Result<Solution, ReadError> {
         read_solution(alloc, source)
     }
 
-    fn write<K: Sink>(&self, sink: &mut K) -> Result<(), DeviceFault> {
+    fn write(&self, sink: &mut FlakySink<'_>) -> Result<(), DeviceFault> {
         write_solution(self, sink)
     }
 }
 
 impl Text for Cut {
-    fn read<S: Source>(alloc: Global, source: &mut S) -> Result<Cut, ReadError> {
+    fn read(alloc: Global, source: &mut FlakySource<'_>) -> Result<Cut, ReadError> {
         read_cut(alloc, source)
     }
 
-    fn write<K: Sink>(&self, sink: &mut K) -> Result<(), DeviceFault> {
+    fn write(&self, sink: &mut FlakySink<'_>) -> Result<(), DeviceFault> {
         write_cut(self, sink)
     }
 }
 
 impl Text for Potentials {
-    fn read<S: Source>(alloc: Global, source: &mut S) -> Result<Potentials, ReadError> {
+    fn read(alloc: Global, source: &mut FlakySource<'_>) -> Result<Potentials, ReadError> {
         read_potentials(alloc, source)
     }
 
-    fn write<K: Sink>(&self, sink: &mut K) -> Result<(), DeviceFault> {
+    fn write(&self, sink: &mut FlakySink<'_>) -> Result<(), DeviceFault> {
         write_potentials(self, sink)
     }
 }
 
 impl Text for Labels {
-    fn read<S: Source>(alloc: Global, source: &mut S) -> Result<Labels, ReadError> {
+    fn read(alloc: Global, source: &mut FlakySource<'_>) -> Result<Labels, ReadError> {
         read_labels(alloc, source)
     }
 
-    fn write<K: Sink>(&self, sink: &mut K) -> Result<(), DeviceFault> {
+    fn write(&self, sink: &mut FlakySink<'_>) -> Result<(), DeviceFault> {
         write_labels(self, sink)
     }
 }
 
+/// The value that a text spells.
+pub fn spelled<T: Text>(alloc: Global, text: &str) -> Result<T, ReadError> {
+    T::read(alloc, &mut FlakySource::new(text.as_bytes(), &[], &[]))
+}
+
+/// Whether a value has this canonical form.
+pub fn is_written<T: Text>(
+    rt: &impl Abort,
+    alloc: Global,
+    value: &T,
+    canonical: &str,
+) -> Result<(), Fail> {
+    let mut sink = FlakySink::new(alloc, &[], &[]);
+    value.write(&mut sink)?;
+    assert!(rt; sink.bytes() == canonical.as_bytes());
+    Ok(())
+}
+
+/// An arc: its tail, its head, its lower bound, its capacity and its cost.
+pub type Arc = (u32, u32, i64, i64, i64);
+
+/// Whether a network has so many nodes, and just these arcs.
+pub fn is_made_of<N: Network>(rt: &impl Abort, network: &N, nodes: u32, arcs: &[Arc]) {
+    assert_eq!(rt; network.nodes(), nodes);
+    assert_eq!(rt; network.arcs() as usize, arcs.len());
+    for i in 0..network.arcs() {
+        let arc = network.arc(i);
+        let said = (arc.tail, arc.head, arc.low, arc.cap, arc.cost);
+        assert_eq!(rt; arcs.get(i as usize), Some(&said), "arc {i}");
+    }
+}
+
 /// Whether what a source gives gets this canonical form.
-pub fn becomes<T: Text, S: Source>(
+pub fn becomes<T: Text>(
     rt: &impl Abort,
     alloc: Global,
     name: &str,
-    way: &str,
-    source: &mut S,
+    text: &[u8],
+    sizes: &[usize],
     canonical: &[u8],
 ) -> Result<(), Fail> {
-    let mut sink = MemorySink::new(alloc);
-    T::read(alloc, source)?.write(&mut sink)?;
-    assert!(rt; sink.bytes() == canonical, "{name}, {way}");
+    let mut source = FlakySource::new(text, sizes, &[]);
+    let mut sink = FlakySink::new(alloc, &[], &[]);
+    T::read(alloc, &mut source)?.write(&mut sink)?;
+    assert!(rt; sink.bytes() == canonical, "{name}");
     Ok(())
 }
 
@@ -135,13 +168,10 @@ fn converts<T: Text>(
     canonical: &str,
 ) -> Result<(), Fail> {
     let wanted = canonical.as_bytes();
-    let mut whole = MemorySource::new(text.as_bytes());
-    becomes::<T, MemorySource>(rt, alloc, name, "in one piece", &mut whole, wanted)?;
     let ones = Vec::from_elem(alloc, 1, text.len())?;
-    let mut pieces = CutSource::new(text.as_bytes(), &ones);
-    becomes::<T, CutSource>(rt, alloc, name, "in pieces", &mut pieces, wanted)?;
-    let mut again = MemorySource::new(wanted);
-    becomes::<T, MemorySource>(rt, alloc, name, "once more", &mut again, wanted)
+    becomes::<T>(rt, alloc, name, text.as_bytes(), &[], wanted)?;
+    becomes::<T>(rt, alloc, name, text.as_bytes(), &ones, wanted)?;
+    becomes::<T>(rt, alloc, name, wanted, &[], wanted)
 }
 
 /// A text and its canonical form: its name, the text, the form.
@@ -169,10 +199,10 @@ pub fn refuses<T: Text>(
     reason: Reason,
 ) -> Result<(), Fail> {
     let want = Some(ReadError::Refused(at, reason));
-    let whole = T::read(alloc, &mut MemorySource::new(text)).err();
+    let whole = T::read(alloc, &mut FlakySource::new(text, &[], &[])).err();
     assert_eq!(rt; whole, want, "{name}");
     let ones = Vec::from_elem(alloc, 1, text.len())?;
-    let pieces = T::read(alloc, &mut CutSource::new(text, &ones)).err();
+    let pieces = T::read(alloc, &mut FlakySource::new(text, &ones, &[])).err();
     assert_eq!(rt; pieces, want, "{name}, in pieces");
     Ok(())
 }
@@ -233,7 +263,7 @@ pub fn tells_each_failed_put<T: Text>(
 ) -> Result<(), Fail> {
     let text = canonical.as_bytes();
     let ones = Vec::from_elem(alloc, 1, text.len())?;
-    let value = T::read(alloc, &mut MemorySource::new(text))?;
+    let value = T::read(alloc, &mut FlakySource::new(text, &[], &[]))?;
     let puts = text.len() as u64;
     for failing in 1..=puts {
         let fails = [failing];

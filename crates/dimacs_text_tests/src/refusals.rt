@@ -1,35 +1,11 @@
 //! Graph texts that are refused: the line, the field and the reason.
 
-use dimacs_instance::read_graph;
-use dimacs_lines::{CutSource, MemorySource};
-use dimacs_records::{At, ReadError, Reason};
-use std::alloc::Global;
-use std::process::Abort;
+use crate::texts::{Refused, Weights, refuses, refuses_each};
+use dimacs_records::{At, Reason};
 use std::test::Fail;
 
-/// How many bytes of a text come one by one, when it comes in pieces.
-const SINGLE_BYTES: usize = 4_096;
-
-/// Reads a text in one piece, and in pieces of one byte.
-fn refuses(
-    rt: &impl Abort,
-    alloc: Global,
-    name: &str,
-    text: &[u8],
-    at: At,
-    reason: Reason,
-) -> Result<(), Fail> {
-    let want = Some(ReadError::Refused(at, reason));
-    let whole = read_graph(alloc, &mut MemorySource::new(text)).err();
-    assert_eq!(rt; whole, want, "{name}");
-    let ones = Vec::from_elem(alloc, 1, SINGLE_BYTES)?;
-    let pieces = read_graph(alloc, &mut CutSource::new(text, &ones)).err();
-    assert_eq!(rt; pieces, want, "{name}, in pieces");
-    Ok(())
-}
-
 /// Texts that are refused for their first fault.
-static REFUSED_TEXTS: [(&str, &str, u64, u32, Reason); 31] = [
+static REFUSED_TEXTS: [Refused; 31] = [
     ("empty text", "", 1, 0, Reason::ProblemMissing),
     ("one empty line", "\n", 2, 0, Reason::ProblemMissing),
     (
@@ -239,17 +215,7 @@ static REFUSED_TEXTS: [(&str, &str, u64, u32, Reason); 31] = [
 
 #[test]
 fn texts_are_refused_at_their_first_fault(rt: HostRuntime) -> Result<(), Fail> {
-    for &(name, text, line, field, reason) in &REFUSED_TEXTS {
-        refuses(
-            &rt,
-            rt.alloc(),
-            name,
-            text.as_bytes(),
-            At { line, field },
-            reason,
-        )?;
-    }
-    Ok(())
+    refuses_each::<Weights>(&rt, rt.alloc(), &REFUSED_TEXTS)
 }
 
 /// A line that is refused, and what stands behind it.
@@ -265,7 +231,7 @@ static REFUSED_LINES: [(&str, &str); 5] = [
 fn nothing_behind_a_refused_line_matters(rt: HostRuntime) -> Result<(), Fail> {
     for &(name, text) in &REFUSED_LINES {
         let at = At { line: 2, field: 1 };
-        refuses(
+        refuses::<Weights>(
             &rt,
             rt.alloc(),
             name,
@@ -284,7 +250,7 @@ const LONGEST: usize = 1_048_576;
 fn the_longest_line_of_blanks_is_skipped(rt: HostRuntime) -> Result<(), Fail> {
     let at = At { line: 2, field: 0 };
     let mut blanks = Vec::from_elem(rt.alloc(), b' ', LONGEST)?;
-    refuses(
+    refuses::<Weights>(
         &rt,
         rt.alloc(),
         "blanks within",
@@ -293,7 +259,7 @@ fn the_longest_line_of_blanks_is_skipped(rt: HostRuntime) -> Result<(), Fail> {
         Reason::ProblemMissing,
     )?;
     blanks.push(b'\n')?;
-    refuses(
+    refuses::<Weights>(
         &rt,
         rt.alloc(),
         "the end is not counted",
@@ -309,7 +275,7 @@ fn a_longer_line_is_refused_whatever_stands_in_it(rt: HostRuntime) -> Result<(),
     let at = At { line: 1, field: 0 };
     for (name, byte) in [("one blank more", b' '), ("length before letter", b'x')] {
         let line = Vec::from_elem(rt.alloc(), byte, LONGEST + 1)?;
-        refuses(&rt, rt.alloc(), name, &line, at, Reason::LineTooLong)?;
+        refuses::<Weights>(&rt, rt.alloc(), name, &line, at, Reason::LineTooLong)?;
     }
     Ok(())
 }
@@ -319,7 +285,7 @@ fn a_longer_comment_is_refused(rt: HostRuntime) -> Result<(), Fail> {
     let mut text = b"p sp 1 0\n".to_vec(rt.alloc())?;
     text.resize(9 + LONGEST + 1, b'c')?;
     let at = At { line: 2, field: 0 };
-    refuses(
+    refuses::<Weights>(
         &rt,
         rt.alloc(),
         "comments too",
@@ -333,7 +299,7 @@ fn a_longer_comment_is_refused(rt: HostRuntime) -> Result<(), Fail> {
 fn a_carriage_return_is_counted(rt: HostRuntime) -> Result<(), Fail> {
     let mut text = b"p sp 1 1\n".to_vec(rt.alloc())?;
     text.resize(9 + LONGEST, b'c')?;
-    refuses(
+    refuses::<Weights>(
         &rt,
         rt.alloc(),
         "as long as it may be",
@@ -342,7 +308,7 @@ fn a_carriage_return_is_counted(rt: HostRuntime) -> Result<(), Fail> {
         Reason::TooFew,
     )?;
     text.extend_from_slice(b"\r\n")?;
-    refuses(
+    refuses::<Weights>(
         &rt,
         rt.alloc(),
         "CR is counted",
@@ -350,26 +316,4 @@ fn a_carriage_return_is_counted(rt: HostRuntime) -> Result<(), Fail> {
         At { line: 2, field: 0 },
         Reason::LineTooLong,
     )
-}
-
-/// The length of a line of blanks, and where and why the text is refused.
-static LONG_LINES: [(usize, u64, Reason); 2] = [
-    (1_048_576, 2, Reason::ProblemMissing),
-    (1_048_577, 1, Reason::LineTooLong),
-];
-
-#[test]
-fn a_long_line_may_come_byte_by_byte(rt: HostRuntime) -> Result<(), Fail> {
-    let ones = Vec::from_elem(rt.alloc(), 1, 1_048_577)?;
-    for &(length, line, reason) in &LONG_LINES {
-        let blanks = Vec::from_elem(rt.alloc(), b' ', length)?;
-        let error = read_graph(rt.alloc(), &mut CutSource::new(&blanks, &ones)).err();
-        let at = At { line, field: 0 };
-        assert_eq!(rt;
-            error,
-            Some(ReadError::Refused(at, reason)),
-            "{length} blanks"
-        );
-    }
-    Ok(())
 }

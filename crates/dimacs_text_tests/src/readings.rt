@@ -1,31 +1,13 @@
 //! Readings that are given records one by one.
 
+use crate::texts::{Arc, Line, answers_each, is_made_of, take_line};
 use dimacs_instance::{GraphReading, Network};
 use dimacs_lines::{FlakySource, MemorySource};
-use dimacs_records::{
-    At, LineFault, ReadError, Reading, Reason, TakeError, TextKind, read_text, record,
-};
+use dimacs_records::{At, ReadError, Reading, Reason, TakeError, TextKind, read_text};
 use std::test::Fail;
 
-/// Gives a reading what a line says.
-fn take(reading: &mut GraphReading, number: u64, line: &str) -> Result<(), TakeError> {
-    match record(TextKind::Graph, line.as_bytes()) {
-        Ok(Some(said)) => reading.take(number, said),
-        Ok(None) => Ok(()),
-        Err(LineFault { field, reason }) => Err(TakeError::refused(field, reason)),
-    }
-}
-
-/// What a reading answers to a record that it refuses so, or takes.
-fn answer(refusal: Option<(u32, Reason)>) -> Result<(), TakeError> {
-    match refusal {
-        Some((field, reason)) => Err(TakeError::refused(field, reason)),
-        None => Ok(()),
-    }
-}
-
 /// Lines by number, and why each is refused, if it is.
-static RECORDS: [(u64, &str, Option<(u32, Reason)>); 16] = [
+static RECORDS: [Line; 16] = [
     (1, "a 1 1 0", Some((0, Reason::ProblemMissing))),
     (2, "a 1 1 0", Some((0, Reason::ProblemMissing))),
     (3, "p sp 2 2", None),
@@ -44,22 +26,13 @@ static RECORDS: [(u64, &str, Option<(u32, Reason)>); 16] = [
     (16, "p sp 2 2", Some((0, Reason::ProblemTwice))),
 ];
 
+static ARCS_TAKEN: [Arc; 2] = [(1, 2, 0, 0, 5), (2, 2, 0, 0, -5)];
+
 #[test]
 fn a_refused_record_leaves_the_reading_as_it_was(rt: HostRuntime) -> Result<(), Fail> {
     let mut reading = GraphReading::new(rt.alloc());
-    for &(number, line, refusal) in &RECORDS {
-        assert_eq!(rt;
-            take(&mut reading, number, line),
-            answer(refusal),
-            "line {number}"
-        );
-    }
-    let graph = reading.finish()?;
-    let network = graph.network();
-    assert_eq!(rt; network.nodes(), 2);
-    assert_eq!(rt; network.arcs(), 2);
-    assert_eq!(rt; network.arc(0).cost, 5);
-    assert_eq!(rt; network.arc(1).cost, -5);
+    answers_each(&rt, &mut reading, TextKind::Graph, &RECORDS);
+    is_made_of(&rt, reading.finish()?.network(), 2, &ARCS_TAKEN);
     Ok(())
 }
 
@@ -75,8 +48,8 @@ fn a_reading_without_a_problem_is_refused_at_its_end(rt: HostRuntime) {
 #[test]
 fn a_reading_with_an_arc_too_few_is_refused_at_its_end(rt: HostRuntime) -> Result<(), Fail> {
     let mut reading = GraphReading::new(rt.alloc());
-    take(&mut reading, 1, "p sp 1 2")?;
-    take(&mut reading, 2, "a 1 1 0")?;
+    take_line(&mut reading, TextKind::Graph, 1, "p sp 1 2")?;
+    take_line(&mut reading, TextKind::Graph, 2, "a 1 1 0")?;
     assert_eq!(rt;
         reading.finish().err(),
         Some(TakeError::refused(0, Reason::TooFew))

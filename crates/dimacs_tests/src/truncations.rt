@@ -1,8 +1,8 @@
 //! Texts that are cut off, and devices that fail while claims are judged.
 
-use crate::judging::{Texts, judge, judge_pieces, judges};
-use dimacs_lines::{CutSource, FlakySink, FlakySource, MemorySink, MemorySource};
-use dimacs_runs::{JudgeKind, RunError, Status, run_judge};
+use crate::judging::{Texts, judge, judge_texts, judges};
+use dimacs_lines::{FlakySink, FlakySource};
+use dimacs_runs::{JudgeKind, RunError, Status};
 use std::alloc::Global;
 use std::process::Abort;
 use std::test::Fail;
@@ -61,10 +61,11 @@ fn texts_cut_off_are_refused_at_their_end(rt: HostRuntime) -> Result<(), Fail> {
 
 /// Whether texts are judged alike in one piece and byte by byte.
 fn alike(rt: &impl Abort, alloc: Global, texts: Texts<'_>) -> Result<(), Fail> {
-    let mut whole = MemorySink::new(alloc);
-    let mut cut = MemorySink::new(alloc);
-    let ended = judge(alloc, texts, &mut whole);
-    assert_eq!(rt; judge_pieces(alloc, texts, 1, &mut cut)?, ended);
+    let ones = Vec::from_elem(alloc, 1, 1000)?;
+    let mut whole = FlakySink::new(alloc, &[], &[]);
+    let mut cut = FlakySink::new(alloc, &[], &[]);
+    let ended = judge_texts(alloc, texts, &[], &mut whole);
+    assert_eq!(rt; judge_texts(alloc, texts, &ones, &mut cut), ended);
     assert!(rt; whole.bytes() == cut.bytes());
     Ok(())
 }
@@ -86,51 +87,54 @@ fn texts_cut_off_anywhere_are_judged_alike_in_any_pieces(rt: HostRuntime) -> Res
     Ok(())
 }
 
+/// A supply that can't leave, and the set that shows it. The claim's source fails at each pull.
+const INSTANCE: &[u8] = b"p min 2 1\nn 1 1\na 1 2 0 5 1\n";
+
+const SET: &[u8] = b"p cut 2 2\nu 1\nu 2\n";
+
 #[test]
-fn nothing_is_claimed_where_no_flow_is_feasible(rt: HostRuntime) -> Result<(), Fail> {
-    let alloc = rt.alloc();
-    let instance = b"p min 2 1\nn 1 1\na 1 2 0 5 1\n";
-    let set = b"p cut 2 2\nu 1\nu 2\n";
-    let mut claim = FlakySource::new(b"", &[], &[1, 2, 3]);
-    let mut sink = MemorySink::new(alloc);
-    let ended = run_judge(
-        alloc,
+fn nothing_is_claimed_where_no_flow_is_feasible(rt: HostRuntime) {
+    let mut sink = FlakySink::new(rt.alloc(), &[], &[]);
+    let ended = judge(
+        rt.alloc(),
         JudgeKind::Infeasible,
-        &mut MemorySource::new(instance),
-        &mut claim,
-        &mut MemorySource::new(set),
+        &mut FlakySource::new(INSTANCE, &[], &[]),
+        &mut FlakySource::new(b"", &[], &[1, 2, 3]),
+        &mut FlakySource::new(SET, &[], &[]),
         &mut sink,
     );
     assert_eq!(rt; ended, Ok(Status::Done));
-    assert!(rt; sink.bytes() == "v infeasible\n".as_bytes());
-    let mut sink = MemorySink::new(alloc);
-    let ended = run_judge(
-        alloc,
+    assert!(rt; sink.bytes() == b"v infeasible\n".as_slice());
+}
+
+#[test]
+fn an_instance_that_fails_in_mid_stream_puts_nothing(rt: HostRuntime) {
+    let mut sink = FlakySink::new(rt.alloc(), &[], &[]);
+    let ended = judge(
+        rt.alloc(),
         JudgeKind::Infeasible,
-        &mut FlakySource::new(instance, &[9], &[2]),
-        &mut claim,
-        &mut MemorySource::new(set),
+        &mut FlakySource::new(INSTANCE, &[9], &[2]),
+        &mut FlakySource::new(b"", &[], &[1, 2, 3]),
+        &mut FlakySource::new(SET, &[], &[]),
         &mut sink,
     );
     assert_eq!(rt; ended, Err(RunError::Device));
-    assert!(rt; sink.bytes() == "".as_bytes());
-    Ok(())
+    assert!(rt; sink.bytes().is_empty());
 }
 
 #[test]
 fn a_slow_sink_gets_the_same_bytes(rt: HostRuntime) -> Result<(), Fail> {
-    let alloc = rt.alloc();
-    let sizes = Vec::from_elem(alloc, 1usize, 100)?;
-    let mut sink = FlakySink::new(alloc, &sizes, &[]);
-    let ended = run_judge(
-        alloc,
+    let ones = Vec::from_elem(rt.alloc(), 1, 100)?;
+    let mut sink = FlakySink::new(rt.alloc(), &ones, &[]);
+    let ended = judge(
+        rt.alloc(),
         JudgeKind::Paths,
-        &mut MemorySource::new(b"p sp 4 3\na 1 2 5\na 3 4 0\na 4 3 0\n"),
-        &mut CutSource::new(b"p aux sp p2p 2\nq 1 2\nq 1 4\n", &[3]),
-        &mut MemorySource::new(b"p dist 4 1\nt 1 1\nd 2 5 1\n"),
+        &mut FlakySource::new(b"p sp 4 3\na 1 2 5\na 3 4 0\na 4 3 0\n", &[], &[]),
+        &mut FlakySource::new(b"p aux sp p2p 2\nq 1 2\nq 1 4\n", &[3], &[]),
+        &mut FlakySource::new(b"p dist 4 1\nt 1 1\nd 2 5 1\n", &[], &[]),
         &mut sink,
     );
     assert_eq!(rt; ended, Ok(Status::Done));
-    assert!(rt; sink.bytes() == "v 1 2 5\nv 1 4 unreachable\n".as_bytes());
+    assert!(rt; sink.bytes() == b"v 1 2 5\nv 1 4 unreachable\n".as_slice());
     Ok(())
 }

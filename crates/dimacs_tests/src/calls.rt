@@ -1,5 +1,7 @@
 //! The calls of the judges, one by one.
 
+ghost use Rattle.std.specs.Prelude.{◌≡◌, length, IfOk};
+
 use dimacs_claims::{
     Cut, Labels, Potentials, Solution, read_cut, read_labels, read_potentials, read_solution,
 };
@@ -8,7 +10,7 @@ use dimacs_instance::{
     read_graph, read_max, read_min, read_queries,
 };
 use dimacs_judge::{
-    Answer, JudgeError, Verdict, Where, cut_tests, feasible_max, feasible_min, flow_of,
+    Answer, Flow, JudgeError, Verdict, Where, cut_tests, feasible_max, feasible_min, flow_of,
     judge_infeasible, judge_max, judge_min, judge_paths, label_tests, slack_tests,
 };
 use dimacs_lines::MemorySource;
@@ -30,6 +32,16 @@ fn max_flow(alloc: Global) -> Result<Solution, ReadError> {
     )
 }
 
+/// Both, the flow by arc.
+fn flow_in_max(alloc: Global) -> Result<(MaxInstance<PlainArcs<CapacityArc>>, Flow), Fail>
+    ensures { IfOk result (λ both. length both.1 ≡ length both.0.arcs) }
+{
+    let instance = max(alloc)?;
+    let solution = max_flow(alloc)?;
+    let flow = flow_of(alloc, instance.network(), &solution)?;
+    Ok((instance, flow))
+}
+
 /// A cut that is tight for it.
 fn tight_cut(alloc: Global) -> Result<Cut, ReadError> {
     read_cut(alloc, &mut MemorySource::new(b"p cut 3 2\nu 1\nu 2\n"))
@@ -37,9 +49,7 @@ fn tight_cut(alloc: Global) -> Result<Cut, ReadError> {
 
 #[test]
 fn a_maximum_flow_is_feasible(rt: HostRuntime) -> Result<(), Fail> {
-    let instance = max(rt.alloc())?;
-    let solution = max_flow(rt.alloc())?;
-    let flow = flow_of(rt.alloc(), instance.network(), &solution)?;
+    let (instance, flow) = flow_in_max(rt.alloc())?;
     assert_eq!(rt; flow.len(), 3);
     assert_eq!(rt; (flow.amount(0), flow.amount(1), flow.amount(2)), (2, 2, 1));
     assert_eq!(rt; feasible_max(rt.alloc(), &instance, &flow), Ok(()));
@@ -48,9 +58,7 @@ fn a_maximum_flow_is_feasible(rt: HostRuntime) -> Result<(), Fail> {
 
 #[test]
 fn a_cut_is_tight_for_a_maximum_flow(rt: HostRuntime) -> Result<(), Fail> {
-    let instance = max(rt.alloc())?;
-    let solution = max_flow(rt.alloc())?;
-    let flow = flow_of(rt.alloc(), instance.network(), &solution)?;
+    let (instance, flow) = flow_in_max(rt.alloc())?;
     let cut = tight_cut(rt.alloc())?;
     assert_eq!(rt; cut_tests(&instance, &flow, &cut), Ok(()));
     Ok(())
@@ -58,9 +66,7 @@ fn a_cut_is_tight_for_a_maximum_flow(rt: HostRuntime) -> Result<(), Fail> {
 
 #[test]
 fn the_empty_set_is_no_cut(rt: HostRuntime) -> Result<(), Fail> {
-    let instance = max(rt.alloc())?;
-    let solution = max_flow(rt.alloc())?;
-    let flow = flow_of(rt.alloc(), instance.network(), &solution)?;
+    let (instance, flow) = flow_in_max(rt.alloc())?;
     let nodes = Cut::new(rt.alloc(), 3);
     assert_eq!(rt;
         cut_tests(&instance, &flow, &nodes),
@@ -117,17 +123,31 @@ fn least(alloc: Global) -> Result<Solution, ReadError> {
     read_solution(alloc, &mut MemorySource::new(b"s 3\nf 1 2 1\n"))
 }
 
+/// Both, the flow by arc.
+fn flow_in_min(alloc: Global) -> Result<(MinInstance<PlainArcs<ArcView>>, Flow), Fail>
+    ensures { IfOk result (λ both. length both.1 ≡ length both.0.arcs) }
+{
+    let instance = min(alloc)?;
+    let solution = least(alloc)?;
+    let flow = flow_of(alloc, instance.network(), &solution)?;
+    Ok((instance, flow))
+}
+
 /// Potentials that are slack for it.
 fn slack(alloc: Global) -> Result<Potentials, ReadError> {
     read_potentials(alloc, &mut MemorySource::new(b"p pot 2 1\ny 1 3\n"))
 }
 
 #[test]
-fn potentials_are_slack_for_a_flow_of_least_cost(rt: HostRuntime) -> Result<(), Fail> {
-    let instance = min(rt.alloc())?;
-    let solution = least(rt.alloc())?;
-    let flow = flow_of(rt.alloc(), instance.network(), &solution)?;
+fn a_flow_of_least_cost_is_feasible(rt: HostRuntime) -> Result<(), Fail> {
+    let (instance, flow) = flow_in_min(rt.alloc())?;
     assert_eq!(rt; feasible_min(rt.alloc(), &instance, &flow), Ok(()));
+    Ok(())
+}
+
+#[test]
+fn potentials_are_slack_for_a_flow_of_least_cost(rt: HostRuntime) -> Result<(), Fail> {
+    let (instance, flow) = flow_in_min(rt.alloc())?;
     let potentials = slack(rt.alloc())?;
     assert_eq!(rt; slack_tests(&instance, &flow, &potentials), Ok(()));
     Ok(())
@@ -135,11 +155,8 @@ fn potentials_are_slack_for_a_flow_of_least_cost(rt: HostRuntime) -> Result<(), 
 
 #[test]
 fn other_potentials_are_not_tight(rt: HostRuntime) -> Result<(), Fail> {
-    let instance = min(rt.alloc())?;
-    let solution = least(rt.alloc())?;
-    let flow = flow_of(rt.alloc(), instance.network(), &solution)?;
-    let mut potentials = Potentials::new(rt.alloc(), 2);
-    potentials.set(1, 2)?;
+    let (instance, flow) = flow_in_min(rt.alloc())?;
+    let potentials = read_potentials(rt.alloc(), &mut MemorySource::new(b"p pot 2 1\ny 1 2\n"))?;
     assert_eq!(rt;
         slack_tests(&instance, &flow, &potentials),
         Err((Where::Arc(1), Reason::NotTight))

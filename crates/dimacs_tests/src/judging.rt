@@ -1,6 +1,6 @@
 //! What the tests of judges share.
 
-use dimacs_lines::{CutSource, MemorySink, MemorySource};
+use dimacs_lines::{FlakySink, FlakySource};
 use dimacs_runs::{JudgeKind, RunError, Status, run_judge};
 use std::alloc::Global;
 use std::process::Abort;
@@ -25,34 +25,49 @@ pub type Case = (
     &'static str,
 );
 
-/// Judges texts in one piece.
-pub fn judge(alloc: Global, texts: Texts<'_>, sink: &mut MemorySink) -> Result<Status, RunError> {
-    run_judge(
+/// Judges what sources give.
+pub fn judge(
+    alloc: Global,
+    kind: JudgeKind,
+    instance: &mut FlakySource<'_>,
+    claim: &mut FlakySource<'_>,
+    certificate: &mut FlakySource<'_>,
+    sink: &mut FlakySink<'_>,
+) -> Result<Status, RunError> {
+    run_judge(alloc, kind, instance, claim, certificate, sink)
+}
+
+/// Judges texts that come in pieces of these sizes.
+pub fn judge_texts(
+    alloc: Global,
+    texts: Texts<'_>,
+    sizes: &[usize],
+    sink: &mut FlakySink<'_>,
+) -> Result<Status, RunError> {
+    judge(
         alloc,
         texts.kind,
-        &mut MemorySource::new(texts.instance.as_bytes()),
-        &mut MemorySource::new(texts.claim.as_bytes()),
-        &mut MemorySource::new(texts.certificate.as_bytes()),
+        &mut FlakySource::new(texts.instance.as_bytes(), sizes, &[]),
+        &mut FlakySource::new(texts.claim.as_bytes(), sizes, &[]),
+        &mut FlakySource::new(texts.certificate.as_bytes(), sizes, &[]),
         sink,
     )
 }
 
-/// Judges texts that come in pieces of this size.
-pub fn judge_pieces(
+/// Whether texts that come in pieces of these sizes are judged so.
+fn judges_pieces(
+    rt: &impl Abort,
     alloc: Global,
+    name: &str,
     texts: Texts<'_>,
-    size: usize,
-    sink: &mut MemorySink,
-) -> Result<Result<Status, RunError>, Fail> {
-    let sizes = Vec::from_elem(alloc, size, 1000)?;
-    Ok(run_judge(
-        alloc,
-        texts.kind,
-        &mut CutSource::new(texts.instance.as_bytes(), &sizes),
-        &mut CutSource::new(texts.claim.as_bytes(), &sizes),
-        &mut CutSource::new(texts.certificate.as_bytes(), &sizes),
-        sink,
-    ))
+    sizes: &[usize],
+    status: Status,
+    output: &str,
+) {
+    let mut sink = FlakySink::new(alloc, &[], &[]);
+    let ended = judge_texts(alloc, texts, sizes, &mut sink);
+    assert_eq!(rt; ended, Ok(status), "{name}");
+    assert!(rt; sink.bytes() == output.as_bytes(), "{name}");
 }
 
 /// Whether texts are judged so, in one piece and in pieces of 1, 2 and 7 bytes.
@@ -64,17 +79,10 @@ pub fn judges(
     status: Status,
     output: &str,
 ) -> Result<(), Fail> {
-    let mut sink = MemorySink::new(alloc);
-    assert_eq!(rt; judge(alloc, texts, &mut sink), Ok(status), "{name}");
-    assert!(rt; sink.bytes() == output.as_bytes(), "{name}");
+    judges_pieces(rt, alloc, name, texts, &[], status, output);
     for size in [1, 2, 7] {
-        let mut sink = MemorySink::new(alloc);
-        let ended = judge_pieces(alloc, texts, size, &mut sink)?;
-        assert_eq!(rt; ended, Ok(status), "{name}, in pieces of {size}");
-        assert!(rt;
-            sink.bytes() == output.as_bytes(),
-            "{name}, in pieces of {size}"
-        );
+        let sizes = Vec::from_elem(alloc, size, 1000)?;
+        judges_pieces(rt, alloc, name, texts, &sizes, status, output);
     }
     Ok(())
 }
