@@ -1,5 +1,6 @@
 //! Sources and sinks over memory: the pieces that they give and take, and their faults in mid-stream.
 
+use crate::checks::{holds, same};
 use crate::spelling::spell_pulls;
 use dimacs_lines::{
     CutSource, DeviceFault, FlakySink, FlakySource, MemorySink, MemorySource, Sink, Source, put_all,
@@ -20,7 +21,7 @@ fn a_memory_source_gives_what_there_is_room_for(rt: HostRuntime) -> Result<(), F
     for &(name, room, wanted) in &ROOMS {
         let mut source = MemorySource::new(b"abcdefg");
         let spelled = spell_pulls(&rt, rt.alloc(), &mut source, room)?;
-        assert_eq!(rt; spelled.as_str(), wanted, "{name}");
+        same(&rt, name, spelled.as_str(), wanted);
     }
     Ok(())
 }
@@ -28,9 +29,9 @@ fn a_memory_source_gives_what_there_is_room_for(rt: HostRuntime) -> Result<(), F
 #[test]
 fn a_pull_without_room_takes_nothing(rt: HostRuntime) -> Result<(), Fail> {
     let mut source = MemorySource::new(b"ab");
-    assert_eq!(rt; source.pull(&mut []), Ok(0));
+    same(&rt, "a pull without room", source.pull(&mut []), Ok(0));
     let spelled = spell_pulls(&rt, rt.alloc(), &mut source, 8)?;
-    assert_eq!(rt; spelled.as_str(), "ab|");
+    same(&rt, "what is spelled", spelled.as_str(), "ab|");
     Ok(())
 }
 
@@ -49,7 +50,7 @@ fn a_cut_source_gives_pieces_of_the_listed_sizes(rt: HostRuntime) -> Result<(), 
     for &(name, sizes, room, wanted) in &SIZES {
         let mut source = CutSource::new(b"abcdefg", sizes);
         let spelled = spell_pulls(&rt, rt.alloc(), &mut source, room)?;
-        assert_eq!(rt; spelled.as_str(), wanted, "{name}");
+        same(&rt, name, spelled.as_str(), wanted);
     }
     Ok(())
 }
@@ -70,7 +71,7 @@ fn a_flaky_source_fails_at_the_listed_pulls_and_goes_on(rt: HostRuntime) -> Resu
     for &(name, fails, wanted) in &FAILING_PULLS {
         let mut source = FlakySource::new(b"abcdefg", &[2, 1], fails);
         let spelled = spell_pulls(&rt, rt.alloc(), &mut source, 9)?;
-        assert_eq!(rt; spelled.as_str(), wanted, "{name}");
+        same(&rt, name, spelled.as_str(), wanted);
     }
     Ok(())
 }
@@ -78,11 +79,11 @@ fn a_flaky_source_fails_at_the_listed_pulls_and_goes_on(rt: HostRuntime) -> Resu
 #[test]
 fn a_memory_sink_keeps_what_it_takes(rt: HostRuntime) {
     let mut sink = MemorySink::new(rt.alloc());
-    assert!(rt; sink.bytes().is_empty());
-    assert_eq!(rt; sink.put(b"ab"), Ok(2));
-    assert_eq!(rt; sink.put(b""), Ok(0));
-    assert_eq!(rt; sink.put(b"cde"), Ok(3));
-    assert_eq!(rt; sink.bytes(), b"abcde".as_slice());
+    holds(&rt, "nothing was put", sink.bytes().is_empty());
+    same(&rt, "a put", sink.put(b"ab"), Ok(2));
+    same(&rt, "a put of nothing", sink.put(b""), Ok(0));
+    same(&rt, "another put", sink.put(b"cde"), Ok(3));
+    same(&rt, "bytes", sink.bytes(), b"abcde".as_slice());
 }
 
 /// The answer to each put, and all that the sink has then.
@@ -101,8 +102,8 @@ fn a_flaky_sink_takes_the_listed_sizes_and_fails_at_the_listed_puts(rt: HostRunt
     let mut sink = FlakySink::new(rt.alloc(), &sizes, &fails);
     for &(name, wanted, taken) in &STEPS {
         let rest = b"abcdefg".get(sink.bytes().len()..).unwrap_or(b"");
-        assert_eq!(rt; sink.put(rest), wanted, "{name}");
-        assert_eq!(rt; sink.bytes(), taken.as_bytes(), "{name}");
+        same(&rt, name, sink.put(rest), wanted);
+        same(&rt, name, sink.bytes(), taken.as_bytes());
     }
 }
 
@@ -138,8 +139,8 @@ static PUTS: [(&str, &[usize], &[u64], Result<(), DeviceFault>, &str); 6] = [
 fn put_all_puts_all_or_a_beginning(rt: HostRuntime) -> Result<(), Fail> {
     for &(name, sizes, fails, wanted, taken) in &PUTS {
         let mut sink = FlakySink::new(rt.alloc(), sizes, fails);
-        assert_eq!(rt; put_all(&mut sink, b"abcdefg"), wanted, "{name}");
-        assert_eq!(rt; sink.bytes(), taken.as_bytes(), "{name}");
+        same(&rt, name, put_all(&mut sink, b"abcdefg"), wanted);
+        same(&rt, name, sink.bytes(), taken.as_bytes());
     }
     Ok(())
 }
@@ -147,5 +148,5 @@ fn put_all_puts_all_or_a_beginning(rt: HostRuntime) -> Result<(), Fail> {
 #[test]
 fn put_all_puts_nothing_where_there_is_nothing(rt: HostRuntime) {
     let mut sink = FlakySink::new(rt.alloc(), &[], &[1]);
-    assert_eq!(rt; put_all(&mut sink, b""), Ok(()));
+    same(&rt, "the answer", put_all(&mut sink, b""), Ok(()));
 }

@@ -1,5 +1,6 @@
 //! The fields of a line and the places where they start.
 
+use crate::checks::{holds, same};
 use crate::spelling::spell_bytes;
 use dimacs_lines::NumberFault::{self, BadNumber, NumberRange};
 use dimacs_lines::{Field, Fields, Scan, fields};
@@ -35,7 +36,7 @@ static LINES: [(&str, &str, &str); 13] = [
 fn gives_the_fields_of_a_line(rt: HostRuntime) -> Result<(), Fail> {
     for &(name, line, wanted) in &LINES {
         let spelled = spell_fields(rt.alloc(), fields(line.as_bytes()))?;
-        assert_eq!(rt; spelled.as_str(), wanted, "{name}");
+        same(&rt, name, spelled.as_str(), wanted);
     }
     Ok(())
 }
@@ -44,7 +45,7 @@ fn gives_the_fields_of_a_line(rt: HostRuntime) -> Result<(), Fail> {
 fn gives_the_fields_when_made_by_its_type(rt: HostRuntime) -> Result<(), Fail> {
     for &(name, line, wanted) in &LINES {
         let spelled = spell_fields(rt.alloc(), Fields::new(line.as_bytes()))?;
-        assert_eq!(rt; spelled.as_str(), wanted, "{name}");
+        same(&rt, name, spelled.as_str(), wanted);
     }
     Ok(())
 }
@@ -53,7 +54,7 @@ fn gives_the_fields_when_made_by_its_type(rt: HostRuntime) -> Result<(), Fail> {
 fn gives_the_fields_that_are_scanned(rt: HostRuntime) -> Result<(), Fail> {
     for &(name, line, wanted) in &LINES {
         let spelled = spell_tokens(rt.alloc(), line.as_bytes())?;
-        assert_eq!(rt; spelled.as_str(), wanted, "{name}");
+        same(&rt, name, spelled.as_str(), wanted);
     }
     Ok(())
 }
@@ -61,18 +62,20 @@ fn gives_the_fields_that_are_scanned(rt: HostRuntime) -> Result<(), Fail> {
 #[test]
 fn gives_no_field_behind_the_last(rt: HostRuntime) {
     let mut left = fields(b"a ");
-    assert_eq!(rt;
+    same(
+        &rt,
+        "the field",
         left.next(),
         Some(Field {
             text: b"a".as_slice(),
-            start: 0
-        })
+            start: 0,
+        }),
     );
     let mut scan = Scan::new(b"a ");
-    assert!(rt; scan.next_token().is_some());
+    holds(&rt, "a field", scan.next_token().is_some());
     for _ in 0..3 {
-        assert!(rt; left.next().is_none());
-        assert!(rt; scan.next_token().is_none());
+        holds(&rt, "no field", left.next().is_none());
+        holds(&rt, "no field when scanned", scan.next_token().is_none());
     }
 }
 
@@ -168,7 +171,7 @@ fn reads_the_number_of_a_field_in_passing(rt: HostRuntime) -> Result<(), Fail> {
             };
             let others = usize::from(!before.is_empty());
             let wanted = Some((field, number, wide));
-            assert_eq!(rt; told(line.as_bytes(), others), wanted, "{name} in {line}");
+            same(&rt, &line, told(line.as_bytes(), others), wanted);
         }
     }
     Ok(())
@@ -195,11 +198,7 @@ fn reads_a_number_at_each_place_of_a_line(rt: HostRuntime) -> Result<(), Fail> {
             for behind in 0..10 {
                 let line = between_blanks(rt.alloc(), before, digits, behind)?;
                 let found = told(&line, 0).map(|(_, number, _)| number);
-                assert_eq!(rt;
-                    found,
-                    Some(Ok(wanted)),
-                    "{before} blanks before {digits}, {behind} behind"
-                );
+                same(&rt, digits, found, Some(Ok(wanted)));
             }
         }
     }

@@ -1,5 +1,6 @@
 //! Files and the standard output: what the system refuses is a fault, and an interruption is none.
 
+use crate::checks::same;
 use crate::spelling::{spell_lines, spell_pulls};
 use dimacs_lines::{DeviceFault, FileSink, FileSource, Sink, StdoutSink, put_all};
 use std::io::{ErrorKind, Read, Write};
@@ -60,7 +61,7 @@ impl<'a, T: Write> Write for Troubled<'a, T> {
 fn a_file_source_gives_what_the_file_gives(rt: HostRuntime) -> Result<(), Fail> {
     let mut source = FileSource::new(b"a 1\nb".as_slice());
     let spelled = spell_lines(&rt, rt.alloc(), &mut source)?;
-    assert_eq!(rt; spelled.as_str(), "1:a 1|2:b|end");
+    same(&rt, "what is spelled", spelled.as_str(), "1:a 1|2:b|end");
     Ok(())
 }
 
@@ -77,7 +78,7 @@ fn a_read_is_made_again_when_interrupted_and_not_when_refused(rt: HostRuntime) -
     for &(name, fails, wanted) in &REFUSED_READS {
         let mut source = FileSource::new(Troubled::new(b"abcde".as_slice(), fails));
         let spelled = spell_pulls(&rt, rt.alloc(), &mut source, 9)?;
-        assert_eq!(rt; spelled.as_str(), wanted, "{name}");
+        same(&rt, name, spelled.as_str(), wanted);
     }
     Ok(())
 }
@@ -97,8 +98,8 @@ fn a_write_is_made_again_when_interrupted_and_not_when_refused(
     for &(name, fails, wanted, taken) in &REFUSED_WRITES {
         let mut bytes = Vec::new(rt.alloc());
         let mut sink = FileSink::new(Troubled::new(&mut bytes, fails));
-        assert_eq!(rt; put_all(&mut sink, b"abcde"), wanted, "{name}");
-        assert_eq!(rt; bytes.as_slice(), taken.as_bytes(), "{name}");
+        same(&rt, name, put_all(&mut sink, b"abcde"), wanted);
+        same(&rt, name, bytes.as_slice(), taken.as_bytes());
     }
     Ok(())
 }
@@ -107,11 +108,21 @@ fn a_write_is_made_again_when_interrupted_and_not_when_refused(
 fn a_file_that_takes_no_more_is_a_fault(rt: HostRuntime) -> Result<(), Fail> {
     let mut room = [0u8; 3];
     let mut sink = FileSink::new(room.as_mut_slice());
-    assert_eq!(rt; sink.put(b"ab"), Ok(2));
-    assert_eq!(rt; sink.put(b"cd"), Ok(1));
-    assert_eq!(rt; sink.put(b""), Ok(0));
-    assert_eq!(rt; sink.put(b"d"), Err(DeviceFault));
-    assert_eq!(rt; put_all(&mut sink, b"d"), Err(DeviceFault));
+    same(&rt, "a put", sink.put(b"ab"), Ok(2));
+    same(&rt, "a put of which a part fits", sink.put(b"cd"), Ok(1));
+    same(&rt, "a put of nothing", sink.put(b""), Ok(0));
+    same(
+        &rt,
+        "a put of which nothing fits",
+        sink.put(b"d"),
+        Err(DeviceFault),
+    );
+    same(
+        &rt,
+        "all of what doesn't fit",
+        put_all(&mut sink, b"d"),
+        Err(DeviceFault),
+    );
     Ok(())
 }
 
@@ -119,7 +130,7 @@ fn a_file_that_takes_no_more_is_a_fault(rt: HostRuntime) -> Result<(), Fail> {
 fn an_empty_file_gives_no_line(rt: HostRuntime) -> Result<(), Fail> {
     let mut source = FileSource::new(fs::open(&rt, "/dev/null")?);
     let spelled = spell_lines(&rt, rt.alloc(), &mut source)?;
-    assert_eq!(rt; spelled.as_str(), "end");
+    same(&rt, "what is spelled", spelled.as_str(), "end");
     Ok(())
 }
 
@@ -127,29 +138,36 @@ fn an_empty_file_gives_no_line(rt: HostRuntime) -> Result<(), Fail> {
 fn a_folder_cannot_be_read(rt: HostRuntime) -> Result<(), Fail> {
     let mut source = FileSource::new(fs::open(&rt, "/")?);
     let spelled = spell_lines(&rt, rt.alloc(), &mut source)?;
-    assert_eq!(rt; spelled.as_str(), "Device");
+    same(&rt, "what is spelled", spelled.as_str(), "Device");
     Ok(())
 }
 
 #[test]
 fn a_real_file_takes_all(rt: HostRuntime) -> Result<(), Fail> {
     let mut sink = FileSink::new(fs::create(&rt, "/dev/null")?);
-    assert_eq!(rt; put_all(&mut sink, b"gone"), Ok(()));
+    same(&rt, "the answer", put_all(&mut sink, b"gone"), Ok(()));
     Ok(())
 }
 
 #[test]
 fn a_full_device_is_a_fault(rt: HostRuntime) -> Result<(), Fail> {
     let mut sink = FileSink::new(fs::create(&rt, "/dev/full")?);
-    assert_eq!(rt; put_all(&mut sink, b"gone"), Err(DeviceFault));
+    same(
+        &rt,
+        "the answer",
+        put_all(&mut sink, b"gone"),
+        Err(DeviceFault),
+    );
     Ok(())
 }
 
 #[test]
 fn the_standard_output_takes_all(rt: HostRuntime) {
     let mut sink = StdoutSink::new(&rt);
-    assert_eq!(rt;
+    same(
+        &rt,
+        "the answer",
         put_all(&mut sink, b"a line on the standard output\n"),
-        Ok(())
+        Ok(()),
     );
 }

@@ -2,6 +2,7 @@
 
 ghost use Rattle.std.specs.Prelude.{◌≡◌, None};
 
+use crate::checks::{holds_at, same, same_at};
 use crate::spelling::spell_lines;
 use dimacs_lines::{
     CutSource, DeviceFault, FlakySource, Lines, MAX_HELD, MAX_LINE, MAX_LINES, MemorySource, Source,
@@ -15,9 +16,9 @@ const LONGEST: usize = 1_048_576;
 
 #[test]
 fn has_the_limits_of_the_texts(rt: HostRuntime) {
-    assert_eq!(rt; MAX_LINE, LONGEST, "bytes of a line");
-    assert_eq!(rt; MAX_LINES, 1_000_000_000_000, "lines of a text");
-    assert_eq!(rt; MAX_HELD, 1_114_112, "bytes held");
+    same(&rt, "bytes of a line", MAX_LINE, LONGEST);
+    same(&rt, "lines of a text", MAX_LINES, 1_000_000_000_000);
+    same(&rt, "bytes held", MAX_HELD, 1_114_112);
 }
 
 /// Whether a text that comes in one piece has these lines.
@@ -29,7 +30,7 @@ fn gives(
     wanted: &str,
 ) -> Result<(), Fail> {
     let spelled = spell_lines(rt, alloc, &mut MemorySource::new(text))?;
-    assert_eq!(rt; spelled.as_str(), wanted, "{name}, in one piece");
+    same(rt, name, spelled.as_str(), wanted);
     Ok(())
 }
 
@@ -44,7 +45,7 @@ fn gives_in_pieces(
 ) -> Result<(), Fail> {
     let sizes = Vec::from_elem(alloc, size, text.len())?;
     let spelled = spell_lines(rt, alloc, &mut CutSource::new(text, &sizes))?;
-    assert_eq!(rt; spelled.as_str(), wanted, "{name}, in pieces of {size}");
+    same_at(rt, name, size as u64, spelled.as_str(), wanted);
     Ok(())
 }
 
@@ -84,7 +85,7 @@ fn gives_the_same_lines_wherever_one_is_cut(rt: HostRuntime) -> Result<(), Fail>
         let sizes = [cut];
         let mut source = CutSource::new(text.as_bytes(), &sizes);
         let spelled = spell_lines(&rt, rt.alloc(), &mut source)?;
-        assert_eq!(rt; spelled.as_str(), wanted, "cut at {cut}");
+        same_at(&rt, "cut at", cut as u64, spelled.as_str(), wanted);
     }
     Ok(())
 }
@@ -108,7 +109,7 @@ fn tells_a_fault_and_not_the_end(rt: HostRuntime) -> Result<(), Fail> {
         let fails = [fail];
         let mut source = FlakySource::new(text.as_bytes(), &sizes, &fails);
         let spelled = spell_lines(&rt, rt.alloc(), &mut source)?;
-        assert_eq!(rt; spelled.as_str(), wanted, "a fault {name}");
+        same(&rt, name, spelled.as_str(), wanted);
     }
     Ok(())
 }
@@ -120,10 +121,15 @@ static HELD: [(Option<u64>, usize); 4] = [(Some(1), 3), (Some(2), 0), (Some(3), 
 fn holds_what_was_pulled_and_not_given(rt: HostRuntime) -> Result<(), Fail> {
     let mut source = CutSource::new(b"ab\ncd\nef\n", &[6, 1]);
     let mut lines = Lines::new(rt.alloc())?;
-    assert_eq!(rt; lines.held(), 0, "before the first pull");
+    same(&rt, "before the first pull", lines.held(), 0);
     for &(given, held) in &HELD {
-        assert_eq!(rt; lines.next_line(&mut source), Ok(given));
-        assert_eq!(rt; lines.held(), held, "behind line {given:?}");
+        same(
+            &rt,
+            "the next line",
+            lines.next_line(&mut source),
+            Ok(given),
+        );
+        same(&rt, "held behind a line", lines.held(), held);
     }
     Ok(())
 }
@@ -137,11 +143,16 @@ fn holds_little_of_a_long_text(rt: HostRuntime) -> Result<(), Fail> {
     let mut source = MemorySource::new(text.as_slice());
     let mut lines = Lines::new(rt.alloc())?;
     for number in 1..=400_000 {
-        assert_eq!(rt; lines.next_line(&mut source), Ok(Some(number)));
-        assert!(rt; lines.line() == b"a 1 2 3".as_slice(), "line {number}");
-        assert!(rt; lines.held() <= 1_114_112, "behind line {number}");
+        same(
+            &rt,
+            "the next line",
+            lines.next_line(&mut source),
+            Ok(Some(number)),
+        );
+        holds_at(&rt, "line", number, lines.line() == b"a 1 2 3".as_slice());
+        holds_at(&rt, "behind line", number, lines.held() <= 1_114_112);
     }
-    assert_eq!(rt; lines.next_line(&mut source), Ok(None));
+    same(&rt, "the next line", lines.next_line(&mut source), Ok(None));
     Ok(())
 }
 
@@ -196,7 +207,7 @@ fn gives_the_longest_line_a_byte_at_a_time(rt: HostRuntime) -> Result<(), Fail> 
         let sizes = Vec::from_elem(rt.alloc(), 1, length)?;
         let mut source = CutSource::new(text.as_slice(), sizes.as_slice());
         let spelled = spell_lines(&rt, rt.alloc(), &mut source)?;
-        assert_eq!(rt; spelled.as_str(), wanted, "{name}");
+        same(&rt, name, spelled.as_str(), wanted);
     }
     Ok(())
 }
@@ -207,7 +218,12 @@ fn names_the_line_that_is_too_long(rt: HostRuntime) -> Result<(), Fail> {
     text.extend_from_slice(b"a\n\n")?;
     text.resize(3 + LONGEST + 1, b'x')?;
     let spelled = spell_lines(&rt, rt.alloc(), &mut MemorySource::new(text.as_slice()))?;
-    assert_eq!(rt; spelled.as_str(), "1:a|2:|TooLong(3)");
+    same(
+        &rt,
+        "what is spelled",
+        spelled.as_str(),
+        "1:a|2:|TooLong(3)",
+    );
     Ok(())
 }
 
@@ -229,6 +245,6 @@ impl Source for EndlessBlanks {
 #[test]
 fn refuses_a_line_without_end(rt: HostRuntime) -> Result<(), Fail> {
     let spelled = spell_lines(&rt, rt.alloc(), &mut EndlessBlanks)?;
-    assert_eq!(rt; spelled.as_str(), "TooLong(1)");
+    same(&rt, "what is spelled", spelled.as_str(), "TooLong(1)");
     Ok(())
 }

@@ -1,5 +1,6 @@
 //! Values and sets by node.
 
+use crate::checks::{holds, holds_at, same, same_at};
 use dimacs_nodes::{NodeMap, NodeSet};
 use std::alloc::Global;
 use std::test::Fail;
@@ -38,7 +39,7 @@ static UNSET: [u32; 11] = [
 fn nodes_have_no_value_before_one_is_set(rt: HostRuntime) {
     let nodes: NodeMap<i64> = NodeMap::new(rt.alloc());
     for &(id, _) in &VALUES {
-        assert_eq!(rt; nodes.get(id), None, "{id}");
+        same_at(&rt, "node", id as u64, nodes.get(id), None);
     }
 }
 
@@ -55,7 +56,7 @@ fn filled(alloc: Global) -> Result<NodeMap<i64>, Fail> {
 fn nodes_have_the_values_that_were_set(rt: HostRuntime) -> Result<(), Fail> {
     let nodes = filled(rt.alloc())?;
     for &(id, value) in &VALUES {
-        assert_eq!(rt; nodes.get(id), Some(value), "{id}");
+        same_at(&rt, "node", id as u64, nodes.get(id), Some(value));
     }
     Ok(())
 }
@@ -64,7 +65,7 @@ fn nodes_have_the_values_that_were_set(rt: HostRuntime) -> Result<(), Fail> {
 fn other_nodes_have_no_value(rt: HostRuntime) -> Result<(), Fail> {
     let nodes = filled(rt.alloc())?;
     for &id in &UNSET {
-        assert_eq!(rt; nodes.get(id), None, "{id}");
+        same_at(&rt, "node", id as u64, nodes.get(id), None);
     }
     Ok(())
 }
@@ -75,8 +76,8 @@ fn the_last_value_of_a_node_stands(rt: HostRuntime) -> Result<(), Fail> {
     nodes.set(300, 'a').ok().ok_or("the first value")?;
     nodes.set(301, 'b').ok().ok_or("the neighbour")?;
     nodes.set(300, 'c').ok().ok_or("the second value")?;
-    assert_eq!(rt; nodes.get(300), Some('c'));
-    assert_eq!(rt; nodes.get(301), Some('b'));
+    same(&rt, "the value set last", nodes.get(300), Some('c'));
+    same(&rt, "the neighbour", nodes.get(301), Some('b'));
     Ok(())
 }
 
@@ -87,9 +88,9 @@ fn values_may_be_set_from_the_last_page_to_the_first(rt: HostRuntime) -> Result<
         nodes.set(id, id % 7).ok().ok_or("a value")?;
     }
     for id in 0..2_000 {
-        assert_eq!(rt; nodes.get(id), Some(id % 7), "{id}");
+        same_at(&rt, "node", id as u64, nodes.get(id), Some(id % 7));
     }
-    assert_eq!(rt; nodes.get(2_000), None);
+    same(&rt, "behind the last", nodes.get(2_000), None);
     Ok(())
 }
 
@@ -102,15 +103,20 @@ static OTHERS: [u32; 8] = [1, 254, 257, 511, 512, GREATEST - 1, GREATEST + 1, u3
 #[test]
 fn a_set_has_the_nodes_that_were_inserted(rt: HostRuntime) -> Result<(), Fail> {
     let mut nodes = NodeSet::new(rt.alloc());
-    assert!(rt; !nodes.contains(0), "the empty set");
+    holds(&rt, "the empty set", !nodes.contains(0));
     for &id in &INSERTED {
         nodes.insert(id).ok().ok_or("memory")?;
     }
     for &id in &INSERTED {
-        assert!(rt; nodes.contains(id), "{id}");
+        holds_at(&rt, "node", id as u64, nodes.contains(id));
     }
     for &id in &OTHERS {
-        assert!(rt; !nodes.contains(id), "{id} was never inserted");
+        holds_at(
+            &rt,
+            "a node that was never inserted:",
+            id as u64,
+            !nodes.contains(id),
+        );
     }
     Ok(())
 }

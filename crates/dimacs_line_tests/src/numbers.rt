@@ -1,5 +1,6 @@
 //! The numbers that fields spell.
 
+use crate::checks::same;
 use dimacs_lines::NumberFault::{self, BadNumber, NumberRange};
 use dimacs_lines::{WIDE, number, wide};
 use std::test::Fail;
@@ -25,8 +26,8 @@ static NO_NUMBERS: [(&str, &str); 14] = [
 #[test]
 fn refuses_what_spells_no_number(rt: HostRuntime) {
     for &(name, text) in &NO_NUMBERS {
-        assert_eq!(rt; number(text.as_bytes()), Err(BadNumber), "{name}");
-        assert_eq!(rt; wide(text.as_bytes()), Err(BadNumber), "{name}, wide");
+        same(&rt, name, number(text.as_bytes()), Err(BadNumber));
+        same(&rt, name, wide(text.as_bytes()), Err(BadNumber));
     }
 }
 
@@ -75,7 +76,7 @@ static NUMBERS: [(&str, &str, Result<i64, NumberFault>); 18] = [
 #[test]
 fn reads_numbers_of_64_bits(rt: HostRuntime) {
     for &(name, text, wanted) in &NUMBERS {
-        assert_eq!(rt; number(text.as_bytes()), wanted, "{name}");
+        same(&rt, name, number(text.as_bytes()), wanted);
     }
 }
 
@@ -133,9 +134,14 @@ static WIDE_NUMBERS: [(&str, &str, Result<i128, NumberFault>); 12] = [
 
 #[test]
 fn reads_wide_numbers(rt: HostRuntime) {
-    assert_eq!(rt; WIDE, 1_000_000_000_000_000_000_000_000_000_000);
+    same(
+        &rt,
+        "the greatest wide number",
+        WIDE,
+        1_000_000_000_000_000_000_000_000_000_000,
+    );
     for &(name, text, wanted) in &WIDE_NUMBERS {
-        assert_eq!(rt; wide(text.as_bytes()), wanted, "{name}");
+        same(&rt, name, wide(text.as_bytes()), wanted);
     }
 }
 
@@ -168,15 +174,16 @@ fn reads_any_number_of_digits(rt: HostRuntime) -> Result<(), Fail> {
         text.extend_from_slice(sign.as_bytes())?;
         text.resize(700, b'0')?;
         text.extend_from_slice(digits.as_bytes())?;
-        assert_eq!(rt; number(&text), wanted, "hundreds of noughts and {name}");
-        assert_eq!(rt;
-            wide(&text),
-            wanted_wide,
-            "hundreds of noughts and {name}, wide"
-        );
+        same(&rt, name, number(&text), wanted);
+        same(&rt, name, wide(&text), wanted_wide);
     }
     let nines = Vec::from_elem(rt.alloc(), b'9', 700)?;
-    assert_eq!(rt; number(&nines), Err(NumberRange), "hundreds of nines");
-    assert_eq!(rt; wide(&nines), Err(NumberRange), "hundreds of nines, wide");
+    same(&rt, "hundreds of nines", number(&nines), Err(NumberRange));
+    same(
+        &rt,
+        "hundreds of nines, wide",
+        wide(&nines),
+        Err(NumberRange),
+    );
     Ok(())
 }

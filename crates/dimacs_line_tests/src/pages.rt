@@ -1,5 +1,6 @@
 //! What is written through a page, and the sink's faults, which `finish` tells.
 
+use crate::checks::{holds, holds_at, same};
 use dimacs_lines::{DeviceFault, FlakySink, MemorySink, Page};
 use std::alloc::Global;
 use std::test::Fail;
@@ -51,7 +52,12 @@ fn writes_numbers_and_words(rt: HostRuntime) -> Result<(), Fail> {
         let sizes = Vec::from_elem(rt.alloc(), size, NUMBERS.len())?;
         let mut sink = FlakySink::new(rt.alloc(), &sizes, &[]);
         write_numbers(&mut sink)?;
-        assert!(rt; sink.bytes() == NUMBERS.as_bytes(), "in pieces of {size}");
+        holds_at(
+            &rt,
+            "in pieces of",
+            size as u64,
+            sink.bytes() == NUMBERS.as_bytes(),
+        );
     }
     Ok(())
 }
@@ -59,8 +65,8 @@ fn writes_numbers_and_words(rt: HostRuntime) -> Result<(), Fail> {
 #[test]
 fn a_page_that_nothing_was_written_on_puts_nothing(rt: HostRuntime) {
     let mut sink = FlakySink::new(rt.alloc(), &[], &[1]);
-    assert_eq!(rt; Page::new().finish(&mut sink), Ok(()));
-    assert!(rt; sink.bytes().is_empty());
+    same(&rt, "the answer", Page::new().finish(&mut sink), Ok(()));
+    holds(&rt, "nothing was put", sink.bytes().is_empty());
 }
 
 /// Bytes that say where they stand, and repeat after 251, which divides no page.
@@ -97,7 +103,7 @@ fn writes_past_the_end_of_a_page(rt: HostRuntime) -> Result<(), Fail> {
             page.write(&mut sink, &piece);
         }
         page.finish(&mut sink)?;
-        assert!(rt; sink.bytes() == text.as_slice(), "{name}");
+        holds(&rt, name, sink.bytes() == text.as_slice());
     }
     Ok(())
 }
@@ -117,7 +123,7 @@ fn writes_many_short_pieces(rt: HostRuntime) -> Result<(), Fail> {
     let ones = Vec::from_elem(rt.alloc(), 1, 50_000)?;
     let mut sink = FlakySink::new(rt.alloc(), &ones, &[]);
     write_pieces(&mut sink, &text, 7)?;
-    assert!(rt; sink.bytes() == text.as_slice());
+    holds(&rt, "bytes", sink.bytes() == text.as_slice());
     Ok(())
 }
 
@@ -136,9 +142,9 @@ fn puts_nothing_behind_a_fault_and_tells_it_at_the_end(rt: HostRuntime) -> Resul
         let fails = [fail];
         let mut sink = FlakySink::new(rt.alloc(), &[10], &fails);
         let put = write_pieces(&mut sink, &text, 64);
-        assert_eq!(rt; put, Err(DeviceFault), "{name}");
-        assert_eq!(rt; sink.bytes().len(), taken, "{name}");
-        assert!(rt; text.starts_with(sink.bytes()), "{name}");
+        same(&rt, name, put, Err(DeviceFault));
+        same(&rt, name, sink.bytes().len(), taken);
+        holds(&rt, name, text.starts_with(sink.bytes()));
     }
     Ok(())
 }

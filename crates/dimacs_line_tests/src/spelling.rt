@@ -1,5 +1,6 @@
 //! Answers spelled as one text, so that a case stands in one line with what is wanted of it.
 
+use crate::checks::{holds, same};
 use dimacs_lines::{Lines, Source};
 use std::alloc::{AllocError, Global};
 use std::process::Abort;
@@ -16,10 +17,10 @@ pub fn spell_lines<S: Source>(
 ) -> Result<String, Fail> {
     let mut spelled = String::new(alloc);
     let mut lines = Lines::new(alloc)?;
-    assert!(rt; lines.line().is_empty(), "a line before the first");
+    holds(rt, "a line before the first", lines.line().is_empty());
     for _ in 0..u64::MAX {
         let answer = lines.next_line(source);
-        assert!(rt; lines.held() <= 1_114_112, "too much is held");
+        holds(rt, "too much is held", lines.held() <= 1_114_112);
         match answer {
             Ok(Some(number)) => {
                 write!(spelled, "{number}:")?;
@@ -31,11 +32,12 @@ pub fn spell_lines<S: Source>(
             Err(error) => write!(spelled, "{error:?}")?,
         }
         for _ in 0..3 {
-            assert!(rt; lines.line().is_empty(), "a line behind the last");
-            assert_eq!(rt;
+            holds(rt, "a line behind the last", lines.line().is_empty());
+            same(
+                rt,
+                "another answer behind the last",
                 lines.next_line(source),
                 answer,
-                "another answer behind the last"
             );
         }
         break;

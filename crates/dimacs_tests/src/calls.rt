@@ -2,6 +2,7 @@
 
 ghost use Rattle.std.specs.Prelude.{◌≡◌, length, IfOk};
 
+use crate::checks::same;
 use dimacs_claims::{
     Cut, Labels, Potentials, Solution, read_cut, read_labels, read_potentials, read_solution,
 };
@@ -50,9 +51,19 @@ fn tight_cut(alloc: Global) -> Result<Cut, ReadError> {
 #[test]
 fn a_maximum_flow_is_feasible(rt: HostRuntime) -> Result<(), Fail> {
     let (instance, flow) = flow_in_max(rt.alloc())?;
-    assert_eq!(rt; flow.len(), 3);
-    assert_eq!(rt; (flow.amount(0), flow.amount(1), flow.amount(2)), (2, 2, 1));
-    assert_eq!(rt; feasible_max(rt.alloc(), &instance, &flow), Ok(()));
+    assert_eq!(rt; flow.len(), 3, "arcs of the flow");
+    same(
+        &rt,
+        "amounts",
+        (flow.amount(0), flow.amount(1), flow.amount(2)),
+        (2, 2, 1),
+    );
+    same(
+        &rt,
+        "tests of the flow",
+        feasible_max(rt.alloc(), &instance, &flow),
+        Ok(()),
+    );
     Ok(())
 }
 
@@ -60,7 +71,12 @@ fn a_maximum_flow_is_feasible(rt: HostRuntime) -> Result<(), Fail> {
 fn a_cut_is_tight_for_a_maximum_flow(rt: HostRuntime) -> Result<(), Fail> {
     let (instance, flow) = flow_in_max(rt.alloc())?;
     let cut = tight_cut(rt.alloc())?;
-    assert_eq!(rt; cut_tests(&instance, &flow, &cut), Ok(()));
+    same(
+        &rt,
+        "tests of the cut",
+        cut_tests(&instance, &flow, &cut),
+        Ok(()),
+    );
     Ok(())
 }
 
@@ -68,9 +84,11 @@ fn a_cut_is_tight_for_a_maximum_flow(rt: HostRuntime) -> Result<(), Fail> {
 fn the_empty_set_is_no_cut(rt: HostRuntime) -> Result<(), Fail> {
     let (instance, flow) = flow_in_max(rt.alloc())?;
     let nodes = Cut::new(rt.alloc(), 3);
-    assert_eq!(rt;
+    same(
+        &rt,
+        "tests of the cut",
         cut_tests(&instance, &flow, &nodes),
-        Err((Where::Node(1), Reason::SourceOutside))
+        Err((Where::Node(1), Reason::SourceOutside)),
     );
     Ok(())
 }
@@ -80,9 +98,11 @@ fn a_maximum_flow_is_judged_by_a_cut(rt: HostRuntime) -> Result<(), Fail> {
     let instance = max(rt.alloc())?;
     let solution = max_flow(rt.alloc())?;
     let cut = tight_cut(rt.alloc())?;
-    assert_eq!(rt;
+    same(
+        &rt,
+        "verdict",
         judge_max(rt.alloc(), &instance, &solution, &cut),
-        Ok(Verdict::Max(3))
+        Ok(Verdict::Max(3)),
     );
     Ok(())
 }
@@ -91,9 +111,11 @@ fn a_maximum_flow_is_judged_by_a_cut(rt: HostRuntime) -> Result<(), Fail> {
 fn an_entry_of_no_arc_claims_no_flow(rt: HostRuntime) -> Result<(), Fail> {
     let instance = max(rt.alloc())?;
     let claim = read_solution(rt.alloc(), &mut MemorySource::new(b"s 3\nf 3 1 1\n"))?;
-    assert_eq!(rt;
+    same(
+        &rt,
+        "the refusal",
         flow_of(rt.alloc(), instance.network(), &claim).err(),
-        Some(JudgeError::Refused(Where::Solution { line: 2, field: 0 }, Reason::UnknownArc))
+        Some(JudgeError::Refused(Where::Solution { line: 2, field: 0 }, Reason::UnknownArc)),
     );
     Ok(())
 }
@@ -107,8 +129,13 @@ fn a_flow_goes_on_all_arcs_with_the_ends_of_its_entry(rt: HostRuntime) -> Result
     )?;
     let solution = read_solution(alloc, &mut MemorySource::new(b"s 0\nf 1 2 5\n"))?;
     let flow = flow_of(alloc, graph.network(), &solution)?;
-    assert_eq!(rt; flow.len(), 3);
-    assert_eq!(rt; (flow.amount(0), flow.amount(1), flow.amount(2)), (5, 0, 5));
+    assert_eq!(rt; flow.len(), 3, "arcs of the flow");
+    same(
+        &rt,
+        "amounts",
+        (flow.amount(0), flow.amount(1), flow.amount(2)),
+        (5, 0, 5),
+    );
     Ok(())
 }
 
@@ -141,7 +168,12 @@ fn slack(alloc: Global) -> Result<Potentials, ReadError> {
 #[test]
 fn a_flow_of_least_cost_is_feasible(rt: HostRuntime) -> Result<(), Fail> {
     let (instance, flow) = flow_in_min(rt.alloc())?;
-    assert_eq!(rt; feasible_min(rt.alloc(), &instance, &flow), Ok(()));
+    same(
+        &rt,
+        "tests of the flow",
+        feasible_min(rt.alloc(), &instance, &flow),
+        Ok(()),
+    );
     Ok(())
 }
 
@@ -149,7 +181,12 @@ fn a_flow_of_least_cost_is_feasible(rt: HostRuntime) -> Result<(), Fail> {
 fn potentials_are_slack_for_a_flow_of_least_cost(rt: HostRuntime) -> Result<(), Fail> {
     let (instance, flow) = flow_in_min(rt.alloc())?;
     let potentials = slack(rt.alloc())?;
-    assert_eq!(rt; slack_tests(&instance, &flow, &potentials), Ok(()));
+    same(
+        &rt,
+        "tests of the potentials",
+        slack_tests(&instance, &flow, &potentials),
+        Ok(()),
+    );
     Ok(())
 }
 
@@ -157,9 +194,11 @@ fn potentials_are_slack_for_a_flow_of_least_cost(rt: HostRuntime) -> Result<(), 
 fn other_potentials_are_not_tight(rt: HostRuntime) -> Result<(), Fail> {
     let (instance, flow) = flow_in_min(rt.alloc())?;
     let potentials = read_potentials(rt.alloc(), &mut MemorySource::new(b"p pot 2 1\ny 1 2\n"))?;
-    assert_eq!(rt;
+    same(
+        &rt,
+        "tests of the potentials",
         slack_tests(&instance, &flow, &potentials),
-        Err((Where::Arc(1), Reason::NotTight))
+        Err((Where::Arc(1), Reason::NotTight)),
     );
     Ok(())
 }
@@ -169,9 +208,11 @@ fn a_flow_of_least_cost_is_judged_by_potentials(rt: HostRuntime) -> Result<(), F
     let instance = min(rt.alloc())?;
     let solution = least(rt.alloc())?;
     let potentials = slack(rt.alloc())?;
-    assert_eq!(rt;
+    same(
+        &rt,
+        "verdict",
         judge_min(rt.alloc(), &instance, &solution, &potentials),
-        Ok(Verdict::Min(3))
+        Ok(Verdict::Min(3)),
     );
     Ok(())
 }
@@ -180,9 +221,11 @@ fn a_flow_of_least_cost_is_judged_by_potentials(rt: HostRuntime) -> Result<(), F
 fn a_set_that_is_not_violated_shows_nothing(rt: HostRuntime) -> Result<(), Fail> {
     let instance = min(rt.alloc())?;
     let set = read_cut(rt.alloc(), &mut MemorySource::new(b"p cut 2 1\nu 1\n"))?;
-    assert_eq!(rt;
+    same(
+        &rt,
+        "verdict",
         judge_infeasible(&instance, &set),
-        Err(JudgeError::Refused(Where::Certificate, Reason::NotViolated))
+        Err(JudgeError::Refused(Where::Certificate, Reason::NotViolated)),
     );
     Ok(())
 }
@@ -207,7 +250,12 @@ fn distances(alloc: Global) -> Result<Labels, ReadError> {
 fn labels_that_are_distances_pass(rt: HostRuntime) -> Result<(), Fail> {
     let graph = graph(rt.alloc())?;
     let labels = distances(rt.alloc())?;
-    assert_eq!(rt; label_tests(&graph, &labels), Ok(()));
+    same(
+        &rt,
+        "tests of the labels",
+        label_tests(&graph, &labels),
+        Ok(()),
+    );
     Ok(())
 }
 
@@ -234,6 +282,6 @@ fn labels_answer_queries(rt: HostRuntime) -> Result<(), Fail> {
             distance: Some(5),
         },
     ];
-    assert_eq!(rt; answers.as_slice(), wanted.as_slice());
+    same(&rt, "answers", answers.as_slice(), wanted.as_slice());
     Ok(())
 }

@@ -1,5 +1,6 @@
 //! Texts that are converted: what is put, and how the run ends.
 
+use crate::checks::{holds, holds_at, same, same_at};
 use dimacs_lines::{FlakySink, FlakySource};
 use dimacs_records::TextKind;
 use dimacs_runs::{RunError, Status, run_convert};
@@ -35,8 +36,8 @@ fn converts(
         &mut FlakySource::new(text, sizes, &[]),
         &mut sink,
     );
-    assert_eq!(rt; ended, Ok(status), "{name}");
-    assert!(rt; sink.bytes() == output.as_bytes(), "{name}");
+    same(rt, name, ended, Ok(status));
+    holds(rt, name, sink.bytes() == output.as_bytes());
 }
 
 /// Converts a text in one piece, and in pieces of 1, 2 and 7 bytes.
@@ -451,8 +452,8 @@ fn a_pull_that_fails_puts_nothing(rt: HostRuntime) -> Result<(), Fail> {
         let mut sink = FlakySink::new(rt.alloc(), &[], &[]);
         let mut source = FlakySource::new(GRAPH.as_bytes(), &ones, &fails);
         let ended = convert(rt.alloc(), TextKind::Graph, &mut source, &mut sink);
-        assert_eq!(rt; ended, Err(RunError::Device), "at pull {pull}");
-        assert!(rt; sink.bytes().is_empty(), "at pull {pull}");
+        same_at(&rt, "at pull", pull, ended, Err(RunError::Device));
+        holds_at(&rt, "at pull", pull, sink.bytes().is_empty());
     }
     Ok(())
 }
@@ -463,8 +464,8 @@ fn a_slow_sink_gets_the_same_bytes(rt: HostRuntime) -> Result<(), Fail> {
     let mut sink = FlakySink::new(rt.alloc(), &ones, &[]);
     let mut source = FlakySource::new(GRAPH.as_bytes(), &[], &[]);
     let ended = convert(rt.alloc(), TextKind::Graph, &mut source, &mut sink);
-    assert_eq!(rt; ended, Ok(Status::Done));
-    assert!(rt; sink.bytes() == GRAPH.as_bytes());
+    same(&rt, "how it ended", ended, Ok(Status::Done));
+    holds(&rt, "bytes", sink.bytes() == GRAPH.as_bytes());
     Ok(())
 }
 
@@ -476,9 +477,14 @@ fn a_put_that_fails_leaves_a_beginning(rt: HostRuntime) -> Result<(), Fail> {
         let mut sink = FlakySink::new(rt.alloc(), &ones, &fails);
         let mut source = FlakySource::new(GRAPH.as_bytes(), &[], &[]);
         let ended = convert(rt.alloc(), TextKind::Graph, &mut source, &mut sink);
-        assert_eq!(rt; ended, Err(RunError::Device), "at put {put}");
-        assert!(rt; GRAPH.as_bytes().starts_with(sink.bytes()), "at put {put}");
-        assert!(rt; sink.bytes().len() as u64 == put - 1, "at put {put}");
+        same_at(&rt, "at put", put, ended, Err(RunError::Device));
+        holds_at(
+            &rt,
+            "at put",
+            put,
+            GRAPH.as_bytes().starts_with(sink.bytes()),
+        );
+        holds_at(&rt, "at put", put, sink.bytes().len() as u64 == put - 1);
     }
     Ok(())
 }

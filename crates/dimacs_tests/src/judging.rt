@@ -1,5 +1,6 @@
 //! What the tests of judges share.
 
+use crate::checks::{holds, same};
 use dimacs_lines::{FlakySink, FlakySource};
 use dimacs_runs::{JudgeKind, RunError, Status, run_judge};
 use std::alloc::Global;
@@ -66,8 +67,8 @@ fn judges_pieces(
 ) {
     let mut sink = FlakySink::new(alloc, &[], &[]);
     let ended = judge_texts(alloc, texts, sizes, &mut sink);
-    assert_eq!(rt; ended, Ok(status), "{name}");
-    assert!(rt; sink.bytes() == output.as_bytes(), "{name}");
+    same(rt, name, ended, Ok(status));
+    holds(rt, name, sink.bytes() == output.as_bytes());
 }
 
 /// Whether texts are judged so, in one piece and in pieces of 1, 2 and 7 bytes.

@@ -1,5 +1,6 @@
 //! The lines that tell what a text is.
 
+use crate::checks::{holds, same};
 use dimacs_lines::{FlakySink, FlakySource};
 use dimacs_records::TextKind;
 use dimacs_runs::{RunError, Status, run_show};
@@ -31,8 +32,8 @@ fn shows(
     let mut source = FlakySource::new(text.as_bytes(), sizes, &[]);
     let mut sink = FlakySink::new(alloc, &[], &[]);
     let ended = show(alloc, kind, &mut source, &mut sink);
-    assert_eq!(rt; ended, Ok(status), "{name}");
-    assert!(rt; sink.bytes() == line.as_bytes(), "{name}");
+    same(rt, name, ended, Ok(status));
+    holds(rt, name, sink.bytes() == line.as_bytes());
 }
 
 /// Texts, each with how the run ends and the line that is put.
@@ -138,7 +139,7 @@ fn a_pull_that_fails_shows_nothing(rt: HostRuntime) -> Result<(), Fail> {
     let mut sink = FlakySink::new(rt.alloc(), &[], &[]);
     let mut source = FlakySource::new(b"p sp 2 0\n", &[4], &[2]);
     let ended = show(rt.alloc(), TextKind::Graph, &mut source, &mut sink);
-    assert_eq!(rt; ended, Err(RunError::Device));
-    assert!(rt; sink.bytes().is_empty());
+    same(&rt, "how it ended", ended, Err(RunError::Device));
+    holds(&rt, "nothing was put", sink.bytes().is_empty());
     Ok(())
 }

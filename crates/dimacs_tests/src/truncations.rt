@@ -1,5 +1,6 @@
 //! Texts that are cut off, and devices that fail while claims are judged.
 
+use crate::checks::{holds, same};
 use crate::judging::{Texts, judge, judge_texts, judges};
 use dimacs_lines::{FlakySink, FlakySource};
 use dimacs_runs::{JudgeKind, RunError, Status};
@@ -65,8 +66,13 @@ fn alike(rt: &impl Abort, alloc: Global, texts: Texts<'_>) -> Result<(), Fail> {
     let mut whole = FlakySink::new(alloc, &[], &[]);
     let mut cut = FlakySink::new(alloc, &[], &[]);
     let ended = judge_texts(alloc, texts, &[], &mut whole);
-    assert_eq!(rt; judge_texts(alloc, texts, &ones, &mut cut), ended);
-    assert!(rt; whole.bytes() == cut.bytes());
+    same(
+        rt,
+        "how it ended",
+        judge_texts(alloc, texts, &ones, &mut cut),
+        ended,
+    );
+    holds(rt, "bytes", whole.bytes() == cut.bytes());
     Ok(())
 }
 
@@ -103,8 +109,8 @@ fn nothing_is_claimed_where_no_flow_is_feasible(rt: HostRuntime) {
         &mut FlakySource::new(SET, &[], &[]),
         &mut sink,
     );
-    assert_eq!(rt; ended, Ok(Status::Done));
-    assert!(rt; sink.bytes() == b"v infeasible\n".as_slice());
+    same(&rt, "how it ended", ended, Ok(Status::Done));
+    holds(&rt, "bytes", sink.bytes() == b"v infeasible\n".as_slice());
 }
 
 #[test]
@@ -118,8 +124,8 @@ fn an_instance_that_fails_in_mid_stream_puts_nothing(rt: HostRuntime) {
         &mut FlakySource::new(SET, &[], &[]),
         &mut sink,
     );
-    assert_eq!(rt; ended, Err(RunError::Device));
-    assert!(rt; sink.bytes().is_empty());
+    same(&rt, "how it ended", ended, Err(RunError::Device));
+    holds(&rt, "nothing was put", sink.bytes().is_empty());
 }
 
 #[test]
@@ -134,7 +140,11 @@ fn a_slow_sink_gets_the_same_bytes(rt: HostRuntime) -> Result<(), Fail> {
         &mut FlakySource::new(b"p dist 4 1\nt 1 1\nd 2 5 1\n", &[], &[]),
         &mut sink,
     );
-    assert_eq!(rt; ended, Ok(Status::Done));
-    assert!(rt; sink.bytes() == b"v 1 2 5\nv 1 4 unreachable\n".as_slice());
+    same(&rt, "how it ended", ended, Ok(Status::Done));
+    holds(
+        &rt,
+        "bytes",
+        sink.bytes() == b"v 1 2 5\nv 1 4 unreachable\n".as_slice(),
+    );
     Ok(())
 }

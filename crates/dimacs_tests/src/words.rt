@@ -1,5 +1,6 @@
 //! What the command's words mean, and its exit statuses.
 
+use crate::checks::same;
 use dimacs_records::TextKind;
 use dimacs_runs::{Job, JudgeKind, RunError, Status, exit_status, job};
 use std::alloc::Global;
@@ -30,9 +31,9 @@ static KINDS: [(&str, TextKind); 8] = [
 fn words_ask_for_each_kind(rt: HostRuntime) -> Result<(), Fail> {
     for &(word, kind) in &KINDS {
         let converted = words(rt.alloc(), &format!(in rt.alloc(); "convert {word} file")?)?;
-        assert_eq!(rt; job(&converted), Some(Job::Convert(kind, "file")), "{word}");
+        same(&rt, word, job(&converted), Some(Job::Convert(kind, "file")));
         let shown = words(rt.alloc(), &format!(in rt.alloc(); "show {word} file")?)?;
-        assert_eq!(rt; job(&shown), Some(Job::Show(kind, "file")), "{word}");
+        same(&rt, word, job(&shown), Some(Job::Show(kind, "file")));
     }
     Ok(())
 }
@@ -50,7 +51,7 @@ fn words_ask_for_a_conversion(rt: HostRuntime) -> Result<(), Fail> {
     for &(line, file) in &CONVERSIONS {
         let given = words(rt.alloc(), line)?;
         let wanted = Some(Job::Convert(TextKind::Graph, file));
-        assert_eq!(rt; job(&given), wanted, "{line}");
+        same(&rt, line, job(&given), wanted);
     }
     Ok(())
 }
@@ -68,7 +69,7 @@ fn words_ask_for_each_judge(rt: HostRuntime) -> Result<(), Fail> {
     for &(line, kind) in &JUDGES {
         let given = words(rt.alloc(), line)?;
         let files = given.get(1..).unwrap_or_default();
-        assert_eq!(rt; job(&given), Some(Job::Judge(kind, files)), "{line}");
+        same(&rt, line, job(&given), Some(Job::Judge(kind, files)));
     }
     Ok(())
 }
@@ -102,10 +103,10 @@ static OTHER_WORDS: [&str; 21] = [
 fn other_words_ask_for_nothing(rt: HostRuntime) -> Result<(), Fail> {
     for &line in &OTHER_WORDS {
         let given = words(rt.alloc(), line)?;
-        assert_eq!(rt; job(&given), None, "{line}");
+        same(&rt, line, job(&given), None);
     }
     let none = Vec::new(rt.alloc());
-    assert_eq!(rt; job(&none), None, "no words at all");
+    same(&rt, "no words at all", job(&none), None);
     Ok(())
 }
 
@@ -120,6 +121,6 @@ static STATUSES: [(Result<Status, RunError>, u8); 4] = [
 #[test]
 fn runs_have_their_exit_statuses(rt: HostRuntime) {
     for &(outcome, number) in &STATUSES {
-        assert_eq!(rt; exit_status(&outcome), number);
+        same(&rt, "exit status", exit_status(&outcome), number);
     }
 }

@@ -1,5 +1,6 @@
 //! Records and lines as they are written.
 
+use crate::checks::{holds, holds_at, same, same_at};
 use dimacs_lines::{DeviceFault, FlakySink, MemorySink, Page};
 use dimacs_records::{Part, Record, put_line, put_record, write_record};
 use std::test::Fail;
@@ -45,8 +46,8 @@ static RECORDS: [(Record, &str); 6] = [
 fn records_have_one_canonical_line(rt: HostRuntime) -> Result<(), Fail> {
     for &(said, line) in &RECORDS {
         let mut sink = MemorySink::new(rt.alloc());
-        assert_eq!(rt; put_record(&mut sink, &said), Ok(()), "{line}");
-        assert!(rt; sink.bytes() == line.as_bytes(), "{line}");
+        same(&rt, line, put_record(&mut sink, &said), Ok(()));
+        holds(&rt, line, sink.bytes() == line.as_bytes());
     }
     Ok(())
 }
@@ -65,7 +66,7 @@ fn lines_have_one_blank_between_words_and_numbers(rt: HostRuntime) -> Result<(),
     put_line(&mut sink, b"alone", &[])?;
     let want =
         "g limit\nv max -1000000000000000000000000000000\nx 0 -7 1000000000000000000000000000000\nalone\n";
-    assert!(rt; sink.bytes() == want.as_bytes());
+    holds(&rt, "bytes", sink.bytes() == want.as_bytes());
     Ok(())
 }
 
@@ -87,7 +88,11 @@ fn records_come_in_order_over_one_page(rt: HostRuntime) -> Result<(), Fail> {
         write_record(&mut page, &mut sink, &arc);
     }
     page.finish(&mut sink)?;
-    assert!(rt; sink.bytes() == b"p sp 2 2\na 1 2 5\na 1 2 -5\n".as_slice());
+    holds(
+        &rt,
+        "bytes",
+        sink.bytes() == b"p sp 2 2\na 1 2 5\na 1 2 -5\n".as_slice(),
+    );
     Ok(())
 }
 
@@ -99,16 +104,20 @@ fn a_failing_put_leaves_a_beginning_of_the_line(rt: HostRuntime) -> Result<(), F
     for failing in 1..=9 {
         let fails = [failing];
         let mut sink = FlakySink::new(rt.alloc(), &sizes, &fails);
-        assert_eq!(rt;
+        same_at(
+            &rt,
+            "at put",
+            failing,
             put_record(&mut sink, &said),
             Err(DeviceFault),
-            "at put {failing}"
         );
-        assert!(rt;
+        holds_at(
+            &rt,
+            "at put",
+            failing,
             sink.bytes().len() + 1 == failing as usize,
-            "at put {failing}"
         );
-        assert!(rt; line.starts_with(sink.bytes()), "at put {failing}");
+        holds_at(&rt, "at put", failing, line.starts_with(sink.bytes()));
     }
     Ok(())
 }
@@ -117,10 +126,12 @@ fn a_failing_put_leaves_a_beginning_of_the_line(rt: HostRuntime) -> Result<(), F
 fn a_failing_put_ends_a_printed_line(rt: HostRuntime) -> Result<(), Fail> {
     let fails = [3];
     let mut sink = FlakySink::new(rt.alloc(), &[1, 1], &fails);
-    assert_eq!(rt;
+    same(
+        &rt,
+        "the answer",
         put_line(&mut sink, b"g", &[Part::Word(b"limit")]),
-        Err(DeviceFault)
+        Err(DeviceFault),
     );
-    assert!(rt; sink.bytes() == b"g ".as_slice());
+    holds(&rt, "bytes", sink.bytes() == b"g ".as_slice());
     Ok(())
 }

@@ -1,5 +1,6 @@
 //! Cuts: texts that are read and written again, sets that are put together, and texts that are refused.
 
+use crate::checks::{holds, same, same_at};
 use crate::texts::{
     Converted, Line, Refused, answers_each, converts_each, is_written, refuses_each, spelled,
     tells_each_failed_pull, tells_each_failed_put,
@@ -46,9 +47,14 @@ static NODES_OF_TEXT: [(u32, bool); 10] = [
 #[test]
 fn a_cut_has_the_nodes_of_its_text(rt: HostRuntime) -> Result<(), Fail> {
     let cut: Cut = spelled(rt.alloc(), "p cut 300 3\nu 300\nu 1\nu 256\n")?;
-    assert_eq!(rt; (cut.nodes(), cut.len()), (300, 3));
+    same(
+        &rt,
+        "nodes, and nodes inside",
+        (cut.nodes(), cut.len()),
+        (300, 3),
+    );
     for &(id, inside) in &NODES_OF_TEXT {
-        assert_eq!(rt; cut.contains(id), inside, "node {id}");
+        same_at(&rt, "node", id as u64, cut.contains(id), inside);
     }
     Ok(())
 }
@@ -59,7 +65,7 @@ fn nodes_are_put_in_one_by_one(rt: HostRuntime) -> Result<(), Fail> {
     cut.add(3)?;
     cut.add(1)?;
     cut.add(3)?;
-    assert_eq!(rt; cut.len(), 2);
+    same(&rt, "nodes inside", cut.len(), 2);
     is_written(&rt, rt.alloc(), &cut, TWO_OF_FOUR)
 }
 
@@ -237,9 +243,13 @@ fn a_refused_record_leaves_the_reading_as_it_was(rt: HostRuntime) -> Result<(), 
     let mut reading = CutReading::new(rt.alloc());
     answers_each(&rt, &mut reading, TextKind::Cut, &RECORDS);
     let cut = reading.finish()?;
-    assert_eq!(rt; cut.nodes(), 4);
-    assert_eq!(rt; cut.len(), 2);
-    assert!(rt; cut.contains(1) && !cut.contains(2) && cut.contains(3));
+    same(&rt, "nodes", cut.nodes(), 4);
+    same(&rt, "nodes inside", cut.len(), 2);
+    holds(
+        &rt,
+        "nodes inside",
+        cut.contains(1) && !cut.contains(2) && cut.contains(3),
+    );
     Ok(())
 }
 

@@ -1,5 +1,6 @@
 //! Graph texts, read and written again.
 
+use crate::checks::{holds, same};
 use crate::texts::{
     Arc, Converted, Text, Weights, becomes, converts_each, is_made_of, spelled,
     tells_each_failed_pull, tells_each_failed_put, tells_failed_pulls,
@@ -65,7 +66,7 @@ static ARCS: [Arc; 3] = [(1, 2, 0, 0, 5), (3, 4, 0, 0, 0), (4, 3, 0, 0, 0)];
 fn a_graph_has_the_arcs_of_its_text(rt: HostRuntime) -> Result<(), Fail> {
     let graph: Weights = spelled(rt.alloc(), CYCLE)?;
     is_made_of(&rt, graph.network(), 4, &ARCS);
-    assert_eq!(rt; graph.network().find(4, 3, 0), Some(2));
+    same(&rt, "the last arc", graph.network().find(4, 3, 0), Some(2));
     Ok(())
 }
 
@@ -108,9 +109,9 @@ fn a_put_that_fails_in_mid_stream_ends_the_text(rt: HostRuntime) -> Result<(), F
     let text = ring(rt.alloc(), 5_000)?;
     let graph = Weights::read(rt.alloc(), &mut FlakySource::new(&text, &[], &[]))?;
     let mut sink = FlakySink::new(rt.alloc(), &[], &[2]);
-    assert_eq!(rt; graph.write(&mut sink), Err(DeviceFault));
-    assert!(rt; !sink.bytes().is_empty());
-    assert!(rt; sink.bytes().len() < text.len());
-    assert!(rt; text.starts_with(sink.bytes()));
+    same(&rt, "the answer", graph.write(&mut sink), Err(DeviceFault));
+    holds(&rt, "something was put", !sink.bytes().is_empty());
+    holds(&rt, "less than all", sink.bytes().len() < text.len());
+    holds(&rt, "a beginning", text.starts_with(sink.bytes()));
     Ok(())
 }

@@ -1,5 +1,6 @@
 //! Labels: texts that are read and written again, look-ups, and texts that are refused.
 
+use crate::checks::{holds, same, same_at};
 use crate::texts::{
     Converted, Line, Refused, answers_each, converts_each, refuses_each, spelled,
     tells_each_failed_pull, tells_each_failed_put,
@@ -39,28 +40,34 @@ fn texts_get_their_canonical_form(rt: HostRuntime) -> Result<(), Fail> {
 #[test]
 fn blocks_are_those_of_the_text(rt: HostRuntime) -> Result<(), Fail> {
     let labels: Labels = spelled(rt.alloc(), TWO_BLOCKS)?;
-    assert_eq!(rt; labels.nodes(), 4);
+    same(&rt, "nodes", labels.nodes(), 4);
     let blocks = labels.blocks();
     assert_eq!(rt; blocks.len(), 2);
-    assert_eq!(rt; blocks[0].source(), 1);
-    assert_eq!(rt;
+    same(&rt, "source of the first block", blocks[0].source(), 1);
+    same(
+        &rt,
+        "labels of the first block",
         blocks[0].labels(),
         [
             Label {
                 dist: 5,
                 id: 2,
-                pred: 1
+                pred: 1,
             },
             Label {
                 dist: -7,
                 id: 3,
-                pred: 2
+                pred: 2,
             },
         ]
-        .as_slice()
+        .as_slice(),
     );
-    assert_eq!(rt; blocks[1].source(), 4);
-    assert!(rt; blocks[1].labels().is_empty());
+    same(&rt, "source of the second block", blocks[1].source(), 4);
+    holds(
+        &rt,
+        "no label in the second block",
+        blocks[1].labels().is_empty(),
+    );
     Ok(())
 }
 
@@ -82,7 +89,7 @@ static DISTANCES: [(usize, u32, Option<i128>); 10] = [
 fn labels_are_those_of_the_text(rt: HostRuntime) -> Result<(), Fail> {
     let labels: Labels = spelled(rt.alloc(), TWO_BLOCKS)?;
     for &(block, id, dist) in &DISTANCES {
-        assert_eq!(rt; labels.label(block, id), dist, "block {block}, node {id}");
+        same_at(&rt, "node", id as u64, labels.label(block, id), dist);
     }
     Ok(())
 }
@@ -414,9 +421,9 @@ fn a_refused_record_leaves_the_reading_as_it_was(rt: HostRuntime) -> Result<(), 
     let mut reading = LabelsReading::new(rt.alloc());
     answers_each(&rt, &mut reading, TextKind::Labels, &RECORDS);
     let labels = reading.finish()?;
-    assert_eq!(rt; labels.blocks().len(), 2);
+    same(&rt, "blocks", labels.blocks().len(), 2);
     for &(block, id, dist) in &TAKEN_DISTANCES {
-        assert_eq!(rt; labels.label(block, id), dist, "block {block}, node {id}");
+        same_at(&rt, "node", id as u64, labels.label(block, id), dist);
     }
     Ok(())
 }

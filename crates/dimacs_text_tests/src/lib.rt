@@ -5,6 +5,8 @@
 #[cfg(test)]
 mod canonical;
 #[cfg(test)]
+mod checks;
+#[cfg(test)]
 mod cuts;
 #[cfg(test)]
 mod graphs;

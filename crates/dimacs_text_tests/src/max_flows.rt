@@ -1,5 +1,6 @@
 //! Texts of maximum flow: read, written again, and refused.
 
+use crate::checks::{holds, same};
 use crate::texts::{
     Arc, Converted, Line, MaxFlow, Refused, Text, answers_each, converts_each, is_made_of, refuses,
     refuses_each, spelled, tells_each_failed_pull, tells_each_failed_put,
@@ -53,7 +54,7 @@ static ARCS: [Arc; 5] = [
 #[test]
 fn an_instance_has_the_ends_and_arcs_of_its_text(rt: HostRuntime) -> Result<(), Fail> {
     let max: MaxFlow = spelled(rt.alloc(), DIAMOND)?;
-    assert_eq!(rt; (max.source(), max.sink()), (1, 4));
+    same(&rt, "source and sink", (max.source(), max.sink()), (1, 4));
     is_made_of(&rt, max.network(), 4, &ARCS);
     Ok(())
 }
@@ -61,8 +62,13 @@ fn an_instance_has_the_ends_and_arcs_of_its_text(rt: HostRuntime) -> Result<(), 
 #[test]
 fn an_arc_is_found_by_its_ends(rt: HostRuntime) -> Result<(), Fail> {
     let max: MaxFlow = spelled(rt.alloc(), DIAMOND)?;
-    assert_eq!(rt; max.network().find(3, 4, 0), Some(4));
-    assert_eq!(rt; max.network().find(4, 3, 0), None);
+    same(&rt, "the last arc", max.network().find(3, 4, 0), Some(4));
+    same(
+        &rt,
+        "an arc the other way",
+        max.network().find(4, 3, 0),
+        None,
+    );
     Ok(())
 }
 
@@ -353,7 +359,7 @@ fn a_refused_record_leaves_the_reading_as_it_was(rt: HostRuntime) -> Result<(), 
     let mut reading = MaxReading::new(rt.alloc());
     answers_each(&rt, &mut reading, TextKind::Max, &RECORDS);
     let max = reading.finish()?;
-    assert_eq!(rt; (max.source(), max.sink()), (2, 3));
+    same(&rt, "source and sink", (max.source(), max.sink()), (2, 3));
     is_made_of(&rt, max.network(), 3, &ARCS_TAKEN);
     Ok(())
 }
@@ -380,7 +386,7 @@ static REPEATED_ARCS: [(&str, &str); 3] = [
 fn a_repeated_arc_is_found_among_many(rt: HostRuntime) -> Result<(), Fail> {
     let text = all_arcs(rt.alloc())?;
     let read = MaxFlow::read(rt.alloc(), &mut FlakySource::new(&text, &[], &[]));
-    assert!(rt; read.is_ok(), "all arcs once");
+    holds(&rt, "all arcs once", read.is_ok());
     for &(name, line) in &REPEATED_ARCS {
         let mut text = all_arcs(rt.alloc())?;
         text.extend_from_slice(line.as_bytes())?;

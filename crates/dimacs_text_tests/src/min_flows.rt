@@ -1,5 +1,6 @@
 //! Minimum cost flow texts: read and written again, looked up, and refused.
 
+use crate::checks::{same, same_at};
 use crate::texts::{
     Arc, Converted, MinFlow, Refused, converts_each, is_made_of, refuses_each, spelled,
     tells_each_failed_pull, tells_each_failed_put,
@@ -64,10 +65,10 @@ static SUPPLIES: [(u32, i64); 6] = [(1, 4), (2, 0), (3, 0), (4, -4), (0, 0), (4_
 fn an_instance_has_the_supplies_of_its_text(rt: HostRuntime) -> Result<(), Fail> {
     let instance: MinFlow = spelled(rt.alloc(), SHIPPING)?;
     for &(id, supply) in &SUPPLIES {
-        assert_eq!(rt; instance.supply(id), supply, "node {id}");
+        same_at(&rt, "node", id as u64, instance.supply(id), supply);
     }
     let SupplySums { supplied, demanded } = instance.supply_sums();
-    assert_eq!(rt; (supplied, demanded), (4, 4));
+    same(&rt, "sums of supplies", (supplied, demanded), (4, 4));
     Ok(())
 }
 
@@ -83,7 +84,12 @@ static ARCS: [Arc; 5] = [
 fn an_instance_has_the_arcs_of_its_text(rt: HostRuntime) -> Result<(), Fail> {
     let instance: MinFlow = spelled(rt.alloc(), SHIPPING)?;
     is_made_of(&rt, instance.network(), 4, &ARCS);
-    assert_eq!(rt; instance.network().find(3, 4, 0), Some(4));
+    same(
+        &rt,
+        "the last arc",
+        instance.network().find(3, 4, 0),
+        Some(4),
+    );
     Ok(())
 }
 
@@ -94,7 +100,7 @@ fn sums_of_supplies_leave_64_bits(rt: HostRuntime) -> Result<(), Fail> {
     let instance: MinFlow = spelled(rt.alloc(), text)?;
     let SupplySums { supplied, demanded } = instance.supply_sums();
     let wanted = (18_446_744_073_709_551_617, 18_446_744_073_709_551_616);
-    assert_eq!(rt; (supplied, demanded), wanted);
+    same(&rt, "sums of supplies", (supplied, demanded), wanted);
     Ok(())
 }
 

@@ -1,6 +1,8 @@
 //! Networks: arcs in their order, and the search for them.
 
-use dimacs_instance::{ArcView, MAX_ARCS, Network, PlainArcs, WeightArc};
+use crate::checks::same;
+use crate::texts::{Arc, is_made_of};
+use dimacs_instance::{MAX_ARCS, Network, PlainArcs, WeightArc};
 use dimacs_lines::Memory;
 use std::alloc::Global;
 use std::process::Abort;
@@ -42,32 +44,25 @@ fn weight_found<N: Network>(
 #[test]
 fn a_network_starts_without_arcs(rt: HostRuntime) {
     let network: PlainArcs<WeightArc> = PlainArcs::new(rt.alloc(), 3);
-    assert_eq!(rt; network.nodes(), 3);
-    assert_eq!(rt; network.arcs(), 0);
-    assert_eq!(rt; network.find(1, 1, 0), None);
+    same(&rt, "nodes", network.nodes(), 3);
+    same(&rt, "arcs", network.arcs(), 0);
+    same(&rt, "an arc", network.find(1, 1, 0), None);
 }
+
+/// The same, as a network tells them.
+static TOLD: [Arc; 6] = [
+    (1, 2, 0, 0, 10),
+    (2, 1, 0, 0, 11),
+    (1, 2, 0, 0, -12),
+    (3, 3, 0, 0, 0),
+    (1, 2, 0, 0, 10),
+    (3, 3, 0, 0, 9),
+];
 
 #[test]
 fn arcs_keep_their_order_and_weights(rt: HostRuntime) -> Result<(), Fail> {
     let network = sample(&rt, rt.alloc())?;
-    assert_eq!(rt; network.nodes(), 4);
-    assert_eq!(rt; network.arcs(), 6);
-    let want = ArcView {
-        tail: 1,
-        head: 2,
-        low: 0,
-        cap: 0,
-        cost: -12,
-    };
-    assert_eq!(rt; network.arc(2), want);
-    let last = ArcView {
-        tail: 3,
-        head: 3,
-        low: 0,
-        cap: 0,
-        cost: 9,
-    };
-    assert_eq!(rt; network.arc(5), last);
+    is_made_of(&rt, &network, 4, &TOLD);
     Ok(())
 }
 
@@ -92,7 +87,7 @@ static FOUND: [(&str, u32, u32, u32, Option<u32>); 13] = [
 fn find_counts_the_arcs_between_two_nodes(rt: HostRuntime) -> Result<(), Fail> {
     let network = sample(&rt, rt.alloc())?;
     for &(name, tail, head, k, found) in &FOUND {
-        assert_eq!(rt; network.find(tail, head, k), found, "{name}");
+        same(&rt, name, network.find(tail, head, k), found);
     }
     Ok(())
 }
@@ -100,8 +95,18 @@ fn find_counts_the_arcs_between_two_nodes(rt: HostRuntime) -> Result<(), Fail> {
 #[test]
 fn any_network_tells_what_was_found(rt: HostRuntime) -> Result<(), Fail> {
     let network = sample(&rt, rt.alloc())?;
-    assert_eq!(rt; weight_found(&rt, &network, 1, 2, 1), Some(-12));
-    assert_eq!(rt; weight_found(&rt, &network, 3, 3, 1), Some(9));
-    assert_eq!(rt; weight_found(&rt, &network, 2, 3, 0), None);
+    same(
+        &rt,
+        "the second arc",
+        weight_found(&rt, &network, 1, 2, 1),
+        Some(-12),
+    );
+    same(
+        &rt,
+        "the second loop",
+        weight_found(&rt, &network, 3, 3, 1),
+        Some(9),
+    );
+    same(&rt, "no arc", weight_found(&rt, &network, 2, 3, 0), None);
     Ok(())
 }

@@ -1,5 +1,6 @@
 //! Potentials: texts that are read and written again, potentials that are set, and texts that are refused.
 
+use crate::checks::{same, same_at};
 use crate::texts::{
     Converted, Line, Refused, answers_each, converts_each, is_written, refuses_each, spelled,
     tells_each_failed_pull, tells_each_failed_put,
@@ -63,9 +64,14 @@ fn potentials_are_those_of_the_text(rt: HostRuntime) -> Result<(), Fail> {
         rt.alloc(),
         "p pot 300 4\ny 300 7\ny 1 -5\ny 2 0\ny 256 1\n",
     )?;
-    assert_eq!(rt; (potentials.nodes(), potentials.count_nonzero()), (300, 3));
+    same(
+        &rt,
+        "nodes and values",
+        (potentials.nodes(), potentials.count_nonzero()),
+        (300, 3),
+    );
     for &(id, value) in &VALUES {
-        assert_eq!(rt; potentials.of(id), value, "node {id}");
+        same_at(&rt, "node", id as u64, potentials.of(id), value);
     }
     Ok(())
 }
@@ -76,7 +82,7 @@ fn potentials_are_set_one_by_one(rt: HostRuntime) -> Result<(), Fail> {
     potentials.set(2, 8)?;
     potentials.set(1, -3)?;
     potentials.set(1, 5)?;
-    assert_eq!(rt; potentials.of(2), 8);
+    same(&rt, "potential of 2", potentials.of(2), 8);
     potentials.set(2, 0)?;
     is_written(&rt, rt.alloc(), &potentials, "p pot 2 1\ny 1 5\n")
 }
@@ -283,9 +289,9 @@ fn a_refused_record_leaves_the_reading_as_it_was(rt: HostRuntime) -> Result<(), 
     let mut reading = PotentialsReading::new(rt.alloc());
     answers_each(&rt, &mut reading, TextKind::Potentials, &RECORDS);
     let potentials = reading.finish()?;
-    assert_eq!(rt; potentials.nodes(), 4);
+    same(&rt, "nodes", potentials.nodes(), 4);
     for (id, value) in [(1, 5), (2, 0), (3, 0), (4, 0), (5, 0)] {
-        assert_eq!(rt; potentials.of(id), value, "node {id}");
+        same_at(&rt, "node", id as u64, potentials.of(id), value);
     }
     Ok(())
 }

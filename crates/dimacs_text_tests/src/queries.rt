@@ -1,5 +1,6 @@
 //! Queries: texts that are read and written again, and texts that are refused.
 
+use crate::checks::{holds, same};
 use crate::texts::{
     Converted, Line, Refused, answers_each, converts_each, is_written, refuses_each, spelled,
     tells_each_failed_pull, tells_each_failed_put,
@@ -65,18 +66,28 @@ fn pairs(queries: &Queries) -> &[(u32, u32)] {
 #[test]
 fn sources_are_those_of_their_text(rt: HostRuntime) -> Result<(), Fail> {
     let queries: Queries = spelled(rt.alloc(), "p aux sp ss 3\ns 5\ns 1\ns 5\n")?;
-    assert_eq!(rt; (queries.kind(), queries.len()), (QueryKind::Sources, 3));
-    assert_eq!(rt; sources(&queries), [5, 1, 5].as_slice());
-    assert!(rt; pairs(&queries).is_empty());
+    same(
+        &rt,
+        "kind and number of queries",
+        (queries.kind(), queries.len()),
+        (QueryKind::Sources, 3),
+    );
+    same(&rt, "sources", sources(&queries), [5, 1, 5].as_slice());
+    holds(&rt, "no pair", pairs(&queries).is_empty());
     Ok(())
 }
 
 #[test]
 fn pairs_are_those_of_their_text(rt: HostRuntime) -> Result<(), Fail> {
     let queries: Queries = spelled(rt.alloc(), TWO_PAIRS)?;
-    assert_eq!(rt; (queries.kind(), queries.len()), (QueryKind::Pairs, 2));
-    assert_eq!(rt; pairs(&queries), [(1, 2), (1, 4)].as_slice());
-    assert!(rt; sources(&queries).is_empty());
+    same(
+        &rt,
+        "kind and number of queries",
+        (queries.kind(), queries.len()),
+        (QueryKind::Pairs, 2),
+    );
+    same(&rt, "pairs", pairs(&queries), [(1, 2), (1, 4)].as_slice());
+    holds(&rt, "no source", sources(&queries).is_empty());
     Ok(())
 }
 
@@ -319,7 +330,7 @@ fn a_refused_record_leaves_the_reading_as_it_was(rt: HostRuntime) -> Result<(), 
     let mut reading = QueriesReading::new(rt.alloc());
     answers_each(&rt, &mut reading, TextKind::Queries, &RECORDS);
     let queries = reading.finish()?.into_queries();
-    assert_eq!(rt; sources(&queries), [3, 1].as_slice());
+    same(&rt, "sources", sources(&queries), [3, 1].as_slice());
     Ok(())
 }
 

@@ -1,5 +1,6 @@
 //! Readings that are given records one by one.
 
+use crate::checks::same;
 use crate::texts::{Arc, Line, answers_each, is_made_of, take_line};
 use dimacs_instance::{GraphReading, Network};
 use dimacs_lines::{FlakySource, MemorySource};
@@ -39,9 +40,11 @@ fn a_refused_record_leaves_the_reading_as_it_was(rt: HostRuntime) -> Result<(), 
 #[test]
 fn a_reading_without_a_problem_is_refused_at_its_end(rt: HostRuntime) {
     let reading = GraphReading::new(rt.alloc());
-    assert_eq!(rt;
+    same(
+        &rt,
+        "the refusal",
         reading.finish().err(),
-        Some(TakeError::refused(0, Reason::ProblemMissing))
+        Some(TakeError::refused(0, Reason::ProblemMissing)),
     );
 }
 
@@ -50,9 +53,11 @@ fn a_reading_with_an_arc_too_few_is_refused_at_its_end(rt: HostRuntime) -> Resul
     let mut reading = GraphReading::new(rt.alloc());
     take_line(&mut reading, TextKind::Graph, 1, "p sp 1 2")?;
     take_line(&mut reading, TextKind::Graph, 2, "a 1 1 0")?;
-    assert_eq!(rt;
+    same(
+        &rt,
+        "the refusal",
         reading.finish().err(),
-        Some(TakeError::refused(0, Reason::TooFew))
+        Some(TakeError::refused(0, Reason::TooFew)),
     );
     Ok(())
 }
@@ -62,7 +67,7 @@ fn a_text_is_read_by_any_reading_of_its_kind(rt: HostRuntime) -> Result<(), Fail
     let mut source = MemorySource::new(b"p sp 3 1\na 3 2 8\n");
     let reading = GraphReading::new(rt.alloc());
     let graph = read_text(rt.alloc(), TextKind::Graph, reading, &mut source)?;
-    assert_eq!(rt; graph.network().find(3, 2, 0), Some(0));
+    same(&rt, "the arc", graph.network().find(3, 2, 0), Some(0));
     Ok(())
 }
 
@@ -72,9 +77,11 @@ fn a_faulty_text_is_refused_by_any_reading_of_its_kind(rt: HostRuntime) {
     let reading = GraphReading::new(rt.alloc());
     let read = read_text(rt.alloc(), TextKind::Graph, reading, &mut source);
     let place = At { line: 2, field: 3 };
-    assert_eq!(rt;
+    same(
+        &rt,
+        "the error",
         read.err(),
-        Some(ReadError::Refused(place, Reason::NodeRange))
+        Some(ReadError::Refused(place, Reason::NodeRange)),
     );
 }
 
@@ -83,5 +90,5 @@ fn a_pull_that_fails_is_told_by_any_reading(rt: HostRuntime) {
     let mut source = FlakySource::new(b"p sp 3 0\n", &[4], &[2]);
     let reading = GraphReading::new(rt.alloc());
     let read = read_text(rt.alloc(), TextKind::Graph, reading, &mut source);
-    assert_eq!(rt; read.err(), Some(ReadError::Device));
+    same(&rt, "the error", read.err(), Some(ReadError::Device));
 }

@@ -1,5 +1,6 @@
 //! The names of the reasons, and how a refusal is made.
 
+use crate::checks::{holds, same};
 use dimacs_records::{LineFault, Reason, TakeError};
 
 /// Reasons, each with its name.
@@ -30,7 +31,7 @@ static REASONS_OF_TEXTS: [(Reason, &str); 21] = [
 #[test]
 fn reasons_of_texts_have_their_names(rt: HostRuntime) {
     for &(reason, name) in &REASONS_OF_TEXTS {
-        assert!(rt; reason.name().as_bytes() == name.as_bytes(), "{reason:?}");
+        holds(&rt, name, reason.name().as_bytes() == name.as_bytes());
     }
 }
 
@@ -61,7 +62,7 @@ static REASONS_OF_CLAIMS: [(Reason, &str); 20] = [
 #[test]
 fn reasons_of_claims_have_their_names(rt: HostRuntime) {
     for &(reason, name) in &REASONS_OF_CLAIMS {
-        assert!(rt; reason.name().as_bytes() == name.as_bytes(), "{reason:?}");
+        holds(&rt, name, reason.name().as_bytes() == name.as_bytes());
     }
 }
 
@@ -71,8 +72,10 @@ fn a_refusal_names_field_and_reason(rt: HostRuntime) {
         field: 3,
         reason: Reason::NodeRange,
     };
-    assert_eq!(rt;
+    same(
+        &rt,
+        "a refusal",
         TakeError::refused(3, Reason::NodeRange),
-        TakeError::Refused(told)
+        TakeError::Refused(told),
     );
 }

@@ -1,5 +1,6 @@
 //! What a line of a graph text says, and why it says nothing.
 
+use crate::checks::same;
 use dimacs_records::{LineFault, Reason, Record, TextKind, record};
 
 /// Lines, each with the record that it says.
@@ -118,10 +119,11 @@ static SAYING: [(&str, &str, Record); 14] = [
 #[test]
 fn lines_say_records(rt: HostRuntime) {
     for &(name, line, says) in &SAYING {
-        assert_eq!(rt;
+        same(
+            &rt,
+            name,
             record(TextKind::Graph, line.as_bytes()),
             Ok(Some(says)),
-            "{name}"
         );
     }
 }
@@ -141,16 +143,18 @@ static SILENT: [(&str, &str); 8] = [
 #[test]
 fn comments_and_lines_of_blanks_say_nothing(rt: HostRuntime) {
     for &(name, line) in &SILENT {
-        assert_eq!(rt;
+        same(
+            &rt,
+            name,
             record(TextKind::Graph, line.as_bytes()),
             Ok(None),
-            "{name}"
         );
     }
-    assert_eq!(rt;
+    same(
+        &rt,
+        "comment of any bytes",
         record(TextKind::Graph, b"c\xff\x00\xfe \x80"),
         Ok(None),
-        "comment of any bytes"
     );
 }
 
@@ -288,10 +292,11 @@ static REFUSED: [(&str, &str, u32, Reason); 51] = [
 fn lines_are_refused_for_their_first_fault(rt: HostRuntime) {
     for &(name, line, field, reason) in &REFUSED {
         let fault = LineFault { field, reason };
-        assert_eq!(rt;
+        same(
+            &rt,
+            name,
             record(TextKind::Graph, line.as_bytes()),
             Err(fault),
-            "{name}"
         );
     }
 }

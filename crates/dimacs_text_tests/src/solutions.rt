@@ -1,5 +1,6 @@
 //! Solutions: texts that are read and written again, and texts that are refused.
 
+use crate::checks::same;
 use crate::texts::{
     Converted, Line, Refused, Text, answers_each, converts_each, is_written, refuses_each, spelled,
     take_line, tells_each_failed_pull, tells_each_failed_put,
@@ -72,10 +73,17 @@ fn entry(tail: u32, head: u32, flow: i64, line: u64) -> Entry {
 #[test]
 fn a_solution_knows_the_lines_of_its_text(rt: HostRuntime) -> Result<(), Fail> {
     let solution: Solution = spelled(rt.alloc(), SCATTERED)?;
-    assert_eq!(rt; (solution.value, solution.value_line), (6, 4));
-    assert_eq!(rt;
+    same(
+        &rt,
+        "value and its line",
+        (solution.value, solution.value_line),
+        (6, 4),
+    );
+    same(
+        &rt,
+        "entries",
         solution.entries.as_slice(),
-        [entry(1, 2, 4, 2), entry(3, 4, -2, 5), entry(1, 2, 4, 6)].as_slice()
+        [entry(1, 2, 4, 2), entry(3, 4, -2, 5), entry(1, 2, 4, 6)].as_slice(),
     );
     Ok(())
 }
@@ -86,10 +94,17 @@ fn a_solution_that_was_written_knows_its_new_lines(rt: HostRuntime) -> Result<()
     let mut written = FlakySink::new(rt.alloc(), &[], &[]);
     solution.write(&mut written)?;
     let again = Solution::read(rt.alloc(), &mut FlakySource::new(written.bytes(), &[], &[]))?;
-    assert_eq!(rt; (again.value, again.value_line), (6, 1));
-    assert_eq!(rt;
+    same(
+        &rt,
+        "value and its line",
+        (again.value, again.value_line),
+        (6, 1),
+    );
+    same(
+        &rt,
+        "entries",
         again.entries.as_slice(),
-        [entry(1, 2, 4, 2), entry(3, 4, -2, 3), entry(1, 2, 4, 4)].as_slice()
+        [entry(1, 2, 4, 2), entry(3, 4, -2, 3), entry(1, 2, 4, 4)].as_slice(),
     );
     Ok(())
 }
@@ -240,11 +255,13 @@ fn a_refused_record_leaves_the_reading_as_it_was(rt: HostRuntime) -> Result<(), 
     let mut reading = SolutionReading::new(rt.alloc());
     answers_each(&rt, &mut reading, TextKind::Solution, &RECORDS);
     let solution = reading.finish()?;
-    assert_eq!(rt; solution.value, 5);
-    assert_eq!(rt; solution.value_line, 3);
-    assert_eq!(rt;
+    same(&rt, "value", solution.value, 5);
+    same(&rt, "line of the value", solution.value_line, 3);
+    same(
+        &rt,
+        "entries",
         solution.entries.as_slice(),
-        [entry(1, 2, 3, 1), entry(2, 1, 0, 7)].as_slice()
+        [entry(1, 2, 3, 1), entry(2, 1, 0, 7)].as_slice(),
     );
     Ok(())
 }
@@ -253,11 +270,11 @@ fn a_refused_record_leaves_the_reading_as_it_was(rt: HostRuntime) -> Result<(), 
 fn a_reading_without_a_value_is_refused_at_its_end(rt: HostRuntime) -> Result<(), Fail> {
     let missing = Some(TakeError::refused(0, Reason::SolutionMissing));
     let reading = SolutionReading::new(rt.alloc());
-    assert_eq!(rt; reading.finish().err(), missing, "no record");
+    same(&rt, "no record", reading.finish().err(), missing);
 
     let mut reading = SolutionReading::new(rt.alloc());
     take_line(&mut reading, TextKind::Solution, 1, "f 1 2 3")?;
-    assert_eq!(rt; reading.finish().err(), missing, "an entry");
+    same(&rt, "an entry", reading.finish().err(), missing);
     Ok(())
 }
 

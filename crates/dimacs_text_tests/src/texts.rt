@@ -2,6 +2,7 @@
 
 ghost use Rattle.std.specs.Prelude.{◌≡◌};
 
+use crate::checks::{holds, holds_at, same, same_at};
 use dimacs_claims::{
     Cut, Labels, Potentials, Solution, read_cut, read_labels, read_potentials, read_solution,
     write_cut, write_labels, write_potentials, write_solution,
@@ -10,9 +11,7 @@ use dimacs_instance::{
     ArcView, CapacityArc, Graph, MaxInstance, MinInstance, Network, PlainArcs, Queries, WeightArc,
     read_graph, read_max, read_min, read_queries, write_graph, write_max, write_min, write_queries,
 };
-use dimacs_lines::{
-    CutSource, DeviceFault, FlakySink, FlakySource, MemorySink, MemorySource, Sink, Source,
-};
+use dimacs_lines::{DeviceFault, FlakySink, FlakySource};
 use dimacs_records::{At, ReadError, Reading, Reason, TakeError, TextKind, record};
 use std::alloc::Global;
 use std::process::Abort;
@@ -125,7 +124,11 @@ pub fn is_written<T: Text>(
 ) -> Result<(), Fail> {
     let mut sink = FlakySink::new(alloc, &[], &[]);
     value.write(&mut sink)?;
-    assert!(rt; sink.bytes() == canonical.as_bytes());
+    holds(
+        rt,
+        "the canonical form",
+        sink.bytes() == canonical.as_bytes(),
+    );
     Ok(())
 }
 
@@ -134,12 +137,12 @@ pub type Arc = (u32, u32, i64, i64, i64);
 
 /// Whether a network has so many nodes, and just these arcs.
 pub fn is_made_of<N: Network>(rt: &impl Abort, network: &N, nodes: u32, arcs: &[Arc]) {
-    assert_eq!(rt; network.nodes(), nodes);
-    assert_eq!(rt; network.arcs() as usize, arcs.len());
+    same(rt, "nodes", network.nodes(), nodes);
+    same(rt, "arcs", network.arcs() as usize, arcs.len());
     for i in 0..network.arcs() {
         let arc = network.arc(i);
         let said = (arc.tail, arc.head, arc.low, arc.cap, arc.cost);
-        assert_eq!(rt; arcs.get(i as usize), Some(&said), "arc {i}");
+        same_at(rt, "arc", i as u64, arcs.get(i as usize), Some(&said));
     }
 }
 
@@ -155,7 +158,7 @@ pub fn becomes<T: Text>(
     let mut source = FlakySource::new(text, sizes, &[]);
     let mut sink = FlakySink::new(alloc, &[], &[]);
     T::read(alloc, &mut source)?.write(&mut sink)?;
-    assert!(rt; sink.bytes() == canonical, "{name}");
+    holds(rt, name, sink.bytes() == canonical);
     Ok(())
 }
 
@@ -200,10 +203,10 @@ pub fn refuses<T: Text>(
 ) -> Result<(), Fail> {
     let want = Some(ReadError::Refused(at, reason));
     let whole = T::read(alloc, &mut FlakySource::new(text, &[], &[])).err();
-    assert_eq!(rt; whole, want, "{name}");
+    same(rt, name, whole, want);
     let ones = Vec::from_elem(alloc, 1, text.len())?;
     let pieces = T::read(alloc, &mut FlakySource::new(text, &ones, &[])).err();
-    assert_eq!(rt; pieces, want, "{name}, in pieces");
+    same(rt, name, pieces, want);
     Ok(())
 }
 
@@ -234,7 +237,7 @@ pub fn tells_failed_pulls<T: Text>(
         let fails = [failing];
         let mut source = FlakySource::new(text.as_bytes(), &ones, &fails);
         let error = T::read(alloc, &mut source).err();
-        assert_eq!(rt; error, Some(ReadError::Device), "at pull {failing}");
+        same_at(rt, "at pull", failing, error, Some(ReadError::Device));
     }
     Ok(())
 }
@@ -269,17 +272,19 @@ pub fn tells_each_failed_put<T: Text>(
         let fails = [failing];
         let mut sink = FlakySink::new(alloc, &ones, &fails);
         let put = value.write(&mut sink);
-        assert_eq!(rt; put, Err(DeviceFault), "at put {failing}");
-        assert!(rt;
+        same_at(rt, "at put", failing, put, Err(DeviceFault));
+        holds_at(
+            rt,
+            "at put",
+            failing,
             sink.bytes().len() as u64 == failing - 1,
-            "at put {failing}"
         );
-        assert!(rt; text.starts_with(sink.bytes()), "at put {failing}");
+        holds_at(rt, "at put", failing, text.starts_with(sink.bytes()));
     }
     let fails = [puts + 1];
     let mut sink = FlakySink::new(alloc, &ones, &fails);
     value.write(&mut sink)?;
-    assert!(rt; sink.bytes() == text);
+    holds(rt, "bytes", sink.bytes() == text);
     Ok(())
 }
 
@@ -319,10 +324,10 @@ fn answers<R: Reading>(rt: &impl Abort, reading: &mut R, kind: TextKind, line: &
     let (number, text, refusal) = *line;
     let wanted = answer(refusal);
     let answered = take_line(reading, kind, number, text);
-    assert_eq!(rt; answered, wanted, "line {number}");
+    same_at(rt, "line", number, answered, wanted);
     if refusal.is_some() {
         let again = take_line(reading, kind, number, text);
-        assert_eq!(rt; again, wanted, "line {number}, once more");
+        same_at(rt, "once more line", number, again, wanted);
     }
 }
 
