@@ -115,9 +115,10 @@ impl<A: KeptArc> PlainArcs<A> {
         Ok(())
     }
 
-    /// Takes the last arc away.
+    /// Takes the last arc away, where there is one.
     pub fn pop(&mut self)
-        ensures { (arcs : List ArcView) (arc : ArcView) → self.old.arcs ≡ arcs ++ arc ∷ [] → self.new ≡ record self.old { arcs = arcs } }
+        ensures last { (arcs : List ArcView) (arc : ArcView) → self.old.arcs ≡ arcs ++ arc ∷ [] → self.new ≡ record self.old { arcs = arcs } }
+        ensures empty { self.old.arcs ≡ [] → self.new ≡ self.old }
     {
         self.arcs.pop();
     }
