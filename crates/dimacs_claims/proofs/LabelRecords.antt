@@ -58,16 +58,6 @@ last_after-push : (front : List BlockValue) (b : BlockValue) (missing : ℕ) (la
 last_after-push [] b missing last = refl
 last_after-push (f ∷ front) b missing last = last_after-push front b missing (Some (opened_with (lacking missing (front ++ b ∷ [])) f))
 
--- behind the problem line alone
-pub say_no_block : (nodes declared missing : ℕ) → Say (labels_begun_records (record { nodes = nodes; declared = declared; missing = missing; blocks = [] })) nodes declared [] None
-say_no_block nodes declared missing = say_problem nodes declared
-
--- behind these blocks and one more, which lacks labels
-pub say_begun : (nodes declared missing : ℕ) (front : List BlockValue) (b : BlockValue)
-    → Say (labels_begun_records (record { nodes = nodes; declared = declared; missing = missing; blocks = front ++ b ∷ [] })) nodes declared (map source_of (front ++ b ∷ [])) (Some (opened_with missing b))
-say_begun nodes declared missing front b =
-    rw (← last_after-push front b missing None) (say_blocks (front ++ b ∷ []) missing (LabelsProblem nodes declared ∷ []) nodes declared [] None (say_problem nodes declared))
-
 -- blocks without a gap
 lacking-zero : (blocks : List BlockValue) → lacking 0 blocks ≡ 0
 lacking-zero [] = refl

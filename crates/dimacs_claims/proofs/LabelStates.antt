@@ -32,9 +32,6 @@ pub record Say (earlier : List Record) (nodes declared : ℕ) (sources : List �
 abbrev pub opened : ℕ → ℕ → List ℕ → Block
 opened source count ids = record { source = source; count = count; ids = ids }
 
-or_else-some : {X : Type 0} (x y z : Option X) → y ≡ z → or_else x y ≡ or_else x z
-or_else-some x y z e = ap (or_else x) e
-
 problem_in-append : (rs more : List Record) (p : Problem) → problem_in rs ≡ Some p → problem_in (rs ++ more) ≡ Some p
 problem_in-append [] more p h = absurd (cc)
 problem_in-append (r ∷ rs) more p h = by_first (problem_of r) refl h (problem_in-append rs more p)

@@ -20,8 +20,8 @@ use dimacs_records::{
 use std::alloc::Global;
 use std::marker::Model;
 
-/// A claimed flow: its value or its cost, and what arcs carry. The fields are open; what was read is lawful, and
-/// `read_solution` says so.
+/// A claimed flow: its value or its cost, and what arcs carry. The fields are open. What was read from a source that
+/// tells its bytes is lawful, and `read_solution` says so.
 #[derive(Drop)]
 pub struct Solution {
     pub value: i128,

@@ -5,7 +5,7 @@ use Rattle.std.specs.List.{list_any, filter}
 use Rattle.std.proofs.Math.Bool.{and_comm}
 use Rattle.std.proofs.lemmas.Bool.{cases_eq, cases_Bool, and_parts, eqb-true, lt-ltb, le-ltb, true≢false, false_from_ne_true, or_left, or_right}
 use Rattle.std.proofs.lemmas.List.Folds.{list_any_none, list_any_at, list_any-append, drop_split}
-use Rattle.std.proofs.lemmas.List.Elements.{All-from_get_or, All-push, All-nil, filter-append}
+use Rattle.std.proofs.lemmas.List.Elements.{All-from_get_or, All-nil, filter-append}
 use Rattle.std.proofs.lemmas.List.{append-nil, get_or-replicate, get_or-take, get_or-drop, get_or_read, length-append, length-map, length-replicate, length-take, take_more, length-drop, map-append, take-append-drop, set_split, set-get_or, append_assoc, length_push}
 use Rattle.std.proofs.lemmas.List.Sorted.{IsPermutation-sym, IsPermutation-trans, IsPermutation-to_front, IsPermutation-middle, IsPermutation-append_left, IsPermutation-append_right, length_permutation}
 use Rattle.dimacs_instance.specs.declared.network.ArcView.{ArcView}
@@ -131,17 +131,6 @@ grouped_in tail head at taken slots apart grouped inside room node placed =
       full = rw same_length (λ some i d below. still_taken slots at (group_start (length slots) (get_or apart i d).tail + 7) s inside node (grouped.full some i d below));
       nodes = grouped.nodes;
     }
-
--- ends whose group is full, apart
-pub grouped_apart : (tail head taken : ℕ) (slots : List Slot) (apart : List Ends) → AreGrouped slots taken apart → (0 < length slots → IsFull slots tail) → 0 < tail → AreGrouped slots taken (apart ++ record { tail = tail; head = head } ∷ [])
-grouped_apart tail head taken slots apart grouped full node = record {
-  whole = grouped.whole;
-  few = grouped.few;
-  counted = grouped.counted;
-  placed = grouped.placed;
-  full = λ some. All-push (λ e. IsFull slots e.tail) apart (record { tail = tail; head = head }) (grouped.full some) (full some);
-  nodes = All-push (λ e. 0 < e.tail) apart (record { tail = tail; head = head }) grouped.nodes node;
-}
 
 -- and so are among those in slots and those apart
 pub pushed_in : (tail head at : ℕ) (slots : List Slot) (apart : List Ends) → at < length slots → tail_at slots at ≡ 0 → 0 < tail

@@ -16,15 +16,8 @@ use Rattle.dimacs_judge.specs.Tests.{Clear, FirstOfRow}
 use Rattle.dimacs_judge.proofs.Firsts.{OneWay}
 
 -- ---- the flow that entries carry
-pub carried_is : (arcs : List ArcView) (entries : List Entry) (x : List ℤ) → Carries arcs entries x → x ≡ claimed_flow arcs entries
-carried_is arcs entries x carries = carries.amounts
-
 pub length-claimed_flow : (arcs : List ArcView) (entries : List Entry) → length (claimed_flow arcs entries) ≡ length arcs
 length-claimed_flow arcs entries = length-map arcs _
-
--- an amount for each arc
-pub carried_length : (arcs : List ArcView) (entries : List Entry) (x : List ℤ) → Carries arcs entries x → length x ≡ length arcs
-carried_length arcs entries x carries = rw carries.amounts (length-claimed_flow arcs entries)
 
 between_ends : (tail head : ℕ) (e : Entry) → is_between tail head e ≡ true → (e.tail ≡ tail) × (e.head ≡ head)
 between_ends tail head e is = let both = and_parts (e.tail == tail) (e.head == head) is in (eqb-true e.tail tail both.0, eqb-true e.head head both.1)

@@ -15,11 +15,6 @@ sum_arcs-add f g [] y = refl
 sum_arcs-add f g (a ∷ arcs) [] = refl
 sum_arcs-add f g (a ∷ arcs) (x ∷ y) = omega (arith, ints, sum_arcs-add f g arcs y)
 
-pub sum_arcs-sub : (f g : ArcView → ℤ → ℤ) (arcs : List ArcView) (y : List ℤ) → sum_arcs (λ a x. f a x -ℤ g a x) arcs y ≡ sum_arcs f arcs y -ℤ sum_arcs g arcs y
-sum_arcs-sub f g [] y = refl
-sum_arcs-sub f g (a ∷ arcs) [] = refl
-sum_arcs-sub f g (a ∷ arcs) (x ∷ y) = omega (arith, ints, sum_arcs-sub f g arcs y)
-
 pub sum_arcs-same : (f g : ArcView → ℤ → ℤ) → ((a : ArcView) (x : ℤ) → f a x ≡ g a x) → (arcs : List ArcView) (y : List ℤ) → sum_arcs f arcs y ≡ sum_arcs g arcs y
 sum_arcs-same f g same [] y = refl
 sum_arcs-same f g same (a ∷ arcs) [] = refl

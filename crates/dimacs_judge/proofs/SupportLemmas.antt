@@ -34,9 +34,6 @@ module _ (arcs : List ArcView) (l : Label) (base : ℤ) where
   abbrev pub NoneBelow : ℕ → Type 0
   NoneBelow k = (i : ℕ) (a : ArcView) → slice_get arcs i ≡ Some a → joins l.pred l.id a ≡ true → count_by (joins l.pred l.id) (take i arcs) < k → ¬ ((base +ℤ a.cost) ≡ l.dist)
 
-  pub none_below : NoneBelow 0
-  none_below i a here passes below = absurd (omega (arith, below))
-
   -- the k-th of them is the one found
   pub none_more : (k i : ℕ) (a : ArcView) → slice_get arcs i ≡ Some a → IsKthBetween arcs l.pred l.id k (Some i) → (¬ ((base +ℤ a.cost) ≡ l.dist)) → NoneBelow k → NoneBelow (k + 1)
   none_more k i a here found off below j b there passes few = elim (cases_order (count_by (joins l.pred l.id) (take j arcs)) k) [

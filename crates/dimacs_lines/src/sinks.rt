@@ -4,6 +4,7 @@ ghost use Rattle.std.specs.Prelude.{◌≡◌, [], List, ℕ, Some};
 ghost use Rattle.dimacs_lines.specs.Devices.{InMemory, Flaky};
 
 use crate::device::{DeviceFault, Sink};
+use crate::sources::next_piece;
 use std::alloc::Global;
 use std::marker::Model;
 
@@ -102,11 +103,7 @@ impl<'a> Sink for FlakySink<'a> {
             self.kept.faults = self.kept.faults.wrapping_add(1);
             return Err(DeviceFault);
         }
-        let mut count = bytes.len();
-        if let Some((size, sizes)) = self.sizes.split_first() {
-            self.sizes = sizes;
-            count = count.min((*size).max(1));
-        }
+        let count = next_piece(&mut self.sizes, bytes.len());
         self.kept.put(&bytes[..count])
     }
 }

@@ -1,6 +1,6 @@
 //! Sources over memory: one that gives all there is room for, and two for tests, which cut the text and fail.
 
-ghost use Rattle.std.specs.Prelude.{◌≡◌, List, ℕ, Some};
+ghost use Rattle.std.specs.Prelude.{◌≡◌, ◌<◌, ◌≤◌, List, ℕ, Some};
 ghost use Rattle.dimacs_lines.specs.Devices.{InPieces, Flaky};
 
 use crate::device::{DeviceFault, Source};
@@ -44,21 +44,22 @@ impl<'a> Source for MemorySource<'a> {
 /// pull gives as much as there is room for.
 #[derive(Drop)]
 pub struct CutSource<'a> {
-    rest: &'a [u8],
+    text: MemorySource<'a>,
     sizes: &'a [usize],
 }
 
 impl<'a> Model for CutSource<'a> {
     ghost Value = { InPieces };
 
-    ghost view = { λ s. record { bytes = s.rest.now; sizes = s.sizes.now } };
+    ghost view = { λ s. record { bytes = s.text; sizes = s.sizes.now } };
 }
 
 impl<'a> CutSource<'a> {
     pub fn new(bytes: &'a [u8], sizes: &'a [usize]) -> CutSource<'a>
         ensures { result ≡ record { bytes = bytes.now; sizes = sizes.now } }
     {
-        CutSource { rest: bytes, sizes }
+        let text = MemorySource::new(bytes);
+        CutSource { text, sizes }
     }
 }
 
@@ -68,15 +69,22 @@ impl<'a> Source for CutSource<'a> {
     ghost faults = { λ s. 0 };
 
     fn pull(&mut self, into: &mut [u8]) -> Result<usize, DeviceFault> {
-        let mut count = into.len().min(self.rest.len());
-        if let Some((size, sizes)) = self.sizes.split_first() {
-            self.sizes = sizes;
-            count = count.min((*size).max(1));
+        let count = next_piece(&mut self.sizes, into.len());
+        self.text.pull(&mut into[..count])
+    }
+}
+
+/// How many of `most` bytes the next piece has: at most the next listed size, which it uses up, a 0 counting as 1.
+pub(crate) fn next_piece<'a>(sizes: &mut &'a [usize], most: usize) -> usize
+    ensures room { result ≤ most }
+    ensures some { 0 < most → 0 < result }
+{
+    match sizes.split_first() {
+        Some((size, rest)) => {
+            *sizes = rest;
+            most.min((*size).max(1))
         }
-        let (front, back) = self.rest.split_at(count);
-        into[..count].copy_from_slice(front);
-        self.rest = back;
-        Ok(count)
+        None => most,
     }
 }
 

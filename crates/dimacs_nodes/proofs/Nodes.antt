@@ -1,10 +1,9 @@
 -- The laws of maps and of sets of nodes, for the crates above.
 use Rattle.std.proofs.Common.{◌≡◌, ◌≢◌, ℕ, None, Some, false, cond, ◌==◌, ◌||◌, ◌∙◌, ap, arith}
 use Rattle.std.proofs.lemmas.Bool.Decides.{nat_tests}
-use Rattle.std.proofs.Math.Path.{fun_ext}
 use Rattle.std.specs.Ordering.{nat_cmp}
 use Rattle.std.specs.Cmp.{nat_cmp_total, unsigned_tied}
-use Rattle.std.specs.FinMap.{FinMap, empty, insert, get, same_map, nat_cmp-IsAntisymmetric}
+use Rattle.std.specs.FinMap.{FinMap, empty, insert, get}
 use Rattle.std.specs.FinMap as map
 use Rattle.std.specs.FinSet.{FinSet, contains}
 use Rattle.std.specs.FinSet as set
@@ -23,16 +22,6 @@ module _ {T : Type 0} where
 
   pub get-insert_other : (nodes : FinMap nat_cmp T) (id other : ℕ) (value : T) → other ≢ id → get (insert nodes id value) other ≡ get nodes other
   get-insert_other nodes id other value apart = get-insert nodes id other value ∙ grind (arith, nat_tests)
-
-  -- as functions of the node
-  pub values-empty : get (empty {K = ℕ} {X = T} {R = nat_cmp}) ≡ (λ id. None)
-  values-empty = fun_ext get-empty
-
-  pub values-insert : (nodes : FinMap nat_cmp T) (id : ℕ) (value : T) → get (insert nodes id value) ≡ (λ other. cond (other == id) (Some value) (get nodes other))
-  values-insert nodes id value = fun_ext (λ other. get-insert nodes id other value)
-
-  pub same_values : (a b : FinMap nat_cmp T) → get a ≡ get b → a ≡ b
-  same_values a b same = same_map nat_cmp_total nat_cmp-IsAntisymmetric a b (λ id. ap (λ values. values id) same)
 
 pub contains-empty : (id : ℕ) → contains (set.empty {K = ℕ} {R = nat_cmp}) id ≡ false
 contains-empty id = set.contains-empty nat_cmp id

@@ -1,5 +1,5 @@
 -- What the slots of the pages hold, as a map.
-use Rattle.std.proofs.Common.{◌≡◌, ◌≢◌, inl, inr, ℕ, zero, suc, ◌*◌, ◌/◌, ◌%◌, ◌<◌, ◌≤◌, List, [], ◌∷◌, ◌++◌, length, map, set, get_or, Option, None, Some, IsSome, Vec, Global, refl, sym, ◌∙◌, ap, arith, get_or-set_same, get_or-set_other, replicate}
+use Rattle.std.proofs.Common.{◌≡◌, ◌≢◌, inl, inr, ℕ, zero, suc, ◌*◌, ◌/◌, ◌%◌, ◌<◌, ◌≤◌, [], ◌∷◌, ◌++◌, length, map, set, get_or, Option, None, Some, IsSome, Vec, Global, refl, sym, ◌∙◌, ap, arith, get_or-set_same, get_or-set_other, replicate}
 use Rattle.std.proofs.lemmas.Bool.{cases_eq, cases_lt}
 use Rattle.std.proofs.lemmas.List.{map-append, get_or_append_left, get_or-append_right, map-set, length-map, get_or-map, get_or_past, get_or-replicate}
 use Rattle.std.specs.List.{FoldsTo}

@@ -1,7 +1,7 @@
 //! What is kept by node: a value for each node that was given one, and sets of nodes.
 //!
-//! For readers and judges of texts whose lines name nodes by their IDs. Its promise: a call takes constant time, and
-//! memory is taken by the page, of 256 IDs, for IDs that were set, never for a count that a text declares.
+//! For readers and judges of texts whose lines name nodes by their IDs. Memory is taken by the page, of 256 IDs, for IDs
+//! that were set, and for a list of the pages up to the greatest of them, never for a count that a text declares.
 #![tactic(auto)]
 
 mod node_map;

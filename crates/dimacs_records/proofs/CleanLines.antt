@@ -3,7 +3,6 @@ use Rattle.std.proofs.Common.{◌≡◌, ℕ, suc, ◌+◌, ◌<◌, ◌∷◌, 
 use Rattle.std.specs.Prelude.{IsTrue}
 use Rattle.std.specs.List.{All}
 use Rattle.std.proofs.lemmas.Bool.{true≢false, ne_eqb}
-use Rattle.std.proofs.lemmas.List.{append-nil}
 use Rattle.std.proofs.lemmas.List.Elements.{All-contains, Contains-append_left}
 use Rattle.dimacs_records.specs.declared.kinds.TextKind.{TextKind}
 use Rattle.dimacs_records.specs.declared.records.Record.{Record}
@@ -34,12 +33,6 @@ pub records_in-append : (said more : List (Option Record)) → records_in (said 
 records_in-append [] more = refl
 records_in-append (None ∷ said) more = records_in-append said more
 records_in-append (Some r ∷ said) more = ap (λ t. r ∷ t) (records_in-append said more)
-
-pub records_in-push_none : (said : List (Option Record)) → records_in (said ++ None ∷ []) ≡ records_in said
-records_in-push_none said = records_in-append said (None ∷ []) ∙ append-nil (records_in said)
-
-pub records_in-push_some : (said : List (Option Record)) (r : Record) → records_in (said ++ Some r ∷ []) ≡ records_in said ++ r ∷ []
-records_in-push_some said r = records_in-append said (Some r ∷ [])
 
 spell_append : (kind : TextKind) (lines after : List (List ℕ)) (said more : List (Option Record)) → Spell kind lines said → Spell kind after more → Spell kind (lines ++ after) (said ++ more)
 spell_append kind [] after [] more h rest = rest

@@ -1,5 +1,5 @@
 -- Reading line by line.
-use Rattle.std.proofs.Common.{◌≡◌, ◌≢◌, ℕ, suc, ◌<◌, ◌≤◌, ◌+◌, ◌++◌, ◌∷◌, [], List, true, false, Option, Some, None, Result, Ok, Err, length, refl, ap, sym, ◌∙◌, subst, arith, append_assoc, inl, inr}
+use Rattle.std.proofs.Common.{◌≡◌, ◌≢◌, ℕ, suc, ◌<◌, ◌≤◌, ◌+◌, ◌++◌, ◌∷◌, [], List, true, false, Option, Some, None, Result, Ok, Err, length, refl, ap, sym, ◌∙◌, subst, arith, append_assoc, inr}
 use Rattle.std.specs.Prelude.{nat_lt, ◌==◌, IfErr, OnOk}
 use Rattle.std.proofs.lemmas.Bool.{true≢false, and_right, le-ltb, lt-ltb}
 use Rattle.std.proofs.lemmas.List.Elements.{All-nil, All-cons}
@@ -14,7 +14,6 @@ use Rattle.dimacs_records.specs.declared.records.Record.{Record}
 use Rattle.dimacs_records.specs.declared.faults.TakeError.{TakeError}
 use Rattle.dimacs_records.specs.declared.faults.TakeError.TheVariants as take_errors
 use Rattle.dimacs_records.specs.declared.faults.ReadError.{ReadError}
-use Rattle.dimacs_records.specs.declared.faults.ReadError.TheVariants as read_errors
 use Rattle.dimacs_records.specs.Readings.{LineRecord, on_line, numbered, records_of, AreBefore, IsAllowed, IsFirstCondition, RefusesRecord, GiveValue, ReadsLines, RefusesEnd, IsComplete}
 use Rattle.dimacs_records.specs.declared.reasons.Reason.TheVariants.{LineLimit, LineTooLong}
 use Rattle.dimacs_records.specs.declared.faults.LineFault.{LineFault}
@@ -225,9 +224,3 @@ read_end_fault kind gives all count stands_for (take_errors.Refused fault) h ref
       first = rw (← records_of-numbered 1 h.said) end.1;
     })
 read_end_fault kind gives all count stands_for take_errors.Memory h refused = tt
-
--- a fault of a line is one of the text
-pub read_line_fault : {V : Type 0} (kind : TextKind) (gives : List LineRecord → V → Type 0) (all : List (List ℕ)) (count : ℕ) (left : Option (List ℕ)) (stands_for : List LineRecord → Type 0) (error : ReadError) → ReadsOne kind all count left stands_for (Err error) → ReadsLines {V = V} kind gives all (Err error)
-read_line_fault kind gives all count left stands_for (read_errors.Refused place reason) h = inl h
-read_line_fault kind gives all count left stands_for read_errors.Device h = tt
-read_line_fault kind gives all count left stands_for read_errors.Memory h = tt

@@ -4,7 +4,6 @@ use Rattle.std.specs.Prelude.{IsTrue, if◌then◌else◌}
 use Rattle.std.specs.List.{All}
 use Rattle.std.proofs.lemmas.List.Elements.{All-nil, All-cons, All-head, All-tail}
 use Rattle.dimacs_records.specs.Order.{First}
-use Rattle.std.proofs.lemmas.Bool.{false_from_ne_true}
 
 -- the first of a list that passes a test
 abbrev pub first_by : {X : Type 0} → (X → Bool) → List X → Option X
@@ -24,14 +23,6 @@ first_unique P all x y f g = unique P f.before g.before f.after g.after x y (sym
 ne_false : (b : Bool) → b ≡ false → ¬ (b ≡ true)
 ne_false true h = absurd (cc)
 ne_false false h = λ e. absurd (cc)
-
--- the computed first is the first
-found_at : {X : Type 0} (test : X → Bool) (before after : List X) (x : X) → All (λ z. ¬ IsTrue (test z)) before → IsTrue (test x) → first_by test (before ++ x ∷ after) ≡ Some x
-found_at test [] after x n h = rw h refl
-found_at test (b ∷ bs) after x n h = rw (false_from_ne_true (test b) (All-head (λ z. ¬ IsTrue (test z)) b bs n)) (found_at test bs after x (All-tail (λ z. ¬ IsTrue (test z)) b bs n) h)
-
-pub first_is : {X : Type 0} (test : X → Bool) (all : List X) (x : X) → First (λ z. IsTrue (test z)) all x → first_by test all ≡ Some x
-first_is test all x f = ap (first_by test) f.all_is ∙ found_at test f.before f.after x f.none_before f.holds
 
 is_first_at : {X : Type 0} (test : X → Bool) (y : X) (all : List X) (x : X) (b : Bool) → test y ≡ b → first_by test (y ∷ all) ≡ Some x → (first_by test all ≡ Some x → First (λ z. IsTrue (test z)) all x) → First (λ z. IsTrue (test z)) (y ∷ all) x
 is_first_at test y all x true h e more =
@@ -55,7 +46,3 @@ none_at test y all false h e = let past : first_by test (y ∷ all) ≡ first_by
 pub none_is : {X : Type 0} (test : X → Bool) (all : List X) → first_by test all ≡ None → All (λ z. ¬ IsTrue (test z)) all
 none_is test [] e = All-nil (λ z. ¬ IsTrue (test z))
 none_is test (y ∷ all) e = let p = none_at test y all (test y) refl e in All-cons (λ z. ¬ IsTrue (test z)) y all (ne_false (test y) p.0) (none_is test all p.1)
-
-pub is_none_first : {X : Type 0} (test : X → Bool) (all : List X) → All (λ z. ¬ IsTrue (test z)) all → first_by test all ≡ None
-is_none_first test [] n = refl
-is_none_first test (y ∷ all) n = rw (false_from_ne_true (test y) (All-head (λ z. ¬ IsTrue (test z)) y all n)) (is_none_first test all (All-tail (λ z. ¬ IsTrue (test z)) y all n))

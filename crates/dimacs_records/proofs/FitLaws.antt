@@ -5,7 +5,7 @@ use Rattle.dimacs_records.specs.declared.records.Record.{Record}
 use Rattle.dimacs_records.specs.Forms.{FieldType, Word, Either, Number, forms}
 use Rattle.dimacs_records.specs.Spelling.{Part, Text, Amount, Says, SayAll, letter_of, parts_of}
 use Rattle.dimacs_records.specs.Shapes.{types_in}
-use Rattle.dimacs_records.specs.Canonical.{Fits, FitAll, CanBeSpelled}
+use Rattle.dimacs_records.specs.Canonical.{Fits, FitAll}
 use Rattle.dimacs_records.specs.Readings.{IsOfKind}
 use Rattle.dimacs_records.proofs.SpellLaws.{form_types}
 
@@ -27,8 +27,3 @@ fits_of kind r types h found =
     let known : types_in (forms kind) (letter_of r) ≡ Some s.form.types = rw s.letter (form_types kind s.form s.of_kind) in
     let same : types ≡ s.form.types = cc in
     rw same (fit_all_said s.form.types s.behind (parts_of r) s.says)
-
-pub can_be_spelled : (kind : TextKind) (r : Record) → IsOfKind kind r → CanBeSpelled kind r
-can_be_spelled kind r h =
-    let s = h.spelled in
-    record { form = s.form; of_kind = s.of_kind; for_kind = s.for_kind; letter = s.letter; fit = fit_all_said s.form.types s.behind (parts_of r) s.says }

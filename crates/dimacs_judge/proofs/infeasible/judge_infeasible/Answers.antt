@@ -1,10 +1,20 @@
-use Rattle.std.proofs.Common.{refl}
+use Rattle.std.proofs.Common.{refl, inl, inr}
 use Rattle.dimacs_judge.specs.Cuts.{members}
 use Rattle.dimacs_judge.specs.InfeasibleJudge.{infeasible_rows}
 use Rattle.dimacs_judge.specs.Tests.{AllClear}
 use Rattle.dimacs_judge.proofs.Duality.{violated_has_no_flow}
-use Rattle.dimacs_judge.proofs.InfeasibleJudge.{infeasible_passes}
+use Rattle.dimacs_judge.proofs.InfeasibleJudge.{infeasible_passes, infeasible_judged}
 use Rattle.dimacs_judge.proofs.infeasible.judge_infeasible.Goals as goal
+
+pub returns-in_err-nodes_agree-clause-judges : goal.returns-in_err-nodes_agree-clause-judges
+returns-in_err-nodes_agree-clause-judges g c =
+    let told = rw (c.nodes.ensures, c.network.ensures.nodes, c.nodes-2.ensures) at c.in_err-nodes_agree.ensures in
+    infeasible_judged c.args.instance.now c.args.set.now _ (inl told) _ c.from_residual.ensures.1
+
+pub returns-in_err-set_is_violated-clause-judges : goal.returns-in_err-set_is_violated-clause-judges
+returns-in_err-set_is_violated-clause-judges g c =
+    let nodes = rw (c.nodes.ensures, c.network.ensures.nodes, c.nodes-2.ensures) at c.in_ok-nodes_agree.ensures in
+    infeasible_judged c.args.instance.now c.args.set.now _ (inr (nodes, inl c.in_err-set_is_violated.ensures)) _ c.from_residual-in_err-set_is_violated.ensures.1
 
 pub returns-clause-judges : goal.returns-clause-judges
 returns-clause-judges g c =
