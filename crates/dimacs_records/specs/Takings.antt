@@ -1,4 +1,4 @@
--- What readings answer that keep less than the records they were told. No public clause cites this module.
+-- What readings answer that keep less than the records they were told.
 use Rattle.std.specs.Prelude.{◌≡◌, List, [], ◌∷◌, ◌++◌, Option, None, Some, Result, Ok, Err}
 use Rattle.dimacs_records.specs.declared.records.Record.{Record}
 use Rattle.dimacs_records.specs.declared.faults.TakeError.{TakeError}

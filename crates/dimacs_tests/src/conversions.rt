@@ -427,16 +427,15 @@ static LONG_LINES: [(usize, &str); 2] = [
 fn a_long_line_is_refused_whatever_stands_in_it(rt: HostRuntime) -> Result<(), Fail> {
     for &(length, line) in &LONG_LINES {
         let blanks = Vec::from_elem(rt.alloc(), b' ', length)?;
-        converts(
+        converts_in_pieces(
             &rt,
             rt.alloc(),
             TextKind::Graph,
             "blanks",
             &blanks,
-            &[],
             Status::Refused,
             line,
-        );
+        )?;
     }
     Ok(())
 }
