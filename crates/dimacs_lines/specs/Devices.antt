@@ -1,5 +1,5 @@
 -- What sources still have to give, what sinks have accepted, and how their faults are counted.
-use Rattle.std.specs.Prelude.{ℕ, ◌+◌, ◌%◌, ◌^◌, ◌++◌, ◌≡◌, ◌==◌, ◌&&◌, nat_lt, if◌then◌else◌, List, Option, None, Some, Result, Ok, Err, length}
+use Rattle.std.specs.Prelude.{ℕ, ◌+◌, ◌%◌, ◌^◌, ◌++◌, ◌≡◌, ◌==◌, ◌&&◌, nat_lt, if◌then◌else◌, List, [], ◌∷◌, Option, None, Some, Result, Ok, Err, length, min, max}
 
 -- The bytes to come before a piece was given, by those after it. A source that tells nothing goes on telling nothing.
 abbrev pub before_piece : List ℕ → Option (List ℕ) → Option (List ℕ)
@@ -29,6 +29,11 @@ CountsPut (Err error) bytes old new = new ≡ one_more old
 pub record InMemory : Type 0 where
   pub bytes : List ℕ
   pub faults : ℕ
+
+-- how many of so many bytes pass, by the listed sizes; a 0 counts as 1
+abbrev pub cut_by : List ℕ → ℕ → ℕ
+cut_by [] most = most
+cut_by (size ∷ sizes) most = min most (max size 1)
 
 -- a source in memory that cuts its text: the bytes to come, and the sizes of the pieces, as far as they are listed
 pub record InPieces : Type 0 where

@@ -1,7 +1,7 @@
 //! Sources over memory: one that gives all there is room for, and two for tests, which cut the text and fail.
 
-ghost use Rattle.std.specs.Prelude.{◌≡◌, ◌<◌, ◌≤◌, List, ℕ, Some};
-ghost use Rattle.dimacs_lines.specs.Devices.{InPieces, Flaky};
+ghost use Rattle.std.specs.Prelude.{◌≡◌, List, ℕ, Some, drop};
+ghost use Rattle.dimacs_lines.specs.Devices.{InPieces, Flaky, cut_by};
 
 use crate::device::{DeviceFault, Source};
 use std::marker::Model;
@@ -76,8 +76,8 @@ impl<'a> Source for CutSource<'a> {
 
 /// How many of `most` bytes the next piece has: at most the next listed size, which it uses up, a 0 counting as 1.
 pub(crate) fn next_piece<'a>(sizes: &mut &'a [usize], most: usize) -> usize
-    ensures room { result ≤ most }
-    ensures some { 0 < most → 0 < result }
+    ensures cut { result ≡ cut_by sizes.old.now most }
+    ensures used { sizes.new.now ≡ drop 1 sizes.old.now }
 {
     match sizes.split_first() {
         Some((size, rest)) => {
