@@ -19,7 +19,7 @@ use std::alloc::Global;
 
 /// Reads a text of this kind: the value that its records give, or its first fault.
 ///
-/// How far past a refused line the source was pulled is open.
+/// Nothing is pulled once there is an error. How far past a refused line the source was pulled is open.
 pub fn read_text<R: Reading, S: Source>(
     alloc: Global,
     kind: TextKind,
