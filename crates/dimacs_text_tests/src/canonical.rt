@@ -2,7 +2,7 @@
 
 use crate::checks::{holds, holds_at, same, same_at};
 use dimacs_lines::{DeviceFault, FlakySink, MemorySink, Page};
-use dimacs_records::{Part, Record, put_line, put_record, write_record};
+use dimacs_records::{Part, Record, put_line, put_record, write_line, write_record};
 use std::test::Fail;
 
 /// Records, each with its line.
@@ -71,7 +71,7 @@ fn lines_have_one_blank_between_words_and_numbers(rt: HostRuntime) -> Result<(),
 }
 
 #[test]
-fn records_come_in_order_over_one_page(rt: HostRuntime) -> Result<(), Fail> {
+fn records_and_lines_come_in_order_over_one_page(rt: HostRuntime) -> Result<(), Fail> {
     let mut sink = MemorySink::new(rt.alloc());
     let mut page = Page::new();
     write_record(
@@ -87,11 +87,17 @@ fn records_come_in_order_over_one_page(rt: HostRuntime) -> Result<(), Fail> {
         };
         write_record(&mut page, &mut sink, &arc);
     }
+    write_line(
+        &mut page,
+        &mut sink,
+        b"v",
+        &[Part::Word(b"max"), Part::Number(3)],
+    );
     page.finish(&mut sink)?;
     holds(
         &rt,
         "bytes",
-        sink.bytes() == b"p sp 2 2\na 1 2 5\na 1 2 -5\n".as_slice(),
+        sink.bytes() == b"p sp 2 2\na 1 2 5\na 1 2 -5\nv max 3\n".as_slice(),
     );
     Ok(())
 }
