@@ -1,4 +1,5 @@
 pub mod ArcLemmas
+mod CountLemmas
 mod EndsLemmas
 mod GraphLemmas
 mod MaxLemmas
@@ -6,6 +7,8 @@ mod MaxTextLemmas
 pub mod MinLemmas
 pub mod MinSupplies
 pub mod MinTextLemmas
+mod PigeonLemmas
 mod QueriesLemmas
 mod SeenLemmas
 mod SimpleLemmas
+mod StarLemmas

@@ -14,3 +14,5 @@ pub mod Plain
 pub mod QueriesReading
 pub mod QueryTexts
 pub mod Seen
+pub mod Star
+pub mod StarKeys

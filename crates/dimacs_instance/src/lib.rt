@@ -5,6 +5,7 @@
 #![tactic(auto)]
 
 mod ends;
+mod gather;
 mod graph;
 mod max;
 mod min;
@@ -12,6 +13,9 @@ mod network;
 mod plain;
 mod queries;
 mod seen;
+mod star;
+mod star_order;
+mod star_starts;
 
 pub use graph::{Graph, GraphReading, read_graph, write_graph};
 pub use max::{MaxInstance, MaxReading, read_max, write_max};
@@ -19,3 +23,4 @@ pub use min::{MinInstance, MinReading, SupplySums, read_min, write_min};
 pub use network::{ArcView, Network};
 pub use plain::{CapacityArc, KeptArc, MAX_ARCS, PlainArcs, WeightArc};
 pub use queries::{LawfulQueries, Queries, QueriesReading, read_queries, write_queries};
+pub use star::ForwardStar;
