@@ -1,6 +1,5 @@
 pub mod ArcLemmas
 mod CountLemmas
-mod EndsLemmas
 mod GraphLemmas
 mod MaxLemmas
 mod MaxTextLemmas
@@ -9,6 +8,4 @@ pub mod MinSupplies
 pub mod MinTextLemmas
 mod PigeonLemmas
 mod QueriesLemmas
-mod SeenLemmas
-mod SimpleLemmas
 mod StarLemmas

@@ -4,7 +4,6 @@
 //! alone, so a network may keep its arcs as it likes.
 #![tactic(auto)]
 
-mod ends;
 mod gather;
 mod graph;
 mod max;
@@ -12,7 +11,6 @@ mod min;
 mod network;
 mod plain;
 mod queries;
-mod seen;
 mod star;
 mod star_order;
 mod star_starts;
