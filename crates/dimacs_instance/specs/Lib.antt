@@ -11,3 +11,5 @@ pub mod MinTexts
 pub mod Plain
 pub mod QueriesReading
 pub mod QueryTexts
+pub mod Star
+pub mod StarKeys

@@ -4,12 +4,16 @@
 //! alone, so a network may keep its arcs as it likes.
 #![tactic(auto)]
 
+mod gather;
 mod graph;
 mod max;
 mod min;
 mod network;
 mod plain;
 mod queries;
+mod star;
+mod star_order;
+mod star_starts;
 
 pub use graph::{Graph, GraphReading, read_graph, write_graph};
 pub use max::{MaxInstance, MaxReading, read_max, write_max};
@@ -17,3 +21,4 @@ pub use min::{MinInstance, MinReading, SupplySums, read_min, write_min};
 pub use network::{ArcView, Network};
 pub use plain::{CapacityArc, KeptArc, MAX_ARCS, PlainArcs, WeightArc};
 pub use queries::{LawfulQueries, Queries, QueriesReading, read_queries, write_queries};
+pub use star::ForwardStar;
