@@ -25,7 +25,7 @@ pub struct NodeTable<T> {
 }
 
 impl<T: Copy> NodeTable<T> {
-    ghost use Rattle.dimacs_nodes.specs.Tables.{HasPlace, SameValues, value_of};
+    ghost use Rattle.dimacs_nodes.specs.Tables.{HasPlace, SameValues, blank_of, value_of};
 
     /// All values are blank. Takes no memory.
     pub fn new(alloc: Global, blank: T) -> NodeTable<T>
@@ -84,6 +84,27 @@ impl<T: Copy> NodeTable<T> {
         self.slots[place] = value;
     }
 
+    /// An ID past all that were set.
+    pub fn end(&self) -> usize
+        ensures within { result ≤ 4294967296 }
+        ensures blank { (id : ℕ) → result ≤ id → value_of self.now id ≡ blank_of self.now }
+    {
+        self.directory.len() * PAGE
+    }
+
+    /// The first ID from this one on that may have been set: this one, or that behind a page that was not taken.
+    #[inline]
+    pub fn skip_blank(&self, id: u32) -> usize
+        ensures from { id ≤ result }
+        ensures blank { (other : ℕ) → id ≤ other → other < result → value_of self.now other ≡ blank_of self.now }
+    {
+        if place(&self.directory, id) < self.slots.len() {
+            id as usize
+        } else {
+            (id as usize / PAGE + 1) * PAGE
+        }
+    }
+
     /// Takes the page of an ID that has none.
     #[cold]
     #[inline(never)]
@@ -119,6 +140,7 @@ fn place(directory: &[u32], id: u32) -> usize
 fn extend_directory(directory: &mut Vec<u32>, id: u32) -> Result<(), Memory>
     ensures same { SameNumbers directory.old.items directory.new.items }
     ensures reached { OnOk result (id / 256 < length directory.new.items) }
+    ensures short { length directory.old.items ≤ 16777216 → length directory.new.items ≤ 16777216 }
 {
     let count = id as usize / PAGE + 1;
     if directory.len() < count {
