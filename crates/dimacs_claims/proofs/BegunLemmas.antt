@@ -18,9 +18,9 @@ use Rattle.dimacs_records.specs.Faults.{FirstAtEnd}
 use Rattle.dimacs_records.specs.FieldReader.{fault_at}
 use Rattle.dimacs_records.specs.Readings.{IsAllowed, IsFirstCondition, IsComplete}
 use Rattle.dimacs_claims.specs.declared.block.Label.{Label}
-use Rattle.dimacs_claims.specs.Labels.{BlockValue, AreLabels, EachBehind, IsBlock, IsLabel, IsNewSource, label, with_label, has_source}
+use Rattle.dimacs_claims.specs.Labels.{AreSources, BlockValue, AreLabels, EachBehind, IsBlock, IsLabel, IsNewSource, label, with_label, has_source}
 use Rattle.dimacs_claims.specs.LabelTexts.{label_line, label_records}
-use Rattle.dimacs_claims.specs.LabelsReading.{LabelsBegun, AreLabelsBegun, AreSources, lines_of_blocks, labels_begun_records, label_records_so_far, with_block}
+use Rattle.dimacs_claims.specs.LabelsReading.{LabelsBegun, AreLabelsBegun, lines_of_blocks, labels_begun_records, label_records_so_far, with_opened}
 use Rattle.dimacs_claims.proofs.BlockLemmas.{label_id, is_some-label, block_push, each_behind_nil, each_behind_push}
 use Rattle.dimacs_claims.proofs.LabelStates.{Say, second_problem, source_above, source_twice, too_many_blocks, block_before_short, block_allowed, label_outside, id_above, pred_above, label_twice, too_many_labels, pred_unknown, label_allowed, too_few_blocks, too_few_labels, all_there}
 use Rattle.dimacs_claims.proofs.LabelRecords.{source_of, opened_with, last_after, last_is, say_taken, not_short, is_short, list_any-has_source, lines_of_blocks-push_block, lines_of_blocks-push_label, lines_of_blocks-zero, push_same}
@@ -50,7 +50,7 @@ module _ (begun : LabelsBegun) (source count : ℕ) where
     pub begun_block_allowed : length begun.blocks < begun.declared → begun.missing ≡ 0 → IsAllowed (labels_begun_records begun) (LabelsBlock source count)
     begun_block_allowed room none = block_allowed (labels_begun_records begun) begun.nodes begun.declared sources (last_after begun.missing None begun.blocks) (say_taken begun) source count within new_here (omega (arith, room, length-map begun.blocks source_of)) (not_short begun.blocks begun.missing none)
 
-  pub pushed_block : begun.missing ≡ 0 → labels_begun_records (with_block begun source count) ≡ labels_begun_records begun ++ LabelsBlock source count ∷ []
+  pub pushed_block : begun.missing ≡ 0 → labels_begun_records (with_opened begun source count) ≡ labels_begun_records begun ++ LabelsBlock source count ∷ []
   pushed_block none = ap (λ rs. LabelsProblem begun.nodes begun.declared ∷ rs) (lines_of_blocks-push_block begun.blocks source count ∙ ap (λ m. lines_of_blocks m begun.blocks ++ LabelsBlock source count ∷ []) (sym none))
 
 pub labels_begun_twice : (begun : Option LabelsBegun) (nodes blocks : ℕ) → is_some begun ≡ true → IsFirstCondition (label_records_so_far begun) (LabelsProblem nodes blocks) (fault_at 0 ProblemTwice)

@@ -8,12 +8,12 @@ use Rattle.std.specs.BTreeMap.{BTreeMap, get, is_at}
 use Rattle.std.proofs.lemmas.Bool.{eqb-true, eq-eqb, false_from_ne_true}
 use Rattle.std.proofs.lemmas.List.{length-append}
 use Rattle.std.proofs.lemmas.Int.{ints}
-use Rattle.std.proofs.lemmas.List.Elements.{All-head, All-push, All-tail}
+use Rattle.std.proofs.lemmas.List.Elements.{All-head, All-nil, All-push, All-tail}
 use Rattle.dimacs_records.specs.Earlier.{or_else}
 use Rattle.dimacs_records.proofs.SplitLemmas.{two_places, same, sooner, later}
 use Rattle.dimacs_claims.specs.declared.block.Label.{Label}
 use Rattle.dimacs_claims.specs.Labels.{BlockValue, label, label_at, distance_in, with_label, EachBehind, IsFresh, HasPred, IsLabel, IsBlock}
-use Rattle.dimacs_records.specs.Ranges.{IsWide}
+use Rattle.dimacs_records.specs.Ranges.{IsNode, IsWide}
 use Rattle.dimacs_claims.specs.Distances.{HasDistances}
 
 -- a test before a choice
@@ -40,10 +40,21 @@ one_more_at : (c : Bool) (d : ℤ) (x : Option ℤ) → (c ≡ true → x ≡ No
 one_more_at true d x h = sym (ap (λ y. or_else y (Some d)) (h refl))
 one_more_at false d x h = sym (or_else-none x)
 
+unlabelled : (b : BlockValue) (v : ℕ) → label b v ≡ None → distance_in b.labels v ≡ None
+unlabelled b v none = by_test (b.source == v) none
+  where
+    by_test : (c : Bool) → (if c then Some (pos 0) else distance_in b.labels v) ≡ None → distance_in b.labels v ≡ None
+    by_test true e = absurd (cc)
+    by_test false e = e
+
 pub are_distances_more : (old new : BTreeMap ℕ ℤ) (b : BlockValue) (l : Label) → HasDistances old b → label b l.id ≡ None → ((q : ℕ) → get nat_cmp new q ≡ cond (is_at (nat_cmp l.id) q) (Some l.dist) (get nat_cmp old q)) → HasDistances new (with_label b l)
 are_distances_more old new b l are fresh more v =
     more v ∙ (ap (λ t. cond t (Some l.dist) (get nat_cmp old v)) (unsigned_tied l.id v) ∙ (ap (cond (l.id == v) (Some l.dist)) (are v)
-    ∙ (one_more_at (l.id == v) l.dist (label b v) (λ e. subst (λ w. label b w ≡ None) (eqb-true l.id v e) fresh) ∙ sym (label-push b l v))))
+    ∙ (one_more_at (l.id == v) l.dist (distance_in b.labels v) (λ e. subst (λ w. distance_in b.labels w ≡ None) (eqb-true l.id v e) (unlabelled b l.id fresh)) ∙ sym (distance_in-push b.labels l v))))
+
+-- the labels of a block with one more
+pub label-with_label : (b : BlockValue) (l : Label) → label b l.id ≡ None → (v : ℕ) → label (with_label b l) v ≡ (if l.id == v then Some l.dist else label b v)
+label-with_label b l fresh v = label-push b l v ∙ sym (one_more_at (l.id == v) l.dist (label b v) (λ e. subst (λ w. label b w ≡ None) (eqb-true l.id v e) fresh))
 
 -- what is behind each other stays, and the last is behind all others
 pub each_behind_nil : {X : Type 0} (P : List X → X → Type 0) → EachBehind P []
@@ -134,6 +145,16 @@ block_push nodes b l is label_is room fresh pred = record {
   within = All-push (IsLabel nodes) b.labels l is.within label_is;
   fresh = each_behind_push (IsFresh b.source) b.labels l is.fresh (is_fresh b l fresh);
   preds = each_behind_push (HasPred b.source) b.labels l is.preds (has_pred b l pred);
+}
+
+-- a block without labels
+pub block_empty : (nodes source : ℕ) → IsNode nodes source → IsBlock nodes (record { source = source; labels = [] })
+block_empty nodes source within = record {
+  source_within = within;
+  few = omega arith;
+  within = All-nil (IsLabel nodes);
+  fresh = each_behind_nil (IsFresh source);
+  preds = each_behind_nil (HasPred source);
 }
 
 -- ---- claimed distances lie in their range

@@ -13,11 +13,11 @@ use Rattle.dimacs_records.specs.declared.records.Record.{Record}
 use Rattle.dimacs_records.specs.declared.records.Record.TheVariants.{LabelsProblem, LabelsBlock}
 use Rattle.dimacs_records.specs.Blocks.{Block, is_short_block}
 use Rattle.dimacs_claims.specs.declared.block.Label.{Label}
-use Rattle.dimacs_claims.specs.Labels.{BlockValue, IsBlock, IsLabel, IsFresh, HasPred, IsNewSource, has_source}
+use Rattle.dimacs_claims.specs.Labels.{AreSources, BlockValue, IsBlock, IsNewSource, has_source}
 use Rattle.dimacs_records.specs.Ranges.{IsNode}
 use Rattle.dimacs_claims.specs.LabelTexts.{label_line, block_lines}
-use Rattle.dimacs_claims.specs.LabelsReading.{LabelsBegun, AreLabelsBegun, AreSources, lines_of_short, lacking, lines_of_blocks, labels_begun_records, with_block}
-use Rattle.dimacs_claims.proofs.BlockLemmas.{label_id, each_behind_nil, each_behind_push}
+use Rattle.dimacs_claims.specs.LabelsReading.{LabelsBegun, AreLabelsBegun, lines_of_short, lacking, lines_of_blocks, labels_begun_records, with_opened}
+use Rattle.dimacs_claims.proofs.BlockLemmas.{label_id, block_empty, each_behind_push}
 use Rattle.dimacs_claims.proofs.LabelStates.{Say, opened, is_source, say_problem, say_block, say_label}
 
 abbrev pub source_of : BlockValue → ℕ
@@ -160,7 +160,7 @@ push_same (d ∷ xs) [] x y e = absurd (omega (arith, ap length e, length-append
 push_same (c ∷ xs) (d ∷ ys) x y e = push_same xs ys x y (cc)
 
 -- a beginning with one block more
-pub begun_block : (begun : LabelsBegun) (source count : ℕ) → AreLabelsBegun begun → IsNode begun.nodes source → count ≤ 268435456 → list_any (has_source source) begun.blocks ≡ false → length begun.blocks < begun.declared → AreLabelsBegun (with_block begun source count)
+pub begun_block : (begun : LabelsBegun) (source count : ℕ) → AreLabelsBegun begun → IsNode begun.nodes source → count ≤ 268435456 → list_any (has_source source) begun.blocks ≡ false → length begun.blocks < begun.declared → AreLabelsBegun (with_opened begun source count)
 begun_block begun source count are within few fresh room =
     let b : BlockValue = record { source = source; labels = [] } in
     record {
@@ -169,15 +169,6 @@ begun_block begun source count are within few fresh room =
       no_more = omega (arith, room, length-append begun.blocks (b ∷ []));
       last_few = λ front last e. omega (arith, few, ap (λ (x : BlockValue). length x.labels) (push_same begun.blocks front b last e));
       none_lack = λ e. absurd (omega (arith, ap length e, length-append begun.blocks (b ∷ [])));
-      blocks = All-append (IsBlock begun.nodes) begun.blocks (b ∷ []) are.blocks (All-cons (IsBlock begun.nodes) b [] (empty_block b within refl) (All-nil (IsBlock begun.nodes)));
+      blocks = All-append (IsBlock begun.nodes) begun.blocks (b ∷ []) are.blocks (All-cons (IsBlock begun.nodes) b [] (block_empty begun.nodes source within) (All-nil (IsBlock begun.nodes)));
       sources = each_behind_push IsNewSource begun.blocks b are.sources (new_source begun.blocks b fresh);
-    }
-  where
-    empty_block : (b : BlockValue) → IsNode begun.nodes b.source → b.labels ≡ [] → IsBlock begun.nodes b
-    empty_block b within none = record {
-      source_within = within;
-      few = omega (arith, ap length none);
-      within = rw none (All-nil (IsLabel begun.nodes));
-      fresh = rw none (each_behind_nil (IsFresh b.source));
-      preds = rw none (each_behind_nil (HasPred b.source));
     }

@@ -1,6 +1,8 @@
 -- Labels: claimed distances from sources.
 use Rattle.std.specs.Prelude.{ℕ, ◌≡◌, ◌≢◌, ◌≤◌, ◌⊎◌, ◌==◌, if◌then◌else◌, List, [], ◌∷◌, ◌++◌, length, slice_get, Option, Some, None, ℤ, pos, Bool}
-use Rattle.std.specs.List.{All, Contains}
+use Rattle.std.specs.List.{All, Contains, list_any}
+use Rattle.std.specs.Ordering.{nat_cmp}
+use Rattle.std.specs.FinSet as set
 use Rattle.dimacs_records.specs.Ranges.{IsNode, IsWide}
 use Rattle.dimacs_claims.specs.declared.block.Label.{Label}
 
@@ -68,6 +70,14 @@ has_source source b = b.source == source
 -- a block of a source that no earlier block has
 abbrev pub IsNewSource : List BlockValue → BlockValue → Type 0
 IsNewSource before b = (other : BlockValue) → Contains before other → other.source ≢ b.source
+
+-- the set of the sources of the blocks
+abbrev pub AreSources : set.FinSet nat_cmp → List BlockValue → Type 0
+AreSources sources blocks = (id : ℕ) → set.contains sources id ≡ list_any (has_source id) blocks
+
+-- one block more
+abbrev pub with_block : LabelsValue → BlockValue → LabelsValue
+with_block labels b = record { nodes = labels.nodes; blocks = labels.blocks ++ b ∷ [] }
 
 pub record AreLabels (labels : LabelsValue) : Type 0 where
   pub nodes_few : labels.nodes ≤ 134217728

@@ -1,11 +1,9 @@
 -- How far labels have been read.
 use Rattle.std.specs.Prelude.{ℕ, ◌≡◌, ◌≤◌, ◌+◌, List, [], ◌∷◌, ◌++◌, map, length, Option, None, Some}
-use Rattle.std.specs.List.{All, list_any}
-use Rattle.std.specs.Ordering.{nat_cmp}
-use Rattle.std.specs.FinSet as set
+use Rattle.std.specs.List.{All}
 use Rattle.dimacs_records.specs.declared.records.Record.{Record}
 use Rattle.dimacs_records.specs.declared.records.Record.TheVariants.{LabelsProblem, LabelsBlock}
-use Rattle.dimacs_claims.specs.Labels.{BlockValue, EachBehind, IsBlock, IsNewSource, has_source}
+use Rattle.dimacs_claims.specs.Labels.{BlockValue, EachBehind, IsBlock, IsNewSource}
 use Rattle.dimacs_claims.specs.LabelTexts.{label_line}
 
 -- what the problem line declares, the blocks behind it, and how many labels the last one lacks
@@ -51,13 +49,9 @@ pub record AreLabelsBegun (begun : LabelsBegun) : Type 0 where
   pub blocks : All (IsBlock begun.nodes) begun.blocks
   pub sources : EachBehind IsNewSource begun.blocks
 
--- the set of the sources of the blocks
-abbrev pub AreSources : set.FinSet nat_cmp → List BlockValue → Type 0
-AreSources sources blocks = (id : ℕ) → set.contains sources id ≡ list_any (has_source id) blocks
-
 -- one block more, which lacks all of its labels
-abbrev pub with_block : LabelsBegun → ℕ → ℕ → LabelsBegun
-with_block begun source count = record {
+abbrev pub with_opened : LabelsBegun → ℕ → ℕ → LabelsBegun
+with_opened begun source count = record {
   nodes = begun.nodes;
   declared = begun.declared;
   missing = count;

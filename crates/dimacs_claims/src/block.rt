@@ -1,7 +1,8 @@
 //! The labels of one source.
 
-ghost use Rattle.std.specs.Prelude.{◌≡◌, [], IfOk, OnOk, OnErr, Option, None};
-ghost use Rattle.dimacs_claims.specs.Labels.{BlockValue, with_label};
+ghost use Rattle.std.specs.Prelude.{◌≡◌, ◌==◌, ◌<◌, if◌then◌else◌, ℕ, [], length, OnOk, OnErr, IsSome, Option, Some, None};
+ghost use Rattle.dimacs_records.specs.Ranges.{IsNode};
+ghost use Rattle.dimacs_claims.specs.Labels.{BlockValue, IsBlock, IsLabel, with_label};
 ghost use Rattle.dimacs_claims.specs.Labels as claims;
 
 use dimacs_lines::Memory;
@@ -22,7 +23,7 @@ pub struct Label {
 pub struct Block {
     source: u32,
     labels: Vec<Label>,
-    /// By node, that of the source too.
+    /// By node; the source has none here.
     distances: BTreeMap<u32, i128>,
 }
 
@@ -38,6 +39,34 @@ impl Model for Block {
 }
 
 impl Block {
+    /// The block of a source, without labels. Takes no memory.
+    pub fn new(alloc: Global, source: u32) -> Block
+        ensures made { result ≡ record { source = source; labels = [] } }
+        ensures lawful { (nodes : ℕ) → IsNode nodes source → IsBlock nodes result }
+    {
+        Block {
+            source,
+            labels: Vec::new(alloc),
+            distances: BTreeMap::new(alloc),
+        }
+    }
+
+    /// Adds a label of a node that has none.
+    pub fn add(&mut self, label: Label) -> Result<(), Memory>
+        requires { claims.label self.old label.id ≡ None }
+        ensures added { OnOk result (self.new ≡ with_label self.old label) }
+        ensures labels { OnOk result ((id : ℕ) → claims.label self.new id ≡ (if label.id == id then Some label.dist else claims.label self.old id)) }
+        ensures lawful { OnOk result ((nodes : ℕ) → IsBlock nodes self.old → IsLabel nodes label → length self.old.labels < 268435456 → IsSome (claims.label self.old label.pred) → IsBlock nodes self.new) }
+        ensures unchanged { OnErr result (self.new ≡ self.old) }
+    {
+        self.labels.push(label)?;
+        let Ok(_) = self.distances.insert(label.id, label.dist) else {
+            self.labels.pop();
+            return Err(Memory);
+        };
+        Ok(())
+    }
+
     pub fn source(&self) -> u32
         ensures { result ≡ self.now.source }
     {
@@ -56,33 +85,9 @@ impl Block {
     pub(crate) fn distance(&self, id: u32) -> Option<i128>
         ensures { result ≡ claims.label self.now id }
     {
+        if id == self.source {
+            return Some(0);
+        }
         self.distances.get(&id).copied()
-    }
-
-    /// The block of a source, without labels.
-    pub(crate) fn new(alloc: Global, source: u32) -> Result<Block, Memory>
-        ensures { IfOk result (λ block. block ≡ record { source = source; labels = [] }) }
-    {
-        let mut distances = BTreeMap::new(alloc);
-        distances.insert(source, 0)?;
-        Ok(Block {
-            source,
-            labels: Vec::new(alloc),
-            distances,
-        })
-    }
-
-    /// Adds a label of a node that has none.
-    pub(crate) fn add(&mut self, label: Label) -> Result<(), Memory>
-        requires { claims.label self.old label.id ≡ None }
-        ensures added { OnOk result (self.new ≡ with_label self.old label) }
-        ensures unchanged { OnErr result (self.new ≡ self.old) }
-    {
-        self.labels.push(label)?;
-        let Ok(_) = self.distances.insert(label.id, label.dist) else {
-            self.labels.pop();
-            return Err(Memory);
-        };
-        Ok(())
     }
 }

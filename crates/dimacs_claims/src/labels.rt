@@ -1,6 +1,6 @@
 //! Labels: claimed distances from sources.
 
-ghost use Rattle.std.specs.Prelude.{◌≡◌, ◌≤◌, ◌++◌, ◌∷◌, [], ℕ, List, Option, Some, None, OnOk, OnErr, IfSome, length};
+ghost use Rattle.std.specs.Prelude.{◌≡◌, ◌<◌, ◌≤◌, ◌++◌, ◌∷◌, [], ℕ, List, Option, Some, None, OnOk, OnErr, IfSome, length};
 ghost use Rattle.dimacs_lines.specs.Devices.{CountsFault};
 ghost use Rattle.dimacs_lines.specs.Lines.{lines};
 ghost use Rattle.dimacs_lines.specs.Pages.{FaultsAre, IsWritten};
@@ -12,10 +12,12 @@ ghost use Rattle.dimacs_records.specs.Faults.{Fault};
 ghost use Rattle.dimacs_records.specs.Readings.{CountsRead, TakesRecord, records_of};
 ghost use Rattle.dimacs_records.specs.Texts.{Reads};
 ghost use Rattle.dimacs_claims.specs.Labels as claims;
-ghost use Rattle.dimacs_claims.specs.Labels.{BlockValue, LabelsValue, AreLabels, label_at, with_label};
+ghost use Rattle.dimacs_claims.specs.Labels.{AreLabels, AreSources, BlockValue, IsBlock, IsNewSource, LabelsValue, label_at, with_block, with_label};
+ghost use Rattle.std.specs.FinSet as set;
+ghost use Rattle.std.specs.Ordering.{nat_cmp};
 ghost use Rattle.dimacs_records.specs.Ranges.{IsWide};
 ghost use Rattle.dimacs_claims.specs.LabelTexts.{FitText, GivesLabels, SpellsLabels, block_lines, canonical_labels, label_line};
-ghost use Rattle.dimacs_claims.specs.LabelsReading.{AreLabelsBegun, labels_begun_records, with_block};
+ghost use Rattle.dimacs_claims.specs.LabelsReading.{AreLabelsBegun, labels_begun_records, with_opened};
 
 use crate::block::{Block, Label};
 use dimacs_lines::{DeviceFault, Memory, Page, Sink, Source};
@@ -44,6 +46,30 @@ impl Model for Labels {
 }
 
 impl Labels {
+    /// Labels of so many nodes, without blocks. Takes no memory.
+    pub fn new(alloc: Global, nodes: u32) -> Labels
+        requires { nodes ≤ 134217728 }
+        ensures { result ≡ record { nodes = nodes; blocks = [] } }
+    {
+        Labels {
+            nodes,
+            blocks: Vec::new(alloc),
+        }
+    }
+
+    /// Adds a block of a source that none of the others has.
+    pub fn push(&mut self, block: Block) -> Result<(), Memory>
+        requires lawful { IsBlock self.old.nodes block }
+        requires source { IsNewSource self.old.blocks block }
+        requires few { length self.old.blocks < 268435456 }
+        ensures pushed { OnOk result (self.new ≡ with_block self.old block) }
+        ensures sources { OnOk result ((sources : set.FinSet nat_cmp) → AreSources sources self.old.blocks → AreSources (set.insert sources block.source) self.new.blocks) }
+        ensures unchanged { OnErr result (self.new ≡ self.old) }
+    {
+        self.blocks.push(block)?;
+        Ok(())
+    }
+
     pub fn nodes(&self) -> u32
         ensures { result ≡ self.now.nodes }
     {
@@ -98,7 +124,8 @@ pub(crate) struct BegunLabels {
 }
 
 impl Model for BegunLabels {
-    ghost use Rattle.dimacs_claims.specs.LabelsReading.{LabelsBegun, AreLabelsBegun, AreSources};
+    ghost use Rattle.dimacs_claims.specs.Labels.{AreSources};
+    ghost use Rattle.dimacs_claims.specs.LabelsReading.{LabelsBegun, AreLabelsBegun};
 
     ghost Value = { LabelsBegun };
 
@@ -131,11 +158,11 @@ impl BegunLabels {
 
     /// Opens a block behind the others.
     fn open(&mut self, source: u32, count: u32) -> Result<(), Memory>
-        requires { AreLabelsBegun (with_block self.old source count) }
-        ensures opened { OnOk result (self.new ≡ with_block self.old source count) }
+        requires { AreLabelsBegun (with_opened self.old source count) }
+        ensures opened { OnOk result (self.new ≡ with_opened self.old source count) }
         ensures unchanged { OnErr result (self.new ≡ self.old) }
     {
-        let block = Block::new(*self.blocks.allocator(), source)?;
+        let block = Block::new(*self.blocks.allocator(), source);
         self.blocks.push(block)?;
         let Ok(()) = self.sources.insert(source) else {
             self.blocks.pop();

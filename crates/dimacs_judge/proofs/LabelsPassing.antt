@@ -112,7 +112,7 @@ labels_clear arcs (b ∷ blocks) all =
     let here = All-head (LabelsOk arcs) b blocks all in
     (support_clear arcs b here.tight, (relax_clear arcs b here.relaxed, labels_clear arcs blocks (All-tail (LabelsOk arcs) b blocks all)))
 
-passing_are_distances : (arcs : List ArcView) (l : LabelsValue) → AreLabels l → All (LabelsOk arcs) l.blocks → AreDistances arcs l.blocks
+pub passing_are_distances : (arcs : List ArcView) (l : LabelsValue) → AreLabels l → All (LabelsOk arcs) l.blocks → AreDistances arcs l.blocks
 passing_are_distances arcs l are all k d inside = labels_are_distances arcs (get_or l.blocks k d) (are.blocks k d inside).preds (all k d inside)
 
 pub told_distances : (arcs : List ArcView) (l : LabelsValue) → AreLabels l → (told : Result Unit (Where × Reason)) → Tells (label_rows arcs l.blocks) told → OnOk told (AreDistances arcs l.blocks)

@@ -6,7 +6,7 @@ use Rattle.dimacs_instance.specs.declared.network.ArcView.{ArcView}
 use Rattle.dimacs_instance.specs.Arcs.{NetworkValue}
 use Rattle.dimacs_instance.specs.QueryTexts.{QueriesValue}
 use Rattle.dimacs_instance.specs.QueryTexts as queries
-use Rattle.dimacs_claims.specs.Labels.{BlockValue, LabelsValue, label}
+use Rattle.dimacs_claims.specs.Labels.{AreLabels, BlockValue, LabelsValue, label}
 use Rattle.dimacs_records.specs.declared.reasons.Reason.TheVariants as reasons
 use Rattle.dimacs_judge.specs.declared.verdict.JudgeError.{JudgeError}
 use Rattle.dimacs_judge.specs.declared.verdict.JudgeError.TheVariants.{Refused, Memory}
@@ -21,7 +21,7 @@ use Rattle.dimacs_judge.specs.Tests.{Clear, AllClear, FirstOfRow, First, Refuses
 use Rattle.dimacs_judge.specs.Walks.{IsDistance}
 use Rattle.dimacs_judge.proofs.BlockNumbers.{block_found}
 use Rattle.dimacs_judge.proofs.Firsts.{AllOneWay, one_test_one_way}
-use Rattle.dimacs_judge.proofs.LabelsPassing.{labels_hold, labels_clear}
+use Rattle.dimacs_judge.proofs.LabelsPassing.{labels_hold, labels_clear, passing_are_distances}
 use Rattle.dimacs_judge.proofs.Passing.{nodes_are, nodes_clear}
 use Rattle.dimacs_judge.proofs.QueriesPassing.{query_node_one_way, block_one_way, query_nodes_hold, query_nodes_clear, query_blocks_hold, query_blocks_clear}
 use Rattle.dimacs_judge.proofs.Reasons.{labels_one_way}
@@ -65,6 +65,11 @@ answers_are_distances arcs blocks (queries.Sources ids) all has = tt
 answers_are_distances arcs blocks (queries.Pairs pairs) all has = answered arcs blocks pairs all has
 
 -- ---- what passing shows
+pub passing_shows : (g : NetworkValue) (q : QueriesValue) (l : LabelsValue) → AreLabels l → PassesPaths g q l → ShowsDistances g q l
+passing_shows g q l lawful passes =
+    let labels = passing_are_distances g.arcs l lawful passes.labels in
+    record { passes = passes; labels = labels; answers = answers_are_distances g.arcs l.blocks q labels passes.blocks }
+
 pub paths_shown : (g : NetworkValue) (q : QueriesValue) (l : LabelsValue) → AllClear (paths_rows g q l) → AreDistances g.arcs l.blocks → ShowsDistances g q l
 paths_shown g q l clear labels =
     let passes = paths_pass g q l clear in

@@ -1,7 +1,8 @@
 -- What certificates prove of flows and of walks.
 use Rattle.std.specs.Prelude.{ℕ, ◌≡◌, Bool, List, All, ℤ, ◌-ℤ◌, ◌*ℤ◌}
 use Rattle.dimacs_instance.specs.declared.network.ArcView.{ArcView}
-use Rattle.dimacs_instance.specs.Arcs.{JoinsNodes}
+use Rattle.dimacs_instance.specs.Arcs.{JoinsNodes, NetworkValue}
+use Rattle.dimacs_instance.specs.QueryTexts.{QueriesValue}
 use Rattle.dimacs_judge.specs.Flows.{net, sum_arcs, sum_nodes}
 use Rattle.dimacs_instance.specs.MaxFlows.{MaxValue}
 use Rattle.dimacs_records.specs.Ranges.{IsNode}
@@ -12,8 +13,9 @@ use Rattle.dimacs_judge.specs.Cuts.{CutTight}
 use Rattle.dimacs_judge.specs.Potentials.{Slack}
 use Rattle.dimacs_judge.specs.ViolatedSets.{Violated}
 use Rattle.dimacs_judge.specs.Walks.{IsDistance}
-use Rattle.dimacs_claims.specs.Labels.{BlockValue, PredsAreEarlier, label}
+use Rattle.dimacs_claims.specs.Labels.{AreLabels, BlockValue, LabelsValue, PredsAreEarlier, label}
 use Rattle.dimacs_judge.specs.Labels.{LabelsOk}
+use Rattle.dimacs_judge.specs.PathsJudge.{PassesPaths, ShowsDistances}
 
 -- for every flow and every weighting of the nodes: the balances by their weights are the amounts by the differences of the weights
 abbrev pub ExchangeLaw : Type 0
@@ -37,3 +39,7 @@ ViolatedSetLaw = (i : MinValue) → All (JoinsNodes i.nodes) i.arcs → (set : �
 -- labels that pass are distances, and nodes without a label are unreachable
 abbrev pub LabelsLaw : Type 0
 LabelsLaw = (g : List ArcView) (b : BlockValue) → PredsAreEarlier b → LabelsOk g b → (v : ℕ) → IsDistance g b.source v (label b v)
+
+-- labels and queries that pass show distances
+abbrev pub PassingShowsLaw : Type 0
+PassingShowsLaw = (g : NetworkValue) (q : QueriesValue) (l : LabelsValue) → AreLabels l → PassesPaths g q l → ShowsDistances g q l

@@ -1,6 +1,6 @@
 //! What certificates prove of all flows and of all walks.
 
-ghost use Rattle.dimacs_judge.specs.Laws.{ExchangeLaw, TightCutLaw, SlacknessLaw, ViolatedSetLaw, LabelsLaw};
+ghost use Rattle.dimacs_judge.specs.Laws.{ExchangeLaw, TightCutLaw, SlacknessLaw, ViolatedSetLaw, LabelsLaw, PassingShowsLaw};
 
 /// Weak duality: weights at the nodes can be exchanged for differences of weights along the arcs.
 pub fn exchange()
@@ -25,4 +25,9 @@ pub fn violated_has_no_flow()
 /// Labels that pass the tests are distances, and the nodes without a label are unreachable.
 pub fn labels_give_distances()
     ensures { LabelsLaw }
+{}
+
+/// Labels and queries that pass the tests show distances.
+pub fn passing_shows()
+    ensures { PassingShowsLaw }
 {}

@@ -31,10 +31,12 @@ pub use flow::Flow;
 pub use infeasible::judge_infeasible;
 pub use labels::label_tests;
 pub use laws::{
-    exchange, labels_give_distances, slack_is_least, tight_cut_is_maximum, violated_has_no_flow,
+    exchange, labels_give_distances, passing_shows, slack_is_least, tight_cut_is_maximum,
+    violated_has_no_flow,
 };
 pub use least::judge_min;
 pub use maximum::judge_max;
 pub use paths::judge_paths;
 pub use potentials::slack_tests;
+pub use queries::{query_nodes_hold, source_asked};
 pub use verdict::{Answer, JudgeError, Verdict, Where};

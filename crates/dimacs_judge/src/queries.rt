@@ -1,11 +1,11 @@
 //! Whether queries ask for what is there, and what labels answer to them.
 
-ghost use Rattle.std.specs.Prelude.{◌≡◌, ◌<◌, List, Some, IfOk, map, length, slice_get};
+ghost use Rattle.std.specs.Prelude.{◌≡◌, ◌<◌, ◌≤◌, All, List, Some, IfOk, OnOk, map, length, slice_get};
 ghost use Rattle.dimacs_records.specs.declared.reasons.Reason.TheVariants as reasons;
 ghost use Rattle.dimacs_instance.specs.QueryTexts.{AreLawful, Pairs, asked};
 ghost use Rattle.dimacs_claims.specs.Labels.{BlockValue};
 ghost use Rattle.dimacs_judge.specs.Answers.{AnswersQueries, answer_to, distance_from};
-ghost use Rattle.dimacs_judge.specs.QueryTests.{AreNumbers, TellsBlocks, block_row, listed_row, query_node_row, sources_asked};
+ghost use Rattle.dimacs_judge.specs.QueryTests.{AreNumbers, TellsBlocks, block_row, listed_row, nodes_asked, query_node_row, sources_asked};
 ghost use Rattle.dimacs_judge.specs.Tests.{TellsRow};
 
 use crate::verdict::{Answer, JudgeError, Verdict, Where};
@@ -17,8 +17,9 @@ use dimacs_records::Reason;
 use std::alloc::Global;
 
 /// Whether the queries name nodes of the instance; else the first ID that is too great, FROM before TO.
-pub(crate) fn query_nodes_hold(nodes: u32, queries: &Queries) -> Result<(), (Where, Reason)>
-    ensures { TellsRow (query_node_row nodes (asked queries.now)) result }
+pub fn query_nodes_hold(nodes: u32, queries: &Queries) -> Result<(), (Where, Reason)>
+    ensures tests { TellsRow (query_node_row nodes (asked queries.now)) result }
+    ensures within { OnOk result (All (λ id. id ≤ nodes) (nodes_asked (asked queries.now))) }
 {
     match queries {
         Queries::Sources(ids) => sources_are_nodes(nodes, ids),
@@ -88,7 +89,7 @@ fn sources_have_blocks(numbers: &NodeMap<u32>, queries: &Queries) -> Result<(), 
 }
 
 /// The source of a query: its node, or FROM.
-fn source_asked(queries: &Queries, i: usize) -> u32
+pub fn source_asked(queries: &Queries, i: usize) -> u32
     requires { i < length (sources_asked (asked queries.now)) }
     ensures { slice_get (sources_asked (asked queries.now)) i ≡ Some result }
 {

@@ -1,2 +1,4 @@
 pub mod Pages
 pub mod Sets
+pub mod Slots
+pub mod Tables

@@ -6,6 +6,8 @@
 
 mod node_map;
 mod node_set;
+mod node_table;
 
 pub use node_map::NodeMap;
 pub use node_set::NodeSet;
+pub use node_table::NodeTable;

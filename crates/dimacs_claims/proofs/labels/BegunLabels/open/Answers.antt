@@ -6,4 +6,4 @@ use Rattle.dimacs_claims.proofs.labels.BegunLabels.open.Goals as goal
 pub invariant_of-self-2 : goal.invariant_of-self-2
 invariant_of-self-2 c =
     let b : BlockValue = record { source = c.args.source; labels = [] } in
-    rw (c.in_ok-push.ensures.items, c.in_ok-block.ensures, c.in-Ok.ensures.inserted) (rw (← c.self.view_is) at c.requires, are_sources_more c.self.inside.sources c.self.inside.blocks.items b c.self.invariant.1)
+    rw (c.in_ok-push.ensures.items, c.new-block.ensures.made, c.in-Ok.ensures.inserted) (rw (← c.self.view_is) at c.requires, are_sources_more c.self.inside.sources c.self.inside.blocks.items b c.self.invariant.1)

@@ -1,7 +1,7 @@
 use Rattle.std.proofs.Common.{◌≡◌, ◌<◌, ◌≤◌, length, refl, ap, sym, subst, ◌∙◌, ◌++◌, ◌∷◌, [], arith}
 use Rattle.dimacs_records.specs.declared.records.Record.TheVariants.{LabelsBlock}
 use Rattle.dimacs_records.specs.Readings.{IsAllowed}
-use Rattle.dimacs_claims.specs.LabelsReading.{LabelsBegun, labels_begun_records, with_block}
+use Rattle.dimacs_claims.specs.LabelsReading.{LabelsBegun, labels_begun_records, with_opened}
 use Rattle.dimacs_claims.proofs.LabelRecords.{begun_block}
 use Rattle.dimacs_claims.proofs.BegunLemmas.{begun_source_above, begun_source_twice, begun_too_many, begun_too_few, begun_block_allowed, pushed_block}
 use Rattle.dimacs_claims.proofs.labels.BegunLabels.start_block.Goals as goal
@@ -50,7 +50,7 @@ returns c =
     let fresh = sym (c.self.invariant.1 c.args.source) ∙ sym c.if-contains.ensures in
     let room : length begun.blocks < begun.declared = omega (arith, c.len.ensures, c.if-len-self.false) in
     let none : begun.missing ≡ 0 = omega (arith, c.if-self-gt0.false) in
-    let opened = c.in_ok-open.ensures.opened ∙ ap (λ t. with_block t c.args.source c.args.count) (sym c.self.view_is) in (
+    let opened = c.in_ok-open.ensures.opened ∙ ap (λ t. with_opened t c.args.source c.args.count) (sym c.self.view_is) in (
       subst (λ t. IsAllowed (labels_begun_records t) (LabelsBlock c.args.source c.args.count)) c.self.view_is (begun_block_allowed begun c.args.source c.args.count c.if-source-self.false fresh room none),
       ap labels_begun_records opened ∙ (pushed_block begun c.args.source c.args.count none ∙ ap (λ t. labels_begun_records t ++ LabelsBlock c.args.source c.args.count ∷ []) c.self.view_is),
     )

@@ -1,0 +1,150 @@
+//! A value for each node, blank but for those that were set.
+
+ghost use Rattle.std.specs.Prelude.{◌≡◌, ◌≢◌, ◌<◌, ◌≤◌, ◌/◌, ◌*◌, ◌+◌, ℕ, List, length, vec_len, OnOk, OnErr};
+ghost use Rattle.dimacs_nodes.specs.Slots.{IsDirectory, SameNumbers, number_of, place_of};
+
+use dimacs_lines::Memory;
+use std::alloc::Global;
+
+/// The IDs that share a page.
+const PAGE: usize = 256;
+
+/// The number of a page that was not taken.
+const NO_PAGE: u32 = u32::MAX;
+
+/// A value for each node, by its ID: the same blank one until another is set.
+///
+/// All pages of slots stand in one list, in the order in which they were taken, and the directory has 4 bytes for each
+/// page up to that of the greatest ID that was set. A slot has no room but for its value.
+#[derive(Drop)]
+pub struct NodeTable<T> {
+    blank: T,
+    directory: Vec<u32>,
+    slots: Vec<T>,
+    ghost numbered: { IsDirectory directory.items (length slots.items) },
+}
+
+impl<T: Copy> NodeTable<T> {
+    ghost use Rattle.dimacs_nodes.specs.Tables.{HasPlace, SameValues, blank_of, value_of};
+
+    /// All values are blank. Takes no memory.
+    pub fn new(alloc: Global, blank: T) -> NodeTable<T>
+        ensures { (id : ℕ) → value_of result id ≡ blank }
+    {
+        NodeTable {
+            blank,
+            directory: Vec::new(alloc),
+            slots: Vec::new(alloc),
+        }
+    }
+
+    #[inline]
+    pub fn get(&self, id: u32) -> T
+        ensures { result ≡ value_of self.now id }
+    {
+        match self.slots.get(place(&self.directory, id)) {
+            Some(value) => *value,
+            None => self.blank,
+        }
+    }
+
+    /// Sets the value of a node. Only the first value on a page takes memory.
+    #[inline]
+    pub fn set(&mut self, id: u32, value: T) -> Result<(), Memory>
+        ensures set { OnOk result (value_of self.new id ≡ value) }
+        ensures others { OnOk result ((other : ℕ) → other ≢ id → value_of self.new other ≡ value_of self.old other) }
+        ensures unchanged { OnErr result (SameValues self.old self.new) }
+    {
+        self.reserve(id)?;
+        self.put(id, value);
+        Ok(())
+    }
+
+    /// Takes memory for the value of a node, as far as it needs some, and leaves the value.
+    #[inline]
+    pub fn reserve(&mut self, id: u32) -> Result<(), Memory>
+        ensures same { SameValues self.old self.new }
+        ensures place { OnOk result (HasPlace self.new id) }
+    {
+        if place(&self.directory, id) < self.slots.len() {
+            return Ok(());
+        }
+        self.take_page(id)
+    }
+
+    /// Sets the value of a node for which memory was taken.
+    #[inline]
+    pub fn put(&mut self, id: u32, value: T)
+        requires { HasPlace self.old id }
+        ensures set { value_of self.new id ≡ value }
+        ensures others { (other : ℕ) → other ≢ id → value_of self.new other ≡ value_of self.old other }
+        ensures places { (other : ℕ) → HasPlace self.old other → HasPlace self.new other }
+    {
+        let place = place(&self.directory, id);
+        self.slots[place] = value;
+    }
+
+    /// An ID past all that were set.
+    pub fn end(&self) -> usize
+        ensures within { result ≤ 4294967296 }
+        ensures blank { (id : ℕ) → result ≤ id → value_of self.now id ≡ blank_of self.now }
+    {
+        self.directory.len() * PAGE
+    }
+
+    /// The first ID from this one on that may have been set: this one, or that behind a page that was not taken.
+    #[inline]
+    pub fn skip_blank(&self, id: u32) -> usize
+        ensures from { id ≤ result }
+        ensures blank { (other : ℕ) → id ≤ other → other < result → value_of self.now other ≡ blank_of self.now }
+    {
+        if place(&self.directory, id) < self.slots.len() {
+            id as usize
+        } else {
+            (id as usize / PAGE + 1) * PAGE
+        }
+    }
+
+    /// Takes the page of an ID that has none.
+    #[cold]
+    #[inline(never)]
+    fn take_page(&mut self, id: u32) -> Result<(), Memory>
+        requires { ¬ HasPlace self.old id }
+        ensures same { SameValues self.old self.new }
+        ensures place { OnOk result (HasPlace self.new id) }
+    {
+        let number = self.slots.len() / PAGE;
+        if number >= NO_PAGE as usize {
+            return Err(Memory);
+        }
+        extend_directory(&mut self.directory, id)?;
+        self.slots.resize((number + 1) * PAGE, self.blank)?;
+        self.directory[id as usize / PAGE] = number as u32;
+        Ok(())
+    }
+}
+
+/// Where the slot of an ID is; past all slots where its page was not taken.
+#[inline]
+fn place(directory: &[u32], id: u32) -> usize
+    ensures { result ≡ place_of directory.now id }
+{
+    let number = match directory.get(id as usize / PAGE) {
+        Some(number) => *number,
+        None => NO_PAGE,
+    };
+    number as usize * PAGE + id as usize % PAGE
+}
+
+/// Makes the directory reach to the page of an ID.
+fn extend_directory(directory: &mut Vec<u32>, id: u32) -> Result<(), Memory>
+    ensures same { SameNumbers directory.old.items directory.new.items }
+    ensures reached { OnOk result (id / 256 < length directory.new.items) }
+    ensures short { length directory.old.items ≤ 16777216 → length directory.new.items ≤ 16777216 }
+{
+    let count = id as usize / PAGE + 1;
+    if directory.len() < count {
+        directory.resize(count, NO_PAGE)?;
+    }
+    Ok(())
+}
