@@ -1,13 +1,13 @@
 //! The search over the steps that a flow leaves.
 
-ghost use Rattle.std.specs.Prelude.{◌≡◌, ◌<◌, ◌≤◌, ◌+◌, ◌<ℤ◌, pos, All, length, slice_index, IfOk, OnOk};
+ghost use Rattle.std.specs.Prelude.{List, ℤ, ◌≡◌, ◌<◌, ◌≤◌, ◌+◌, ◌<ℤ◌, pos, All, length, slice_index, IfOk, OnOk};
+ghost use Rattle.dimacs_instance.specs.declared.network.ArcView.{ArcView};
 ghost use Rattle.dimacs_instance.specs.Arcs.{JoinsNodes};
 ghost use Rattle.dimacs_records.specs.Ranges.{IsNode};
-ghost use Rattle.dimacs_decide.specs.declared.sides.Side.TheVariants.{Tail, Head};
-ghost use Rattle.dimacs_decide.specs.Links.{AreLinksOf};
+ghost use Rattle.dimacs_decide.specs.Links.{IsIncidenceOf};
 ghost use Rattle.dimacs_decide.specs.Residual.{Grows, IsExplored, IsNext, IsPassed, IsSearch, KeepsBounds, Reaches, rank_of, room_of};
 
-use crate::links::Links;
+use crate::links::Incidence;
 use crate::sides::Side;
 use dimacs_instance::Network;
 use dimacs_judge::Flow;
@@ -38,153 +38,142 @@ fn next_visit(from: Visit, via: u32, room: i64) -> Visit
     }
 }
 
-/// Reaches a node from another by an arc with this room, if there is some and the node was not reached.
-#[inline(always)]
-fn reach(
-    from: u32,
-    to: u32,
-    via: u32,
-    room: i64,
-    visits: &mut [Visit],
-    queue: &mut Vec<u32>,
-) -> Result<(), Memory>
-    requires from { from < length visits.old }
-    requires to { to < length visits.old }
-    requires rank { rank_of visits.old from < 4294967295 }
-    requires some { pos 0 <ℤ room_of visits.old from }
-    ensures { OnOk result (Reaches from to via room visits.old queue.old.items visits.new queue.new.items) }
-{
-    if room <= 0 || visits[to as usize].rank > 0 {
-        return Ok(());
-    }
-    queue.push(to)?;
-    visits[to as usize] = next_visit(visits[from as usize], via, room);
-    Ok(())
+/// A search from a node, over the steps that a flow leaves: how each node was reached, and those that were, in their
+/// order.
+#[derive(Drop)]
+struct Search {
+    source: u32,
+    visits: Vec<Visit>,
+    queue: Vec<u32>,
 }
 
-/// Goes over the arcs that are left on one side from the node at this place in the queue.
-fn pass<N: Network>(
-    network: &N,
-    flow: &Flow,
-    source: u32,
-    links: &Links,
-    side: Side,
-    at: usize,
-    visits: &mut [Visit],
-    queue: &mut Vec<u32>,
-) -> Result<(), Memory>
-    requires joined { All (JoinsNodes (N.node_count network.now)) (N.list network.now) }
-    requires within { KeepsBounds (N.list network.now) flow.now }
-    requires links { AreLinksOf side (N.node_count network.now) (N.list network.now) links.now }
-    requires size { length visits.old ≡ N.node_count network.now + 1 }
-    requires few_nodes { N.node_count network.now ≤ 134217728 }
-    requires at { at < length queue.old.items }
-    requires search { IsSearch (N.list network.now) flow.now source visits.old queue.old.items at }
-    ensures search { OnOk result (IsSearch (N.list network.now) flow.now source visits.new queue.new.items at) }
-    ensures passed { OnOk result (IsPassed (N.list network.now) flow.now visits.new (slice_index queue.old.items at) side) }
-    ensures grows { OnOk result (Grows visits.old queue.old.items visits.new queue.new.items) }
-{
-    let from = queue[at];
-    let mut next = links.last(from);
-    while next > 0 {
-        let via = next - 1;
-        let arc = network.arc(via);
-        let room = side.room(arc, flow.amount(via));
-        reach(from, side.far(arc), via, room, visits, queue)?;
-        next = links.before(via);
+impl Search {
+    /// The search that has reached its source alone.
+    fn new(alloc: Global, nodes: u32, source: u32) -> Result<Search, Memory>
+        requires few_nodes { nodes ≤ 134217728 }
+        requires source { IsNode nodes source }
+        ensures source { IfOk result (λ search. search.source ≡ source) }
+        ensures size { IfOk result (λ search. length search.visits.items ≡ nodes + 1) }
+        ensures begun { IfOk result (λ search. (arcs : List ArcView) (x : List ℤ) → IsSearch arcs x source search.visits.items search.queue.items 0) }
+    {
+        let mut visits = vec![in alloc; Visit {
+            room: 0,
+            rank: 0,
+            via: 0
+        }; nodes as usize + 1]?;
+        visits[source as usize] = Visit {
+            room: i64::MAX,
+            rank: 1,
+            via: 0,
+        };
+        let mut queue = Vec::new(alloc);
+        queue.push(source)?;
+        Ok(Search {
+            source,
+            visits,
+            queue,
+        })
     }
-    Ok(())
-}
 
-/// Reaches nodes, the nearest first, until the sink or all that can be reached.
-fn explore<N: Network>(
-    network: &N,
-    flow: &Flow,
-    source: u32,
-    sink: u32,
-    leaving: &Links,
-    entering: &Links,
-    visits: &mut [Visit],
-    queue: &mut Vec<u32>,
-) -> Result<(), Memory>
-    requires few_nodes { N.node_count network.now ≤ 134217728 }
-    requires joined { All (JoinsNodes (N.node_count network.now)) (N.list network.now) }
-    requires within { KeepsBounds (N.list network.now) flow.now }
-    requires sink { IsNode (N.node_count network.now) sink }
-    requires leaving { AreLinksOf Tail (N.node_count network.now) (N.list network.now) leaving.now }
-    requires entering { AreLinksOf Head (N.node_count network.now) (N.list network.now) entering.now }
-    requires size { length visits.old ≡ N.node_count network.now + 1 }
-    requires search { IsSearch (N.list network.now) flow.now source visits.old queue.old.items 0 }
-    ensures size { OnOk result (length visits.new ≡ length visits.old) }
-    ensures explored { OnOk result (IsExplored (N.list network.now) flow.now source sink visits.new) }
-{
-    let mut at = 0;
-    while at < queue.len() && visits[sink as usize].rank == 0 {
-        pass(
-            network,
-            flow,
-            source,
-            leaving,
-            Side::Tail,
-            at,
-            visits,
-            queue,
-        )?;
-        pass(
-            network,
-            flow,
-            source,
-            entering,
-            Side::Head,
-            at,
-            visits,
-            queue,
-        )?;
-        at += 1;
+    /// Reaches a node from another by an arc with this room, if there is some and the node was not reached.
+    #[inline(always)]
+    fn reach(&mut self, from: u32, to: u32, via: u32, room: i64) -> Result<(), Memory>
+        requires from { from < length self.old.visits.items }
+        requires to { to < length self.old.visits.items }
+        requires rank { rank_of self.old.visits.items from < 4294967295 }
+        requires some { pos 0 <ℤ room_of self.old.visits.items from }
+        ensures source { self.new.source ≡ self.old.source }
+        ensures reaches { OnOk result (Reaches from to via room self.old.visits.items self.old.queue.items self.new.visits.items self.new.queue.items) }
+    {
+        if room <= 0 || self.visits[to as usize].rank > 0 {
+            return Ok(());
+        }
+        self.queue.push(to)?;
+        self.visits[to as usize] = next_visit(self.visits[from as usize], via, room);
+        Ok(())
     }
-    Ok(())
+
+    /// Goes over the arcs that are left on one side from the node at this place in the queue.
+    fn pass<N: Network>(
+        &mut self,
+        network: &N,
+        flow: &Flow,
+        incidence: &Incidence,
+        side: Side,
+        at: usize,
+    ) -> Result<(), Memory>
+        requires joined { All (JoinsNodes (N.node_count network.now)) (N.list network.now) }
+        requires within { KeepsBounds (N.list network.now) flow.now }
+        requires incidence { IsIncidenceOf (N.node_count network.now) (N.list network.now) incidence.now }
+        requires size { length self.old.visits.items ≡ N.node_count network.now + 1 }
+        requires few_nodes { N.node_count network.now ≤ 134217728 }
+        requires at { at < length self.old.queue.items }
+        requires search { IsSearch (N.list network.now) flow.now self.old.source self.old.visits.items self.old.queue.items at }
+        ensures source { OnOk result (self.new.source ≡ self.old.source) }
+        ensures search { OnOk result (IsSearch (N.list network.now) flow.now self.old.source self.new.visits.items self.new.queue.items at) }
+        ensures passed { OnOk result (IsPassed (N.list network.now) flow.now self.new.visits.items (slice_index self.old.queue.items at) side) }
+        ensures grows { OnOk result (Grows self.old.visits.items self.old.queue.items self.new.visits.items self.new.queue.items) }
+    {
+        let links = incidence.links(side);
+        let from = self.queue[at];
+        let mut next = links.last(from);
+        while next > 0 {
+            let via = next - 1;
+            let arc = network.arc(via);
+            let room = side.room(arc, flow.amount(via));
+            self.reach(from, side.far(arc), via, room)?;
+            next = links.before(via);
+        }
+        Ok(())
+    }
+
+    /// Reaches nodes, the nearest first, until the sink or all that can be reached.
+    fn explore<N: Network>(
+        &mut self,
+        network: &N,
+        flow: &Flow,
+        incidence: &Incidence,
+        sink: u32,
+    ) -> Result<(), Memory>
+        requires few_nodes { N.node_count network.now ≤ 134217728 }
+        requires joined { All (JoinsNodes (N.node_count network.now)) (N.list network.now) }
+        requires within { KeepsBounds (N.list network.now) flow.now }
+        requires sink { IsNode (N.node_count network.now) sink }
+        requires incidence { IsIncidenceOf (N.node_count network.now) (N.list network.now) incidence.now }
+        requires size { length self.old.visits.items ≡ N.node_count network.now + 1 }
+        requires search { IsSearch (N.list network.now) flow.now self.old.source self.old.visits.items self.old.queue.items 0 }
+        ensures size { OnOk result (length self.new.visits.items ≡ length self.old.visits.items) }
+        ensures explored { OnOk result (IsExplored (N.list network.now) flow.now self.old.source sink self.new.visits.items) }
+    {
+        let mut at = 0;
+        while at < self.queue.len() && self.visits[sink as usize].rank == 0 {
+            self.pass(network, flow, incidence, Side::Tail, at)?;
+            self.pass(network, flow, incidence, Side::Head, at)?;
+            at += 1;
+        }
+        Ok(())
+    }
 }
 
 /// How a search from the source comes to the sink, or to all that it can reach.
-pub(crate) fn search<N: Network>(
+pub(crate) fn explored<N: Network>(
     alloc: Global,
     network: &N,
     flow: &Flow,
+    incidence: &Incidence,
     source: u32,
     sink: u32,
 ) -> Result<Vec<Visit>, Memory>
     requires few_nodes { N.node_count network.now ≤ 134217728 }
-    requires few_arcs { length (N.list network.now) ≤ 268435456 }
     requires joined { All (JoinsNodes (N.node_count network.now)) (N.list network.now) }
     requires within { KeepsBounds (N.list network.now) flow.now }
+    requires incidence { IsIncidenceOf (N.node_count network.now) (N.list network.now) incidence.now }
     requires source { IsNode (N.node_count network.now) source }
     requires sink { IsNode (N.node_count network.now) sink }
     ensures size { IfOk result (λ visits. length visits.items ≡ N.node_count network.now + 1) }
     ensures explored { IfOk result (λ visits. IsExplored (N.list network.now) flow.now source sink visits.items) }
 {
-    let leaving = Links::new(alloc, network, Side::Tail)?;
-    let entering = Links::new(alloc, network, Side::Head)?;
-    let mut visits = vec![in alloc; Visit {
-        room: 0,
-        rank: 0,
-        via: 0
-    }; network.nodes() as usize + 1]?;
-    visits[source as usize] = Visit {
-        room: i64::MAX,
-        rank: 1,
-        via: 0,
-    };
-    let mut queue = Vec::new(alloc);
-    queue.push(source)?;
-    explore(
-        network,
-        flow,
-        source,
-        sink,
-        &leaving,
-        &entering,
-        &mut visits,
-        &mut queue,
-    )?;
-    Ok(visits)
+    let mut search = Search::new(alloc, network.nodes(), source)?;
+    search.explore(network, flow, incidence, sink)?;
+    Ok(search.visits)
 }
