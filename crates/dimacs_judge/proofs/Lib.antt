@@ -1,9 +1,9 @@
 mod Products
-mod Sums
+pub mod Sums
 pub mod Duality
 pub mod Distances
-mod RowLemmas
-mod StepLemmas
+pub mod RowLemmas
+pub mod StepLemmas
 mod CrossLemmas
 mod SupportLemmas
 mod BlockLemmas

@@ -38,7 +38,7 @@ impl Flow {
     }
 
     /// The flow that carries nothing.
-    pub(crate) fn zero(alloc: Global, arcs: u32) -> Result<Flow, Memory>
+    pub fn zero(alloc: Global, arcs: u32) -> Result<Flow, Memory>
         ensures { IfOk result (λ flow. flow ≡ replicate arcs (pos 0)) }
     {
         Ok(Flow {
@@ -47,10 +47,19 @@ impl Flow {
     }
 
     /// Changes the amount on one arc.
-    pub(crate) fn set(&mut self, arc: u32, amount: i64)
+    pub fn set(&mut self, arc: u32, amount: i64)
         requires { arc < length self.old }
         ensures { self.new ≡ slice_set self.old arc amount }
     {
         self.amounts[arc as usize] = amount;
+    }
+
+    /// The same flow once more.
+    pub fn copy(&self, alloc: Global) -> Result<Flow, Memory>
+        ensures { IfOk result (λ flow. flow ≡ self.now) }
+    {
+        Ok(Flow {
+            amounts: self.amounts.to_vec(alloc)?,
+        })
     }
 }

@@ -1,0 +1,287 @@
+-- One more node reached.
+use Rattle.std.proofs.Common.{◌≡◌, ◌≢◌, ◌⊎◌, inl, inr, ℕ, suc, zero, ◌+◌, ◌-◌, ◌<◌, ◌≤◌, ◌==◌, Bool, true, false, List, [], ◌∷◌, ◌++◌, length, get_or, set, replicate, ℤ, pos, ◌≤ℤ◌, ◌<ℤ◌, refl, sym, ap, subst, ◌∙◌, arith, eq-eqb, cond}
+use Rattle.std.specs.Prelude.{slice_index}
+use Rattle.std.proofs.lemmas.Int.{ints}
+use Rattle.std.proofs.lemmas.Bool.{cases_eq, cases_order, ne_eqb}
+use Rattle.std.proofs.lemmas.List.{get_or-set_other, get_or-set_same, length-set, length-append, length-replicate, get_or_append_left}
+use Rattle.std.proofs.lemmas.List.Sums.{sum_by-set, count_by-le-length}
+use Rattle.std.proofs.Math.Seq.{get_or-append_seam}
+use Rattle.dimacs_instance.specs.declared.network.ArcView.{ArcView}
+use Rattle.dimacs_judge.specs.Rows.{arc_at, amount_at}
+use Rattle.dimacs_decide.specs.declared.sides.Side.{Side}
+use Rattle.dimacs_decide.specs.declared.sides.Side.TheVariants.{Tail, Head}
+use Rattle.dimacs_decide.specs.declared.search.Visit.{Visit}
+use Rattle.dimacs_decide.specs.Sides.{end_of, other_end, room_at}
+use Rattle.dimacs_decide.specs.Links.{IsLast}
+use Rattle.dimacs_decide.specs.Residual.{unvisited, visit_at, rank_of, room_of, via_of, room_on, IsReachedBy, unreached, IsPassed, IsWaiting, IsSearch, IsNext, Reaches, Grows, IsExplored}
+
+-- ---- growing
+pub grows_none : (visits : List Visit) (queue : List ℕ) → Grows visits queue visits queue
+grows_none visits queue = record { size = refl; reached = λ v h. h; places = λ j h. refl; longer = omega arith; each = refl }
+
+pub grows_then : (a : List Visit) (p : List ℕ) (b : List Visit) (q : List ℕ) (c : List Visit) (r : List ℕ) → Grows a p b q → Grows b q c r → Grows a p c r
+grows_then a p b q c r f g = record {
+  size = g.size ∙ f.size;
+  reached = λ v h. g.reached v (f.reached v h);
+  places = λ j h. g.places j (omega (arith, h, f.longer)) ∙ f.places j h;
+  longer = omega (arith, f.longer, g.longer);
+  each = g.each ∙ f.each;
+}
+
+pub passed_still : (arcs : List ArcView) (x : List ℤ) (visits visits' : List Visit) (v : ℕ) (side : Side) → ((u : ℕ) → 0 < rank_of visits u → 0 < rank_of visits' u) → IsPassed arcs x visits v side → IsPassed arcs x visits' v side
+passed_still arcs x visits visits' v side more is k inside near room = more _ (is k inside near room)
+
+-- ---- one node more
+module _ (arcs : List ArcView) (x : List ℤ) (s : ℕ) (visits : List Visit) (queue : List ℕ) (done : ℕ) (side : Side) (k from at : ℕ) (e : Visit)
+    (now : IsSearch arcs x s visits queue done) (inside : at < length visits) (new : rank_of visits at ≡ 0) (old : 0 < rank_of visits from)
+    (within : k < length arcs) (near : end_of side (arc_at arcs k) ≡ from) (far : other_end side (arc_at arcs k) ≡ at)
+    (next : IsNext (visit_at visits from) k (room_on arcs x side k) e) where
+  abbrev after : List Visit
+  after = set visits at e
+
+  abbrev longer : List ℕ
+  longer = queue ++ at ∷ []
+
+  here : visit_at after at ≡ e
+  here = get_or-set_same visits at e unvisited inside
+
+  kept : (v : ℕ) → 0 < rank_of visits v → visit_at after v ≡ visit_at visits v
+  kept v h = get_or-set_other visits at v e unvisited (λ q. let f = ap (rank_of visits) q in omega (arith, f, h, new))
+
+  rank_kept : (v : ℕ) → 0 < rank_of visits v → rank_of after v ≡ rank_of visits v
+  rank_kept v h = ap (λ (z : Visit). z.rank) (kept v h)
+
+  room_kept : (v : ℕ) → 0 < rank_of visits v → room_of after v ≡ room_of visits v
+  room_kept v h = ap (λ (z : Visit). z.room) (kept v h)
+
+  via_kept : (v : ℕ) → 0 < rank_of visits v → via_of after v ≡ via_of visits v
+  via_kept v h = ap (λ (z : Visit). z.via) (kept v h)
+
+  rank_here : rank_of after at ≡ e.rank
+  rank_here = ap (λ (z : Visit). z.rank) here
+
+  room_here : room_of after at ≡ e.room
+  room_here = ap (λ (z : Visit). z.room) here
+
+  via_here : via_of after at ≡ k
+  via_here = ap (λ (z : Visit). z.via) here ∙ next.via
+
+  reached_still : (v : ℕ) → 0 < rank_of visits v → 0 < rank_of after v
+  reached_still v h = omega (arith, h, rank_kept v h)
+
+  was : (v : ℕ) → 0 < rank_of visits v → IsReachedBy arcs x visits v → IsReachedBy arcs x after v
+  was v h r =
+      let before = end_of r.side (arc_at arcs (via_of visits v)) in
+      record {
+        side = r.side;
+        within = rw (via_kept v h) r.within;
+        to = rw (via_kept v h) r.to;
+        reached = rw (via_kept v h) (reached_still before r.reached);
+        rank = rw (via_kept v h) (omega (arith, r.rank, rank_kept v h, rank_kept before r.reached));
+        some = omega (arith, ints, r.some, room_kept v h);
+        before = rw (via_kept v h) (omega (arith, ints, r.before, room_kept v h, room_kept before r.reached));
+        room = rw (via_kept v h) (omega (arith, ints, r.room, room_kept v h));
+      }
+
+  is_reached : IsReachedBy arcs x after at
+  is_reached = record {
+    side = side;
+    within = rw via_here within;
+    to = rw via_here far;
+    reached = rw (via_here, near) (reached_still from old);
+    rank = rw (via_here, near) (omega (arith, rank_here, next.rank, rank_kept from old));
+    some = omega (arith, ints, next.some, room_here);
+    before = rw (via_here, near) (omega (arith, ints, room_here, next.before, room_kept from old));
+    room = rw via_here (omega (arith, ints, room_here, next.room));
+  }
+
+  fewer : unreached after + 1 ≡ unreached visits
+  fewer =
+      let a : ((get_or visits at unvisited).rank == 0) ≡ true = eq-eqb (rank_of visits at) 0 new in
+      let b : (e.rank == 0) ≡ false = ne_eqb e.rank 0 (λ q. omega (arith, next.rank, q)) in
+      let f : unreached after + cond ((get_or visits at unvisited).rank == 0) 1 0 ≡ unreached visits + cond (e.rank == 0) 1 0 = sum_by-set (λ (v : Visit). cond (v.rank == 0) 1 0) visits at e unvisited inside in
+      let g = rw (a, b) at f in omega (arith, g)
+
+  cases : (v : ℕ) (P : Type 0) → (v ≡ at → P) → (rank_of after v ≡ rank_of visits v → P) → P
+  cases v P same other = elim (cases_eq v at) [
+    | inl q ↦ same q
+    | inr q ↦ other (ap (λ (z : Visit). z.rank) (get_or-set_other visits at v e unvisited q))
+  ]
+
+  in_front : (j : ℕ) → j < length queue → slice_index longer j ≡ slice_index queue j
+  in_front j h = get_or_append_left queue (at ∷ []) 0 j h
+
+  last_is : slice_index longer (length queue) ≡ at
+  last_is = get_or-append_seam queue at [] 0
+
+  length_is : length longer ≡ length queue + 1
+  length_is = length-append queue (at ∷ [])
+
+  pub one_grows : Grows visits queue after longer
+  one_grows = record {
+    size = length-set visits at e;
+    reached = reached_still;
+    places = in_front;
+    longer = omega (arith, length_is);
+    each = omega (arith, fewer, length_is);
+  }
+
+  pub one_search : done ≤ length queue → IsSearch arcs x s after longer done
+  one_search short = record {
+    tree = λ v ne h. cases v (IsReachedBy arcs x after v) (λ q. subst (IsReachedBy arcs x after) (sym q) is_reached) (λ q. let old : 0 < rank_of visits v = omega (arith, h, q) in was v old (now.tree v ne old));
+    source = reached_still s now.source;
+    rooms = λ v h. cases v (pos 0 <ℤ room_of after v) (λ q. subst (λ u. pos 0 <ℤ room_of after u) (sym q) (omega (arith, ints, next.some, room_here))) (λ q. let old : 0 < rank_of visits v = omega (arith, h, q) in omega (arith, ints, room_kept v old, now.rooms v old));
+    ranks = λ v. cases v (rank_of after v + unreached after ≤ length after) (λ q. subst (λ u. rank_of after u + unreached after ≤ length after) (sym q) (omega (arith, length-set visits at e, rank_here, next.rank, now.ranks from, fewer))) (λ q. omega (arith, length-set visits at e, q, now.ranks v, fewer));
+    queued = λ j h. elim (cases_order j (length queue)) [
+      | inl same ↦ subst (λ u. (u < length after) × (0 < rank_of after u)) (sym (ap (slice_index longer) same ∙ last_is)) (omega (arith, length-set visits at e, inside), omega (arith, rank_here, next.rank))
+      | inr apart ↦ elim apart [
+        | inl less ↦ let q = now.queued j less in subst (λ u. (u < length after) × (0 < rank_of after u)) (sym (in_front j less)) (omega (arith, length-set visits at e, q.0), reached_still _ q.1)
+        | inr more ↦ absurd (omega (arith, more, h, length_is))
+      ]
+    ];
+    pending = λ v h. cases v (IsWaiting longer done v ⊎ ((z : Side) → IsPassed arcs x after v z))
+        (λ q. inl (length queue, short, omega (arith, length_is), last_is ∙ sym q))
+        (λ q. elim (now.pending v (omega (arith, h, q))) [
+          | inl w ↦ let (j, behind, less, is) = w in inl (j, behind, omega (arith, less, length_is), in_front j less ∙ is)
+          | inr p ↦ inr (λ z. passed_still arcs x visits after v z reached_still (p z))
+        ]);
+  }
+
+-- ---- one arc more, from the last one at the node down
+pub record IsPassing (arcs : List ArcView) (x : List ℤ) (s : ℕ) (side : Side) (at from next : ℕ) (visits : List Visit) (queue : List ℕ) (visits' : List Visit) (queue' : List ℕ) : Type 0 where
+  pub within : next ≤ length arcs
+  pub found : 0 < next → end_of side (arc_at arcs (next - 1)) ≡ from
+  pub search : IsSearch arcs x s visits' queue' at
+  pub grows : Grows visits queue visits' queue'
+  pub reached : 0 < rank_of visits' from
+  pub passed : (k : ℕ) → next ≤ k → k < length arcs → end_of side (arc_at arcs k) ≡ from → pos 0 <ℤ room_on arcs x side k → 0 < rank_of visits' (other_end side (arc_at arcs k))
+
+pub passing_none : (arcs : List ArcView) (x : List ℤ) (s : ℕ) (side : Side) (at from next : ℕ) (visits : List Visit) (queue : List ℕ) → slice_index queue at ≡ from → at < length queue
+    → IsLast side arcs (length arcs) from next → IsSearch arcs x s visits queue at → IsPassing arcs x s side at from next visits queue visits queue
+passing_none arcs x s side at from next visits queue is inside last search = record {
+  within = last.within;
+  found = last.found;
+  search = search;
+  grows = grows_none visits queue;
+  reached = subst (λ u. 0 < rank_of visits u) is (search.queued at inside).1;
+  passed = λ k behind short near room. absurd (last.none_behind k behind short near);
+}
+
+module _ (arcs : List ArcView) (x : List ℤ) (s : ℕ) (side : Side) (at from next before : ℕ) (visits : List Visit) (queue : List ℕ) (old : List Visit) (waits : List ℕ) (new : List Visit) (waits' : List ℕ)
+    (is : IsPassing arcs x s side at from next visits queue old waits) (some : 0 < next) (last : IsLast side arcs (next - 1) from before) (short : at ≤ length waits)
+    (inside : other_end side (arc_at arcs (next - 1)) < length old)
+    (reaches : Reaches from (other_end side (arc_at arcs (next - 1))) (next - 1) (room_on arcs x side (next - 1)) old waits new waits') where
+  abbrev i : ℕ
+  i = next - 1
+
+  passing_with : IsSearch arcs x s new waits' at → Grows old waits new waits' → (pos 0 <ℤ room_on arcs x side i → 0 < rank_of new (other_end side (arc_at arcs i))) → IsPassing arcs x s side at from before visits queue new waits'
+  passing_with search grows here = record {
+    within = omega (arith, last.within, is.within, some);
+    found = last.found;
+    search = search;
+    grows = grows_then visits queue old waits new waits' is.grows grows;
+    reached = grows.reached from is.reached;
+    passed = λ k behind inside near room. elim (cases_order k i) [
+      | inl same ↦ subst (λ j. 0 < rank_of new (other_end side (arc_at arcs j))) (sym same) (here (subst (λ j. pos 0 <ℤ room_on arcs x side j) same room))
+      | inr apart ↦ elim apart [
+        | inl less ↦ absurd (last.none_behind k behind less near)
+        | inr more ↦ grows.reached _ (is.passed k (omega (arith, more, some)) inside near room)
+      ]
+    ];
+  }
+
+  pub passing_more : IsPassing arcs x s side at from before visits queue new waits'
+  passing_more = elim reaches [
+    | inl none ↦
+        let (visits_is, queue_is, why) = none in
+        let search : IsSearch arcs x s new waits' at = rw (visits_is, queue_is) is.search in
+        let grows : Grows old waits new waits' = rw (visits_is, queue_is) (grows_none old waits) in
+        passing_with search grows (λ room. elim why [
+          | inl empty ↦ absurd (omega (arith, ints, room, empty))
+          | inr reached ↦ grows.reached _ reached
+        ])
+    | inr one ↦
+        let (e, next_is, fresh, visits_is, queue_is) = one in
+        let search : IsSearch arcs x s new waits' at = rw (visits_is, queue_is) (one_search arcs x s old waits at side i from (other_end side (arc_at arcs i)) e is.search inside fresh is.reached (omega (arith, is.within, some)) (is.found some) refl next_is short) in
+        let grows : Grows old waits new waits' = rw (visits_is, queue_is) (one_grows arcs x s old waits at side i from (other_end side (arc_at arcs i)) e is.search inside fresh is.reached (omega (arith, is.within, some)) (is.found some) refl next_is) in
+        let there : visit_at new (other_end side (arc_at arcs i)) ≡ e = rw visits_is (get_or-set_same old (other_end side (arc_at arcs i)) e unvisited inside) in
+        passing_with search grows (λ room. omega (arith, ap (λ (z : Visit). z.rank) there, next_is.rank))
+  ]
+
+-- nothing is left at the node
+pub passing_all : (arcs : List ArcView) (x : List ℤ) (s : ℕ) (side : Side) (at from next : ℕ) (visits : List Visit) (queue : List ℕ) (visits' : List Visit) (queue' : List ℕ) → (¬ (0 < next)) → IsPassing arcs x s side at from next visits queue visits' queue' → IsPassed arcs x visits' from side
+passing_all arcs x s side at from next visits queue visits' queue' over is k inside near room = is.passed k (omega (arith, over_is next over)) inside near room
+  where
+    over_is : (n : ℕ) → (¬ (0 < n)) → n ≤ 0
+    over_is zero some = omega arith
+    over_is (suc n) some = absurd (some (omega arith))
+
+-- ---- the whole search
+both_sides : (P : Side → Type 0) → P Tail → P Head → (side : Side) → P side
+both_sides P t h Tail = t
+both_sides P t h Head = h
+
+-- the next of the queue is done
+pub search_next : (arcs : List ArcView) (x : List ℤ) (s : ℕ) (visits : List Visit) (queue : List ℕ) (at : ℕ) → IsSearch arcs x s visits queue at
+    → IsPassed arcs x visits (slice_index queue at) Tail → IsPassed arcs x visits (slice_index queue at) Head → IsSearch arcs x s visits queue (at + 1)
+search_next arcs x s visits queue at is tail head = record {
+  tree = is.tree;
+  source = is.source;
+  rooms = is.rooms;
+  ranks = is.ranks;
+  queued = is.queued;
+  pending = λ v h. elim (is.pending v h) [
+    | inr p ↦ inr p
+    | inl w ↦
+        let (j, behind, less, here) = w in
+        elim (cases_order j at) [
+          | inl same ↦ inr (subst (λ u. (side : Side) → IsPassed arcs x visits u side) (sym (ap (slice_index queue) same) ∙ here) (both_sides (IsPassed arcs x visits (slice_index queue at)) tail head))
+          | inr apart ↦ elim apart [ inl low ↦ absurd (omega (arith, low, behind)) | inr high ↦ inl (j, omega (arith, high), less, here) ]
+        ]
+  ];
+}
+
+pub search_over : (arcs : List ArcView) (x : List ℤ) (s t : ℕ) (visits : List Visit) (queue : List ℕ) (at : ℕ) → IsSearch arcs x s visits queue at → (rank_of visits t ≡ 0 → length queue ≤ at) → IsExplored arcs x s t visits
+search_over arcs x s t visits queue at is over = record {
+  source = is.source;
+  tree = is.tree;
+  closed = λ none v h. elim (is.pending v h) [
+    | inr p ↦ p
+    | inl w ↦ let (j, behind, less, here) = w in absurd (omega (arith, behind, less, over none))
+  ];
+}
+
+nowhere : (n v : ℕ) → visit_at (replicate n unvisited) v ≡ unvisited
+nowhere zero v = refl
+nowhere (suc n) zero = refl
+nowhere (suc n) (suc v) = nowhere n v
+
+pub search_begun : (arcs : List ArcView) (x : List ℤ) (s n : ℕ) (e : Visit) → s < n → e.rank ≡ 1 → pos 0 <ℤ e.room → IsSearch arcs x s (set (replicate n unvisited) s e) (s ∷ []) 0
+search_begun arcs x s n e inside one some =
+    let blank = replicate n unvisited in
+    let long : length blank ≡ n = length-replicate n unvisited in
+    let short : s < length blank = omega (arith, inside, long) in
+    let here : visit_at (set blank s e) s ≡ e = get_or-set_same blank s e unvisited short in
+    let rank_is : rank_of (set blank s e) s ≡ 1 = ap (λ (z : Visit). z.rank) here ∙ one in
+    let room_is : room_of (set blank s e) s ≡ e.room = ap (λ (z : Visit). z.room) here in
+    let all : unreached blank ≤ length blank = count_by-le-length (λ (z : Visit). z.rank == 0) blank in
+    let a : ((get_or blank s unvisited).rank == 0) ≡ true = eq-eqb (rank_of blank s) 0 (ap (λ (z : Visit). z.rank) (nowhere n s)) in
+    let b : (e.rank == 0) ≡ false = ne_eqb e.rank 0 (λ q. omega (arith, one, q)) in
+    let f : unreached (set blank s e) + cond ((get_or blank s unvisited).rank == 0) 1 0 ≡ unreached blank + cond (e.rank == 0) 1 0 = sum_by-set (λ (v : Visit). cond (v.rank == 0) 1 0) blank s e unvisited short in
+    let fewer : unreached (set blank s e) + 1 ≡ unreached blank = let g = rw (a, b) at f in omega (arith, g) in
+    let other : (v : ℕ) → v ≢ s → rank_of (set blank s e) v ≡ 0 = λ v ne. ap (λ (z : Visit). z.rank) (get_or-set_other blank s v e unvisited ne ∙ nowhere n v) in
+    let alone : (v : ℕ) (P : ℕ → Type 0) → 0 < rank_of (set blank s e) v → P s → P v = λ v P h p. elim (cases_eq v s) [ inl q ↦ subst P (sym q) p | inr q ↦ absurd (omega (arith, h, other v q)) ] in
+    record {
+      tree = λ v ne h. absurd (omega (arith, h, other v ne));
+      source = omega (arith, rank_is);
+      rooms = λ v h. alone v (λ u. pos 0 <ℤ room_of (set blank s e) u) h (omega (arith, ints, some, room_is));
+      ranks = λ v. elim (cases_eq v s) [
+        | inl q ↦ subst (λ u. rank_of (set blank s e) u + unreached (set blank s e) ≤ length (set blank s e)) (sym q) (omega (arith, rank_is, fewer, all, length-set blank s e))
+        | inr q ↦ omega (arith, other v q, fewer, all, length-set blank s e)
+      ];
+      queued = λ j h. elim (cases_order j 0) [
+        | inl same ↦ subst (λ i. (slice_index (s ∷ []) i < length (set blank s e)) × (0 < rank_of (set blank s e) (slice_index (s ∷ []) i))) (sym same) (omega (arith, short, length-set blank s e), omega (arith, rank_is))
+        | inr apart ↦ elim apart [ inl low ↦ absurd (omega (arith, low)) | inr high ↦ absurd (omega (arith, high, h)) ]
+      ];
+      pending = λ v h. alone v (λ u. IsWaiting (s ∷ []) 0 u ⊎ ((side : Side) → IsPassed arcs x (set blank s e) u side)) h (inl (0, omega arith, omega arith, refl));
+    }

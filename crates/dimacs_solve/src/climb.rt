@@ -1,0 +1,41 @@
+//! A maximum flow, by one better flow after another.
+
+ghost use Rattle.std.specs.Prelude.{IfOk};
+ghost use Rattle.dimacs_solve.specs.Climbing.{Climbs};
+
+use crate::improve::improve;
+use dimacs_claims::Cut;
+use dimacs_decide::{Decision, Incidence, decide_max_over};
+use dimacs_instance::{MaxInstance, Network};
+use dimacs_judge::{Flow, JudgeError};
+use dimacs_lines::Memory;
+use std::alloc::Global;
+
+/// Where a climb ends.
+#[derive(Drop)]
+pub(crate) enum Ascent {
+    /// At a maximum flow, with a tight cut.
+    Top(Flow, Cut),
+    GaveUp,
+}
+
+/// Goes from the zero flow to one better flow after another, as long as there may be another question.
+pub(crate) fn climb<N: Network>(
+    alloc: Global,
+    instance: &MaxInstance<N>,
+    limit: u64,
+) -> Result<Ascent, Memory>
+    ensures { IfOk result (Climbs instance.now limit) }
+{
+    let incidence = Incidence::new(alloc, instance)?;
+    let mut flow = Flow::zero(alloc, instance.network().arcs())?;
+    for _turn in 0..limit {
+        match decide_max_over(alloc, instance, &incidence, &flow) {
+            Ok(Decision::Optimal(cut)) => return Ok(Ascent::Top(flow, cut)),
+            Ok(Decision::Better(better)) => flow = improve(alloc, instance, better),
+            Err(JudgeError::Refused(..)) => unreachable!(),
+            Err(JudgeError::Memory) => return Err(Memory),
+        }
+    }
+    Ok(Ascent::GaveUp)
+}

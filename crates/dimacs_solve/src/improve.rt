@@ -1,0 +1,44 @@
+//! Improving a flow between two questions, by code of which nothing is believed.
+
+ghost use Rattle.std.specs.Prelude.{◌≡◌, ◌≤ℤ◌, length, IsTrue};
+ghost use Rattle.dimacs_judge.specs.Feasible.{FeasibleMax, value};
+
+use crate::preflow::pushed;
+use dimacs_decide::value_of;
+use dimacs_instance::{MaxInstance, Network};
+use dimacs_judge::{Flow, feasible_max};
+use std::alloc::Global;
+
+/// A feasible flow of no less value: what the preflows make of this one, if it passes the test; else, and where memory
+/// runs out, this one.
+pub(crate) fn improve<N: Network>(alloc: Global, instance: &MaxInstance<N>, flow: Flow) -> Flow
+    requires { FeasibleMax instance.now flow }
+    ensures feasible { FeasibleMax instance.now result }
+    ensures value { value instance.now flow ≤ℤ value instance.now result }
+{
+    if let Ok(other) = pushed(alloc, instance, &flow)
+        && is_no_worse(alloc, instance, &flow, &other)
+    {
+        return other;
+    }
+    flow
+}
+
+/// Whether a flow is feasible and has no less value than another. `false` also where there is no memory for the test.
+fn is_no_worse<N: Network>(
+    alloc: Global,
+    instance: &MaxInstance<N>,
+    flow: &Flow,
+    other: &Flow,
+) -> bool
+    requires { length flow.now ≡ length instance.now.arcs }
+    ensures { IsTrue result → FeasibleMax instance.now other.now × (value instance.now flow.now ≤ℤ value instance.now other.now) }
+{
+    if other.len() != instance.network().arcs() as usize {
+        return false;
+    }
+    match feasible_max(alloc, instance, other) {
+        Ok(()) => value_of(instance, flow) <= value_of(instance, other),
+        Err(_) => false,
+    }
+}
