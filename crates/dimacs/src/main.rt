@@ -48,6 +48,7 @@ fn outcome(rt: &HostRuntime) -> Option<Result<Status, RunError>> {
         Job::Show(kind, file) => Some(show(rt, kind, file)),
         Job::Judge(JudgeKind::Infeasible, files) => Some(judge_set(rt, files)),
         Job::Judge(kind, files) => Some(judge(rt, kind, files)),
+        Job::Solve(..) => None,
     }
 }
 

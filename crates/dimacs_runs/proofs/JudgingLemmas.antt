@@ -17,7 +17,7 @@ use Rattle.std.specs.List.{flat_map}
 use Rattle.dimacs_runs.specs.Judged.{paths_lines}
 use Rattle.dimacs_judge.specs.Tests.{Row, Judges}
 use Rattle.dimacs_runs.specs.declared.outcome.Status.{Status}
-use Rattle.dimacs_runs.specs.declared.outcome.Status.TheVariants.{Done, Refused}
+use Rattle.dimacs_runs.specs.declared.outcome.Status.TheVariants.{Done, Refused, GaveUp}
 use Rattle.dimacs_runs.specs.declared.outcome.RunError.{RunError}
 use Rattle.dimacs_runs.specs.declared.told.Told.{Told}
 use Rattle.dimacs_runs.specs.declared.unread.Unread.{Unread}
@@ -97,6 +97,7 @@ module _ (holds : Type 0) (rows : List Row) (says : Verdict → Type 0) (lines :
       alone : (s : Status) (other : List ℕ) → judged s other → (s ≡ Done) × (other ≡ verdict_lines verdict)
       alone Done other h = (refl, h.1 ∙ sym (same verdict answer.2))
       alone Refused other h = absurd (none_first rows h.0 h.1 answer.0 h.2)
+      alone GaveUp other h = absurd h
 
   no_alone : (place : Where) (reason : Reason) → Judges rows holds says (Err (judge_errors.Refused place reason)) → TellsAlone judged Refused (failure_line place reason)
   no_alone place reason answer = ((place, reason, answer.0.0, refl), alone)
@@ -104,6 +105,7 @@ module _ (holds : Type 0) (rows : List Row) (says : Verdict → Type 0) (lines :
       alone : (s : Status) (other : List ℕ) → judged s other → (s ≡ Refused) × (other ≡ failure_line place reason)
       alone Done other h = absurd (answer.1 h.0)
       alone Refused other h = let same = answer.0.1 h.0 h.1 h.2 in (refl, h.3 ∙ rw (same.0, same.1) refl)
+      alone GaveUp other h = absurd h
 
   -- the judge answered
   pub answer_alone : (answer : Result Verdict JudgeError) → Judges rows holds says answer → ToldAlone judged (answer_told answer)

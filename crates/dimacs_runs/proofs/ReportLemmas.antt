@@ -8,7 +8,7 @@ use Rattle.dimacs_records.specs.declared.faults.ReadError.TheVariants as read_er
 use Rattle.dimacs_records.specs.declared.reasons.Reason.{Reason}
 use Rattle.dimacs_records.specs.Texts.{Reads}
 use Rattle.dimacs_runs.specs.declared.outcome.Status.{Status}
-use Rattle.dimacs_runs.specs.declared.outcome.Status.TheVariants.{Done, Refused}
+use Rattle.dimacs_runs.specs.declared.outcome.Status.TheVariants.{Done, Refused, GaveUp}
 use Rattle.dimacs_runs.specs.declared.outcome.RunError.{RunError}
 use Rattle.dimacs_runs.specs.Refusals.{refusal_line}
 use Rattle.dimacs_runs.specs.Runs.{Tells, TellsAlone, Reports, done_after, EndsWith}
@@ -23,6 +23,7 @@ module _ {V : Type 0} (spells : V → Type 0) (told : V → List ℕ) (fault : �
       alone : (s : Status) (other : List ℕ) → tells s other → (s ≡ Done) × (other ≡ told v)
       alone Done other h = (refl, h.2 ∙ ap told (read.1 h.0 h.1))
       alone Refused other h = absurd (read.2 h.0 h.1 h.2 h.3)
+      alone GaveUp other h = absurd h
 
   fault_told : (place : At) (reason : Reason) → Reads spells fault (Err (read_errors.Refused place reason)) → TellsAlone tells Refused (refusal_line text place.line place.field reason)
   fault_told place reason read = ((place.line, place.field, reason, read.0, refl), alone)
@@ -30,6 +31,7 @@ module _ {V : Type 0} (spells : V → Type 0) (told : V → List ℕ) (fault : �
       alone : (s : Status) (other : List ℕ) → tells s other → (s ≡ Refused) × (other ≡ refusal_line text place.line place.field reason)
       alone Done other h = absurd (read.2 h.0 h.1)
       alone Refused other h = let same = read.1 h.0 h.1 h.2 h.3 in (refl, h.4 ∙ rw (same.0, same.1, same.2) refl)
+      alone GaveUp other h = absurd h
 
   -- a value was read, and what it tells was put
   pub done_reports : (v : V) (put : Result Unit DeviceFault) (result : Result Status RunError) (old new : Option (List ℕ))

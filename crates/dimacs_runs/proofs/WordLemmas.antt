@@ -1,10 +1,62 @@
 -- Words one by one.
-use Rattle.std.proofs.Common.{◌≡◌, ℕ, ◌∷◌, [], ◌<◌, ◌≤◌, List, length, map, get_or, refl, sym, arith}
+use Rattle.std.proofs.Common.{◌≡◌, ◌≢◌, ◌∙◌, ℕ, ◌∷◌, ◌++◌, [], ◌<◌, ◌≤◌, List, Option, Some, None, IfSome, IfNone, length, map, drop, get_or, refl, sym, ap, arith}
+use Rattle.std.specs.Prelude.{codes}
+use Rattle.std.proofs.lemmas.List.{length-map}
+use Rattle.std.specs.String.{string_bytes}
+use Rattle.dimacs_runs.specs.declared.jobs.Job.{Job}
+use Rattle.dimacs_runs.specs.declared.jobs.Job.TheVariants.{Convert, Show, Judge, Solve}
+use Rattle.dimacs_runs.specs.declared.jobs.JudgeKind.{JudgeKind}
+use Rattle.dimacs_runs.specs.declared.jobs.SolveJob.{SolveJob}
+use Rattle.dimacs_runs.specs.declared.jobs.SolveJob.TheVariants.{Max, Paths}
+use Rattle.dimacs_runs.specs.Jobs.{AreOptions, Asks, AsksProducer, IsLimit, file_count, judge_word, solve_word}
 
-pub three_words : {A : Type 0} (f : A → List ℕ) (words : List A) (a b c : A) (x y z : List ℕ) → 3 ≤ length words → length words < 4 → a ≡ get_or words 0 a → b ≡ get_or words 1 b → c ≡ get_or words 2 c
-    → x ≡ f a → y ≡ f b → z ≡ f c → map f words ≡ x ∷ y ∷ z ∷ []
-three_words f (p ∷ q ∷ r ∷ []) a b c x y z least most first second third is_x is_y is_z = sym (rw (is_x, is_y, is_z, first, second, third) refl)
-three_words f [] a b c x y z least most first second third is_x is_y is_z = absurd (omega (arith, least))
-three_words f (p ∷ []) a b c x y z least most first second third is_x is_y is_z = absurd (omega (arith, least))
-three_words f (p ∷ q ∷ []) a b c x y z least most first second third is_x is_y is_z = absurd (omega (arith, least))
-three_words f (p ∷ q ∷ r ∷ s ∷ more) a b c x y z least most first second third is_x is_y is_z = absurd (omega (arith, most))
+pub two_words : {A : Type 0} (f : A → List ℕ) (words : List A) (a b : A) (x y : List ℕ) → 2 ≤ length words → length words < 3 → a ≡ get_or words 0 a → b ≡ get_or words 1 b
+    → x ≡ f a → y ≡ f b → map f words ≡ x ∷ y ∷ []
+two_words f (p ∷ q ∷ []) a b x y least most first second is_x is_y = sym (rw (is_x, is_y, first, second) refl)
+two_words f [] a b x y least most first second is_x is_y = absurd (omega (arith, least))
+two_words f (p ∷ []) a b x y least most first second is_x is_y = absurd (omega (arith, least))
+two_words f (p ∷ q ∷ r ∷ more) a b x y least most first second is_x is_y = absurd (omega (arith, most))
+
+-- ---- what stands after the files of a producer
+pub limited : (told : Option ℕ) (words : List (List ℕ)) (number : List ℕ) → words ≡ codes "--limit" ∷ number ∷ [] → IfSome told (IsLimit number) → IfSome told (λ limit. AreOptions (Max limit) words)
+limited (Some limit) words number is read = rw is (refl, read)
+limited None words number is read = tt
+
+pub unlimited : (word : List ℕ) (options : List (List ℕ)) → word ≡ codes "solve-max" → ((limit : ℕ) → ¬ AreOptions (Max limit) options)
+    → (job : SolveJob) → word ≡ solve_word job → ¬ AreOptions job options
+unlimited word options is none (Max limit) same = none limit
+unlimited word options is none Paths same = absurd cc
+
+-- lists that begin with as many members have the same rest
+same_rest : {A : Type 0} (xs ys us vs : List A) → length xs ≡ length us → xs ++ ys ≡ us ++ vs → ys ≡ vs
+same_rest [] ys [] vs long same = same
+same_rest [] ys (u ∷ us) vs long same = absurd (omega (arith, long))
+same_rest (x ∷ xs) ys [] vs long same = absurd (omega (arith, long))
+same_rest (x ∷ xs) ys (u ∷ us) vs long same = same_rest xs ys us vs (omega (arith, long)) cc
+
+-- the words ask for no producer where what stands after three files isn't an option of one
+pub no_producer : {A : Type 0} (f : A → List ℕ) (verb : List ℕ) (words options : List A) → 3 ≤ length words → options ≡ drop 3 words
+    → ((job : SolveJob) → verb ≡ solve_word job → ¬ AreOptions job (map f options)) → (job : SolveJob) (files : List (List ℕ)) → ¬ AsksProducer (verb ∷ map f words) job files
+no_producer f verb (p ∷ q ∷ r ∷ rest) options least is none job files (more, same, count, are) =
+    let same_verb : verb ≡ solve_word job = cc in
+    let all : (f p ∷ f q ∷ f r ∷ []) ++ map f rest ≡ files ++ more = cc in
+    none job same_verb (rw (ap (map f) is, same_rest (f p ∷ f q ∷ f r ∷ []) (map f rest) files more (sym count) all) are)
+no_producer f verb [] options least is none job files asks = absurd (omega (arith, least))
+no_producer f verb (p ∷ []) options least is none job files asks = absurd (omega (arith, least))
+no_producer f verb (p ∷ q ∷ []) options least is none job files asks = absurd (omega (arith, least))
+
+module _ {A : Type 0} (f : A → List ℕ) (words : List A) (first : A) (rest : List A) (verb : List ℕ) (is : words ≡ first ∷ rest) (is_verb : verb ≡ f first) where
+  -- a word that names no run, and words after it that no judge and no producer takes
+  pub nothing_asked : (answer : Option Job) → verb ≢ codes "convert" → verb ≢ codes "show" → IfNone answer ((kind : JudgeKind) → verb ≡ judge_word kind → length rest ≢ file_count kind)
+      → IfNone answer ((job : SolveJob) (files : List (List ℕ)) → ¬ AsksProducer (verb ∷ map f rest) job files) → IfNone answer ((wanted : Job) → ¬ Asks (map f words) wanted)
+  nothing_asked (Some job) convert show judge producer = tt
+  nothing_asked None convert show judge producer = rw (is, ← is_verb) nothing
+    where
+      nothing : (wanted : Job) → ¬ Asks (verb ∷ map f rest) wanted
+      nothing (Convert kind file) asks = convert cc
+      nothing (Show kind file) asks = show cc
+      nothing (Judge kind files) (same, count) =
+          let word : verb ≡ judge_word kind = cc in
+          let others : map f rest ≡ map string_bytes files.now = cc in
+          judge kind word (sym (length-map rest f) ∙ ap length others ∙ length-map files.now string_bytes ∙ count)
+      nothing (Solve job files) asks = producer job (map string_bytes files.now) asks

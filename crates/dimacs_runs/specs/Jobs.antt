@@ -1,12 +1,15 @@
 -- What the words behind the program's name ask for.
-use Rattle.std.specs.Prelude.{ℕ, ◌≡◌, List, [], ◌∷◌, codes, map, length}
+use Rattle.std.specs.Prelude.{ℕ, ◌≡◌, ◌≤◌, ◌++◌, List, [], ◌∷◌, codes, map, length, pos}
 use Rattle.std.specs.String.{string_bytes}
+use Rattle.dimacs_lines.specs.Number.{Spells}
 use Rattle.dimacs_records.specs.declared.kinds.TextKind.{TextKind}
 use Rattle.dimacs_records.specs.declared.kinds.TextKind.TheVariants.{Max, Min, Graph, Queries, Solution, Cut, Potentials, Labels}
 use Rattle.dimacs_runs.specs.declared.jobs.Job.{Job}
-use Rattle.dimacs_runs.specs.declared.jobs.Job.TheVariants.{Convert, Show, Judge}
+use Rattle.dimacs_runs.specs.declared.jobs.Job.TheVariants.{Convert, Show, Judge, Solve}
 use Rattle.dimacs_runs.specs.declared.jobs.JudgeKind.{JudgeKind}
 use Rattle.dimacs_runs.specs.declared.jobs.JudgeKind.TheVariants as judges
+use Rattle.dimacs_runs.specs.declared.jobs.SolveJob.{SolveJob}
+use Rattle.dimacs_runs.specs.declared.jobs.SolveJob.TheVariants as solves
 
 abbrev pub kind_word : TextKind → List ℕ
 kind_word Max = codes "max"
@@ -31,7 +34,27 @@ file_count judges.Min = 3
 file_count judges.Infeasible = 2
 file_count judges.Paths = 3
 
+abbrev pub solve_word : SolveJob → List ℕ
+solve_word (solves.Max limit) = codes "solve-max"
+solve_word solves.Paths = codes "solve-paths"
+
+-- a number from 0 to 10^9
+abbrev pub IsLimit : List ℕ → ℕ → Type 0
+IsLimit word limit = Spells word (pos limit) × (limit ≤ 1000000000)
+
+-- what may stand after the files: `--limit` and a number where flows are improved, and 10^6 where it doesn't
+abbrev pub AreOptions : SolveJob → List (List ℕ) → Type 0
+AreOptions (solves.Max limit) [] = limit ≡ 1000000
+AreOptions (solves.Max limit) (word ∷ number ∷ []) = (word ≡ codes "--limit") × IsLimit number limit
+AreOptions (solves.Max limit) other = ⊥
+AreOptions solves.Paths options = options ≡ []
+
+-- three files, and what stands after them
+abbrev pub AsksProducer : List (List ℕ) → SolveJob → List (List ℕ) → Type 0
+AsksProducer words job files = (options : List (List ℕ)) × (words ≡ solve_word job ∷ files ++ options) × (length files ≡ 3) × AreOptions job options
+
 abbrev pub Asks : List (List ℕ) → Job → Type 0
 Asks words (Convert kind file) = words ≡ codes "convert" ∷ kind_word kind ∷ file.now ∷ []
 Asks words (Show kind file) = words ≡ codes "show" ∷ kind_word kind ∷ file.now ∷ []
 Asks words (Judge kind files) = (words ≡ judge_word kind ∷ map string_bytes files.now) × (length files.now ≡ file_count kind)
+Asks words (Solve job files) = AsksProducer words job (map string_bytes files.now)

@@ -14,7 +14,7 @@ use Rattle.dimacs_judge.specs.declared.verdict.Verdict.{Verdict}
 use Rattle.dimacs_judge.specs.declared.verdict.Where.{Where}
 use Rattle.dimacs_judge.specs.Tests.{Row, First}
 use Rattle.dimacs_runs.specs.declared.outcome.Status.{Status}
-use Rattle.dimacs_runs.specs.declared.outcome.Status.TheVariants.{Done, Refused}
+use Rattle.dimacs_runs.specs.declared.outcome.Status.TheVariants.{Done, Refused, GaveUp}
 use Rattle.dimacs_runs.specs.declared.outcome.RunError.{RunError}
 use Rattle.dimacs_runs.specs.declared.outcome.RunError.TheVariants.{Device, Memory}
 use Rattle.dimacs_runs.specs.declared.told.Told.{Told}
@@ -43,6 +43,7 @@ FaultOr text next status out =
 abbrev pub VerdictOr : Type 0 → List Row → List ℕ → Status → List ℕ → Type 0
 VerdictOr holds rows verdict Done out = holds × (out ≡ verdict)
 VerdictOr holds rows verdict Refused out = (place : Where) × (reason : Reason) × First rows place reason × (out ≡ failure_line place reason)
+VerdictOr holds rows verdict GaveUp out = ⊥
 
 -- what is told of a judge's answer
 abbrev pub answer_told : Result Verdict JudgeError → Result Told RunError

@@ -20,7 +20,7 @@ use Rattle.dimacs_instance.specs.MaxTexts.{SpellsMax, canonical_max}
 use Rattle.dimacs_instance.specs.MinTexts.{SpellsMin, canonical_min}
 use Rattle.dimacs_instance.specs.QueryTexts.{SpellsQueries, canonical_queries}
 use Rattle.dimacs_runs.specs.declared.outcome.Status.{Status}
-use Rattle.dimacs_runs.specs.declared.outcome.Status.TheVariants.{Done, Refused}
+use Rattle.dimacs_runs.specs.declared.outcome.Status.TheVariants.{Done, Refused, GaveUp}
 use Rattle.dimacs_runs.specs.declared.outcome.RunError.{RunError}
 use Rattle.dimacs_runs.specs.declared.outcome.RunError.TheVariants.{Device, Memory}
 use Rattle.dimacs_runs.specs.Refusals.{refusal_line}
@@ -41,6 +41,7 @@ text_word Labels = codes "certificate"
 abbrev pub Tells : {V : Type 0} → (V → Type 0) → (V → List ℕ) → (ℕ → ℕ → Reason → Type 0) → List ℕ → Status → List ℕ → Type 0
 Tells spells told fault text Done out = (v : _) × spells v × (out ≡ told v)
 Tells spells told fault text Refused out = (l : ℕ) × (f : ℕ) × (r : Reason) × fault l f r × (out ≡ refusal_line text l f r)
+Tells spells told fault text GaveUp out = ⊥
 
 -- what a reader answers whose value says this
 abbrev pub ReadsAs : {T V : Type 0} → (T → V) → (V → Type 0) → (ℕ → ℕ → Reason → Type 0) → Result T ReadError → Type 0

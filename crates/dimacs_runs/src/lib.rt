@@ -17,7 +17,7 @@ mod verdict;
 mod words;
 
 pub use convert::run_convert;
-pub use jobs::{Job, JudgeKind};
+pub use jobs::{Job, JudgeKind, SolveJob};
 pub use judge::run_judge;
 pub use outcome::{RunError, Status, exit_status};
 pub use show::run_show;

@@ -12,6 +12,8 @@ pub enum Status {
     Done,
     /// The line of a refusal.
     Refused,
+    /// The line that tells that the limit was reached.
+    GaveUp,
 }
 
 /// Why a run did not put all that it had to.
@@ -40,6 +42,7 @@ pub fn exit_status(outcome: &Result<Status, RunError>) -> u8
     match outcome {
         Ok(Status::Done) => 0,
         Ok(Status::Refused) => 1,
+        Ok(Status::GaveUp) => 5,
         Err(RunError::Device) => 3,
         Err(RunError::Memory) => 4,
     }

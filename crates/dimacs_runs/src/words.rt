@@ -1,30 +1,68 @@
 //! What the words behind the program's name mean.
 
-ghost use Rattle.std.specs.Prelude.{◌≡◌, ◌≢◌, IfSome, IfNone, map};
+ghost use Rattle.std.specs.Prelude.{◌≡◌, ◌≢◌, ◌∷◌, [], ℕ, List, IfSome, IfNone, length, map};
 ghost use Rattle.dimacs_records.specs.declared.kinds.TextKind.{TextKind};
 ghost use Rattle.dimacs_runs.specs.declared.jobs.Job.{Job};
 ghost use Rattle.dimacs_runs.specs.declared.jobs.JudgeKind.{JudgeKind};
+ghost use Rattle.dimacs_runs.specs.declared.jobs.SolveJob.{SolveJob};
+ghost use Rattle.dimacs_runs.specs.declared.jobs.SolveJob.TheVariants.{Max};
 ghost use Rattle.std.specs.String.{string_bytes};
-ghost use Rattle.dimacs_runs.specs.Jobs.{Asks, file_count, judge_word, kind_word};
+ghost use Rattle.dimacs_runs.specs.Jobs.{AreOptions, Asks, AsksProducer, IsLimit, file_count, judge_word, kind_word, solve_word};
 
-use crate::jobs::{Job, JudgeKind};
+use crate::jobs::{Job, JudgeKind, SolveJob};
+use dimacs_lines::number;
 use dimacs_records::TextKind;
+
+/// The files of a producer's run.
+const PRODUCER_FILES: usize = 3;
+
+/// How many flows are tried where no limit is told.
+const LIMIT: u64 = 1_000_000;
+
+/// The greatest limit.
+const GREATEST_LIMIT: i64 = 1_000_000_000;
 
 /// The run that the words ask for. A file word is any word, also one that begins with `-`.
 pub fn job(words: &[String]) -> Option<Job<'_>>
     ensures asked { IfSome result (λ wanted. Asks (map string_bytes words.now) wanted) }
     ensures not_asked { IfNone result ((wanted : Job) → ¬ Asks (map string_bytes words.now) wanted) }
 {
-    match words {
-        [verb, kind, file] if verb.as_str() == "convert" => {
-            Some(Job::Convert(text_kind(kind.as_str())?, file.as_str()))
+    let (verb, rest) = words.split_first()?;
+    match verb.as_str() {
+        "convert" => {
+            let (kind, file) = text_words(rest)?;
+            Some(Job::Convert(kind, file))
         }
-        [verb, kind, file] if verb.as_str() == "show" => {
-            Some(Job::Show(text_kind(kind.as_str())?, file.as_str()))
+        "show" => {
+            let (kind, file) = text_words(rest)?;
+            Some(Job::Show(kind, file))
         }
-        [verb, files @ ..] => Some(Job::Judge(judge_kind(verb.as_str(), files.len())?, files)),
-        [] => None,
+        verb => files_job(verb, rest),
     }
+}
+
+/// The kind of text and the file that two words name.
+fn text_words(words: &[String]) -> Option<(TextKind, &str)>
+    ensures named { IfSome result (λ named. map string_bytes words.now ≡ kind_word named.0 ∷ named.1.now ∷ []) }
+    ensures not_named { IfNone result ((kind : TextKind) (file : List ℕ) → ¬ (map string_bytes words.now ≡ kind_word kind ∷ file ∷ [])) }
+{
+    match words {
+        [kind, file] => Some((text_kind(kind.as_str())?, file.as_str())),
+        _ => None,
+    }
+}
+
+/// The run over several files that a word and those after it ask for.
+fn files_job<'a>(verb: &str, words: &'a [String]) -> Option<Job<'a>>
+    ensures asked { IfSome result (Asks (verb.now ∷ map string_bytes words.now)) }
+    ensures no_judge { IfNone result ((kind : JudgeKind) → verb.now ≡ judge_word kind → length words.now ≢ file_count kind) }
+    ensures no_producer { IfNone result ((job : SolveJob) (files : List (List ℕ)) → ¬ AsksProducer (verb.now ∷ map string_bytes words.now) job files) }
+{
+    if let Some(kind) = judge_kind(verb, words.len()) {
+        return Some(Job::Judge(kind, words));
+    }
+    let (files, options) = words.split_at_checked(PRODUCER_FILES)?;
+    Some(Job::Solve(solve_job(verb, options)?, files))
 }
 
 /// What a word asks a judge about, with so many files behind it.
@@ -37,6 +75,41 @@ fn judge_kind(word: &str, files: usize) -> Option<JudgeKind>
         ("judge-min", 3) => Some(JudgeKind::Min),
         ("judge-infeasible", 2) => Some(JudgeKind::Infeasible),
         ("judge-paths", 3) => Some(JudgeKind::Paths),
+        _ => None,
+    }
+}
+
+/// What a word asks a producer for, with these words after the files.
+fn solve_job(word: &str, options: &[String]) -> Option<SolveJob>
+    ensures named { IfSome result (λ job. (word.now ≡ solve_word job) × AreOptions job (map string_bytes options.now)) }
+    ensures not_named { IfNone result ((job : SolveJob) → word.now ≡ solve_word job → ¬ AreOptions job (map string_bytes options.now)) }
+{
+    match word {
+        "solve-max" => Some(SolveJob::Max(limit(options)?)),
+        "solve-paths" if options.is_empty() => Some(SolveJob::Paths),
+        _ => None,
+    }
+}
+
+/// The limit that these words tell.
+fn limit(options: &[String]) -> Option<u64>
+    ensures told { IfSome result (λ limit. AreOptions (Max limit) (map string_bytes options.now)) }
+    ensures not_told { IfNone result ((limit : ℕ) → ¬ AreOptions (Max limit) (map string_bytes options.now)) }
+{
+    match options {
+        [] => Some(LIMIT),
+        [word, number] if word.as_str() == "--limit" => limit_in(number.as_bytes()),
+        _ => None,
+    }
+}
+
+/// The limit that a word spells.
+fn limit_in(word: &[u8]) -> Option<u64>
+    ensures spelled { IfSome result (IsLimit word.now) }
+    ensures not_spelled { IfNone result ((limit : ℕ) → ¬ IsLimit word.now limit) }
+{
+    match number(word) {
+        Ok(limit) if (0..=GREATEST_LIMIT).contains(&limit) => Some(limit as u64),
         _ => None,
     }
 }

@@ -2,7 +2,7 @@
 
 use crate::checks::same;
 use dimacs_records::TextKind;
-use dimacs_runs::{Job, JudgeKind, RunError, Status, exit_status, job};
+use dimacs_runs::{Job, JudgeKind, RunError, SolveJob, Status, exit_status, job};
 use std::alloc::Global;
 use std::test::Fail;
 
@@ -74,8 +74,49 @@ fn words_ask_for_each_judge(rt: HostRuntime) -> Result<(), Fail> {
     Ok(())
 }
 
+/// Command lines that ask for a producer. The three words after the first are its files.
+static PRODUCERS: [(&str, SolveJob); 12] = [
+    ("solve-max instance solution cut", SolveJob::Max(1_000_000)),
+    (
+        "solve-max instance solution cut --limit 10",
+        SolveJob::Max(10),
+    ),
+    (
+        "solve-max instance solution cut --limit 0",
+        SolveJob::Max(0),
+    ),
+    (
+        "solve-max instance solution cut --limit -0",
+        SolveJob::Max(0),
+    ),
+    (
+        "solve-max instance solution cut --limit +007",
+        SolveJob::Max(7),
+    ),
+    (
+        "solve-max instance solution cut --limit 1000000000",
+        SolveJob::Max(1_000_000_000),
+    ),
+    ("solve-max instance --limit 5", SolveJob::Max(1_000_000)),
+    ("solve-max --limit 5 cut", SolveJob::Max(1_000_000)),
+    ("solve-max - --limit --limit --limit 5", SolveJob::Max(5)),
+    ("solve-paths graph query labels", SolveJob::Paths),
+    ("solve-paths --limit --help -", SolveJob::Paths),
+    ("solve-paths solve-paths --limit 5", SolveJob::Paths),
+];
+
+#[test]
+fn words_ask_for_each_producer(rt: HostRuntime) -> Result<(), Fail> {
+    for &(line, producer) in &PRODUCERS {
+        let given = words(rt.alloc(), line)?;
+        let files = given.get(1..4).unwrap_or_default();
+        same(&rt, line, job(&given), Some(Job::Solve(producer, files)));
+    }
+    Ok(())
+}
+
 /// Command lines that ask for nothing.
-static OTHER_WORDS: [&str; 21] = [
+static OTHER_WORDS: [&str; 37] = [
     "",
     "convert",
     "convert gr",
@@ -97,6 +138,22 @@ static OTHER_WORDS: [&str; 21] = [
     "judge-infeasible instance",
     "judge-infeasible instance solution cut",
     "judge instance solution cut",
+    "solve-max",
+    "solve-max instance solution",
+    "solve-max instance solution cut cut",
+    "solve-max instance solution cut --limit",
+    "solve-max instance solution cut --limit 5 5",
+    "solve-max instance solution cut limit 5",
+    "solve-max instance solution cut 5 --limit",
+    "solve-max instance solution cut --limit 1000000001",
+    "solve-max instance solution cut --limit -1",
+    "solve-max instance solution cut --limit 5.",
+    "solve-max instance solution cut --limit ",
+    "solve-max instance solution cut --limit 99999999999999999999",
+    "solve-max --limit 5 instance solution cut",
+    "solve-paths graph query",
+    "solve-paths graph query labels --limit 5",
+    "solve instance solution cut",
 ];
 
 #[test]
@@ -111,9 +168,10 @@ fn other_words_ask_for_nothing(rt: HostRuntime) -> Result<(), Fail> {
 }
 
 /// Outcomes of runs, each with its exit status.
-static STATUSES: [(Result<Status, RunError>, u8); 4] = [
+static STATUSES: [(Result<Status, RunError>, u8); 5] = [
     (Ok(Status::Done), 0),
     (Ok(Status::Refused), 1),
+    (Ok(Status::GaveUp), 5),
     (Err(RunError::Device), 3),
     (Err(RunError::Memory), 4),
 ];
