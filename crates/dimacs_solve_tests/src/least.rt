@@ -1,0 +1,96 @@
+//! Least flows that are made.
+
+use crate::checks::same;
+use dimacs_instance::{ArcView, MinInstance, PlainArcs, read_min};
+use dimacs_judge::{Verdict, judge_infeasible, judge_min};
+use dimacs_lines::MemorySource;
+use dimacs_solve::{MinAnswer, solve_min};
+use std::alloc::Global;
+use std::process::Abort;
+use std::test::Fail;
+
+/// A case in each line: what it shows, the lines of the instance, the limit, and what is told of the answer.
+static CASES: &str = "\
+two paths | p min 4 5; n 1 4; n 4 -4; a 1 2 0 4 2; a 1 3 0 2 2; a 2 3 0 2 1; a 2 4 0 3 3; a 3 4 0 5 1 | 10 | v min 14
+as many paths as it takes | p min 4 5; n 1 4; n 4 -4; a 1 2 0 4 2; a 1 3 0 2 2; a 2 3 0 2 1; a 2 4 0 3 3; a 3 4 0 5 1 | 2 | v min 14
+a path too few | p min 4 5; n 1 4; n 4 -4; a 1 2 0 4 2; a 1 3 0 2 2; a 2 3 0 2 1; a 2 4 0 3 3; a 3 4 0 5 1 | 1 | g limit
+no path | p min 4 5; n 1 4; n 4 -4; a 1 2 0 4 2; a 1 3 0 2 2; a 2 3 0 2 1; a 2 4 0 3 3; a 3 4 0 5 1 | 0 | g limit
+a path back over an arc in use | p min 4 5; n 1 2; n 4 -2; a 1 2 0 1 1; a 1 3 0 1 10; a 2 3 0 1 1; a 2 4 0 1 10; a 3 4 0 1 1 | 10 | v min 22
+nothing to move, and no path for it | p min 3 1; a 1 3 0 5 1 | 0 | v min 0
+no nodes | p min 0 0 | 0 | v min 0
+a supply that is asked for nowhere | p min 2 1; n 1 1; a 1 2 0 5 1 | 10 | v infeasible
+a demand that is supplied nowhere | p min 2 1; n 1 -1; a 1 2 0 5 1 | 10 | v infeasible
+a supply at a node without arcs | p min 3 1; n 3 1; n 2 -1; a 1 2 0 5 1 | 10 | v infeasible
+too little room, seen after a path | p min 2 1; n 1 3; n 2 -3; a 1 2 0 2 1 | 1 | v infeasible
+too little room, and no path | p min 2 1; n 1 3; n 2 -3; a 1 2 0 2 1 | 0 | g limit
+a lower bound above the supply | p min 2 1; n 1 1; n 2 -1; a 1 2 2 5 0 | 10 | v infeasible
+lower bounds on a path | p min 3 2; n 1 3; n 3 -3; a 1 2 1 3 1; a 2 3 2 3 1 | 10 | v min 6
+a lower bound that a cycle meets | p min 2 2; a 1 2 2 5 1; a 2 1 0 5 1 | 10 | v min 4
+a loop with a lower bound | p min 1 1; a 1 1 1 4 2 | 0 | v min 2
+a loop of negative cost | p min 1 1; a 1 1 1 4 -2 | 0 | v min -8
+a cycle of negative cost | p min 2 2; a 1 2 0 2 -3; a 2 1 0 2 1 | 10 | v min -4
+an arc of negative cost that leads nowhere | p min 2 1; a 1 2 0 2 -3 | 10 | v min 0
+supplies at every node | p min 3 3; n 1 2; n 2 -1; n 3 -1; a 1 2 0 2 1; a 2 3 0 2 1; a 1 3 0 2 3 | 10 | v min 3
+two sources for two demands | p min 4 4; n 1 2; n 2 2; n 3 -2; n 4 -2; a 1 3 0 2 1; a 1 4 0 2 5; a 2 3 0 2 2; a 2 4 0 2 3 | 10 | v min 8
+a cost near the end of its range | p min 1 1; a 1 1 0 9000000000000000000 9000000000000000000 | 10 | v min 0
+a cost out of its range | p min 1 1; a 1 1 0 9000000000000000000 -9000000000000000000 | 10 | g limit
+a path longer than a number of 64 bits | p min 4 3; n 1 1; n 4 -1; a 1 2 0 1 9223372036854775807; a 2 3 0 1 9223372036854775807; a 3 4 0 1 9223372036854775807 | 10 | v min 27670116110564327421
+as much as fits on an arc | p min 3 2; n 1 9223372036854775807; n 3 -9223372036854775807; a 1 2 0 9223372036854775807 1; a 2 3 0 9223372036854775807 -1 | 10 | v min 0";
+
+/// An instance, of lines parted by semicolons.
+fn instance(alloc: Global, lines: &str) -> Result<MinInstance<PlainArcs<ArcView>>, Fail> {
+    let mut text = Vec::new(alloc);
+    for byte in lines.bytes() {
+        text.push(if byte == b';' { b'\n' } else { byte })?;
+    }
+    let instance = read_min(alloc, &mut MemorySource::new(&text))?;
+    Ok(instance)
+}
+
+/// What is told of an answer: what the judge says of it.
+fn told(
+    alloc: Global,
+    instance: &MinInstance<PlainArcs<ArcView>>,
+    answer: MinAnswer,
+) -> Result<String, Fail> {
+    match answer {
+        MinAnswer::Optimal(solution, potentials) => {
+            let verdict = judge_min(alloc, instance, &solution, &potentials)?;
+            told_yes(alloc, &verdict)
+        }
+        MinAnswer::Infeasible(set) => {
+            let verdict = judge_infeasible(instance, &set)?;
+            told_yes(alloc, &verdict)
+        }
+        MinAnswer::GaveUp => Ok(String::from_str(alloc, "g limit")?),
+    }
+}
+
+fn told_yes(alloc: Global, verdict: &Verdict) -> Result<String, Fail> {
+    match verdict {
+        Verdict::Min(cost) => Ok(format!(in alloc; "v min {cost}")?),
+        Verdict::Infeasible => Ok(String::from_str(alloc, "v infeasible")?),
+        _ => Ok(String::from_str(alloc, "another verdict")?),
+    }
+}
+
+/// Whether the case of a line is solved as it says.
+fn solves(rt: &impl Abort, alloc: Global, line: &str) -> Result<(), Fail> {
+    let mut parts = line.split(" | ");
+    let name = parts.next().unwrap_or_default();
+    let instance = instance(alloc, parts.next().unwrap_or_default())?;
+    let limit = parts.next().unwrap_or_default().parse::<u64>().unwrap_or(99);
+    let wanted = parts.next().unwrap_or_default();
+    let answer = solve_min(alloc, &instance, limit)?;
+    let said = told(alloc, &instance, answer)?;
+    same(rt, name, said.as_str(), wanted);
+    Ok(())
+}
+
+#[test]
+fn least_flows_are_made(rt: HostRuntime) -> Result<(), Fail> {
+    for line in CASES.lines() {
+        solves(&rt, rt.alloc(), line)?;
+    }
+    Ok(())
+}
