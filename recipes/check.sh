@@ -45,8 +45,8 @@ igraph_paths.py         judge-paths       module igraph
 lemon_paths.cpp         judge-paths       header lemon/dijkstra.h
 '
 
-# Each instance, the run, its texts, and the verdict, its lines joined by '; '. Where none stands, all recipes are to come
-# to the same one.
+# Each instance: the run, its texts, and the verdict, with its lines joined by '; '. Where none stands, all recipes are
+# to come to the same one.
 instances="
 judge-max         $examples/pipes.max                         | v max 12
 judge-max         $examples/trucks.max                        | v max 23
@@ -75,7 +75,7 @@ judge-paths       $dir/hamlet.gr $dir/hamlet.p2p
 judge-paths       $dir/hamlet.gr $dir/hamlet.ss               | v sp ss 6
 "
 
-# What a recipe can't solve, by its own words: numbers beyond 32 bits, or beyond what floating point numbers hold.
+# What a recipe doesn't promise, by its own words: numbers beyond 32 bits, or beyond what floating point numbers hold.
 beyond=' scipy_max.py:wide.max scipy_min.py:wide.min glpsol_min.sh:wide.min '
 
 accepted=0
@@ -115,8 +115,9 @@ solve() {
 
 # One recipe on one instance, and its answer spoiled: try RECIPE RUN VERDICT TEXT..
 try() {
-    local recipe=$1 run=$2 wanted=$3 claim=("${@:4}") found count name
+    local recipe=$1 run=$2 wanted=$3 claim=("${@:4}") found count name seen
     name=$(basename "$4")
+    seen=$dir/verdict:$name:$(basename "${5:-}")
     mkdir -p "$dir/answers/$name"
     case $run in
         judge-max) claim+=("$dir/answers/$name/$recipe.solution" "$dir/answers/$name/$recipe.cut") ;;
@@ -125,12 +126,12 @@ try() {
     esac
     found=$(solve "$recipe" "${claim[@]}" 2>"$dir/log") || found="$found (status $?)"
     found=${found//$'\n'/; }
-    [ -n "$wanted" ] || wanted=$(cat "$dir/verdict:$name:$(basename "${5:-}")" 2>"$dir/none" || echo "${found:-a verdict}")
+    [ -n "$wanted" ] || wanted=$(cat "$seen" 2>"$dir/none" || echo "${found:-a verdict}")
     if [ "$found" != "$wanted" ]; then
         fail "$recipe on $name: wanted '$wanted', got '$found'" "$(tail -n 1 "$dir/log")"
         return
     fi
-    echo "$found" >"$dir/verdict:$name:$(basename "${5:-}")"
+    echo "$found" >"$seen"
     accepted=$((accepted + 1))
     if count=$("$PYTHON" "$here/check/wrong.py" "$run" "${claim[@]}"); then
         refused=$((refused + count))
@@ -163,7 +164,7 @@ try_batch() {
     sed 's/^f 1 2 6/f 1 2 5/' "$examples/pipes.solution" >"$folder/wrong.solution"
     cp "$examples/pipes.cut" "$folder/wrong.cut"
     sh "$here/batch.sh" "$examples/pipes.max" "$folder" >"$dir/batch"
-    for line in "$right yes .*: v max 12" "1 no .*/wrong.solution: x node 2 Balance" "1 unjudged .*/lacking.solution: .*"; do
+    for line in "$right yes .*: v max 12" "1 no .*/wrong.solution: x node 2 Balance" "1 ?? .*/lacking.solution: .*"; do
         [ "$(grep -c -x "${line#* }" "$dir/batch")" = "${line%% *}" ] || fail "batch.sh: $(cat "$dir/batch")"
     done
 }

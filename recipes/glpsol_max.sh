@@ -1,17 +1,16 @@
 #!/bin/sh
 # A maximum flow and a minimum cut by GLPK's glpsol, judged: glpsol_max.sh INSTANCE SOLUTION CUT
 #
-# Reads INSTANCE, writes SOLUTION and CUT, and runs `dimacs judge-max` on the three. The variable DIMACS names the judge.
+# Reads INSTANCE, writes SOLUTION and CUT, and runs `dimacs judge-max` on the three; DIMACS names the judge.
 # glpsol computes in floating point and prints 15 digits: greater numbers come out wrong, and are refused.
 set -eu
 dir=$(mktemp -d)
 trap 'rm -rf "$dir"' EXIT
 glpsol --maxflow "$1" --write "$dir/raw" >"$dir/log" || { cat "$dir/log" >&2; exit 3; }
 
-# First the instance is read, then the result, which has 'i NODE STATUS VALUE DUAL' for each node and 'j COLUMN STATUS
-# VALUE DUAL' for each arc. The columns go by tail, and among the arcs of a tail from the last to the first. A row is what
-# leaves its node minus what enters it. The dual is less by 1 on the source's side of the cut than on the other, but at
-# the source itself, whose outflow is what is maximised: there it is as on the other side.
+# First the instance is read, then the result: 'i NODE STATUS VALUE DUAL' for each node, 'j COLUMN STATUS VALUE DUAL'
+# for each arc. The columns go by tail, and among the arcs of a tail from the last to the first. On the source's side of
+# the cut the dual is less by 1 than at the source itself, whose outflow is maximised, and than on the other side.
 awk -v solution="$2" -v cut="$3" '
     NR == FNR && $1 == "p" { nodes = $3 }
     NR == FNR && $1 == "n" && $3 == "s" { source = $2 }

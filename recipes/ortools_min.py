@@ -44,7 +44,7 @@ def solve(supply, arcs):
 
 
 def potentials(nodes, arcs, flows):
-    """Distances in the residual network by Bellman and Ford, from a node that reaches each by 0; with the sign turned."""
+    """Distances in the residual network (Bellman and Ford, all nodes at 0 to begin with), with their sign turned."""
     residual = [(tail, head, cost) for (tail, head, _, capacity, cost), x in zip(arcs, flows) if x < capacity]
     residual += [(head, tail, -cost) for (tail, head, low, _, cost), x in zip(arcs, flows) if x > low]
     distance = dict.fromkeys(nodes, 0)

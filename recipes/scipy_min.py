@@ -2,7 +2,7 @@
 """A flow of least cost and its potentials by SciPy (HiGHS), judged: scipy_min.py INSTANCE SOLUTION POTENTIALS
 
 Reads INSTANCE, writes SOLUTION and POTENTIALS, and runs `dimacs judge-min` on the three. The variable DIMACS names the
-judge. HiGHS computes in floating point: whole numbers beyond 2^53, and often smaller ones, come out wrong and are refused.
+judge. HiGHS computes in floating point: numbers beyond 2^53 come out rounded, and are refused.
 """
 import os
 import subprocess

@@ -59,7 +59,7 @@ def write_min(name, arcs, supply):
 
 
 def write_unmet(name, nodes, count, more, less):
-    """No feasible flow: node 1 has so many units more, and the last node so many less, than a flow within the bounds."""
+    """No feasible flow: of one within the bounds, node 1 gets so many units more, the last node so many less."""
     arcs, supply = least_cost(name, nodes, count, 50, (0, 9))
     supply[1] += more
     supply[nodes] -= less
@@ -76,7 +76,7 @@ def write_shipping(name, works, shops):
 
 
 def write_grid(name, side):
-    """Streets with weights from 0 on, some of them doubled, and a loop. Nothing leads from another column into the last."""
+    """Streets with weights from 0 on, some doubled, and a loop. Nothing leads from another column into the last."""
     rng = random.Random(name)
     arcs = [("a", 1, 1, 0)]
     for node in range(1, side * side + 1):
