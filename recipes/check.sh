@@ -1,0 +1,194 @@
+#!/bin/bash
+# Runs the recipes whose packages are there on the examples and on generated instances, and fails where a verdict isn't
+# the expected one, or where an answer that is spoiled on purpose isn't refused as it should be.
+#
+#   recipes/check.sh [BINARY]
+#
+# BINARY is the built `dimacs`; without it the variable DIMACS, or else crates/dimacs/out/dimacs.
+#
+# Environment:
+#   PYTHON   the Python that has the packages; python3
+#   CXX      the C++ compiler; g++
+#   ONLY     run only the recipes whose names match this pattern, as 'lemon|glpsol'
+#
+# The last lines tell what was left out, and how many answers were accepted, refused and judged otherwise than expected.
+set -eu
+
+here=$(cd "$(dirname "$0")" && pwd)
+examples=$here/../examples
+DIMACS=$(realpath "${1:-${DIMACS:-$here/../crates/dimacs/out/dimacs}}")
+export DIMACS
+PYTHON=${PYTHON:-python3}
+dir=$(mktemp -d)
+trap 'rm -rf "$dir"' EXIT
+
+# Each recipe, the run that judges it, and what it needs.
+recipes='
+networkx_max.py         judge-max         module networkx
+scipy_max.py            judge-max         module scipy
+igraph_max.py           judge-max         module igraph
+ortools_max.py          judge-max         module ortools
+lemon_max.cpp           judge-max         header lemon/preflow.h
+boost_max.cpp           judge-max         header boost/graph/push_relabel_max_flow.hpp
+glpsol_max.sh           judge-max         program glpsol
+networkx_min.py         judge-min         module networkx
+scipy_min.py            judge-min         module scipy
+ortools_min.py          judge-min         module ortools
+lemon_min.cpp           judge-min         header lemon/network_simplex.h
+lemon_scaling.cpp       judge-min         header lemon/cost_scaling.h
+glpsol_min.sh           judge-min         program glpsol
+networkx_infeasible.py  judge-infeasible  module networkx
+lemon_infeasible.cpp    judge-infeasible  header lemon/circulation.h
+networkx_paths.py       judge-paths       module networkx
+scipy_paths.py          judge-paths       module scipy
+igraph_paths.py         judge-paths       module igraph
+lemon_paths.cpp         judge-paths       header lemon/dijkstra.h
+'
+
+# Each instance: the run, its texts, and the verdict, with its lines joined by '; '. Where none stands, all recipes are
+# to come to the same one.
+instances="
+judge-max         $examples/pipes.max                         | v max 12
+judge-max         $examples/trucks.max                        | v max 23
+judge-max         $dir/random.max
+judge-max         $dir/layers.max
+judge-max         $dir/apart.max                              | v max 0
+judge-max         $dir/doubled.max
+judge-max         $dir/wide.max
+judge-min         $examples/freight.min                       | v min 55
+judge-min         $examples/canning.min                       | v min 153675
+judge-min         $dir/random.min
+judge-min         $dir/shipping.min
+judge-min         $dir/doubled.min
+judge-min         $dir/wide.min
+judge-infeasible  $examples/shortage.min                      | v infeasible
+judge-infeasible  $examples/detroit.min                       | v infeasible
+judge-infeasible  $dir/short.min                              | v infeasible
+judge-infeasible  $dir/back.min                               | v infeasible
+judge-infeasible  $dir/surplus.min                            | v infeasible
+judge-infeasible  $dir/deficit.min                            | v infeasible
+judge-paths       $examples/road.gr $examples/road.query        | v 1 5 1400; v 1 6 unreachable; v 6 3 1400
+judge-paths       $examples/romania.gr $examples/romania.query  | v 1 2 418; v 17 12 942
+judge-paths       $dir/grid.gr $dir/grid.p2p
+judge-paths       $dir/grid.gr $dir/grid.ss                   | v sp ss 6
+judge-paths       $dir/hamlet.gr $dir/hamlet.p2p
+judge-paths       $dir/hamlet.gr $dir/hamlet.ss               | v sp ss 6
+"
+
+# What a recipe doesn't promise, by its own words: numbers beyond 32 bits, or beyond what floating point numbers hold.
+beyond=' scipy_max.py:wide.max scipy_min.py:wide.min glpsol_min.sh:wide.min '
+
+accepted=0
+refused=0
+failed=0
+
+fail() {
+    echo "FAILED $*"
+    failed=$((failed + 1))
+}
+
+# Whether a recipe's need is there: is_there module|header|program NAME
+is_there() {
+    case $1 in
+        module) "$PYTHON" -c "import $2" 2>"$dir/log" ;;
+        header) echo "#include <$2>" | "${CXX:-g++}" -std=c++17 -E -x c++ - >"$dir/log" 2>&1 ;;
+        program) command -v "$2" >"$dir/log" ;;
+    esac
+}
+
+# Builds a recipe in C++. lemon_scaling is lemon_min with its other solver.
+build() {
+    case $1 in
+        lemon_scaling.cpp) sed 's/NetworkSimplex</CostScaling</' "$here/lemon_min.cpp" ;;
+        *) cat "$here/$1" ;;
+    esac | "${CXX:-g++}" -O2 -std=c++17 -o "$dir/${1%.cpp}" -x c++ -
+}
+
+# The same with a program to run it: solve RECIPE TEXT..
+solve() {
+    case $1 in
+        *.py) "$PYTHON" "$here/$1" "${@:2}" ;;
+        *.cpp) "$dir/${1%.cpp}" "${@:2}" ;;
+        *.sh) sh "$here/$1" "${@:2}" ;;
+    esac
+}
+
+# One recipe on one instance, and its answer spoiled: try RECIPE RUN VERDICT TEXT..
+try() {
+    local recipe=$1 run=$2 wanted=$3 claim=("${@:4}") found count name seen
+    name=$(basename "$4")
+    seen=$dir/verdict:$name:$(basename "${5:-}")
+    mkdir -p "$dir/answers/$name"
+    case $run in
+        judge-max) claim+=("$dir/answers/$name/$recipe.solution" "$dir/answers/$name/$recipe.cut") ;;
+        judge-min) claim+=("$dir/answers/$name/$recipe.solution" "$dir/answers/$name/$recipe.pot") ;;
+        *) claim+=("$dir/answers/$name/$recipe.certificate") ;;
+    esac
+    found=$(solve "$recipe" "${claim[@]}" 2>"$dir/log") || found="$found (status $?)"
+    found=${found//$'\n'/; }
+    [ -n "$wanted" ] || wanted=$(cat "$seen" 2>"$dir/none" || echo "${found:-a verdict}")
+    if [ "$found" != "$wanted" ]; then
+        fail "$recipe on $name: wanted '$wanted', got '$found'" "$(tail -n 1 "$dir/log")"
+        return
+    fi
+    echo "$found" >"$seen"
+    accepted=$((accepted + 1))
+    if count=$("$PYTHON" "$here/check/wrong.py" "$run" "${claim[@]}"); then
+        refused=$((refused + count))
+    else
+        fail "$recipe on $name: $count"
+    fi
+}
+
+# All instances of a recipe's run: try_all RECIPE RUN
+try_all() {
+    local run texts verdict name
+    while read -r run texts; do
+        verdict=
+        case $texts in *'|'*) verdict=${texts#*| } texts=${texts%%|*} ;; esac
+        name=$(basename "${texts%% *}")
+        if [ "$run" != "$2" ] || [[ $beyond == *" $1:$name "* ]] || [[ $without == *" $name "* ]]; then
+            continue
+        fi
+        # shellcheck disable=SC2086 # the texts are several words
+        try "$1" "$run" "$verdict" $texts
+    done <<<"$instances"
+}
+
+# A folder of answers, of which one is spoiled and one lacks its cut.
+try_batch() {
+    local folder=$dir/answers/pipes.max right
+    [ -d "$folder" ] || return 0
+    right=$(find "$folder" -name '*.solution' | wc -l)
+    cp "$examples/pipes.solution" "$folder/lacking.solution"
+    sed 's/^f 1 2 6/f 1 2 5/' "$examples/pipes.solution" >"$folder/wrong.solution"
+    cp "$examples/pipes.cut" "$folder/wrong.cut"
+    sh "$here/batch.sh" "$examples/pipes.max" "$folder" >"$dir/batch"
+    for line in "$right yes .*: v max 12" "1 no .*/wrong.solution: x node 2 Balance" "1 ?? .*/lacking.solution: .*"; do
+        [ "$(grep -c -x "${line#* }" "$dir/batch")" = "${line%% *}" ] || fail "batch.sh: $(cat "$dir/batch")"
+    done
+}
+
+"$PYTHON" "$here/check/generate.py" "$dir"
+left_out=
+without=
+if "$DIMACS" show max "$dir/doubled.max" | grep -q ParallelArc; then
+    without=' doubled.max doubled.min '
+    left_out='  doubled.max, doubled.min: this dimacs refuses several arcs between two nodes'$'\n'
+fi
+while read -r recipe run kind need; do
+    if [ -z "$recipe" ] || ! [[ $recipe =~ ${ONLY:-.} ]]; then
+        continue
+    elif ! is_there "$kind" "$need"; then
+        left_out+="  $recipe: no $kind $need"$'\n'
+    elif [[ $recipe == *.cpp ]] && ! build "$recipe"; then
+        fail "$recipe: it isn't built"
+    else
+        echo "$recipe"
+        try_all "$recipe" "$run"
+    fi
+done <<<"$recipes"
+try_batch
+[ -z "$left_out" ] || printf 'left out:\n%s' "$left_out"
+echo "$accepted answers accepted, $refused wrong answers refused, $failed failed"
+[ "$failed" = 0 ] && [ "$accepted" -gt 0 ]

@@ -1,0 +1,68 @@
+// A set of nodes whose supply can't be met, by LEMON, judged: lemon_infeasible INSTANCE SET
+//
+// Reads INSTANCE (least cost flow), writes SET, and runs `dimacs judge-infeasible` on the two; DIMACS names the judge.
+//
+//     g++ -O2 -std=c++17 -o lemon_infeasible lemon_infeasible.cpp
+#include <lemon/circulation.h>
+#include <lemon/smart_graph.h>
+#include <unistd.h>
+
+#include <cstdlib>
+#include <fstream>
+#include <iostream>
+#include <string>
+#include <vector>
+
+using Graph = lemon::SmartDigraph;
+using Arcs = Graph::ArcMap<long long>;
+using Nodes = Graph::NodeMap<long long>;
+
+struct Instance {
+    Graph graph;
+    Arcs low{graph}, capacity{graph};
+    Nodes supply{graph};
+    long long total = 0;  // of the supplies
+
+    explicit Instance(const char* path) {
+        std::ifstream text(path);
+        std::string letter;
+        int nodes, tail, head;
+        long long cost;
+        while (text >> letter) {
+            if (letter == "p") {
+                text >> letter >> nodes;
+                for (int node = 0; node < nodes; ++node) graph.addNode();
+            } else if (letter == "n") {
+                text >> tail >> supply[graph.nodeFromId(tail - 1)];
+                total += supply[graph.nodeFromId(tail - 1)];
+            } else if (letter == "a") {
+                text >> tail >> head;
+                const Graph::Arc arc = graph.addArc(graph.nodeFromId(tail - 1), graph.nodeFromId(head - 1));
+                text >> low[arc] >> capacity[arc] >> cost;
+            }
+            std::getline(text, letter);  // the rest of the line
+        }
+    }
+};
+
+int main(int count, char** words) {
+    if (count != 3) return std::cerr << "lemon_infeasible INSTANCE SET\n", 2;
+    const Instance instance(words[1]);
+    const Graph& graph = instance.graph;
+    lemon::Circulation<Graph, Arcs, Arcs, Nodes> circulation(graph, instance.low, instance.capacity, instance.supply);
+    // LEMON takes supplies as what leaves a node at least. Where they don't sum up to 0, the set of all nodes shows it.
+    const bool uneven = instance.total != 0;
+    if (circulation.run() && !uneven) return std::cerr << "there is a feasible flow\n", 1;
+
+    std::vector<int> set;
+    for (Graph::NodeIt node(graph); node != lemon::INVALID; ++node)
+        if (uneven || circulation.barrier(node)) set.push_back(graph.id(node) + 1);
+    std::ofstream certificate(words[2]);
+    certificate << "p cut " << graph.nodeNum() << ' ' << set.size() << '\n';
+    for (const int node : set) certificate << "u " << node << '\n';
+    certificate.close();
+
+    const char* judge = std::getenv("DIMACS") ? std::getenv("DIMACS") : "dimacs";
+    execlp(judge, judge, "judge-infeasible", words[1], words[2], nullptr);
+    return std::cerr << "can't run " << judge << '\n', 3;
+}
