@@ -14,7 +14,7 @@ use Rattle.dimacs_lines.specs.Plain.{EndsAt, StandsAt}
 use Rattle.dimacs_lines.specs.declared.reader.TheConstants.{MAX_LINE}
 use Rattle.dimacs_records.specs.declared.kinds.TextKind.{TextKind}
 use Rattle.dimacs_records.specs.declared.records.Record.{Record}
-use Rattle.dimacs_records.specs.Forms.{FieldType, Word, Either, Number, Id, Whole, Form, forms}
+use Rattle.dimacs_records.specs.Forms.{FieldType, Word, Either, Number, Id, Whole, Wide, Form, forms}
 use Rattle.dimacs_records.specs.LineReader.{ReadsLine}
 use Rattle.dimacs_records.specs.Plain.{Stand, IsPlainLine, SaysFirst}
 use Rattle.dimacs_records.specs.Printed.{behind_blank}
@@ -142,3 +142,57 @@ ends_stand bytes letter tail head after_tail after_head size n begins at_tail ta
   short = All-cons IsShort at_tail.text (at_head.text ∷ at_n.text ∷ []) at_tail.short (All-cons IsShort at_head.text (at_n.text ∷ []) at_head.short (All-cons IsShort at_n.text [] at_n.short (All-nil IsShort)));
   says = ((at_tail.spelled, within_id tail tail_range.0 tail_range.1), ((at_head.spelled, within_id head head_range.0 head_range.1), ((at_n.spelled, within_whole n fits), tt)));
 }
+
+within_wide : (n : ℤ) → IsWithin (neg_ℤ (pos (2 ^ 63))) (pos (2 ^ 63 - 1)) n → IsWithin (neg_ℤ (pos (10 ^ 30))) (pos (10 ^ 30)) n
+within_wide n within = (omega (arith, ints, within.0), omega (arith, ints, within.1))
+
+-- a node and a number
+pub value_stands : (bytes : List ℕ) (letter id after_id size : ℕ) (n : ℤ) → bytes ≡ letter ∷ 32 ∷ drop 2 bytes → StandsAt bytes 2 32 (pos id) after_id → (1 ≤ id) × (id < 100000000) → StandsAt bytes after_id 10 n size → SFits w64 n
+    → IsPlainLine bytes letter (Id ∷ Whole ∷ []) (Amount (pos id) ∷ Amount n ∷ []) size
+value_stands bytes letter id after_id size n begins at_id id_range at_n fits = record {
+  texts = at_id.text ∷ at_n.text ∷ [];
+  begins = begins;
+  stand = (after_id, at_id.ends, at_n.ends);
+  short = All-cons IsShort at_id.text (at_n.text ∷ []) at_id.short (All-cons IsShort at_n.text [] at_n.short (All-nil IsShort));
+  says = ((at_id.spelled, within_id id id_range.0 id_range.1), ((at_n.spelled, within_whole n fits), tt));
+}
+
+widened : (id n : ℤ) (texts : List (List ℕ)) → SayAll (Id ∷ Whole ∷ []) texts (Amount id ∷ Amount n ∷ []) → SayAll (Id ∷ Wide ∷ []) texts (Amount id ∷ Amount n ∷ [])
+widened id n [] say = absurd say
+widened id n (text ∷ []) say = absurd say.1
+widened id n (text ∷ other ∷ []) say = (say.0, ((say.1.0.0, within_wide n say.1.0.1), tt))
+widened id n (text ∷ other ∷ third ∷ texts) say = absurd say.1.1
+
+-- where a number may be wide
+pub value_widened : (bytes : List ℕ) (letter id : ℕ) (n : ℤ) (size : ℕ) → IsPlainLine bytes letter (Id ∷ Whole ∷ []) (Amount (pos id) ∷ Amount n ∷ []) size → IsPlainLine bytes letter (Id ∷ Wide ∷ []) (Amount (pos id) ∷ Amount n ∷ []) size
+value_widened bytes letter id n size line = record { texts = line.texts; begins = line.begins; stand = line.stand; short = line.short; says = widened (pos id) n line.texts line.says }
+
+-- a node, a number and a node
+pub label_stands : (bytes : List ℕ) (id pred after_id after_dist size : ℕ) (dist : ℤ) → bytes ≡ 100 ∷ 32 ∷ drop 2 bytes → StandsAt bytes 2 32 (pos id) after_id → (1 ≤ id) × (id < 100000000)
+    → StandsAt bytes after_id 32 dist after_dist → SFits w64 dist → StandsAt bytes after_dist 10 (pos pred) size → (1 ≤ pred) × (pred < 100000000)
+    → IsPlainLine bytes 100 (Id ∷ Wide ∷ Id ∷ []) (Amount (pos id) ∷ Amount dist ∷ Amount (pos pred) ∷ []) size
+label_stands bytes id pred after_id after_dist size dist begins at_id id_range at_dist fits at_pred pred_range = record {
+  texts = at_id.text ∷ at_dist.text ∷ at_pred.text ∷ [];
+  begins = begins;
+  stand = (after_id, at_id.ends, (after_dist, at_dist.ends, at_pred.ends));
+  short = All-cons IsShort at_id.text (at_dist.text ∷ at_pred.text ∷ []) at_id.short (All-cons IsShort at_dist.text (at_pred.text ∷ []) at_dist.short (All-cons IsShort at_pred.text [] at_pred.short (All-nil IsShort)));
+  says = ((at_id.spelled, within_id id id_range.0 id_range.1), ((at_dist.spelled, within_wide dist (within_whole dist fits)), ((at_pred.spelled, within_id pred pred_range.0 pred_range.1), tt)));
+}
+
+-- two nodes and three numbers
+pub bounds_stand : (bytes : List ℕ) (tail head after_tail after_head after_low after_cap size : ℕ) (low cap cost : ℤ) → bytes ≡ 97 ∷ 32 ∷ drop 2 bytes → StandsAt bytes 2 32 (pos tail) after_tail → (1 ≤ tail) × (tail < 100000000)
+    → StandsAt bytes after_tail 32 (pos head) after_head → (1 ≤ head) × (head < 100000000) → StandsAt bytes after_head 32 low after_low → SFits w64 low → StandsAt bytes after_low 32 cap after_cap → SFits w64 cap → StandsAt bytes after_cap 10 cost size → SFits w64 cost
+    → IsPlainLine bytes 97 (Id ∷ Id ∷ Whole ∷ Whole ∷ Whole ∷ []) (Amount (pos tail) ∷ Amount (pos head) ∷ Amount low ∷ Amount cap ∷ Amount cost ∷ []) size
+bounds_stand bytes tail head after_tail after_head after_low after_cap size low cap cost begins at_tail tail_range at_head head_range at_low low_fits at_cap cap_fits at_cost cost_fits =
+    let low_and_later : List (List ℕ) = at_low.text ∷ at_cap.text ∷ at_cost.text ∷ [] in
+    let short : All IsShort low_and_later = All-cons IsShort at_low.text (at_cap.text ∷ at_cost.text ∷ []) at_low.short (All-cons IsShort at_cap.text (at_cost.text ∷ []) at_cap.short (All-cons IsShort at_cost.text [] at_cost.short (All-nil IsShort))) in
+    record {
+      texts = at_tail.text ∷ at_head.text ∷ low_and_later;
+      begins = begins;
+      stand = (after_tail, at_tail.ends, (after_head, at_head.ends, (after_low, at_low.ends, (after_cap, at_cap.ends, at_cost.ends))));
+      short = All-cons IsShort at_tail.text (at_head.text ∷ low_and_later) at_tail.short (All-cons IsShort at_head.text low_and_later at_head.short short);
+      says = (
+        (at_tail.spelled, within_id tail tail_range.0 tail_range.1),
+        ((at_head.spelled, within_id head head_range.0 head_range.1), ((at_low.spelled, within_whole low low_fits), ((at_cap.spelled, within_whole cap cap_fits), ((at_cost.spelled, within_whole cost cost_fits), tt)))),
+      );
+    }
