@@ -12,3 +12,4 @@ mod Marks
 mod Pairs
 mod PlaceSums
 pub mod PageLemmas
+pub mod PlainLemmas

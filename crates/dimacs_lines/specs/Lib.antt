@@ -7,3 +7,4 @@ pub mod Number
 pub mod Fields
 pub mod FieldViews
 pub mod Pages
+pub mod Plain

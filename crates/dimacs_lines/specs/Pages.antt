@@ -1,5 +1,7 @@
 -- What was written to a sink through a page.
-use Rattle.std.specs.Prelude.{ℕ, ◌≡◌, ◌++◌, List, Bool, true, false, Option, if◌then◌else◌}
+use Rattle.std.specs.Prelude.{ℕ, ℤ, ◌≡◌, ◌++◌, ◌∷◌, [], List, Bool, true, false, Option, if◌then◌else◌}
+use Rattle.std.specs.List.{flat_map}
+use Rattle.std.specs.Fmt.{signed_decimal}
 use Rattle.dimacs_lines.specs.Devices.{after_piece, one_more}
 use Rattle.dimacs_lines.specs.Puts.{AcceptsFront}
 
@@ -31,3 +33,11 @@ abbrev pub IsPut : Bool → Option (List ℕ) → ℕ → List ℕ → Bool → 
 IsPut true old faults bytes failed new counted = (failed ≡ true) × (new ≡ old) × (counted ≡ faults)
 IsPut false old faults bytes true new counted = AcceptsFront old bytes new × (counted ≡ one_more faults)
 IsPut false old faults bytes false new counted = (new ≡ after_piece old bytes) × (counted ≡ faults)
+
+-- a blank and a number
+abbrev pub number_field : ℤ → List ℕ
+number_field n = 32 ∷ signed_decimal n
+
+-- a line of a word and of numbers behind it
+abbrev pub numbers_line : List ℕ → List ℤ → List ℕ
+numbers_line word numbers = word ++ (flat_map number_field numbers ++ 10 ∷ [])

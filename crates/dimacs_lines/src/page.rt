@@ -4,7 +4,7 @@ ghost use Rattle.std.specs.Prelude.{◌≡◌, ◌+◌, ◌≤◌, [], ◌++◌,
 ghost use Rattle.std.specs.Fmt.{decimal, signed_decimal};
 ghost use Rattle.dimacs_lines.specs.Puts.{Puts};
 ghost use Rattle.dimacs_lines.specs.Devices.{CountsFault};
-ghost use Rattle.dimacs_lines.specs.Pages.{IsWritten, IsPut, FaultsAre};
+ghost use Rattle.dimacs_lines.specs.Pages.{IsWritten, IsPut, FaultsAre, number_field, numbers_line};
 
 use crate::decimals::decimal_length;
 use crate::device::{DeviceFault, Sink, put_all};
@@ -16,6 +16,9 @@ const PAGE: usize = 16_384;
 
 /// The bytes of the longest number of 64 bits.
 const LONGEST: usize = 20;
+
+/// The bytes of the longest line of a word of up to eight bytes and up to five numbers.
+const LONGEST_LINE: usize = 114;
 
 /// The end of what was written, until enough of it has come together to be put at once.
 ///
@@ -79,10 +82,21 @@ impl Page {
         ensures written { (start : Option (List ℕ)) (text : List ℕ) → IsWritten start text (S.accepted sink.old) self.old → IsWritten start (text ++ signed_decimal n) (S.accepted sink.new) self.new }
         ensures faults { (start : ℕ) → FaultsAre start (S.faults sink.old) self.old → FaultsAre start (S.faults sink.new) self.new }
     {
-        if PAGE - self.length < LONGEST {
-            self.flush(sink);
-        }
+        self.make_room(sink, LONGEST);
         self.append_number(n);
+    }
+
+    /// Writes a line of a word of up to eight bytes and up to five numbers, with one blank before each: one test for
+    /// room serves the whole line.
+    #[inline(always)]
+    pub fn line<S: Sink>(&mut self, sink: &mut S, word: &[u8], numbers: &[i64])
+        requires short { length word.now ≤ 8 }
+        requires few { length numbers.now ≤ 5 }
+        ensures written { (start : Option (List ℕ)) (text : List ℕ) → IsWritten start text (S.accepted sink.old) self.old → IsWritten start (text ++ numbers_line word.now numbers.now) (S.accepted sink.new) self.new }
+        ensures faults { (start : ℕ) → FaultsAre start (S.faults sink.old) self.old → FaultsAre start (S.faults sink.new) self.new }
+    {
+        self.make_room(sink, LONGEST_LINE);
+        self.append_line(word, numbers);
     }
 
     /// Writes a wide number in decimal.
@@ -120,6 +134,19 @@ impl Page {
         }
     }
 
+    /// Puts what is kept where so many bytes more have no room.
+    #[inline(always)]
+    fn make_room<S: Sink>(&mut self, sink: &mut S, bytes: usize)
+        requires { bytes ≤ 16384 }
+        ensures written { (start : Option (List ℕ)) (text : List ℕ) → IsWritten start text (S.accepted sink.old) self.old → IsWritten start text (S.accepted sink.new) self.new }
+        ensures faults { (start : ℕ) → FaultsAre start (S.faults sink.old) self.old → FaultsAre start (S.faults sink.new) self.new }
+        ensures room { length self.new.kept + bytes ≤ 16384 }
+    {
+        if PAGE - self.length < bytes {
+            self.flush(sink);
+        }
+    }
+
     fn flush<S: Sink>(&mut self, sink: &mut S)
         ensures written { (start : Option (List ℕ)) (text : List ℕ) → IsWritten start text (S.accepted sink.old) self.old → IsWritten start text (S.accepted sink.new) self.new }
         ensures faults { (start : ℕ) → FaultsAre start (S.faults sink.old) self.old → FaultsAre start (S.faults sink.new) self.new }
@@ -138,6 +165,32 @@ impl Page {
         let end = self.length + bytes.len();
         self.bytes[self.length..end].copy_from_slice(bytes);
         self.length = end;
+    }
+
+    #[inline(always)]
+    fn append_line(&mut self, word: &[u8], numbers: &[i64])
+        requires short { length word.now ≤ 8 }
+        requires few { length numbers.now ≤ 5 }
+        requires room { length self.old.kept + 114 ≤ 16384 }
+        ensures kept { self.new.kept ≡ self.old.kept ++ numbers_line word.now numbers.now }
+        ensures failed { self.new.failed ≡ self.old.failed }
+    {
+        self.append(word);
+        for n in numbers {
+            self.append_field(*n);
+        }
+        self.append(b"\n");
+    }
+
+    #[inline(always)]
+    fn append_field(&mut self, n: i64)
+        requires { length self.old.kept + 21 ≤ 16384 }
+        ensures kept { self.new.kept ≡ self.old.kept ++ number_field n }
+        ensures short { length self.new.kept ≤ length self.old.kept + 21 }
+        ensures failed { self.new.failed ≡ self.old.failed }
+    {
+        self.append(b" ");
+        self.append_number(n);
     }
 
     #[inline(always)]

@@ -93,6 +93,36 @@ impl Lines {
         &self.buffer[self.line_start..self.line_end]
     }
 
+    /// The bytes that were pulled and not yet given out.
+    #[inline(always)]
+    pub fn ahead(&self) -> &[u8]
+        ensures held { result.now ≡ self.now.held }
+        ensures bounded { length result.now ≤ MAX_HELD }
+    {
+        &self.buffer[self.next..self.end]
+    }
+
+    /// How many lines were given.
+    #[inline(always)]
+    pub fn given(&self) -> u64
+        ensures { result ≡ self.now.given }
+    {
+        self.given
+    }
+
+    /// Goes on after the first bytes held, which are so many whole lines with their ends: they count as given.
+    #[inline(always)]
+    pub fn skip(&mut self, bytes: usize, lines: u64)
+        requires within { bytes ≤ length self.old.held }
+        requires few { self.old.given + lines ≤ MAX_LINES }
+        ensures { self.new ≡ record self.old { held = drop bytes self.old.held; given = self.old.given + lines; line = [] } }
+    {
+        self.line_start = 0;
+        self.line_end = 0;
+        self.next += bytes;
+        self.given += lines;
+    }
+
     /// How many bytes were pulled and not yet given out.
     pub fn held(&self) -> usize
         ensures value { result ≡ length self.now.held }

@@ -32,15 +32,15 @@ module _ (kind : TextKind) (r : Record) (can : CanBeSpelled kind r) where
   letter_is : IsPlain (letter_of r)
   letter_is = rw can.letter form_is.letter
 
-  parts_are : ArePlain (parts_of r)
+  parts_are : ArePlain (map text_of (parts_of r))
   parts_are = plain_parts can.form.types (parts_of r) form_is.types can.fit
 
   texts_in-body : texts_in (body_of r) ≡ letter_of r ∷ map text_of (parts_of r)
-  texts_in-body = texts_in-spaced (letter_of r) (parts_of r) letter_is parts_are
+  texts_in-body = texts_in-spaced (letter_of r) (map text_of (parts_of r)) letter_is parts_are
 
   lines-canonical : (rest : List ℕ) → lines (canonical_line r ++ rest) ≡ body_of r ∷ lines rest
   lines-canonical rest =
-      ap lines (regrouped (letter_of r) (flat_map behind_blank (map text_of (parts_of r))) rest) ∙ lines-spaced (letter_of r) (parts_of r) rest letter_is parts_are
+      ap lines (regrouped (letter_of r) (flat_map behind_blank (map text_of (parts_of r))) rest) ∙ lines-spaced (letter_of r) (map text_of (parts_of r)) rest letter_is parts_are
 
   body_spells : SpellsRecord kind (texts_in (body_of r)) r
   body_spells = record {
@@ -57,7 +57,7 @@ module _ (kind : TextKind) (r : Record) (can : CanBeSpelled kind r) where
   is_skip-body = rw (texts_in-body, can.letter) form_is.no_comment
 
   short_body : length (body_of r) ≤ MAX_LINE
-  short_body = omega (arith, length-spaced (letter_of r) (parts_of r) letter_is parts_are, length-parts can.form.types (parts_of r) can.fit, form_is.few)
+  short_body = omega (arith, length-spaced (letter_of r) (map text_of (parts_of r)) letter_is parts_are, length-map (parts_of r) text_of, length-parts can.form.types (parts_of r) can.fit, form_is.few)
 
 abbrev IsShort : List ℕ → Type 0
 IsShort line = length line ≤ MAX_LINE

@@ -52,7 +52,7 @@ pub spells_signed_decimal : (n : ℤ) → IsWithin lowest highest n → Spells (
 spells_signed_decimal (pos n) within = spells_digits n (decimal n) (decimal_digits n (omega (arith, ints, within.1)))
 spells_signed_decimal (negsuc n) within = spells_minus (suc n) (decimal (suc n)) (decimal_digits (suc n) (omega (arith, ints, within.0)))
 
-visible_digit : (b : ℕ) → IsAsciiDigit b → IsVisible b
+pub visible_digit : (b : ℕ) → IsAsciiDigit b → IsVisible b
 visible_digit b digit = grind (arith, nat_tests, digit.0, digit.1)
 
 visible_decimal : (n : ℕ) → n ≤ 10 ^ 30 → All IsVisible (decimal n)

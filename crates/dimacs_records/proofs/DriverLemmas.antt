@@ -1,5 +1,5 @@
 -- Reading line by line.
-use Rattle.std.proofs.Common.{◌≡◌, ◌≢◌, ℕ, suc, ◌<◌, ◌≤◌, ◌+◌, ◌++◌, ◌∷◌, [], List, true, false, Option, Some, None, Result, Ok, Err, length, refl, ap, sym, ◌∙◌, subst, arith, append_assoc, inr}
+use Rattle.std.proofs.Common.{◌≡◌, ◌≢◌, ℕ, suc, ◌<◌, ◌≤◌, ◌+◌, ◌++◌, ◌∷◌, [], List, true, false, Option, Some, None, Result, Ok, Err, length, refl, ap, sym, ◌∙◌, subst, arith, append_assoc, inl, inr}
 use Rattle.std.specs.Prelude.{nat_lt, ◌==◌, IfErr, OnOk}
 use Rattle.std.proofs.lemmas.Bool.{true≢false, and_right, le-ltb, lt-ltb}
 use Rattle.std.proofs.lemmas.List.Elements.{All-nil, All-cons}
@@ -14,6 +14,7 @@ use Rattle.dimacs_records.specs.declared.records.Record.{Record}
 use Rattle.dimacs_records.specs.declared.faults.TakeError.{TakeError}
 use Rattle.dimacs_records.specs.declared.faults.TakeError.TheVariants as take_errors
 use Rattle.dimacs_records.specs.declared.faults.ReadError.{ReadError}
+use Rattle.dimacs_records.specs.declared.faults.ReadError.TheVariants as read_errors
 use Rattle.dimacs_records.specs.Readings.{LineRecord, on_line, numbered, records_of, AreBefore, IsAllowed, IsFirstCondition, RefusesRecord, GiveValue, ReadsLines, RefusesEnd, IsComplete}
 use Rattle.dimacs_records.specs.declared.reasons.Reason.TheVariants.{LineLimit, LineTooLong}
 use Rattle.dimacs_records.specs.declared.faults.LineFault.{LineFault}
@@ -22,7 +23,7 @@ use Rattle.dimacs_records.specs.Conditions.{limit_condition}
 use Rattle.dimacs_records.specs.LineReader.{ReadsLine}
 use Rattle.dimacs_records.specs.Order.{at, limit_places, places, First}
 use Rattle.dimacs_records.specs.Faults.{Condition, Spell, IsClean, records_in}
-use Rattle.dimacs_records.specs.Driver.{IsReadSoFar, IsReadWhole, ReadsOne, TakesLine, IsBehind, read_error, lines_error}
+use Rattle.dimacs_records.specs.Driver.{IsReadSoFar, IsReadWhole, ReadsOne, RefusesLine, TakesLine, IsBehind, read_error, lines_error}
 use Rattle.dimacs_records.proofs.FirstLemmas.{is_first}
 use Rattle.dimacs_records.proofs.PlaceLemmas.{test_at}
 use Rattle.dimacs_records.proofs.CleanLines.{NoneHolds, clean_nothing, clean_skip, clean_record, first_limit, first_shape, first_record}
@@ -210,6 +211,12 @@ read_value kind gives all count stands_for v h given complete = record {
   faultless = record { clean = h.clean; none_at_end = rw (← records_of-numbered 1 h.said) (complete (numbered 1 h.said) h.stands) };
   given = given (numbered 1 h.said) h.stands;
 }
+
+-- or one of the lines is where the text has its fault
+pub read_fault : {V : Type 0} (kind : TextKind) (gives : List LineRecord → V → Type 0) (all : List (List ℕ)) (error : ReadError) → RefusesLine kind all error → ReadsLines kind gives all (Err error)
+read_fault kind gives all (read_errors.Refused place reason) h = inl h
+read_fault kind gives all read_errors.Device h = tt
+read_fault kind gives all read_errors.Memory h = tt
 
 -- or the text has its fault at its end
 pub read_end_fault : {V : Type 0} (kind : TextKind) (gives : List LineRecord → V → Type 0) (all : List (List ℕ)) (count : ℕ) (stands_for : List LineRecord → Type 0) (error : TakeError) → IsReadWhole kind all count stands_for

@@ -15,6 +15,8 @@ mod CleanLines
 mod PlainLines
 mod DecimalLemmas
 mod PlainForms
+mod PlainRecords
+mod HeldLines
 pub mod CanonicalLaws
 pub mod ReadLaws
 pub mod FitLaws

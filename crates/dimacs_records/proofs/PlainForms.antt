@@ -81,7 +81,7 @@ part_says (Either v w) (Text said) test fits = (fits, refl)
 part_says (Number low high) (Amount n) test fits = (spells_signed_decimal n (within_widest low high n test fits), fits)
 part_says type part test fits = absurd fits
 
-pub plain_parts : (types : List FieldType) (parts : List Part) → list_all is_plain_type types ≡ true → FitAll types parts → ArePlain parts
+pub plain_parts : (types : List FieldType) (parts : List Part) → list_all is_plain_type types ≡ true → FitAll types parts → ArePlain (map text_of parts)
 plain_parts [] [] test fit = tt
 plain_parts (type ∷ types) (part ∷ parts) test fit =
     let tests = and_parts (is_plain_type type) _ test in

@@ -8,9 +8,8 @@ use Rattle.std.proofs.lemmas.Bool.Decides.{nat_tests}
 use Rattle.std.proofs.lemmas.List.Elements.{All-nil, All-cons, All-head, All-tail, All-append, All-weaker}
 use Rattle.dimacs_lines.specs.Lines.{is_end, lines}
 use Rattle.dimacs_lines.specs.Fields.{is_blank, Run, onto_runs, runs_from}
-use Rattle.dimacs_records.specs.Spelling.{Part, texts_in}
+use Rattle.dimacs_records.specs.Spelling.{texts_in}
 use Rattle.dimacs_records.specs.FieldReader.{text_of_run}
-use Rattle.dimacs_records.specs.Canonical.{text_of}
 use Rattle.dimacs_records.specs.Printed.{behind_blank}
 
 -- a printed ASCII character, of which none is a blank or a line end
@@ -23,9 +22,9 @@ pub record IsPlain (text : List ℕ) : Type 0 where
   pub visible : All IsVisible text
   pub short : length text ≤ 40
 
-abbrev pub ArePlain : List Part → Type 0
+abbrev pub ArePlain : List (List ℕ) → Type 0
 ArePlain [] = Unit {0}
-ArePlain (part ∷ parts) = IsPlain (text_of part) × ArePlain parts
+ArePlain (text ∷ texts) = IsPlain text × ArePlain texts
 
 no_blank : (b : ℕ) → IsVisible b → is_blank b ≡ false
 no_blank b h = grind (arith, nat_tests)
@@ -79,38 +78,38 @@ first_run i j b (c ∷ cs) rest visible blank is =
     let behind = first_run (suc i) j c cs rest (All-tail IsVisible b (c ∷ cs) visible) blank (omega arith) in
     rw (no_blank b (visible 0 b (omega arith)), behind, eq-eqb (suc i) (suc i) refl) refl
 
-texts_from : (i : ℕ) (text : List ℕ) (parts : List Part) → IsPlain text → ArePlain parts → map text_of_run (runs_from i (text ++ flat_map behind_blank (map text_of parts))) ≡ text ∷ map text_of parts
-texts_from i [] parts plain more = absurd (omega (arith, plain.some))
+texts_from : (i : ℕ) (text : List ℕ) (texts : List (List ℕ)) → IsPlain text → ArePlain texts → map text_of_run (runs_from i (text ++ flat_map behind_blank texts)) ≡ text ∷ texts
+texts_from i [] texts plain more = absurd (omega (arith, plain.some))
 texts_from i (b ∷ bs) [] plain more = ap (map text_of_run) (first_run i (i + length (b ∷ bs)) b bs [] plain.visible tt refl)
-texts_from i (b ∷ bs) (part ∷ parts) plain more =
+texts_from i (b ∷ bs) (text ∷ texts) plain more =
     let next = i + length (b ∷ bs) in
-    ap (map text_of_run) (first_run i next b bs (flat_map behind_blank (map text_of (part ∷ parts))) plain.visible refl refl)
-    ∙ ap (λ texts. (b ∷ bs) ∷ texts) (texts_from (suc next) (text_of part) parts more.0 more.1)
+    ap (map text_of_run) (first_run i next b bs (flat_map behind_blank (text ∷ texts)) plain.visible refl refl)
+    ∙ ap (λ more. (b ∷ bs) ∷ more) (texts_from (suc next) text texts more.0 more.1)
 
 -- the fields of a line with one blank between plain texts
-pub texts_in-spaced : (text : List ℕ) (parts : List Part) → IsPlain text → ArePlain parts → texts_in (text ++ flat_map behind_blank (map text_of parts)) ≡ text ∷ map text_of parts
+pub texts_in-spaced : (text : List ℕ) (texts : List (List ℕ)) → IsPlain text → ArePlain texts → texts_in (text ++ flat_map behind_blank texts) ≡ text ∷ texts
 texts_in-spaced = texts_from 0
 
 plain_ends : (text : List ℕ) → IsPlain text → All IsNoEnd text
 plain_ends text plain = All-weaker IsVisible IsNoEnd no_end text plain.visible
 
-behind_ends : (parts : List Part) → ArePlain parts → All IsNoEnd (flat_map behind_blank (map text_of parts))
+behind_ends : (texts : List (List ℕ)) → ArePlain texts → All IsNoEnd (flat_map behind_blank texts)
 behind_ends [] plain = All-nil IsNoEnd
-behind_ends (part ∷ parts) plain =
-    All-cons IsNoEnd 32 _ refl (All-append IsNoEnd (text_of part) (flat_map behind_blank (map text_of parts)) (plain_ends (text_of part) plain.0) (behind_ends parts plain.1))
+behind_ends (text ∷ texts) plain =
+    All-cons IsNoEnd 32 _ refl (All-append IsNoEnd text (flat_map behind_blank texts) (plain_ends text plain.0) (behind_ends texts plain.1))
 
 lines_first : (line rest : List ℕ) → All IsNoEnd line → lines (line ++ 10 ∷ rest) ≡ line ∷ lines rest
 lines_first [] rest no_ends = refl
 lines_first (b ∷ bs) rest no_ends = rw (All-head IsNoEnd b bs no_ends, lines_first bs rest (All-tail IsNoEnd b bs no_ends)) refl
 
-pub lines-spaced : (text : List ℕ) (parts : List Part) (rest : List ℕ) → IsPlain text → ArePlain parts
-    → lines ((text ++ flat_map behind_blank (map text_of parts)) ++ 10 ∷ rest) ≡ (text ++ flat_map behind_blank (map text_of parts)) ∷ lines rest
-lines-spaced text parts rest plain more =
-    lines_first (text ++ flat_map behind_blank (map text_of parts)) rest (All-append IsNoEnd text (flat_map behind_blank (map text_of parts)) (plain_ends text plain) (behind_ends parts more))
+pub lines-spaced : (text : List ℕ) (texts : List (List ℕ)) (rest : List ℕ) → IsPlain text → ArePlain texts
+    → lines ((text ++ flat_map behind_blank texts) ++ 10 ∷ rest) ≡ (text ++ flat_map behind_blank texts) ∷ lines rest
+lines-spaced text texts rest plain more =
+    lines_first (text ++ flat_map behind_blank texts) rest (All-append IsNoEnd text (flat_map behind_blank texts) (plain_ends text plain) (behind_ends texts more))
 
-length-behind : (parts : List Part) → ArePlain parts → length (flat_map behind_blank (map text_of parts)) ≤ 41 * length parts
+length-behind : (texts : List (List ℕ)) → ArePlain texts → length (flat_map behind_blank texts) ≤ 41 * length texts
 length-behind [] plain = omega arith
-length-behind (part ∷ parts) plain = omega (arith, length-append (text_of part) (flat_map behind_blank (map text_of parts)), plain.0.short, length-behind parts plain.1)
+length-behind (text ∷ texts) plain = omega (arith, length-append text (flat_map behind_blank texts), plain.0.short, length-behind texts plain.1)
 
-pub length-spaced : (text : List ℕ) (parts : List Part) → IsPlain text → ArePlain parts → length (text ++ flat_map behind_blank (map text_of parts)) ≤ 40 + 41 * length parts
-length-spaced text parts plain more = omega (arith, length-append text (flat_map behind_blank (map text_of parts)), plain.short, length-behind parts more)
+pub length-spaced : (text : List ℕ) (texts : List (List ℕ)) → IsPlain text → ArePlain texts → length (text ++ flat_map behind_blank texts) ≤ 40 + 41 * length texts
+length-spaced text texts plain more = omega (arith, length-append text (flat_map behind_blank texts), plain.short, length-behind texts more)

@@ -33,13 +33,27 @@ pub record IsReadWhole (kind : TextKind) (all : List (List ℕ)) (count : ℕ) (
   pub clean : IsClean kind all said
   pub stands : stands_for (numbered 1 said)
 
+-- why a line is refused; nothing is said of a device or of memory
+abbrev pub RefusesLine : TextKind → List (List ℕ) → ReadError → Type 0
+RefusesLine kind all (read_errors.Refused place reason) = FaultyLine kind all place.line place.field reason
+RefusesLine kind all read_errors.Device = Unit {0}
+RefusesLine kind all read_errors.Memory = Unit {0}
+
 -- what the reading of one more line answers
 abbrev pub ReadsOne : TextKind → List (List ℕ) → ℕ → Option (List ℕ) → (List LineRecord → Type 0) → Result (Option ℕ) ReadError → Type 0
 ReadsOne kind all count left stands_for (Ok (Some number)) = IsReadSoFar kind all number left stands_for
 ReadsOne kind all count left stands_for (Ok None) = IsReadWhole kind all count stands_for
-ReadsOne kind all count left stands_for (Err (read_errors.Refused place reason)) = FaultyLine kind all place.line place.field reason
-ReadsOne kind all count left stands_for (Err read_errors.Device) = Unit {0}
-ReadsOne kind all count left stands_for (Err read_errors.Memory) = Unit {0}
+ReadsOne kind all count left stands_for (Err error) = RefusesLine kind all error
+
+-- what the reading of some lines answers
+abbrev pub ReadsSome : TextKind → List (List ℕ) → ℕ → Option (List ℕ) → (List LineRecord → Type 0) → Result Unit ReadError → Type 0
+ReadsSome kind all count left stands_for (Ok done) = IsReadSoFar kind all count left stands_for
+ReadsSome kind all count left stands_for (Err error) = RefusesLine kind all error
+
+-- what the reading of all lines answers: how many they are
+abbrev pub ReadsAll : TextKind → List (List ℕ) → (List LineRecord → Type 0) → Result ℕ ReadError → Type 0
+ReadsAll kind all stands_for (Ok count) = IsReadWhole kind all count stands_for
+ReadsAll kind all stands_for (Err error) = RefusesLine kind all error
 
 -- one more line was read and is clean, and the reading stands for its record too; or why it is refused
 abbrev pub TakesLine : TextKind → List (List ℕ) → List (Option Record) → List ℕ → (List LineRecord → Type 0) → Result Unit TakeError → Type 0

@@ -11,6 +11,7 @@ pub mod Forms
 pub mod LineReader
 pub mod Names
 pub mod Order
+pub mod Plain
 pub mod Printed
 pub mod Ranges
 pub mod NodeValues

@@ -1,6 +1,6 @@
 //! Records as lines in the canonical form: one blank between fields, numbers in decimal, a line end.
 
-ghost use Rattle.std.specs.Prelude.{◌≡◌, ℕ, List, Option, [], ◌∷◌, ◌++◌, pos, codes};
+ghost use Rattle.std.specs.Prelude.{◌≡◌, ◌≤◌, ℕ, List, Option, [], ◌∷◌, ◌++◌, length, pos, codes};
 ghost use Rattle.dimacs_lines.specs.Devices.{CountsFault};
 ghost use Rattle.dimacs_lines.specs.Puts.{Puts};
 ghost use Rattle.dimacs_lines.specs.Pages.{IsWritten, FaultsAre};
@@ -35,26 +35,17 @@ pub fn write_record<S: Sink>(page: &mut Page, sink: &mut S, said: &Record)
         }
         Record::MaxArc { tail, head, cap } => write_arc(page, sink, b"a", tail, head, cap),
         Record::MinProblem { nodes, arcs } => write_problem(page, sink, b"min", nodes, arcs),
-        Record::MinNode { id, supply } => {
-            write_line(page, sink, b"n", &[unsigned(id), Part::Number(supply)])
-        }
+        Record::MinNode { id, supply } => page.line(sink, b"n", &[i64::from(id), supply]),
         Record::MinArc {
             tail,
             head,
             low,
             cap,
             cost,
-        } => write_line(
-            page,
+        } => page.line(
             sink,
             b"a",
-            &[
-                unsigned(tail),
-                unsigned(head),
-                Part::Number(low),
-                Part::Number(cap),
-                Part::Number(cost),
-            ],
+            &[i64::from(tail), i64::from(head), low, cap, cost],
         ),
         Record::GraphProblem { nodes, arcs } => write_problem(page, sink, b"sp", nodes, arcs),
         Record::GraphArc { tail, head, weight } => write_arc(page, sink, b"a", tail, head, weight),
@@ -69,14 +60,14 @@ pub fn write_record<S: Sink>(page: &mut Page, sink: &mut S, said: &Record)
                 unsigned(count),
             ],
         ),
-        Record::SourceQuery { id } => write_line(page, sink, b"s", &[unsigned(id)]),
+        Record::SourceQuery { id } => page.line(sink, b"s", &[i64::from(id)]),
         Record::PairQuery { from, to } => {
-            write_line(page, sink, b"q", &[unsigned(from), unsigned(to)])
+            page.line(sink, b"q", &[i64::from(from), i64::from(to)]);
         }
         Record::SolutionValue { value } => write_line(page, sink, b"s", &[Part::Wide(value)]),
         Record::SolutionEntry { tail, head, flow } => write_arc(page, sink, b"f", tail, head, flow),
         Record::CutProblem { nodes, count } => write_problem(page, sink, b"cut", nodes, count),
-        Record::CutNode { id } => write_line(page, sink, b"u", &[unsigned(id)]),
+        Record::CutNode { id } => page.line(sink, b"u", &[i64::from(id)]),
         Record::PotentialsProblem { nodes, count } => {
             write_problem(page, sink, b"pot", nodes, count)
         }
@@ -87,7 +78,7 @@ pub fn write_record<S: Sink>(page: &mut Page, sink: &mut S, said: &Record)
             write_problem(page, sink, b"dist", nodes, blocks)
         }
         Record::LabelsBlock { source, count } => {
-            write_line(page, sink, b"t", &[unsigned(source), unsigned(count)])
+            page.line(sink, b"t", &[i64::from(source), i64::from(count)]);
         }
         Record::LabelsNode { id, dist, pred } => write_line(
             page,
@@ -115,15 +106,11 @@ fn write_problem<S: Sink>(page: &mut Page, sink: &mut S, word: &[u8], nodes: u32
 /// Writes a line of two ends and a number.
 #[inline(always)]
 fn write_arc<S: Sink>(page: &mut Page, sink: &mut S, letter: &[u8], tail: u32, head: u32, n: i64)
+    requires { length letter.now ≤ 8 }
     ensures written { (start : Option (List ℕ)) (text : List ℕ) → IsWritten start text (S.accepted sink.old) page.old → IsWritten start (text ++ line_of letter.now (Amount (pos tail) ∷ Amount (pos head) ∷ Amount n ∷ [])) (S.accepted sink.new) page.new }
     ensures faults { (start : ℕ) → FaultsAre start (S.faults sink.old) page.old → FaultsAre start (S.faults sink.new) page.new }
 {
-    write_line(
-        page,
-        sink,
-        letter,
-        &[unsigned(tail), unsigned(head), Part::Number(n)],
-    );
+    page.line(sink, letter, &[i64::from(tail), i64::from(head), n]);
 }
 
 /// A count or an ID as a field.

@@ -1,20 +1,24 @@
 //! Reading a whole text.
 
-ghost use Rattle.std.specs.Prelude.{◌≡◌, ◌+◌, ◌≤◌, ◌++◌, ◌∷◌, [], ℕ, List, Option, Some, IfOk, IfErr, IfSome, OnOk};
+ghost use Rattle.std.specs.Prelude.{◌≡◌, ◌≢◌, ◌+◌, ◌≤◌, ◌++◌, ◌∷◌, [], ℕ, List, Option, Some, IfOk, IfErr, IfSome, OnOk, length};
+ghost use Rattle.dimacs_lines.specs.Devices.{before_piece};
 ghost use Rattle.dimacs_lines.specs.Lines.{lines};
 ghost use Rattle.dimacs_lines.specs.Reader.{text_left};
 ghost use Rattle.dimacs_lines.specs.declared.reader.Progress.TheVariants.{Open};
 ghost use Rattle.dimacs_lines.specs.declared.reader.TheConstants.{MAX_LINES};
+ghost use Rattle.dimacs_records.specs.declared.faults.ReadError.TheVariants.{Device};
 ghost use Rattle.dimacs_records.specs.declared.records.Record.{Record};
 ghost use Rattle.dimacs_records.specs.Readings.{ReadsLines, CountsRead, numbered};
-ghost use Rattle.dimacs_records.specs.Driver.{IsReadSoFar, IsBehind, ReadsOne, TakesLine, read_error, lines_error};
+ghost use Rattle.dimacs_records.specs.Plain.{TakesPlain};
+ghost use Rattle.dimacs_records.specs.Driver.{IsReadSoFar, IsBehind, ReadsOne, ReadsSome, ReadsAll, TakesLine, read_error, lines_error};
 
 use crate::faults::{At, ReadError, TakeError};
 use crate::kinds::TextKind;
 use crate::lines::record;
+use crate::plain::{PlainLines, plain_line};
 use crate::reading::Reading;
 use crate::reasons::Reason;
-use dimacs_lines::{Lines, LinesError, Source};
+use dimacs_lines::{Lines, LinesError, MAX_HELD, MAX_LINES, Source};
 use std::alloc::Global;
 
 /// Reads a text of this kind: the value that its records give, or its first fault.
@@ -33,18 +37,92 @@ pub fn read_text<R: Reading, S: Source>(
 {
     let mut reading = reading;
     let mut lines = Lines::new(alloc)?;
-    let mut count = 0;
-    while let Some(number) = read_line(kind, &mut lines, &mut reading, source)? {
-        count = number;
-    }
+    let count = read_lines(kind, &mut lines, &mut reading, source)?;
     match reading.finish() {
         Ok(value) => Ok(value),
         Err(error) => Err(at_line(count + 1, error)),
     }
 }
 
-/// Reads the next line, and answers its number.
+/// Reads the lines that are left, and answers how many the text has.
+fn read_lines<R: Reading, S: Source>(
+    kind: TextKind,
+    lines: &mut Lines,
+    reading: &mut R,
+    source: &mut S,
+) -> Result<u64, ReadError>
+    requires kind { R.kind reading.old ≡ kind }
+    requires open { lines.old.progress ≡ Open }
+    requires few { lines.old.given ≤ MAX_LINES }
+    ensures kind { R.kind reading.new ≡ kind }
+    ensures few { IfOk result (λ count. count ≤ MAX_LINES) }
+    ensures reads { (all : List (List ℕ)) → IsReadSoFar kind all lines.old.given (text_left lines.old (S.coming source.old)) (R.stands_for reading.old)
+        → ReadsAll kind all (R.stands_for reading.new) result }
+    ensures device { CountsRead result (S.faults source.old) (S.faults source.new) }
+{
+    loop {
+        take_held(kind, lines, reading)?;
+        let count = lines.given();
+        if read_line(kind, lines, reading, source)?.is_none() {
+            return Ok(count);
+        }
+    }
+}
+
+/// Takes the plain lines that are held. Near the limit on lines none is taken here.
 #[inline(always)]
+fn take_held<R: Reading>(
+    kind: TextKind,
+    lines: &mut Lines,
+    reading: &mut R,
+) -> Result<(), ReadError>
+    requires kind { R.kind reading.old ≡ kind }
+    ensures kind { R.kind reading.new ≡ kind }
+    ensures progress { lines.new.progress ≡ lines.old.progress }
+    ensures no_fewer { lines.old.given ≤ lines.new.given }
+    ensures few { lines.old.given ≤ MAX_LINES → lines.new.given ≤ MAX_LINES }
+    ensures reads { (all : List (List ℕ)) (coming : Option (List ℕ)) → IsReadSoFar kind all lines.old.given (text_left lines.old coming) (R.stands_for reading.old)
+        → ReadsSome kind all lines.new.given (text_left lines.new coming) (R.stands_for reading.new) result }
+    ensures undisturbed { IfErr result (λ error. error ≢ Device) }
+{
+    if lines.given() > MAX_LINES - MAX_HELD as u64 {
+        return Ok(());
+    }
+    let taken = take_plain(kind, lines.ahead(), lines.given(), reading)?;
+    lines.skip(taken.bytes, taken.lines);
+    Ok(())
+}
+
+/// Gives the reading what the plain lines say that stand first among the bytes held, up to a line of another form.
+#[inline(always)]
+fn take_plain<R: Reading>(
+    kind: TextKind,
+    held: &[u8],
+    given: u64,
+    reading: &mut R,
+) -> Result<PlainLines, ReadError>
+    requires kind { R.kind reading.old ≡ kind }
+    requires few { given + length held.now ≤ MAX_LINES }
+    ensures kind { R.kind reading.new ≡ kind }
+    ensures within { IfOk result (λ taken. taken.bytes ≤ length held.now) }
+    ensures few { IfOk result (λ taken. given + taken.lines ≤ MAX_LINES) }
+    ensures takes { (all : List (List ℕ)) (coming : Option (List ℕ)) → IsReadSoFar kind all given (before_piece held.now coming) (R.stands_for reading.old) → TakesPlain kind all given held.now coming (R.stands_for reading.new) result }
+    ensures undisturbed { IfErr result (λ error. error ≢ Device) }
+{
+    let mut bytes = 0;
+    let mut lines = 0;
+    while let Some(line) = plain_line(kind, &held[bytes..]) {
+        lines += 1;
+        if let Err(error) = reading.take(given + lines, line.said) {
+            return Err(at_line(given + lines, error));
+        }
+        bytes += line.size;
+    }
+    Ok(PlainLines { bytes, lines })
+}
+
+/// Reads the next line, and answers its number.
+#[inline(never)]
 fn read_line<R: Reading, S: Source>(
     kind: TextKind,
     lines: &mut Lines,

@@ -11,6 +11,7 @@ mod faults;
 mod kinds;
 mod laws;
 mod lines;
+mod plain;
 mod printed;
 mod reading;
 mod reasons;

@@ -1,21 +1,20 @@
-use Rattle.std.proofs.Common.{◌≡◌, ◌≤◌, ◌-◌, ℕ, List, Some}
-use Rattle.dimacs_lines.specs.Lines.{lines}
+use Rattle.std.proofs.Common.{◌≡◌, ◌≤◌, ◌-◌, List, ℕ}
 use Rattle.dimacs_lines.specs.Reader.{text_left}
 use Rattle.dimacs_lines.specs.declared.reader.Progress.TheVariants.{Open}
 use Rattle.dimacs_lines.specs.declared.reader.TheConstants.{MAX_LINES}
 use Rattle.dimacs_records.specs.Driver.{IsReadSoFar}
-use Rattle.dimacs_records.proofs.driver.read_text.Given as goal
+use Rattle.dimacs_records.proofs.driver.read_lines.Given as goal
 
 -- so many lines were read, without a fault of the source
 abbrev pub invariant-loop-lines : goal.invariant-loop-lines
 invariant-loop-lines g l = record {
   kind : g.R.Reading.kind l.reading ≡ l.kind;
   goes_on : l.lines.progress ≡ Open;
-  counted : l.lines.given ≡ l.count;
-  few : l.count ≤ MAX_LINES;
-  read : (text : List ℕ) → g.S.Source.coming l.fn.source ≡ Some text → IsReadSoFar l.kind (lines text) l.count (text_left l.lines (g.S.Source.coming l.source)) (g.R.Reading.stands_for l.reading);
+  few : l.lines.given ≤ MAX_LINES;
+  read : (all : List (List ℕ)) → IsReadSoFar l.kind all l.fn.lines.given (text_left l.fn.lines (g.S.Source.coming l.fn.source)) (g.R.Reading.stands_for l.fn.reading)
+      → IsReadSoFar l.kind all l.lines.given (text_left l.lines (g.S.Source.coming l.source)) (g.R.Reading.stands_for l.reading);
   sound : g.S.Source.faults l.source ≡ g.S.Source.faults l.fn.source;
 }
 
 abbrev pub decreases-loop-lines : goal.decreases-loop-lines
-decreases-loop-lines g l = MAX_LINES - l.count
+decreases-loop-lines g l = MAX_LINES - l.lines.given

@@ -1,0 +1,59 @@
+-- Reading the plain lines that are held.
+use Rattle.std.proofs.Common.{◌≡◌, ◌+◌, ◌<◌, ◌≤◌, ◌++◌, ◌∷◌, [], ℕ, List, Option, None, Some, Result, Ok, Err, length, drop, refl, ap, ◌∙◌, arith, append_assoc}
+use Rattle.std.specs.Prelude.{IfErr, OnOk}
+use Rattle.dimacs_lines.specs.Devices.{before_piece}
+use Rattle.dimacs_lines.specs.Lines.{lines}
+use Rattle.dimacs_lines.specs.Reader.{State, GivesLine}
+use Rattle.dimacs_lines.specs.declared.reader.Progress.TheVariants.{Open}
+use Rattle.dimacs_lines.specs.declared.reader.TheConstants.{MAX_LINES}
+use Rattle.dimacs_records.specs.declared.faults.TakeError.{TakeError}
+use Rattle.dimacs_records.specs.declared.kinds.TextKind.{TextKind}
+use Rattle.dimacs_records.specs.declared.records.Record.{Record}
+use Rattle.dimacs_records.specs.Driver.{IsReadSoFar, ReadsOne}
+use Rattle.dimacs_records.specs.Plain.{SaysFirst}
+use Rattle.dimacs_records.specs.Readings.{LineRecord, on_line, records_of, AreBefore, IsAllowed, RefusesRecord}
+use Rattle.dimacs_records.proofs.DriverLemmas.{at_number, behind, read_one, take_record}
+
+-- the states of a reader before and behind a line that it holds
+abbrev state : List ℕ → ℕ → List ℕ → State
+state held given line = record { held = held; given = given; line = line; progress = Open }
+
+first_given : (bytes line : List ℕ) (size : ℕ) → bytes ≡ line ++ 10 ∷ drop size bytes → ((rest : List ℕ) → lines (line ++ 10 ∷ rest) ≡ line ∷ lines rest) → (coming : Option (List ℕ)) (text : List ℕ) → before_piece bytes coming ≡ Some text
+    → (rest : List ℕ) × (before_piece (drop size bytes) coming ≡ Some rest) × (lines text ≡ line ∷ lines rest)
+first_given bytes line size there first None text is = absurd (cc)
+first_given bytes line size there first (Some later) text is =
+    let rest = drop size bytes ++ later in
+    let whole : text ≡ bytes ++ later = some_is is in
+    let cut : bytes ++ later ≡ line ++ 10 ∷ rest = ap (λ ys. ys ++ later) there ∙ append_assoc line (10 ∷ drop size bytes) later in
+    (rest, refl, ap lines (whole ∙ cut) ∙ first rest)
+  where
+    some_is : ◌≡◌ {A = Option (List ℕ)} (Some (bytes ++ later)) (Some text) → text ≡ bytes ++ later
+    some_is e = cc
+
+-- what is held begins with a line, as if it were given
+given_line : (kind : TextKind) (bytes : List ℕ) (r : Record) (size given : ℕ) (coming : Option (List ℕ)) → (h : SaysFirst kind bytes r size) → given < MAX_LINES
+    → GivesLine (state bytes given []) (state (drop size bytes) (given + 1) h.line) (before_piece bytes coming) (before_piece (drop size bytes) coming) (given + 1)
+given_line kind bytes r size given coming h few = record {
+  next = refl;
+  counted = refl;
+  open_still = refl;
+  few = omega (arith, few);
+  short = h.short;
+  first = first_given bytes h.line size h.there h.first coming;
+}
+
+-- one more plain line is taken, or it is where the text has its fault
+pub plain_step : (kind : TextKind) (all : List (List ℕ)) (bytes : List ℕ) (given size : ℕ) (coming : Option (List ℕ)) (r : Record) (old new : List LineRecord → Type 0) (result : Result Unit TakeError)
+    → SaysFirst kind bytes r size → given < MAX_LINES → IsReadSoFar kind all given (before_piece bytes coming) old
+    → OnOk result ((rs : List LineRecord) → old rs → IsAllowed (records_of rs) r)
+    → OnOk result ((rs : List LineRecord) → old rs → AreBefore (given + 1) rs → new (rs ++ on_line (given + 1) r ∷ []))
+    → IfErr result (λ error. (rs : List LineRecord) → old rs → RefusesRecord (records_of rs) r error)
+    → ReadsOne kind all given (before_piece (drop size bytes) coming) new (at_number (given + 1) result)
+plain_step kind all bytes given size coming r old new result says few so_far allowed taken refused =
+    let left = before_piece bytes coming in
+    let later = before_piece (drop size bytes) coming in
+    let before = state bytes given [] in
+    let after = state (drop size bytes) (given + 1) says.line in
+    let line = given_line kind bytes r size given coming says few in
+    let there = behind kind all before after left later (given + 1) old line so_far in
+    read_one kind all before after left later (given + 1) old new result line so_far (take_record kind so_far.before so_far.said (given + 1) says.line r old new result there so_far.stands says.reads.0 says.reads.1 allowed taken refused)

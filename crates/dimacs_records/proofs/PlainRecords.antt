@@ -1,0 +1,198 @@
+-- What a line in the plain form says.
+use Rattle.std.proofs.Common.{◌≡◌, ◌+◌, ◌-◌, ◌^◌, ◌<◌, ◌≤◌, ◌++◌, ◌∷◌, [], ℕ, List, Bool, true, false, Option, None, Some, Ok, length, drop, refl, ap, sym, ◌∙◌, subst, arith, append_assoc, SFits, w64}
+use Rattle.std.specs.Prelude.{◌==◌, ◌||◌, if◌then◌else◌, ℤ, pos, neg_ℤ}
+use Rattle.std.specs.List.{All, flat_map, list_all, Contains}
+use Rattle.std.specs.Char.{IsAsciiDigit}
+use Rattle.std.proofs.lemmas.Bool.{and_parts}
+use Rattle.std.proofs.lemmas.Bool.Decides.{nat_tests}
+use Rattle.std.proofs.lemmas.Int.{ints}
+use Rattle.std.proofs.lemmas.List.{append-nil, length-append}
+use Rattle.std.proofs.lemmas.List.Elements.{All-nil, All-cons, All-head, All-tail, All-weaker}
+use Rattle.dimacs_lines.specs.Lines.{lines}
+use Rattle.dimacs_lines.specs.Number.{Spells, IsWithin}
+use Rattle.dimacs_lines.specs.Plain.{EndsAt, StandsAt}
+use Rattle.dimacs_lines.specs.declared.reader.TheConstants.{MAX_LINE}
+use Rattle.dimacs_records.specs.declared.kinds.TextKind.{TextKind}
+use Rattle.dimacs_records.specs.declared.records.Record.{Record}
+use Rattle.dimacs_records.specs.Forms.{FieldType, Word, Either, Number, Id, Whole, Wide, Form, forms}
+use Rattle.dimacs_records.specs.LineReader.{ReadsLine}
+use Rattle.dimacs_records.specs.Plain.{Stand, IsPlainLine, SaysFirst}
+use Rattle.dimacs_records.specs.Printed.{behind_blank}
+use Rattle.dimacs_records.specs.Spelling.{Part, Text, Amount, Says, SayAll, kind_of, letter_of, parts_of, texts_in, is_skip, is_comment}
+use Rattle.dimacs_records.proofs.DecimalLemmas.{visible_digit}
+use Rattle.dimacs_records.proofs.PlainForms.{IsPlainForm, plain_form}
+use Rattle.dimacs_records.proofs.PlainLines.{IsVisible, IsPlain, ArePlain, texts_in-spaced, lines-spaced, length-spaced}
+
+visible_sign : (b : ℕ) → (b == 43 || b == 45) ≡ true → IsVisible b
+visible_sign b h = grind (arith, nat_tests)
+
+-- a number is made of visible bytes
+spells_plain : (text : List ℕ) (n : ℤ) → Spells text n → length text ≤ 40 → IsPlain text
+spells_plain [] n h short = absurd (omega (arith, h.0.0))
+spells_plain (b ∷ bs) n h short = by_test (b == 43 || b == 45) refl h.0
+  where
+    by_test : (t : Bool) → (b == 43 || b == 45) ≡ t → (0 < length (if t then bs else b ∷ bs)) × All IsAsciiDigit (if t then bs else b ∷ bs) → IsPlain (b ∷ bs)
+    by_test true sign is = record { some = omega arith; visible = All-cons IsVisible b bs (visible_sign b sign) (All-weaker IsAsciiDigit IsVisible visible_digit bs is.1); short = short }
+    by_test false sign is = record { some = omega arith; visible = All-weaker IsAsciiDigit IsVisible visible_digit (b ∷ bs) is.1; short = short }
+
+abbrev is_number : FieldType → Bool
+is_number (Number low high) = true
+is_number type = false
+
+abbrev IsShort : List ℕ → Type 0
+IsShort text = length text ≤ 40
+
+says_plain : (type : FieldType) (text : List ℕ) (part : Part) → is_number type ≡ true → Says type text part → IsShort text → IsPlain text
+says_plain (Number low high) text (Amount n) is says short = spells_plain text n says.0 short
+says_plain (Number low high) text (Text said) is says short = absurd says
+says_plain (Word w) text part is says short = absurd (cc)
+says_plain (Either v w) text part is says short = absurd (cc)
+
+say_plain : (types : List FieldType) (texts : List (List ℕ)) (parts : List Part) → list_all is_number types ≡ true → SayAll types texts parts → All IsShort texts → ArePlain texts
+say_plain [] [] [] are say short = tt
+say_plain (type ∷ types) (text ∷ texts) (part ∷ parts) are say short =
+    let both = and_parts (is_number type) _ are in
+    (says_plain type text part both.0 say.0 (All-head IsShort text texts short), say_plain types texts parts both.1 say.1 (All-tail IsShort text texts short))
+say_plain types texts parts are say short = absurd say
+
+record StandsSo (bytes : List ℕ) (at : ℕ) (body : List ℕ) (next : ℕ) : Type 0 where
+  there : drop at bytes ≡ body ++ 10 ∷ drop next bytes
+  passed : next ≡ at + length body + 1
+  within : next ≤ length bytes
+
+-- texts that stand one after another, as one
+stand_so : (bytes : List ℕ) (at : ℕ) (text : List ℕ) (texts : List (List ℕ)) (next : ℕ) → Stand bytes at (text ∷ texts) next → StandsSo bytes at (text ++ flat_map behind_blank texts) next
+stand_so bytes at text [] next ends =
+    let whole : text ≡ text ++ [] = sym (append-nil text) in
+    subst (λ body. StandsSo bytes at body next) whole (record { there = ends.there; passed = ends.passed; within = ends.within })
+stand_so bytes at text (other ∷ texts) next (mid, ends, more) =
+    let later = stand_so bytes mid other texts next more in
+    let body = other ++ flat_map behind_blank texts in
+    record {
+      there = ends.there ∙ (ap (λ ys. text ++ 32 ∷ ys) later.there ∙ sym (append_assoc text (32 ∷ body) (10 ∷ drop next bytes)));
+      passed = omega (arith, ends.passed, later.passed, length-append text (32 ∷ body));
+      within = later.within;
+    }
+
+-- a line of a form of the kind, whose fields are numbers
+module _ (kind : TextKind) (form : Form) (bytes : List ℕ) (letter : ℕ) (size : ℕ) (r : Record) where
+  spaced : (text : List ℕ) (texts : List (List ℕ)) → Contains (forms kind) form → kind_of r ≡ kind → letter_of r ≡ form.letter → form.letter ≡ letter ∷ [] → list_all is_number form.types ≡ true
+      → bytes ≡ letter ∷ 32 ∷ drop 2 bytes → Stand bytes 2 (text ∷ texts) size → All IsShort (text ∷ texts) → SayAll form.types (text ∷ texts) (parts_of r) → length texts ≤ 40 → SaysFirst kind bytes r size
+  spaced text texts among of_kind of_letter is_letter numbers begins stand short says few =
+      let fields = text ∷ texts in
+      let so = stand_so bytes 2 text texts size stand in
+      let plain : IsPlainForm form = plain_form kind form among in
+      let letter_plain : IsPlain (letter ∷ []) = subst IsPlain is_letter plain.letter in
+      let solid : is_comment (letter ∷ []) ≡ false = subst (λ l. is_comment l ≡ false) is_letter plain.no_comment in
+      let are : ArePlain fields = say_plain form.types fields (parts_of r) numbers says short in
+      let line = (letter ∷ []) ++ flat_map behind_blank fields in
+      let read : texts_in line ≡ (letter ∷ []) ∷ fields = texts_in-spaced (letter ∷ []) fields letter_plain are in
+      record {
+        line = line;
+        there = begins ∙ ap (λ ys. letter ∷ 32 ∷ ys) so.there;
+        size_is = omega (arith, so.passed);
+        within = so.within;
+        first = λ rest. lines-spaced (letter ∷ []) fields rest letter_plain are;
+        short = omega (arith, length-spaced (letter ∷ []) fields letter_plain are, few);
+        reads = (
+          rw read solid,
+          record {
+            form = form;
+            behind = fields;
+            of_kind = among;
+            for_kind = of_kind;
+            letter = of_letter;
+            begins = read ∙ ap (λ l. l ∷ fields) (sym is_letter);
+            says = says;
+          },
+        );
+      }
+
+  by_texts : (texts : List (List ℕ)) → Contains (forms kind) form → kind_of r ≡ kind → letter_of r ≡ form.letter → form.letter ≡ letter ∷ [] → list_all is_number form.types ≡ true
+      → bytes ≡ letter ∷ 32 ∷ drop 2 bytes → Stand bytes 2 texts size → All IsShort texts → SayAll form.types texts (parts_of r) → length texts ≤ 40 → SaysFirst kind bytes r size
+  by_texts [] among of_kind of_letter is_letter numbers begins stand short says few = absurd stand
+  by_texts (text ∷ texts) among of_kind of_letter is_letter numbers begins stand short says few = spaced text texts among of_kind of_letter is_letter numbers begins stand short says (omega (arith, few))
+
+as_many : (types : List FieldType) (texts : List (List ℕ)) (parts : List Part) → SayAll types texts parts → length texts ≡ length types
+as_many [] [] [] say = refl
+as_many (type ∷ types) (text ∷ texts) (part ∷ parts) say = omega (arith, as_many types texts parts say.1)
+as_many types texts parts say = absurd say
+
+-- a plain line of a form of its kind says its record
+pub plain_says : (kind : TextKind) (form : Form) (bytes : List ℕ) (letter : ℕ) (size : ℕ) (r : Record) → Contains (forms kind) form → kind_of r ≡ kind → letter_of r ≡ form.letter → form.letter ≡ letter ∷ [] → list_all is_number form.types ≡ true
+    → IsPlainLine bytes letter form.types (parts_of r) size → SaysFirst kind bytes r size
+plain_says kind form bytes letter size r among of_kind of_letter is_letter numbers h =
+    let few : length form.types ≤ 5 = (plain_form kind form among).few in
+    by_texts kind form bytes letter size r h.texts among of_kind of_letter is_letter numbers h.begins h.stand h.short h.says (omega (arith, few, as_many form.types h.texts (parts_of r) h.says))
+
+within_id : (id : ℕ) → 1 ≤ id → id < 100000000 → IsWithin (pos 1) (pos 134217728) (pos id)
+within_id id some few = (omega (arith, ints), omega (arith, ints))
+
+within_whole : (n : ℤ) → SFits w64 n → IsWithin (neg_ℤ (pos (2 ^ 63))) (pos (2 ^ 63 - 1)) n
+within_whole n fits = (omega (arith, ints, fits.sfits), omega (arith, ints, fits.sfits))
+
+-- two nodes and a number, with a blank after each node and a line end after the number
+pub ends_stand : (bytes : List ℕ) (letter tail head after_tail after_head size : ℕ) (n : ℤ) → bytes ≡ letter ∷ 32 ∷ drop 2 bytes → StandsAt bytes 2 32 (pos tail) after_tail → (1 ≤ tail) × (tail < 100000000)
+    → StandsAt bytes after_tail 32 (pos head) after_head → (1 ≤ head) × (head < 100000000) → StandsAt bytes after_head 10 n size → SFits w64 n
+    → IsPlainLine bytes letter (Id ∷ Id ∷ Whole ∷ []) (Amount (pos tail) ∷ Amount (pos head) ∷ Amount n ∷ []) size
+ends_stand bytes letter tail head after_tail after_head size n begins at_tail tail_range at_head head_range at_n fits = record {
+  texts = at_tail.text ∷ at_head.text ∷ at_n.text ∷ [];
+  begins = begins;
+  stand = (after_tail, at_tail.ends, (after_head, at_head.ends, at_n.ends));
+  short = All-cons IsShort at_tail.text (at_head.text ∷ at_n.text ∷ []) at_tail.short (All-cons IsShort at_head.text (at_n.text ∷ []) at_head.short (All-cons IsShort at_n.text [] at_n.short (All-nil IsShort)));
+  says = ((at_tail.spelled, within_id tail tail_range.0 tail_range.1), ((at_head.spelled, within_id head head_range.0 head_range.1), ((at_n.spelled, within_whole n fits), tt)));
+}
+
+within_wide : (n : ℤ) → IsWithin (neg_ℤ (pos (2 ^ 63))) (pos (2 ^ 63 - 1)) n → IsWithin (neg_ℤ (pos (10 ^ 30))) (pos (10 ^ 30)) n
+within_wide n within = (omega (arith, ints, within.0), omega (arith, ints, within.1))
+
+-- a node and a number
+pub value_stands : (bytes : List ℕ) (letter id after_id size : ℕ) (n : ℤ) → bytes ≡ letter ∷ 32 ∷ drop 2 bytes → StandsAt bytes 2 32 (pos id) after_id → (1 ≤ id) × (id < 100000000) → StandsAt bytes after_id 10 n size → SFits w64 n
+    → IsPlainLine bytes letter (Id ∷ Whole ∷ []) (Amount (pos id) ∷ Amount n ∷ []) size
+value_stands bytes letter id after_id size n begins at_id id_range at_n fits = record {
+  texts = at_id.text ∷ at_n.text ∷ [];
+  begins = begins;
+  stand = (after_id, at_id.ends, at_n.ends);
+  short = All-cons IsShort at_id.text (at_n.text ∷ []) at_id.short (All-cons IsShort at_n.text [] at_n.short (All-nil IsShort));
+  says = ((at_id.spelled, within_id id id_range.0 id_range.1), ((at_n.spelled, within_whole n fits), tt));
+}
+
+widened : (id n : ℤ) (texts : List (List ℕ)) → SayAll (Id ∷ Whole ∷ []) texts (Amount id ∷ Amount n ∷ []) → SayAll (Id ∷ Wide ∷ []) texts (Amount id ∷ Amount n ∷ [])
+widened id n [] say = absurd say
+widened id n (text ∷ []) say = absurd say.1
+widened id n (text ∷ other ∷ []) say = (say.0, ((say.1.0.0, within_wide n say.1.0.1), tt))
+widened id n (text ∷ other ∷ third ∷ texts) say = absurd say.1.1
+
+-- where a number may be wide
+pub value_widened : (bytes : List ℕ) (letter id : ℕ) (n : ℤ) (size : ℕ) → IsPlainLine bytes letter (Id ∷ Whole ∷ []) (Amount (pos id) ∷ Amount n ∷ []) size → IsPlainLine bytes letter (Id ∷ Wide ∷ []) (Amount (pos id) ∷ Amount n ∷ []) size
+value_widened bytes letter id n size line = record { texts = line.texts; begins = line.begins; stand = line.stand; short = line.short; says = widened (pos id) n line.texts line.says }
+
+-- a node, a number and a node
+pub label_stands : (bytes : List ℕ) (id pred after_id after_dist size : ℕ) (dist : ℤ) → bytes ≡ 100 ∷ 32 ∷ drop 2 bytes → StandsAt bytes 2 32 (pos id) after_id → (1 ≤ id) × (id < 100000000)
+    → StandsAt bytes after_id 32 dist after_dist → SFits w64 dist → StandsAt bytes after_dist 10 (pos pred) size → (1 ≤ pred) × (pred < 100000000)
+    → IsPlainLine bytes 100 (Id ∷ Wide ∷ Id ∷ []) (Amount (pos id) ∷ Amount dist ∷ Amount (pos pred) ∷ []) size
+label_stands bytes id pred after_id after_dist size dist begins at_id id_range at_dist fits at_pred pred_range = record {
+  texts = at_id.text ∷ at_dist.text ∷ at_pred.text ∷ [];
+  begins = begins;
+  stand = (after_id, at_id.ends, (after_dist, at_dist.ends, at_pred.ends));
+  short = All-cons IsShort at_id.text (at_dist.text ∷ at_pred.text ∷ []) at_id.short (All-cons IsShort at_dist.text (at_pred.text ∷ []) at_dist.short (All-cons IsShort at_pred.text [] at_pred.short (All-nil IsShort)));
+  says = ((at_id.spelled, within_id id id_range.0 id_range.1), ((at_dist.spelled, within_wide dist (within_whole dist fits)), ((at_pred.spelled, within_id pred pred_range.0 pred_range.1), tt)));
+}
+
+-- two nodes and three numbers
+pub bounds_stand : (bytes : List ℕ) (tail head after_tail after_head after_low after_cap size : ℕ) (low cap cost : ℤ) → bytes ≡ 97 ∷ 32 ∷ drop 2 bytes → StandsAt bytes 2 32 (pos tail) after_tail → (1 ≤ tail) × (tail < 100000000)
+    → StandsAt bytes after_tail 32 (pos head) after_head → (1 ≤ head) × (head < 100000000) → StandsAt bytes after_head 32 low after_low → SFits w64 low → StandsAt bytes after_low 32 cap after_cap → SFits w64 cap → StandsAt bytes after_cap 10 cost size → SFits w64 cost
+    → IsPlainLine bytes 97 (Id ∷ Id ∷ Whole ∷ Whole ∷ Whole ∷ []) (Amount (pos tail) ∷ Amount (pos head) ∷ Amount low ∷ Amount cap ∷ Amount cost ∷ []) size
+bounds_stand bytes tail head after_tail after_head after_low after_cap size low cap cost begins at_tail tail_range at_head head_range at_low low_fits at_cap cap_fits at_cost cost_fits =
+    let low_and_later : List (List ℕ) = at_low.text ∷ at_cap.text ∷ at_cost.text ∷ [] in
+    let short : All IsShort low_and_later = All-cons IsShort at_low.text (at_cap.text ∷ at_cost.text ∷ []) at_low.short (All-cons IsShort at_cap.text (at_cost.text ∷ []) at_cap.short (All-cons IsShort at_cost.text [] at_cost.short (All-nil IsShort))) in
+    record {
+      texts = at_tail.text ∷ at_head.text ∷ low_and_later;
+      begins = begins;
+      stand = (after_tail, at_tail.ends, (after_head, at_head.ends, (after_low, at_low.ends, (after_cap, at_cap.ends, at_cost.ends))));
+      short = All-cons IsShort at_tail.text (at_head.text ∷ low_and_later) at_tail.short (All-cons IsShort at_head.text low_and_later at_head.short short);
+      says = (
+        (at_tail.spelled, within_id tail tail_range.0 tail_range.1),
+        ((at_head.spelled, within_id head head_range.0 head_range.1), ((at_low.spelled, within_whole low low_fits), ((at_cap.spelled, within_whole cap cap_fits), ((at_cost.spelled, within_whole cost cost_fits), tt)))),
+      );
+    }

@@ -1,0 +1,17 @@
+use Rattle.std.proofs.Common.{◌≡◌, ◌+◌, ◌-◌, ◌≤◌, ℕ, List, Option, length, drop}
+use Rattle.dimacs_lines.specs.Devices.{before_piece}
+use Rattle.dimacs_records.specs.Driver.{IsReadSoFar}
+use Rattle.dimacs_records.proofs.driver.take_plain.Given as goal
+
+-- so many lines were taken, and these bytes of what is held
+abbrev pub invariant-loop-line : goal.invariant-loop-line
+invariant-loop-line g l = record {
+  kind : g.R.Reading.kind l.reading ≡ l.kind;
+  within : l.bytes ≤ length l.held;
+  few : l.lines ≤ l.bytes;
+  read : (all : List (List ℕ)) (coming : Option (List ℕ)) → IsReadSoFar l.kind all l.given (before_piece l.held coming) (g.R.Reading.stands_for l.fn.reading)
+      → IsReadSoFar l.kind all (l.given + l.lines) (before_piece (drop l.bytes l.held) coming) (g.R.Reading.stands_for l.reading);
+}
+
+abbrev pub decreases-loop-line : goal.decreases-loop-line
+decreases-loop-line g l = length l.held - l.bytes

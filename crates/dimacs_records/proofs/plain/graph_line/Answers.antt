@@ -1,0 +1,15 @@
+use Rattle.std.proofs.Common.{[], ◌∷◌, refl, rules, SFits, w64, lit<}
+use Rattle.std.specs.Prelude.{codes}
+use Rattle.std.proofs.lemmas.Int.{to_z-of_z}
+use Rattle.dimacs_records.specs.declared.kinds.TextKind.TheVariants.{Graph}
+use Rattle.dimacs_records.specs.declared.records.Record.TheVariants.{GraphArc}
+use Rattle.dimacs_records.specs.Forms.{Id, Whole, form}
+use Rattle.dimacs_records.proofs.PlainRecords.{plain_says}
+use Rattle.dimacs_records.proofs.plain.graph_line.Goals as goal
+
+pub returns : goal.returns
+returns c =
+    let line = c.in_ok-size.field-0 in
+    let fits : SFits w64 line.number = search rules in
+    rw (to_z-of_z w64 line.number fits)
+    (plain_says Graph (form (codes "a") (Id ∷ Id ∷ Whole ∷ [])) c.args.bytes.now 97 line.size (GraphArc line.tail line.head line.number) (1, lit< tt, refl) refl refl refl refl c.in_ok-size.ensures)

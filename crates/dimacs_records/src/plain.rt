@@ -1,0 +1,224 @@
+//! Lines in the plain form, which most lines have: a letter, one blank before each number, and the line's end right after
+//! the last. Their records are read straight from the bytes that are held; any other line is left to `record`.
+
+ghost use Rattle.std.specs.Prelude.{◌≡◌, ◌≤◌, ◌∷◌, [], pos, length, drop, IfSome, IsTrue};
+ghost use Rattle.dimacs_records.specs.declared.kinds.TextKind.TheVariants.{Max, Min, Graph, Solution, Potentials, Labels};
+ghost use Rattle.dimacs_records.specs.Forms.{Id, Whole};
+ghost use Rattle.dimacs_records.specs.Plain.{IsPlainLine, SaysFirst};
+ghost use Rattle.dimacs_records.specs.Spelling.{Amount};
+
+use crate::kinds::TextKind;
+use crate::records::Record;
+use dimacs_lines::{plain_id, plain_whole};
+
+/// Some of the first lines that are held, with their ends.
+#[derive(Clone, Copy)]
+pub(crate) struct PlainLines {
+    pub(crate) bytes: usize,
+    pub(crate) lines: u64,
+}
+
+/// A record, and how many bytes its line takes with its end.
+#[derive(Clone, Copy)]
+pub(crate) struct PlainLine {
+    pub(crate) size: usize,
+    pub(crate) said: Record,
+}
+
+/// Two nodes and a number.
+#[derive(Clone, Copy)]
+struct Ends {
+    size: usize,
+    tail: u32,
+    head: u32,
+    number: i64,
+}
+
+/// A node and a number.
+#[derive(Clone, Copy)]
+struct Value {
+    size: usize,
+    id: u32,
+    number: i64,
+}
+
+/// What the first line says, where it has the plain form.
+#[inline(always)]
+pub(crate) fn plain_line(kind: TextKind, bytes: &[u8]) -> Option<PlainLine>
+    ensures { IfSome result (λ line. SaysFirst kind bytes.now line.said line.size) }
+{
+    match kind {
+        TextKind::Max => max_line(bytes),
+        TextKind::Min => min_line(bytes),
+        TextKind::Graph => graph_line(bytes),
+        TextKind::Solution => solution_line(bytes),
+        TextKind::Potentials => potentials_line(bytes),
+        TextKind::Labels => labels_line(bytes),
+        TextKind::Queries | TextKind::Cut => None,
+    }
+}
+
+/// An arc of a maximum flow.
+#[inline(always)]
+fn max_line(bytes: &[u8]) -> Option<PlainLine>
+    ensures { IfSome result (λ line. SaysFirst Max bytes.now line.said line.size) }
+{
+    let Ends {
+        size,
+        tail,
+        head,
+        number,
+    } = ends_line(bytes, b'a')?;
+    let said = Record::MaxArc {
+        tail,
+        head,
+        cap: number,
+    };
+    Some(PlainLine { size, said })
+}
+
+/// A node or an arc of a minimum cost flow.
+#[inline(always)]
+fn min_line(bytes: &[u8]) -> Option<PlainLine>
+    ensures { IfSome result (λ line. SaysFirst Min bytes.now line.said line.size) }
+{
+    if let Some(line) = bounds_line(bytes) {
+        return Some(line);
+    }
+    let Value { size, id, number } = value_line(bytes, b'n')?;
+    let said = Record::MinNode { id, supply: number };
+    Some(PlainLine { size, said })
+}
+
+/// An arc of a graph.
+#[inline(always)]
+fn graph_line(bytes: &[u8]) -> Option<PlainLine>
+    ensures { IfSome result (λ line. SaysFirst Graph bytes.now line.said line.size) }
+{
+    let Ends {
+        size,
+        tail,
+        head,
+        number,
+    } = ends_line(bytes, b'a')?;
+    let said = Record::GraphArc {
+        tail,
+        head,
+        weight: number,
+    };
+    Some(PlainLine { size, said })
+}
+
+/// An entry of a solution.
+#[inline(always)]
+fn solution_line(bytes: &[u8]) -> Option<PlainLine>
+    ensures { IfSome result (λ line. SaysFirst Solution bytes.now line.said line.size) }
+{
+    let Ends {
+        size,
+        tail,
+        head,
+        number,
+    } = ends_line(bytes, b'f')?;
+    let said = Record::SolutionEntry {
+        tail,
+        head,
+        flow: number,
+    };
+    Some(PlainLine { size, said })
+}
+
+/// A node of potentials.
+#[inline(always)]
+fn potentials_line(bytes: &[u8]) -> Option<PlainLine>
+    ensures { IfSome result (λ line. SaysFirst Potentials bytes.now line.said line.size) }
+{
+    let Value { size, id, number } = value_line(bytes, b'y')?;
+    let said = Record::PotentialsNode {
+        id,
+        value: i128::from(number),
+    };
+    Some(PlainLine { size, said })
+}
+
+/// A label of a block.
+#[inline(always)]
+fn labels_line(bytes: &[u8]) -> Option<PlainLine>
+    ensures { IfSome result (λ line. SaysFirst Labels bytes.now line.said line.size) }
+{
+    if !begins_with(bytes, b'd') {
+        return None;
+    }
+    let (after_id, id) = plain_id(bytes, 2, b' ')?;
+    let (after_dist, dist) = plain_whole(bytes, after_id, b' ')?;
+    let (size, pred) = plain_id(bytes, after_dist, b'\n')?;
+    let said = Record::LabelsNode {
+        id,
+        dist: i128::from(dist),
+        pred,
+    };
+    Some(PlainLine { size, said })
+}
+
+/// An arc with its bounds and its cost.
+#[inline(always)]
+fn bounds_line(bytes: &[u8]) -> Option<PlainLine>
+    ensures { IfSome result (λ line. SaysFirst Min bytes.now line.said line.size) }
+{
+    if !begins_with(bytes, b'a') {
+        return None;
+    }
+    let (after_tail, tail) = plain_id(bytes, 2, b' ')?;
+    let (after_head, head) = plain_id(bytes, after_tail, b' ')?;
+    let (after_low, low) = plain_whole(bytes, after_head, b' ')?;
+    let (after_cap, cap) = plain_whole(bytes, after_low, b' ')?;
+    let (size, cost) = plain_whole(bytes, after_cap, b'\n')?;
+    let said = Record::MinArc {
+        tail,
+        head,
+        low,
+        cap,
+        cost,
+    };
+    Some(PlainLine { size, said })
+}
+
+/// A line of a node and a number.
+#[inline(always)]
+fn value_line(bytes: &[u8], letter: u8) -> Option<Value>
+    ensures { IfSome result (λ line. IsPlainLine bytes.now letter (Id ∷ Whole ∷ []) (Amount (pos line.id) ∷ Amount line.number ∷ []) line.size) }
+{
+    if !begins_with(bytes, letter) {
+        return None;
+    }
+    let (after_id, id) = plain_id(bytes, 2, b' ')?;
+    let (size, number) = plain_whole(bytes, after_id, b'\n')?;
+    Some(Value { size, id, number })
+}
+
+/// A line of two nodes and a number.
+#[inline(always)]
+fn ends_line(bytes: &[u8], letter: u8) -> Option<Ends>
+    ensures { IfSome result (λ line. IsPlainLine bytes.now letter (Id ∷ Id ∷ Whole ∷ []) (Amount (pos line.tail) ∷ Amount (pos line.head) ∷ Amount line.number ∷ []) line.size) }
+{
+    if !begins_with(bytes, letter) {
+        return None;
+    }
+    let (after_tail, tail) = plain_id(bytes, 2, b' ')?;
+    let (after_head, head) = plain_id(bytes, after_tail, b' ')?;
+    let (size, number) = plain_whole(bytes, after_head, b'\n')?;
+    Some(Ends {
+        size,
+        tail,
+        head,
+        number,
+    })
+}
+
+/// Whether a letter and a blank stand in front.
+#[inline(always)]
+fn begins_with(bytes: &[u8], letter: u8) -> bool
+    ensures { IsTrue result → bytes.now ≡ letter ∷ 32 ∷ drop 2 bytes.now }
+{
+    bytes.len() > 2 && bytes[0] == letter && bytes[1] == b' '
+}
