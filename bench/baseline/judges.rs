@@ -1,7 +1,7 @@
 //! The judges. A yes is what is printed, and so is a no: the line of the first fault or of the first test that fails.
 
 use crate::claims::{Cut, Distance, Labels, Potentials, Queries, Solution};
-use crate::network::{ArcIndex, Network, NetworkKind, read_flow_network, read_graph};
+use crate::network::{ArcIndex, Network, NetworkKind, read_network};
 use crate::text::{self, Fault, Reading};
 use std::collections::HashMap;
 use std::fmt::Write;
@@ -44,11 +44,11 @@ fn read<R: Reading>(
 }
 
 pub fn judge_max(instance: &str, solution: &str, cut: &str) -> Outcome {
-    let (network, index) = read_flow_network(NetworkKind::Max, instance)
+    let network = read_network(NetworkKind::Max, instance)
         .map_err(|fault| refusal_line("instance", fault))?;
     let solution = read("solution", &text::SOLUTION, solution, Solution::default())?;
     let cut = read("certificate", &text::CUT, cut, Cut::default())?;
-    let flows = flows_of(&network, index, &solution)?;
+    let flows = flows_of(&network, &solution)?;
     test_capacities(&network, &flows)?;
     let nets = nets_of(&network, &flows);
     for node in 1..=network.nodes {
@@ -98,7 +98,7 @@ fn test_cut(network: &Network, flows: &[i64], cut: &Cut) -> Result<(), String> {
 }
 
 pub fn judge_min(instance: &str, solution: &str, potentials: &str) -> Outcome {
-    let (network, index) = read_flow_network(NetworkKind::Min, instance)
+    let network = read_network(NetworkKind::Min, instance)
         .map_err(|fault| refusal_line("instance", fault))?;
     let solution = read("solution", &text::SOLUTION, solution, Solution::default())?;
     let potentials = read(
@@ -107,7 +107,7 @@ pub fn judge_min(instance: &str, solution: &str, potentials: &str) -> Outcome {
         potentials,
         Potentials::default(),
     )?;
-    let flows = flows_of(&network, index, &solution)?;
+    let flows = flows_of(&network, &solution)?;
     test_bounds(&network, &flows)?;
     let nets = nets_of(&network, &flows);
     for node in 1..=network.nodes {
@@ -164,31 +164,50 @@ fn test_reduced_costs(
     Ok(())
 }
 
-/// The flow of each arc. Entries mostly follow the order of the arcs: the next few arcs are tried before the index,
-/// which nothing needs any longer then.
-fn flows_of(network: &Network, index: ArcIndex, solution: &Solution) -> Result<Vec<i64>, String> {
+/// The flow of each arc. The k-th entry with given ends belongs to the k-th arc with them. Where the entries leave the
+/// order of the arcs, an index is built for the others.
+fn flows_of(network: &Network, solution: &Solution) -> Result<Vec<i64>, String> {
     let mut flows = vec![0i64; network.ends.len()];
-    let mut is_named = vec![0u64; network.ends.len() / 64 + 1];
-    let mut next = 0;
-    for (k, entry) in solution.entries.iter().enumerate() {
-        let near = network.ends[next..]
-            .iter()
-            .take(8)
-            .position(|&ends| ends == entry.ends);
-        let found = near
-            .map(|places| next + places)
-            .or_else(|| index.find(network, entry.ends));
-        let Some(arc) = found else {
-            return Err(at_solution(solution.entry_line(k), 0, "UnknownArc"));
-        };
-        if is_named[arc / 64] >> (arc % 64) & 1 == 1 {
-            return Err(at_solution(solution.entry_line(k), 0, "ArcTwice"));
-        }
-        is_named[arc / 64] |= 1 << (arc % 64);
-        flows[arc] = entry.flow;
-        next = arc + 1;
+    let entries = &solution.entries;
+    let both = entries.iter().zip(&network.ends);
+    let in_order = both
+        .take_while(|&(entry, &ends)| entry.ends == ends)
+        .count();
+    for (flow, entry) in flows.iter_mut().zip(&entries[..in_order]) {
+        *flow = entry.flow;
+    }
+    if in_order < entries.len() {
+        let index = ArcIndex::build(network);
+        put_others(network, &index, solution, in_order, &mut flows)?;
     }
     Ok(flows)
+}
+
+/// Puts the entries behind those in order on their arcs.
+fn put_others(
+    network: &Network,
+    index: &ArcIndex,
+    solution: &Solution,
+    in_order: usize,
+    flows: &mut [i64],
+) -> Result<(), String> {
+    let mut came = vec![0u32; network.ends.len()];
+    for (k, entry) in solution.entries.iter().enumerate().skip(in_order) {
+        let arc_at = |place| index.arc_at(network, entry.ends, place);
+        let Some(first) = index.first_place(network, entry.ends) else {
+            return Err(at_solution(solution.entry_line(k), 0, "UnknownArc"));
+        };
+        if came[first] == 0 {
+            let arcs = (first..).map_while(arc_at);
+            came[first] = arcs.take_while(|&arc| arc < in_order).count() as u32;
+        }
+        let Some(arc) = arc_at(first + came[first] as usize) else {
+            return Err(at_solution(solution.entry_line(k), 0, "ArcTwice"));
+        };
+        flows[arc] = entry.flow;
+        came[first] += 1;
+    }
+    Ok(())
 }
 
 /// What leaves each node, minus what enters it.
@@ -202,7 +221,7 @@ fn nets_of(network: &Network, flows: &[i64]) -> Vec<i128> {
 }
 
 pub fn judge_paths(graph: &str, queries: &str, labels: &str) -> Outcome {
-    let graph = read_graph(graph).map_err(|fault| refusal_line("instance", fault))?;
+    let graph = read_network(NetworkKind::Graph, graph).map_err(|fault| refusal_line("instance", fault))?;
     let queries = read("query", &text::QUERIES, queries, Queries::default())?;
     let mut narrow = Labels::<i64>::new();
     let outcome = text::read(&text::LABELS, labels, &mut narrow);

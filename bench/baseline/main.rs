@@ -21,7 +21,7 @@ mod output;
 mod text;
 
 use judges::{Outcome, judge_max, judge_min, judge_paths, refusal_line};
-use network::{Network, NetworkKind, print, read_flow_network, read_graph, summary};
+use network::{Network, NetworkKind, print, read_network, summary};
 use std::fs::File;
 use std::io::Read;
 
@@ -61,11 +61,7 @@ fn network_kind(word: &str) -> NetworkKind {
 }
 
 fn instance(kind: NetworkKind, file: &str) -> Result<Network, String> {
-    let network = match kind {
-        NetworkKind::Graph => read_graph(file),
-        _ => read_flow_network(kind, file).map(|(network, _)| network),
-    };
-    network.map_err(|fault| refusal_line("instance", fault))
+    read_network(kind, file).map_err(|fault| refusal_line("instance", fault))
 }
 
 fn convert(kind: NetworkKind, file: &str) -> Outcome {

@@ -163,7 +163,13 @@ fn faulty_graphs_get_one_line(rt: HostRuntime) -> Result<(), Fail> {
     converts_each(&rt, rt.alloc(), Status::Refused, &FAULTY_GRAPHS)
 }
 
-static FLOW_INSTANCES: [Case; 4] = [
+static FLOW_INSTANCES: [Case; 5] = [
+    (
+        "two arcs between two nodes",
+        TextKind::Max,
+        "p max 2 2\nn 1 s\nn 2 t\na 1 2 1\na 1 2 1\n",
+        "p max 2 2\nn 1 s\nn 2 t\na 1 2 1\na 1 2 1\n",
+    ),
     (
         "the node lines by ID",
         TextKind::Max,
@@ -221,13 +227,7 @@ fn queries_get_their_canonical_text(rt: HostRuntime) -> Result<(), Fail> {
     converts_each(&rt, rt.alloc(), Status::Done, &QUERIES)
 }
 
-static FAULTY_INSTANCES_AND_QUERIES: [Case; 10] = [
-    (
-        "parallel arcs",
-        TextKind::Max,
-        "p max 2 2\nn 1 s\nn 2 t\na 1 2 1\na 1 2 1\n",
-        "x instance 5 0 ParallelArc\n",
-    ),
+static FAULTY_INSTANCES_AND_QUERIES: [Case; 9] = [
     (
         "a node named twice",
         TextKind::Max,

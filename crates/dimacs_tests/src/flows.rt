@@ -172,8 +172,138 @@ fn maximum_flows_are_judged_by_cuts(rt: HostRuntime) -> Result<(), Fail> {
     judges_each(&rt, rt.alloc(), JudgeKind::Max, &FLOWS_BY_CUTS)
 }
 
+/// Two arcs from the source to the sink.
+const TWO: &str = "p max 2 2\nn 1 s\nn 2 t\na 1 2 1\na 1 2 3\n";
+
+/// Two arcs from the source to another node, and two from there to the sink.
+const PAIRS: &str = "p max 3 4\nn 1 s\nn 3 t\na 1 2 1\na 2 3 4\na 1 2 3\na 2 3 0\n";
+
+/// Flows over several arcs between two nodes, each with the cut that has the source alone.
+static FLOWS_OF_TWINS: [Case; 12] = [
+    (
+        "an entry for each of two arcs",
+        "p max 2 2\nn 1 s\nn 2 t\na 1 2 1\na 1 2 1\n",
+        "s 2\nf 1 2 1\nf 1 2 1\n",
+        "p cut 2 1\nu 1\n",
+        Status::Done,
+        "v max 2\n",
+    ),
+    (
+        "one entry too many",
+        "p max 2 2\nn 1 s\nn 2 t\na 1 2 1\na 1 2 1\n",
+        "s 2\nf 1 2 1\nf 1 2 1\nf 1 2 1\n",
+        "p cut 2 1\nu 1\n",
+        Status::Refused,
+        "x solution 4 0 ArcTwice\n",
+    ),
+    (
+        "an entry for each of two unlike arcs",
+        TWO,
+        "s 4\nf 1 2 1\nf 1 2 3\n",
+        "p cut 2 1\nu 1\n",
+        Status::Done,
+        "v max 4\n",
+    ),
+    (
+        "two entries exchanged",
+        TWO,
+        "s 4\nf 1 2 3\nf 1 2 1\n",
+        "p cut 2 1\nu 1\n",
+        Status::Refused,
+        "x arc 1 AboveCap\n",
+    ),
+    (
+        "the second arc's flow on the first",
+        TWO,
+        "s 3\nf 1 2 3\n",
+        "p cut 2 1\nu 1\n",
+        Status::Refused,
+        "x arc 1 AboveCap\n",
+    ),
+    (
+        "a zero before the second arc's flow",
+        TWO,
+        "s 3\nf 1 2 0\nf 1 2 3\n",
+        "p cut 2 1\nu 1\n",
+        Status::Refused,
+        "x arc 1 NotSaturated\n",
+    ),
+    (
+        "entries in the order of the arcs",
+        PAIRS,
+        "s 4\nf 1 2 1\nf 2 3 4\nf 1 2 3\nf 2 3 0\n",
+        "p cut 3 1\nu 1\n",
+        Status::Done,
+        "v max 4\n",
+    ),
+    (
+        "entries that leave the order of the arcs",
+        PAIRS,
+        "s 4\nf 1 2 1\nf 1 2 3\nf 2 3 4\n",
+        "p cut 3 1\nu 1\n",
+        Status::Done,
+        "v max 4\n",
+    ),
+    (
+        "entries that begin in another order",
+        PAIRS,
+        "s 4\nf 2 3 4\nf 1 2 1\nf 1 2 3\n",
+        "p cut 3 1\nu 1\n",
+        Status::Done,
+        "v max 4\n",
+    ),
+    (
+        "two entries in order, and one too many",
+        PAIRS,
+        "s 4\nf 1 2 1\nf 2 3 4\nf 1 2 3\nf 1 2 0\n",
+        "p cut 3 1\nu 1\n",
+        Status::Refused,
+        "x solution 5 0 ArcTwice\n",
+    ),
+    (
+        "entries out of order, and one too many",
+        PAIRS,
+        "s 4\nf 2 3 4\nf 2 3 0\nf 2 3 0\nf 1 4 0\n",
+        "p cut 3 1\nu 1\n",
+        Status::Refused,
+        "x solution 4 0 ArcTwice\n",
+    ),
+    (
+        "an entry of no arc before one too many",
+        PAIRS,
+        "f 1 3 0\nf 1 2 0\nf 1 2 0\nf 1 2 0\ns 4\n",
+        "p cut 3 1\nu 1\n",
+        Status::Refused,
+        "x solution 1 0 UnknownArc\n",
+    ),
+];
+
+#[test]
+fn entries_belong_to_arcs_by_their_order(rt: HostRuntime) -> Result<(), Fail> {
+    judges_each(&rt, rt.alloc(), JudgeKind::Max, &FLOWS_OF_TWINS)
+}
+
+/// A cheap arc beside a dear one.
+const DEAR: &str = "p min 2 2\nn 1 2\nn 2 -2\na 1 2 0 1 5\na 1 2 0 2 3\n";
+
 /// Flows that are claimed to be of least cost, each with potentials.
-static COSTS_BY_POTENTIALS: [Case; 10] = [
+static COSTS_BY_POTENTIALS: [Case; 12] = [
+    (
+        "a zero on the dear arc, and all on the cheap one",
+        DEAR,
+        "s 6\nf 1 2 0\nf 1 2 2\n",
+        "p pot 2 1\ny 1 4\n",
+        Status::Done,
+        "v min 6\n",
+    ),
+    (
+        "the same entries exchanged",
+        DEAR,
+        "s 6\nf 1 2 2\nf 1 2 0\n",
+        "p pot 2 1\ny 1 4\n",
+        Status::Refused,
+        "x arc 1 AboveCap\n",
+    ),
     (
         "slack potentials",
         MIN,

@@ -37,7 +37,14 @@ fn shows(
 }
 
 /// Texts, each with how the run ends and the line that is put.
-static SHOWN: [(&str, TextKind, &str, Status, &str); 12] = [
+static SHOWN: [(&str, TextKind, &str, Status, &str); 13] = [
+    (
+        "two arcs between two nodes",
+        TextKind::Max,
+        "p max 2 2\nn 1 s\nn 2 t\na 1 2 1\na 1 2 1\n",
+        Status::Done,
+        "i max 2 2 1 2\n",
+    ),
     (
         "a maximum flow instance",
         TextKind::Max,
