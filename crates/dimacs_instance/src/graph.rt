@@ -14,8 +14,9 @@ ghost use Rattle.dimacs_instance.specs.Arcs.{NetworkValue};
 ghost use Rattle.dimacs_instance.specs.GraphReading.{begun_records};
 
 use crate::network::{ArcView, Network};
-use crate::plain::{PlainArcs, WeightArc};
-use dimacs_lines::{DeviceFault, Page, Sink, Source};
+use crate::plain::{KeptArc, PlainArcs, WeightArc};
+use crate::star::ForwardStar;
+use dimacs_lines::{DeviceFault, Memory, Page, Sink, Source};
 use dimacs_records::{
     ReadError, Reading, Reason, Record, TakeError, TextKind, read_text, write_record,
 };
@@ -49,14 +50,37 @@ impl<N: Network> Graph<N> {
     }
 }
 
-/// Makes a graph of the records of a text.
+impl<A: KeptArc> Graph<PlainArcs<A>> {
+    /// The same graph with an index of its arcs.
+    pub fn indexed(self, alloc: Global) -> Result<Graph<ForwardStar<A>>, Memory>
+        ensures { IfOk result (λ indexed. indexed ≡ self) }
+    {
+        match ForwardStar::build(alloc, self.network) {
+            Ok(network) => Ok(Graph { network }),
+            Err((_, memory)) => Err(memory),
+        }
+    }
+}
+
+impl<A: KeptArc> Graph<ForwardStar<A>> {
+    /// The same graph without the index. Takes no memory.
+    pub fn into_plain(self) -> Graph<PlainArcs<A>>
+        ensures { result ≡ self }
+    {
+        Graph {
+            network: self.network.into_plain(),
+        }
+    }
+}
+
+/// Makes a graph of the records of a text, without an index of its arcs.
 #[derive(Drop)]
-pub struct GraphReading {
+pub struct PlainGraphReading {
     alloc: Global,
     begun: Option<BegunGraph>,
 }
 
-impl Model for GraphReading {
+impl Model for PlainGraphReading {
     ghost use Rattle.std.specs.Prelude.{List};
     ghost use Rattle.dimacs_records.specs.declared.records.Record.{Record};
     ghost use Rattle.dimacs_instance.specs.GraphReading.{graph_records_so_far};
@@ -103,11 +127,11 @@ impl BegunGraph {
     }
 }
 
-impl GraphReading {
-    pub fn new(alloc: Global) -> GraphReading
+impl PlainGraphReading {
+    pub fn new(alloc: Global) -> PlainGraphReading
         ensures { result ≡ [] }
     {
-        GraphReading { alloc, begun: None }
+        PlainGraphReading { alloc, begun: None }
     }
 
     fn start(&mut self, nodes: u32, declared: u32) -> Result<(), TakeError>
@@ -138,7 +162,7 @@ impl GraphReading {
     }
 }
 
-impl Reading for GraphReading {
+impl Reading for PlainGraphReading {
     type Value = Graph<PlainArcs<WeightArc>>;
 
     ghost kind = { λ reading. kinds.Graph };
@@ -169,15 +193,20 @@ impl Reading for GraphReading {
     }
 }
 
-/// Reads a graph text.
-pub fn read_graph<S: Source>(
+/// Reads a graph text, and builds no index of its arcs.
+pub fn read_plain_graph<S: Source>(
     alloc: Global,
     source: &mut S,
 ) -> Result<Graph<PlainArcs<WeightArc>>, ReadError>
     ensures reads { (text : List ℕ) → S.coming source.old ≡ Some text → Reads (SpellsGraph text) (Fault kinds.Graph (lines text)) result }
     ensures device { CountsRead result (S.faults source.old) (S.faults source.new) }
 {
-    read_text(alloc, TextKind::Graph, GraphReading::new(alloc), source)
+    read_text(
+        alloc,
+        TextKind::Graph,
+        PlainGraphReading::new(alloc),
+        source,
+    )
 }
 
 /// Writes the canonical text of a graph.

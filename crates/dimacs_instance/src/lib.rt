@@ -6,6 +6,7 @@
 
 mod gather;
 mod graph;
+mod indexed;
 mod max;
 mod min;
 mod network;
@@ -15,9 +16,10 @@ mod star;
 mod star_order;
 mod star_starts;
 
-pub use graph::{Graph, GraphReading, read_graph, write_graph};
-pub use max::{MaxInstance, MaxReading, read_max, write_max};
-pub use min::{MinInstance, MinReading, SupplySums, read_min, write_min};
+pub use graph::{Graph, PlainGraphReading, read_plain_graph, write_graph};
+pub use indexed::{GraphReading, MaxReading, MinReading, read_graph, read_max, read_min};
+pub use max::{MaxInstance, PlainMaxReading, read_plain_max, write_max};
+pub use min::{MinInstance, PlainMinReading, SupplySums, read_plain_min, write_min};
 pub use network::{ArcView, Network};
 pub use plain::{CapacityArc, KeptArc, MAX_ARCS, PlainArcs, WeightArc};
 pub use queries::{LawfulQueries, Queries, QueriesReading, read_queries, write_queries};

@@ -1,6 +1,6 @@
 //! Maximum flow instances.
 
-ghost use Rattle.std.specs.Prelude.{◌≡◌, ◌≤◌, ◌++◌, ◌∷◌, [], ℕ, List, Option, Some, false};
+ghost use Rattle.std.specs.Prelude.{◌≡◌, ◌≤◌, ◌++◌, ◌∷◌, [], ℕ, List, Option, Some, IfOk, false};
 ghost use Rattle.std.specs.List.{list_any};
 ghost use Rattle.dimacs_lines.specs.Devices.{CountsFault};
 ghost use Rattle.dimacs_lines.specs.Lines.{lines};
@@ -16,8 +16,9 @@ ghost use Rattle.dimacs_instance.specs.MaxTexts.{GivesMax, SpellsMax, canonical_
 ghost use Rattle.dimacs_instance.specs.MaxReading.{AreApart, IsMaxBegun, end_records, max_node, max_begun_records};
 
 use crate::network::{ArcView, Network};
-use crate::plain::{CapacityArc, PlainArcs};
-use dimacs_lines::{DeviceFault, Page, Sink, Source};
+use crate::plain::{CapacityArc, KeptArc, PlainArcs};
+use crate::star::ForwardStar;
+use dimacs_lines::{DeviceFault, Memory, Page, Sink, Source};
 use dimacs_records::{
     End, ReadError, Reading, Reason, Record, TakeError, TextKind, read_text, write_record,
 };
@@ -64,14 +65,43 @@ impl<N: Network> MaxInstance<N> {
     }
 }
 
-/// Makes a maximum flow instance of the records of a text.
+impl<A: KeptArc> MaxInstance<PlainArcs<A>> {
+    /// The same instance with an index of its arcs.
+    pub fn indexed(self, alloc: Global) -> Result<MaxInstance<ForwardStar<A>>, Memory>
+        ensures { IfOk result (λ indexed. indexed ≡ self) }
+    {
+        match ForwardStar::build(alloc, self.network) {
+            Ok(network) => Ok(MaxInstance {
+                source: self.source,
+                sink: self.sink,
+                network,
+            }),
+            Err((_, memory)) => Err(memory),
+        }
+    }
+}
+
+impl<A: KeptArc> MaxInstance<ForwardStar<A>> {
+    /// The same instance without the index. Takes no memory.
+    pub fn into_plain(self) -> MaxInstance<PlainArcs<A>>
+        ensures { result ≡ self }
+    {
+        MaxInstance {
+            source: self.source,
+            sink: self.sink,
+            network: self.network.into_plain(),
+        }
+    }
+}
+
+/// Makes a maximum flow instance of the records of a text, without an index of its arcs.
 #[derive(Drop)]
-pub struct MaxReading {
+pub struct PlainMaxReading {
     alloc: Global,
     begun: Option<BegunMax>,
 }
 
-impl Model for MaxReading {
+impl Model for PlainMaxReading {
     ghost use Rattle.std.specs.Prelude.{List};
     ghost use Rattle.dimacs_records.specs.declared.records.Record.{Record};
     ghost use Rattle.dimacs_instance.specs.MaxReading.{max_records_so_far};
@@ -198,11 +228,11 @@ impl BegunMax {
     }
 }
 
-impl MaxReading {
-    pub fn new(alloc: Global) -> MaxReading
+impl PlainMaxReading {
+    pub fn new(alloc: Global) -> PlainMaxReading
         ensures { result ≡ [] }
     {
-        MaxReading { alloc, begun: None }
+        PlainMaxReading { alloc, begun: None }
     }
 
     fn start(&mut self, nodes: u32, declared: u32) -> Result<(), TakeError>
@@ -244,7 +274,7 @@ impl MaxReading {
     }
 }
 
-impl Reading for MaxReading {
+impl Reading for PlainMaxReading {
     type Value = MaxInstance<PlainArcs<CapacityArc>>;
 
     ghost kind = { λ reading. kinds.Max };
@@ -285,15 +315,15 @@ impl Reading for MaxReading {
     }
 }
 
-/// Reads a text of maximum flow.
-pub fn read_max<S: Source>(
+/// Reads a text of maximum flow, and builds no index of its arcs.
+pub fn read_plain_max<S: Source>(
     alloc: Global,
     source: &mut S,
 ) -> Result<MaxInstance<PlainArcs<CapacityArc>>, ReadError>
     ensures reads { (text : List ℕ) → S.coming source.old ≡ Some text → Reads (SpellsMax text) (Fault kinds.Max (lines text)) result }
     ensures device { CountsRead result (S.faults source.old) (S.faults source.new) }
 {
-    read_text(alloc, TextKind::Max, MaxReading::new(alloc), source)
+    read_text(alloc, TextKind::Max, PlainMaxReading::new(alloc), source)
 }
 
 /// Writes the canonical text of a maximum flow instance.

@@ -1,6 +1,6 @@
 //! Minimum cost flow instances.
 
-ghost use Rattle.std.specs.Prelude.{◌≡◌, ◌≤◌, ◌<◌, ◌≤ℤ◌, ◌<ℤ◌, ◌+ℤ◌, ◌^◌, ◌++◌, ◌∷◌, [], ℕ, List, Option, map, Some, None, pos, OnOk, OnErr};
+ghost use Rattle.std.specs.Prelude.{◌≡◌, ◌≤◌, ◌<◌, ◌≤ℤ◌, ◌<ℤ◌, ◌+ℤ◌, ◌^◌, ◌++◌, ◌∷◌, [], ℕ, List, Option, map, Some, None, pos, OnOk, OnErr, IfOk};
 ghost use Rattle.std.specs.List.{filter};
 ghost use Rattle.std.specs.FinMap.{entries};
 ghost use Rattle.dimacs_lines.specs.Devices.{CountsFault};
@@ -21,7 +21,8 @@ ghost use Rattle.dimacs_instance.specs.MinReading.{is_named, with_supply, IsBegu
 ghost use Rattle.dimacs_records.specs.Takings.{Takes, StandsFor};
 
 use crate::network::{ArcView, Network};
-use crate::plain::PlainArcs;
+use crate::plain::{KeptArc, PlainArcs};
+use crate::star::ForwardStar;
 use dimacs_lines::{DeviceFault, Memory, Page, Sink, Source};
 use dimacs_nodes::{NodeMap, NodeSet};
 use dimacs_records::{
@@ -116,14 +117,41 @@ impl<N: Network> MinInstance<N> {
     }
 }
 
-/// Makes a minimum cost flow instance of the records of a text.
+impl<A: KeptArc> MinInstance<PlainArcs<A>> {
+    /// The same instance with an index of its arcs.
+    pub fn indexed(self, alloc: Global) -> Result<MinInstance<ForwardStar<A>>, Memory>
+        ensures { IfOk result (λ indexed. indexed ≡ self) }
+    {
+        match ForwardStar::build(alloc, self.network) {
+            Ok(network) => Ok(MinInstance {
+                supplies: self.supplies,
+                network,
+            }),
+            Err((_, memory)) => Err(memory),
+        }
+    }
+}
+
+impl<A: KeptArc> MinInstance<ForwardStar<A>> {
+    /// The same instance without the index. Takes no memory.
+    pub fn into_plain(self) -> MinInstance<PlainArcs<A>>
+        ensures { result ≡ self }
+    {
+        MinInstance {
+            supplies: self.supplies,
+            network: self.network.into_plain(),
+        }
+    }
+}
+
+/// Makes a minimum cost flow instance of the records of a text, without an index of its arcs.
 #[derive(Drop)]
-pub struct MinReading {
+pub struct PlainMinReading {
     alloc: Global,
     begun: Option<BegunMin>,
 }
 
-impl Model for MinReading {
+impl Model for PlainMinReading {
     ghost use Rattle.std.specs.Prelude.{Option};
     ghost use Rattle.std.specs.Coded.{coded_option};
     ghost use Rattle.dimacs_instance.specs.MinReading.{MinBegun};
@@ -223,11 +251,11 @@ impl BegunMin {
     }
 }
 
-impl MinReading {
-    pub fn new(alloc: Global) -> MinReading
+impl PlainMinReading {
+    pub fn new(alloc: Global) -> PlainMinReading
         ensures { result ≡ None }
     {
-        MinReading { alloc, begun: None }
+        PlainMinReading { alloc, begun: None }
     }
 
     fn start(&mut self, nodes: u32, declared: u32) -> Result<(), TakeError>
@@ -270,7 +298,7 @@ impl MinReading {
     }
 }
 
-impl Reading for MinReading {
+impl Reading for PlainMinReading {
     type Value = MinInstance<PlainArcs<ArcView>>;
 
     ghost kind = { λ reading. kinds.Min };
@@ -315,15 +343,15 @@ impl Reading for MinReading {
     }
 }
 
-/// Reads the text of a minimum cost flow instance.
-pub fn read_min<S: Source>(
+/// Reads the text of a minimum cost flow instance, and builds no index of its arcs.
+pub fn read_plain_min<S: Source>(
     alloc: Global,
     source: &mut S,
 ) -> Result<MinInstance<PlainArcs<ArcView>>, ReadError>
     ensures reads { (text : List ℕ) → S.coming source.old ≡ Some text → Reads (SpellsMin text) (Fault kinds.Min (lines text)) result }
     ensures device { CountsRead result (S.faults source.old) (S.faults source.new) }
 {
-    read_text(alloc, TextKind::Min, MinReading::new(alloc), source)
+    read_text(alloc, TextKind::Min, PlainMinReading::new(alloc), source)
 }
 
 /// Writes the canonical text of a minimum cost flow instance.
