@@ -29,7 +29,8 @@ impl<T: Copy> NodeTable<T> {
 
     /// All values are blank. Takes no memory.
     pub fn new(alloc: Global, blank: T) -> NodeTable<T>
-        ensures { (id : ℕ) → value_of result id ≡ blank }
+        ensures values { (id : ℕ) → value_of result id ≡ blank }
+        ensures blank { blank_of result ≡ blank }
     {
         NodeTable {
             blank,
@@ -54,6 +55,7 @@ impl<T: Copy> NodeTable<T> {
         ensures set { OnOk result (value_of self.new id ≡ value) }
         ensures others { OnOk result ((other : ℕ) → other ≢ id → value_of self.new other ≡ value_of self.old other) }
         ensures unchanged { OnErr result (SameValues self.old self.new) }
+        ensures blank { blank_of self.new ≡ blank_of self.old }
     {
         self.reserve(id)?;
         self.put(id, value);
@@ -65,6 +67,7 @@ impl<T: Copy> NodeTable<T> {
     pub fn reserve(&mut self, id: u32) -> Result<(), Memory>
         ensures same { SameValues self.old self.new }
         ensures place { OnOk result (HasPlace self.new id) }
+        ensures blank { blank_of self.new ≡ blank_of self.old }
     {
         if place(&self.directory, id) < self.slots.len() {
             return Ok(());
@@ -79,6 +82,7 @@ impl<T: Copy> NodeTable<T> {
         ensures set { value_of self.new id ≡ value }
         ensures others { (other : ℕ) → other ≢ id → value_of self.new other ≡ value_of self.old other }
         ensures places { (other : ℕ) → HasPlace self.old other → HasPlace self.new other }
+        ensures blank { blank_of self.new ≡ blank_of self.old }
     {
         let place = place(&self.directory, id);
         self.slots[place] = value;
@@ -112,6 +116,7 @@ impl<T: Copy> NodeTable<T> {
         requires { ¬ HasPlace self.old id }
         ensures same { SameValues self.old self.new }
         ensures place { OnOk result (HasPlace self.new id) }
+        ensures blank { blank_of self.new ≡ blank_of self.old }
     {
         let number = self.slots.len() / PAGE;
         if number >= NO_PAGE as usize {
