@@ -1,5 +1,4 @@
 pub mod ArcLemmas
-mod EndsLemmas
 mod GraphLemmas
 mod MaxLemmas
 mod MaxTextLemmas
@@ -7,5 +6,3 @@ pub mod MinLemmas
 pub mod MinSupplies
 pub mod MinTextLemmas
 mod QueriesLemmas
-mod SeenLemmas
-mod SimpleLemmas

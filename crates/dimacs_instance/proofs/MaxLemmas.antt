@@ -15,8 +15,8 @@ use Rattle.dimacs_records.specs.declared.records.End.{End}
 use Rattle.dimacs_records.specs.declared.records.End.TheVariants.{Source, Sink}
 use Rattle.dimacs_records.specs.declared.records.Record.{Record}
 use Rattle.dimacs_records.specs.declared.records.Record.TheVariants.{MaxProblem, MaxNode, MaxArc}
-use Rattle.dimacs_records.specs.declared.reasons.Reason.TheVariants.{ProblemMissing, ProblemTwice, RecordOrder, NodeRange, NodeTwice, EndTwice, EndMissing, BoundOrder, ParallelArc, TooMany, TooFew}
-use Rattle.dimacs_records.specs.Earlier.{counted_in, is_counted, names, is_end, is_flow_arc, is_max_node, connects}
+use Rattle.dimacs_records.specs.declared.reasons.Reason.TheVariants.{ProblemMissing, ProblemTwice, RecordOrder, NodeRange, NodeTwice, EndTwice, EndMissing, BoundOrder, TooMany, TooFew}
+use Rattle.dimacs_records.specs.Earlier.{counted_in, is_counted, names, is_end, is_flow_arc, is_max_node}
 use Rattle.dimacs_records.specs.Conditions.{lacks_end}
 use Rattle.dimacs_records.specs.Readings.{IsAllowed, IsFirstCondition, IsComplete}
 use Rattle.dimacs_records.specs.Faults.{FirstAtEnd}
@@ -26,14 +26,12 @@ use Rattle.dimacs_instance.specs.declared.network.ArcView.{ArcView}
 use Rattle.dimacs_instance.specs.declared.max.EndLine.{EndLine}
 use Rattle.dimacs_instance.specs.declared.max.EndLines.{EndLines}
 use Rattle.dimacs_instance.specs.declared.max.EndLines.TheVariants.{Neither, One, Both}
-use Rattle.dimacs_instance.specs.Ends.{has_ends, arc_ends}
 use Rattle.dimacs_instance.specs.MaxTexts.{max_arc}
 use Rattle.dimacs_instance.specs.Plain.{capacity_arc}
 use Rattle.dimacs_instance.specs.Arcs.{JoinsNodes}
 use Rattle.dimacs_instance.specs.MaxFlows.{HasCapacityAlone}
 use Rattle.dimacs_records.specs.Ranges.{IsNode, IsWhole}
 use Rattle.dimacs_instance.specs.MaxReading.{MaxBegun, IsMaxBegun, ComeLast, max_node, end_records, max_begun_records, max_records_so_far, with_arc}
-use Rattle.dimacs_instance.proofs.SimpleLemmas.{one_more_simple, any_joins}
 
 pub no_arcs : (arcs : List ArcView) → length arcs ≤ 0 → arcs ≡ []
 no_arcs [] none = refl
@@ -60,10 +58,6 @@ counted_arcs : (arcs : List ArcView) → length (filter is_counted (map max_arc 
 counted_arcs [] = refl
 counted_arcs (a ∷ arcs) = ap suc (counted_arcs arcs)
 
-connects_arcs : (tail head : ℕ) (arcs : List ArcView) → list_any (connects tail head) (map max_arc arcs) ≡ list_any (has_ends tail head) (map arc_ends arcs)
-connects_arcs tail head [] = refl
-connects_arcs tail head (a ∷ arcs) = ap (λ b. has_ends tail head (arc_ends a) || b) (connects_arcs tail head arcs)
-
 no_node_arcs : (arcs : List ArcView) → length (filter is_max_node (map max_arc arcs)) ≡ 0
 no_node_arcs [] = refl
 no_node_arcs (a ∷ arcs) = no_node_arcs arcs
@@ -88,9 +82,6 @@ module _ (nodes declared : ℕ) (ends : EndLines) (arcs : List ArcView) where
 
   ended : (end : End) → list_any (is_end end) earlier ≡ list_any (is_end end) (end_records ends)
   ended end = among_nodes (is_end end) (no_end_problem end nodes declared) (λ a. no_end end (max_arc a) a.tail a.head a.cap refl)
-
-  connected : (tail head : ℕ) → list_any (connects tail head) earlier ≡ list_any (has_ends tail head) (map arc_ends arcs)
-  connected tail head = among_arcs (connects tail head) refl (λ e. refl) ∙ connects_arcs tail head arcs
 
   counted : counted_in earlier ≡ length arcs
   counted = by_ends ends
@@ -143,18 +134,15 @@ module _ (nodes declared : ℕ) (ends : EndLines) (arcs : List ArcView) where
   pub negative : (t h : ℕ) (cap : ℤ) → t ≤ nodes → h ≤ nodes → lacks_end earlier ≡ false → int_lt cap (pos 0) ≡ true → IsFirstCondition earlier (MaxArc t h cap) (fault_at 4 BoundOrder)
   negative t h cap tail head ended_twice test = is_first_condition earlier (MaxArc t h cap) (fault_at 4 BoundOrder) (rw (le-ltb nodes t tail, le-ltb nodes h head, ended_twice, test) refl)
 
-  pub parallel : (t h : ℕ) (cap : ℤ) → t ≤ nodes → h ≤ nodes → lacks_end earlier ≡ false → int_lt cap (pos 0) ≡ false → list_any (has_ends t h) (map arc_ends arcs) ≡ true → IsFirstCondition earlier (MaxArc t h cap) (fault_at 0 ParallelArc)
-  parallel t h cap tail head ended_twice test twice = is_first_condition earlier (MaxArc t h cap) (fault_at 0 ParallelArc) (rw (le-ltb nodes t tail, le-ltb nodes h head, ended_twice, test, connected t h ∙ twice) refl)
-
-  pub one_too_many : (t h : ℕ) (cap : ℤ) → t ≤ nodes → h ≤ nodes → lacks_end earlier ≡ false → int_lt cap (pos 0) ≡ false → list_any (has_ends t h) (map arc_ends arcs) ≡ false → length arcs ≡ declared → IsFirstCondition earlier (MaxArc t h cap) (fault_at 0 TooMany)
-  one_too_many t h cap tail head ended_twice test fresh full =
+  pub one_too_many : (t h : ℕ) (cap : ℤ) → t ≤ nodes → h ≤ nodes → lacks_end earlier ≡ false → int_lt cap (pos 0) ≡ false → length arcs ≡ declared → IsFirstCondition earlier (MaxArc t h cap) (fault_at 0 TooMany)
+  one_too_many t h cap tail head ended_twice test full =
       let all : nat_le declared (counted_in earlier) ≡ true = rw counted (le-leb declared (length arcs) (omega (arith, full))) in
-      is_first_condition earlier (MaxArc t h cap) (fault_at 0 TooMany) (rw (le-ltb nodes t tail, le-ltb nodes h head, ended_twice, test, connected t h ∙ fresh, all) refl)
+      is_first_condition earlier (MaxArc t h cap) (fault_at 0 TooMany) (rw (le-ltb nodes t tail, le-ltb nodes h head, ended_twice, test, all) refl)
 
-  pub one_more_arc : (t h : ℕ) (cap : ℤ) → t ≤ nodes → h ≤ nodes → lacks_end earlier ≡ false → int_lt cap (pos 0) ≡ false → list_any (has_ends t h) (map arc_ends arcs) ≡ false → length arcs < declared → IsAllowed earlier (MaxArc t h cap)
-  one_more_arc t h cap tail head ended_twice test fresh room =
+  pub one_more_arc : (t h : ℕ) (cap : ℤ) → t ≤ nodes → h ≤ nodes → lacks_end earlier ≡ false → int_lt cap (pos 0) ≡ false → length arcs < declared → IsAllowed earlier (MaxArc t h cap)
+  one_more_arc t h cap tail head ended_twice test room =
       let some : nat_le declared (counted_in earlier) ≡ false = rw counted (grind (arith, nat_tests, room)) in
-      is_allowed earlier (MaxArc t h cap) (rw (le-ltb nodes t tail, le-ltb nodes h head, ended_twice, test, connected t h ∙ fresh, some) refl)
+      is_allowed earlier (MaxArc t h cap) (rw (le-ltb nodes t tail, le-ltb nodes h head, ended_twice, test, some) refl)
 
   pub lacks_at_end : lacks_end earlier ≡ true → FirstAtEnd Max earlier EndMissing
   lacks_at_end lacks = is_first_at_end Max earlier EndMissing (rw lacks refl)
@@ -195,8 +183,8 @@ from_zero cap test = grind (arith, ints)
 
 -- an arc that is allowed behind both node lines keeps the beginning lawful
 pub more_lawful : (begun : MaxBegun) (first second : EndLine) (t h : ℕ) (cap : ℤ) → IsMaxBegun begun → begun.ends ≡ Both first second → IsNode begun.nodes t → IsNode begun.nodes h → int_lt cap (pos 0) ≡ false → IsWhole cap
-    → list_any (has_ends t h) (map arc_ends begun.arcs) ≡ false → length begun.arcs < begun.declared → IsMaxBegun (with_arc begun (capacity_arc t h cap))
-more_lawful begun first second t h cap is ends tail head test whole fresh room = record {
+    → length begun.arcs < begun.declared → IsMaxBegun (with_arc begun (capacity_arc t h cap))
+more_lawful begun first second t h cap is ends tail head test whole room = record {
   nodes_few = is.nodes_few;
   arcs_few = is.arcs_few;
   no_more = omega (arith, length_push begun.arcs (capacity_arc t h cap), room);
@@ -205,7 +193,6 @@ more_lawful begun first second t h cap is ends tail head test whole fresh room =
   arcs_last = rw ends tt;
   joined = All-append (JoinsNodes begun.nodes) begun.arcs (capacity_arc t h cap ∷ []) is.joined (All-cons (JoinsNodes begun.nodes) (capacity_arc t h cap) [] (tail, head) (All-nil (JoinsNodes begun.nodes)));
   capacities = All-append HasCapacityAlone begun.arcs (capacity_arc t h cap ∷ []) is.capacities (All-cons HasCapacityAlone (capacity_arc t h cap) [] (refl, refl, from_zero cap test, whole) (All-nil HasCapacityAlone));
-  simple = one_more_simple begun.arcs (capacity_arc t h cap) is.simple (sym (any_joins t h begun.arcs) ∙ fresh);
 }
 
 pub nothing_before_node : (id : ℕ) (end : End) → IsFirstCondition [] (MaxNode id end) (fault_at 0 ProblemMissing)

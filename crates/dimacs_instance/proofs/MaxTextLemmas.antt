@@ -22,13 +22,12 @@ use Rattle.dimacs_records.proofs.CanonicalLaws.{canonical_spelled, numbered_all}
 use Rattle.dimacs_instance.specs.declared.network.ArcView.{ArcView}
 use Rattle.dimacs_instance.specs.declared.max.EndLine.{EndLine}
 use Rattle.dimacs_instance.specs.declared.max.EndLines.TheVariants.{Neither, One, Both}
-use Rattle.dimacs_instance.specs.Arcs.{JoinsNodes, IsSimple}
+use Rattle.dimacs_instance.specs.Arcs.{JoinsNodes}
 use Rattle.dimacs_instance.specs.MaxFlows.{MaxValue, IsMax, HasCapacityAlone}
 use Rattle.dimacs_records.specs.Ranges.{IsNode}
 use Rattle.dimacs_instance.specs.Plain.{capacity_arc}
 use Rattle.dimacs_instance.specs.MaxTexts.{max_arc, source_node, sink_node, max_records, canonical_max, GivesMax, SpellsMax}
 use Rattle.dimacs_instance.specs.MaxReading.{MaxBegun, IsMaxBegun, max_node, max_begun_records}
-use Rattle.dimacs_instance.proofs.SimpleLemmas.{others_before, any_joins}
 use Rattle.dimacs_instance.proofs.MaxLemmas.{first_problem, one_more_node, one_more_arc, all_arcs, ends_there}
 use Rattle.dimacs_instance.proofs.ArcLemmas.{take_next}
 
@@ -52,7 +51,6 @@ source_first m is = record {
   arcs_last = tt;
   joined = is.joined;
   capacities = is.capacities;
-  simple = is.simple;
 }
 
 sink_first : (m : MaxValue) → IsMax m → IsMaxBegun (read_whole m.nodes (sink_line m) (source_line m) m.arcs)
@@ -65,7 +63,6 @@ sink_first m is = record {
   arcs_last = tt;
   joined = is.joined;
   capacities = is.capacities;
-  simple = is.simple;
 }
 
 other_name : (a b : EndLine) → a.node ≢ b.node → list_any (names b.node) (max_node a ∷ []) ≡ false
@@ -87,9 +84,8 @@ module _ (nodes : ℕ) (first second : EndLine) (arcs : List ArcView) (is : IsMa
       let joins = All-at (JoinsNodes nodes) arcs at.front at.back at.x at.xs_are is.joined in
       let alone = All-at HasCapacityAlone arcs at.front at.back at.x at.xs_are is.capacities in
       let room : length at.front < length arcs = omega (arith, ap length at.xs_are, length-append at.front (at.x ∷ at.back)) in
-      let simple : IsSimple (at.front ++ at.x ∷ at.back) = rw at.xs_are at is.simple in
       rw (before, at.y_is) (one_more_arc nodes (length arcs) (Both first second) at.front at.x.tail at.x.head at.x.cap joins.0.1 joins.1.1
-      (ends_there nodes (length arcs) (Both first second) at.front first second refl) (not_below_zero at.x.cap alone.2) (any_joins at.x.tail at.x.head at.front ∙ others_before at.front at.back at.x simple) room)
+      (ends_there nodes (length arcs) (Both first second) at.front first second refl) (not_below_zero at.x.cap alone.2) room)
 
   -- its records are refused for nothing
   all_allowed : (before after : List Record) (r : Record) → max_begun_records (read_whole nodes first second arcs) ≡ before ++ r ∷ after → IsAllowed before r

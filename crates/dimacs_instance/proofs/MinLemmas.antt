@@ -1,15 +1,15 @@
 -- Records behind those of a minimum cost flow instance that was begun.
 use Rattle.std.proofs.Common.{◌≡◌, ◌≢◌, ℕ, suc, ◌<◌, ◌≤◌, ◌∷◌, ◌++◌, [], List, Bool, true, false, Option, Some, None, length, map, cond, ◌==◌, ◌||◌, refl, ap, ap₂, sym, ◌∙◌, subst, append_assoc, arith}
-use Rattle.std.specs.Prelude.{ℤ, pos, is_some, nat_lt, nat_le, int_lt, if◌then◌else◌, Result, Ok, Err, OnOk, OnErr}
+use Rattle.std.specs.Prelude.{ℤ, pos, ◌≤ℤ◌, is_some, nat_lt, nat_le, int_lt, if◌then◌else◌, Result, Ok, Err, OnOk, OnErr}
 use Rattle.std.specs.List.{filter, list_any}
 use Rattle.std.specs.Ordering.{nat_cmp, int_eq}
 use Rattle.std.specs.Cmp.{nat_cmp_total}
-use Rattle.std.specs.Result.{is_err}
 use Rattle.std.specs.FinMap.{FinMap, from_entries, from_entries_push, get-from_entries, nat_cmp-IsAntisymmetric}
 use Rattle.std.specs.FinMap.Entries.{find}
 use Rattle.std.specs.FinMap as map
 use Rattle.std.specs.FinSet as set
 use Rattle.std.proofs.lemmas.List.{map-append, length-append, append-nil, nil_from_length}
+use Rattle.std.proofs.lemmas.Int.{ints}
 use Rattle.std.proofs.lemmas.List.Elements.{All-nil, All-push}
 use Rattle.std.proofs.lemmas.Bool.{lt-ltb, le-ltb, le-leb}
 use Rattle.std.proofs.lemmas.Bool.Decides.{nat_tests}
@@ -18,14 +18,14 @@ use Rattle.dimacs_nodes.proofs.Nodes.{get-insert, contains-insert, get-empty, co
 use Rattle.dimacs_records.specs.declared.kinds.TextKind.TheVariants.{Min}
 use Rattle.dimacs_records.specs.declared.records.Record.{Record}
 use Rattle.dimacs_records.specs.declared.records.Record.TheVariants.{MinProblem, MinNode}
-use Rattle.dimacs_records.specs.declared.reasons.Reason.TheVariants.{ProblemMissing, ProblemTwice, RecordOrder, NodeRange, NodeTwice, BoundOrder, ParallelArc, TooMany, TooFew}
-use Rattle.dimacs_records.specs.Earlier.{is_flow_arc, names, connects, counted_in}
+use Rattle.dimacs_records.specs.declared.reasons.Reason.TheVariants.{ProblemMissing, ProblemTwice, RecordOrder, NodeRange, NodeTwice, BoundOrder, TooMany, TooFew}
+use Rattle.dimacs_records.specs.Earlier.{is_flow_arc, names, counted_in}
 use Rattle.dimacs_records.specs.Readings.{IsAllowed, IsFirstCondition, IsComplete}
 use Rattle.dimacs_records.specs.Faults.{FirstAtEnd}
 use Rattle.dimacs_records.specs.FieldReader.{fault_at}
 use Rattle.dimacs_records.proofs.ConditionLemmas.{is_first_condition, is_allowed, is_first_at_end, is_complete}
 use Rattle.dimacs_instance.specs.declared.network.ArcView.{ArcView}
-use Rattle.dimacs_instance.specs.Arcs.{joins, JoinsNodes}
+use Rattle.dimacs_instance.specs.Arcs.{JoinsNodes}
 use Rattle.dimacs_records.specs.Ranges.{IsNode, IsWhole}
 use Rattle.dimacs_instance.specs.MinFlows.{IsSupply, HasBounds}
 use Rattle.dimacs_instance.specs.MinTexts.{min_node, min_arc, min_records}
@@ -33,7 +33,6 @@ use Rattle.dimacs_records.specs.NodeValues.{is_of, has_value}
 use Rattle.dimacs_instance.specs.MinReading.{MinBegun, IsMinBegun, IsBegunBy, is_named, with_supply, with_arc}
 use Rattle.dimacs_records.specs.Takings.{StandsFor}
 use Rattle.dimacs_records.proofs.NameLemmas.{named_more, any_more, valued_more, zero_more}
-use Rattle.dimacs_instance.proofs.SimpleLemmas.{one_more_simple}
 
 -- the lines of arcs, and the node lines before them
 any_flow_arc : (named : List (ℕ × ℤ)) (arcs : List ArcView) → list_any is_flow_arc (map min_node named ++ map min_arc arcs) ≡ nat_lt 0 (length arcs)
@@ -48,14 +47,6 @@ no_arc_names id (a ∷ arcs) = no_arc_names id arcs
 any_names : (id : ℕ) (named : List (ℕ × ℤ)) (arcs : List ArcView) → list_any (names id) (map min_node named ++ map min_arc arcs) ≡ list_any (is_of id) named
 any_names id [] arcs = no_arc_names id arcs
 any_names id (s ∷ named) arcs = ap (λ b. (s.0 == id) || b) (any_names id named arcs)
-
-any_arc_connects : (t h : ℕ) (arcs : List ArcView) → list_any (connects t h) (map min_arc arcs) ≡ list_any (joins t h) arcs
-any_arc_connects t h [] = refl
-any_arc_connects t h (a ∷ arcs) = ap (λ b. joins t h a || b) (any_arc_connects t h arcs)
-
-any_connects : (t h : ℕ) (named : List (ℕ × ℤ)) (arcs : List ArcView) → list_any (connects t h) (map min_node named ++ map min_arc arcs) ≡ list_any (joins t h) arcs
-any_connects t h [] arcs = any_arc_connects t h arcs
-any_connects t h (s ∷ named) arcs = any_connects t h named arcs
 
 counted_in-arcs : (arcs : List ArcView) → counted_in (map min_arc arcs) ≡ length arcs
 counted_in-arcs [] = refl
@@ -106,20 +97,15 @@ module _ (nodes declared : ℕ) (named : List (ℕ × ℤ)) (arcs : List ArcView
           cap_below_low cap = is_first_condition earlier (min_arc a) (fault_at 5 BoundOrder) (rw (le-ltb nodes a.tail tail, le-ltb nodes a.head head, low, cap) refl)
 
           module _ (cap : int_lt a.cap a.low ≡ false) where
-            parallel : list_any (joins a.tail a.head) arcs ≡ true → IsFirstCondition earlier (min_arc a) (fault_at 0 ParallelArc)
-            parallel again =
-                is_first_condition earlier (min_arc a) (fault_at 0 ParallelArc) (rw (le-ltb nodes a.tail tail, le-ltb nodes a.head head, low, cap, any_connects a.tail a.head named arcs, again) refl)
+            one_too_many : length arcs ≡ declared → IsFirstCondition earlier (min_arc a) (fault_at 0 TooMany)
+            one_too_many full =
+                let all : nat_le declared (counted_in earlier) ≡ true = rw (counted named arcs) (le-leb declared (length arcs) (omega (arith, full))) in
+                is_first_condition earlier (min_arc a) (fault_at 0 TooMany) (rw (le-ltb nodes a.tail tail, le-ltb nodes a.head head, low, cap, all) refl)
 
-            module _ (alone : list_any (joins a.tail a.head) arcs ≡ false) where
-              one_too_many : length arcs ≡ declared → IsFirstCondition earlier (min_arc a) (fault_at 0 TooMany)
-              one_too_many full =
-                  let all : nat_le declared (counted_in earlier) ≡ true = rw (counted named arcs) (le-leb declared (length arcs) (omega (arith, full))) in
-                  is_first_condition earlier (min_arc a) (fault_at 0 TooMany) (rw (le-ltb nodes a.tail tail, le-ltb nodes a.head head, low, cap, any_connects a.tail a.head named arcs, alone, all) refl)
-
-              pub one_more_arc : length arcs < declared → IsAllowed earlier (min_arc a)
-              one_more_arc room =
-                  let all : nat_le declared (counted_in earlier) ≡ false = rw (counted named arcs) (grind (arith, nat_tests, room)) in
-                  is_allowed earlier (min_arc a) (rw (le-ltb nodes a.tail tail, le-ltb nodes a.head head, low, cap, any_connects a.tail a.head named arcs, alone, all) refl)
+            pub one_more_arc : length arcs < declared → IsAllowed earlier (min_arc a)
+            one_more_arc room =
+                let all : nat_le declared (counted_in earlier) ≡ false = rw (counted named arcs) (grind (arith, nat_tests, room)) in
+                is_allowed earlier (min_arc a) (rw (le-ltb nodes a.tail tail, le-ltb nodes a.head head, low, cap, all) refl)
 
   too_few_arcs : length arcs < declared → FirstAtEnd Min earlier TooFew
   too_few_arcs room =
@@ -168,15 +154,12 @@ module _ (b : MinBegun) (rs : List Record) (h : IsBegunBy b rs) where
       refuses_cap low cap = of_taken (λ (rs : List Record). IsFirstCondition rs (min_arc a) (fault_at 5 BoundOrder)) b rs h (cap_below_low b.nodes b.declared h.named b.arcs a tail head low cap)
 
       module _ (low : int_lt a.low (pos 0) ≡ false) (cap : int_lt a.cap a.low ≡ false) where
-        pub refuses_parallel : list_any (joins a.tail a.head) b.arcs ≡ true → IsFirstCondition rs (min_arc a) (fault_at 0 ParallelArc)
-        refuses_parallel again = of_taken (λ (rs : List Record). IsFirstCondition rs (min_arc a) (fault_at 0 ParallelArc)) b rs h (parallel b.nodes b.declared h.named b.arcs a tail head low cap again)
+        pub refuses_count : length b.arcs ≡ b.declared → IsFirstCondition rs (min_arc a) (fault_at 0 TooMany)
+        refuses_count full = of_taken (λ (rs : List Record). IsFirstCondition rs (min_arc a) (fault_at 0 TooMany)) b rs h (one_too_many b.nodes b.declared h.named b.arcs a tail head low cap full)
 
-        pub refuses_count : list_any (joins a.tail a.head) b.arcs ≡ false → length b.arcs ≡ b.declared → IsFirstCondition rs (min_arc a) (fault_at 0 TooMany)
-        refuses_count alone full = of_taken (λ (rs : List Record). IsFirstCondition rs (min_arc a) (fault_at 0 TooMany)) b rs h (one_too_many b.nodes b.declared h.named b.arcs a tail head low cap alone full)
-
-        pub takes_arc : list_any (joins a.tail a.head) b.arcs ≡ false → length b.arcs < b.declared → IsAllowed rs (min_arc a) × IsBegunBy (with_arc b a) (rs ++ min_arc a ∷ [])
-        takes_arc alone room = (
-          of_taken (λ (rs : List Record). IsAllowed rs (min_arc a)) b rs h (one_more_arc b.nodes b.declared h.named b.arcs a tail head low cap alone room),
+        pub takes_arc : length b.arcs < b.declared → IsAllowed rs (min_arc a) × IsBegunBy (with_arc b a) (rs ++ min_arc a ∷ [])
+        takes_arc room = (
+          of_taken (λ (rs : List Record). IsAllowed rs (min_arc a)) b rs h (one_more_arc b.nodes b.declared h.named b.arcs a tail head low cap room),
           record {
             named = h.named;
             name_nodes = h.name_nodes;
@@ -255,7 +238,6 @@ new_law nodes declared nodes_few arcs_few = record {
   supplied = All-empty (IsSupply nodes);
   joined = All-nil (JoinsNodes nodes);
   bounds = All-nil HasBounds;
-  simple = λ t h. omega arith;
 }
 
 pub law_with_supply : (b : MinBegun) (id : ℕ) (s : ℤ) → IsMinBegun b → IsNode b.nodes id → s ≢ pos 0 → IsWhole s → IsMinBegun (record b { supplies = map.insert b.supplies id s })
@@ -266,18 +248,23 @@ law_with_supply b id s law node some whole = record {
   supplied = All-insert (IsSupply b.nodes) b.supplies id s law.supplied (node, some, whole);
   joined = law.joined;
   bounds = law.bounds;
-  simple = law.simple;
 }
 
-pub law_with_arc : (b : MinBegun) (a : ArcView) → IsMinBegun b → JoinsNodes b.nodes a → HasBounds a → list_any (joins a.tail a.head) b.arcs ≡ false → length b.arcs < b.declared → IsMinBegun (with_arc b a)
-law_with_arc b a law joined bounds alone room = record {
+not_below : (x y : ℤ) → int_lt x y ≡ false → y ≤ℤ x
+not_below x y test = grind (arith, ints)
+
+-- an arc that passes the tests of its bounds has bounds
+pub has_bounds : (a : ArcView) → int_lt a.low (pos 0) ≡ false → int_lt a.cap a.low ≡ false → IsWhole a.cap → IsWhole a.cost → HasBounds a
+has_bounds a low cap whole_cap whole_cost = (not_below a.low (pos 0) low, not_below a.cap a.low cap, whole_cap, whole_cost)
+
+pub law_with_arc : (b : MinBegun) (a : ArcView) → IsMinBegun b → JoinsNodes b.nodes a → HasBounds a → length b.arcs < b.declared → IsMinBegun (with_arc b a)
+law_with_arc b a law joined bounds room = record {
   nodes_few = law.nodes_few;
   arcs_few = law.arcs_few;
   no_more = omega (arith, length-append b.arcs (a ∷ []));
   supplied = law.supplied;
   joined = All-push (JoinsNodes b.nodes) b.arcs a law.joined joined;
   bounds = All-push HasBounds b.arcs a law.bounds bounds;
-  simple = one_more_simple b.arcs a law.simple alone;
 }
 
 -- before the problem line
@@ -320,10 +307,6 @@ pub law_after_set : {E : Type 0} (b : MinBegun) (id : ℕ) (s : ℤ) (supplies :
     → IsMinBegun b → IsNode b.nodes id → s ≢ pos 0 → IsWhole s → IsMinBegun (record b { supplies = supplies })
 law_after_set b id s supplies (Ok done) set unset law node some whole = subst (λ (m : FinMap nat_cmp ℤ). IsMinBegun (record b { supplies = m })) (sym set) (law_with_supply b id s law node some whole)
 law_after_set b id s supplies (Err e) set unset law node some whole = subst (λ (m : FinMap nat_cmp ℤ). IsMinBegun (record b { supplies = m })) (sym unset) law
-
-pub on_ok_of : {E : Type 0} {P : Type 0} (r : Result Unit E) → is_err r ≡ false → OnOk r P → P
-on_ok_of (Ok done) e h = h
-on_ok_of (Err error) e h = absurd (cc)
 
 pub refuses_nothing : (o : Option MinBegun) (rs : List Record) → o ≡ None → StandsFor IsBegunBy o rs → FirstAtEnd Min rs ProblemMissing
 refuses_nothing None rs e h = subst (λ (rs : List Record). FirstAtEnd Min rs ProblemMissing) (sym h) nothing_read

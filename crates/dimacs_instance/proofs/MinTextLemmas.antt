@@ -1,11 +1,11 @@
 -- The texts of minimum cost flow instances.
-use Rattle.std.proofs.Common.{◌≡◌, ◌≢◌, ℕ, ◌<◌, ◌≤◌, ◌∷◌, ◌++◌, [], List, Bool, true, false, Option, Some, None, length, map, cond, ◌+◌, ◌==◌, refl, ap, ap₂, sym, ◌∙◌, arith}
+use Rattle.std.proofs.Common.{◌≡◌, ◌≢◌, ℕ, ◌<◌, ◌≤◌, ◌∷◌, ◌++◌, [], List, Bool, true, false, Option, Some, None, length, map, cond, ◌+◌, refl, ap, ap₂, sym, ◌∙◌, arith}
 use Rattle.std.specs.Prelude.{ℤ, pos, codes, not, int_lt, ◌≤ℤ◌, ◌<ℤ◌, count_by}
 use Rattle.std.specs.List.{All, filter, list_any}
 use Rattle.std.specs.Ordering.{int_eq}
 use Rattle.std.specs.Int.Signed.{lt_z_yes}
 use Rattle.std.specs.FinMap.{from_entries, entries, get}
-use Rattle.std.proofs.lemmas.Bool.{eq-eqb, and_from, false_from_ne_true}
+use Rattle.std.proofs.lemmas.Bool.{eq-eqb, false_from_ne_true}
 use Rattle.std.proofs.lemmas.Bool.Decides.{Decides-int_eq}
 use Rattle.std.proofs.lemmas.Int.{ints}
 use Rattle.std.proofs.lemmas.List.{append-nil, length-append, length-map}
@@ -21,7 +21,7 @@ use Rattle.dimacs_records.specs.Texts.{AreFaultless}
 use Rattle.dimacs_records.proofs.SplitLemmas.{image_at, All-at}
 use Rattle.dimacs_records.proofs.CanonicalLaws.{canonical_spelled, numbered_all}
 use Rattle.dimacs_instance.specs.declared.network.ArcView.{ArcView}
-use Rattle.dimacs_instance.specs.Arcs.{joins, JoinsNodes}
+use Rattle.dimacs_instance.specs.Arcs.{JoinsNodes}
 use Rattle.dimacs_records.specs.Ranges.{IsNode}
 use Rattle.dimacs_instance.specs.MinFlows.{MinValue, IsMin, IsSupply, HasBounds}
 use Rattle.dimacs_instance.specs.MinTexts.{min_node, min_arc, min_records, GivesMin, SpellsMin, canonical_min, canonical_min_records}
@@ -60,10 +60,8 @@ arc_allowed : (m : MinValue) (named : List (ℕ × ℤ)) (front back : List ArcV
 arc_allowed m named front back a before r law is before_is r_is =
     let joined : JoinsNodes m.nodes a = All-at (JoinsNodes m.nodes) m.arcs front back a is law.joined in
     let bounds : HasBounds a = All-at HasBounds m.arcs front back a is law.bounds in
-    let once : count_by (joins a.tail a.head) (front ++ a ∷ back) ≤ 1 = rw (← is) (law.simple a.tail a.head) in
-    let alone : list_any (joins a.tail a.head) front ≡ false = once_before (joins a.tail a.head) front back a (and_from (a.tail == a.tail) (a.head == a.head) (eq-eqb a.tail a.tail refl) (eq-eqb a.head a.head refl)) once in
     let room : length front < length m.arcs = omega (arith, ap length is, length-append front (a ∷ back)) in
-    rw (before_is, r_is) (one_more_arc m.nodes (length m.arcs) named front a joined.0.1 joined.1.1 (int_lt_not a.low (pos 0) bounds.0) (int_lt_not a.cap a.low bounds.1) alone room)
+    rw (before_is, r_is) (one_more_arc m.nodes (length m.arcs) named front a joined.0.1 joined.1.1 (int_lt_not a.low (pos 0) bounds.0) (int_lt_not a.cap a.low bounds.1) room)
 
 -- the records of an instance are refused for nothing
 min_allowed : (m : MinValue) (named : List (ℕ × ℤ)) → NameNodes m.nodes named → IsMin m → (before after : List Record) (r : Record) → min_records m.nodes (length m.arcs) named m.arcs ≡ before ++ r ∷ after → IsAllowed before r

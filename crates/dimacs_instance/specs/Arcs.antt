@@ -15,10 +15,6 @@ IsKthBetween arcs tail head k (Some i) = (i < length arcs) × IfSome (slice_get 
 abbrev pub JoinsNodes : ℕ → ArcView → Type 0
 JoinsNodes nodes a = IsNode nodes a.tail × IsNode nodes a.head
 
--- at most one arc from each node to each node
-abbrev pub IsSimple : List ArcView → Type 0
-IsSimple arcs = (tail head : ℕ) → count_by (joins tail head) arcs ≤ 1
-
 -- a number of nodes, and arcs in order
 pub record NetworkValue : Type 0 where
   pub nodes : ℕ

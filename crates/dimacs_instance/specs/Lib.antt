@@ -1,6 +1,4 @@
 pub mod Arcs
-pub mod Buckets
-pub mod Ends
 pub mod MaxFlows
 pub mod Graph
 pub mod GraphReading
@@ -13,4 +11,3 @@ pub mod MinTexts
 pub mod Plain
 pub mod QueriesReading
 pub mod QueryTexts
-pub mod Seen

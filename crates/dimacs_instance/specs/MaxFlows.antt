@@ -3,7 +3,7 @@ use Rattle.std.specs.Prelude.{ℕ, ◌≡◌, ◌≢◌, ◌≤◌, ◌≤ℤ◌
 use Rattle.std.specs.List.{All}
 use Rattle.dimacs_records.specs.Ranges.{IsNode, IsWhole}
 use Rattle.dimacs_instance.specs.declared.network.ArcView.{ArcView}
-use Rattle.dimacs_instance.specs.Arcs.{JoinsNodes, IsSimple}
+use Rattle.dimacs_instance.specs.Arcs.{JoinsNodes}
 
 -- a capacity that isn't negative, and nothing else
 abbrev pub HasCapacityAlone : ArcView → Type 0
@@ -24,4 +24,3 @@ pub record IsMax (m : MaxValue) : Type 0 where
   pub ends_apart : m.source ≢ m.sink
   pub joined : All (JoinsNodes m.nodes) m.arcs
   pub capacities : All HasCapacityAlone m.arcs
-  pub simple : IsSimple m.arcs

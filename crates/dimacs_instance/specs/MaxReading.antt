@@ -1,5 +1,5 @@
 -- How far a maximum flow instance has been read.
-use Rattle.std.specs.Prelude.{ℕ, ◌≡◌, ◌≢◌, ◌≤◌, List, [], ◌∷◌, ◌++◌, map, length, Option, None, Some, IsPermutation}
+use Rattle.std.specs.Prelude.{ℕ, ◌≡◌, ◌≢◌, ◌≤◌, List, [], ◌∷◌, ◌++◌, map, length, Option, None, Some}
 use Rattle.std.specs.List.{All}
 use Rattle.dimacs_records.specs.declared.records.Record.{Record}
 use Rattle.dimacs_records.specs.declared.records.Record.TheVariants.{MaxProblem, MaxNode}
@@ -7,8 +7,7 @@ use Rattle.dimacs_instance.specs.declared.network.ArcView.{ArcView}
 use Rattle.dimacs_instance.specs.declared.max.EndLine.{EndLine}
 use Rattle.dimacs_instance.specs.declared.max.EndLines.{EndLines}
 use Rattle.dimacs_instance.specs.declared.max.EndLines.TheVariants.{Neither, One, Both}
-use Rattle.dimacs_instance.specs.Arcs.{JoinsNodes, IsSimple}
-use Rattle.dimacs_instance.specs.Ends.{Ends, arc_ends}
+use Rattle.dimacs_instance.specs.Arcs.{JoinsNodes}
 use Rattle.dimacs_instance.specs.MaxFlows.{HasCapacityAlone}
 use Rattle.dimacs_records.specs.Ranges.{IsNode}
 use Rattle.dimacs_instance.specs.MaxTexts.{max_arc}
@@ -55,12 +54,6 @@ pub record IsMaxBegun (begun : MaxBegun) : Type 0 where
   pub arcs_last : ComeLast begun.ends begun.arcs
   pub joined : All (JoinsNodes begun.nodes) begun.arcs
   pub capacities : All HasCapacityAlone begun.arcs
-  pub simple : IsSimple begun.arcs
-
--- a beginning, and the ends of its arcs in any order
-pub record IsMaxKept (begun : MaxBegun) (seen : List Ends) : Type 0 where
-  pub lawful : IsMaxBegun begun
-  pub seen_is : IsPermutation (map arc_ends begun.arcs) seen
 
 -- with one arc more
 abbrev pub with_arc : MaxBegun → ArcView → MaxBegun

@@ -4,7 +4,7 @@ use Rattle.std.specs.List.{All}
 use Rattle.std.specs.Ordering.{nat_cmp}
 use Rattle.std.specs.FinMap.{FinMap, get, entries, values}
 use Rattle.dimacs_instance.specs.declared.network.ArcView.{ArcView}
-use Rattle.dimacs_instance.specs.Arcs.{JoinsNodes, IsSimple}
+use Rattle.dimacs_instance.specs.Arcs.{JoinsNodes}
 use Rattle.dimacs_records.specs.Ranges.{IsWhole, IsNode}
 
 -- a minimum cost flow instance; the map has the supplies that aren't 0, by node
@@ -27,7 +27,6 @@ pub record IsMin (m : MinValue) : Type 0 where
   pub supplied : All (IsSupply m.nodes) (entries m.supplies)
   pub joined : All (JoinsNodes m.nodes) m.arcs
   pub bounds : All HasBounds m.arcs
-  pub simple : IsSimple m.arcs
 
 -- the supply of a node; 0 where the map has none
 abbrev pub supply_of : MinValue → ℕ → ℤ

@@ -8,7 +8,7 @@ use Rattle.std.specs.FinSet.{FinSet}
 use Rattle.std.specs.FinSet as set
 use Rattle.dimacs_records.specs.declared.records.Record.{Record}
 use Rattle.dimacs_instance.specs.declared.network.ArcView.{ArcView}
-use Rattle.dimacs_instance.specs.Arcs.{JoinsNodes, IsSimple}
+use Rattle.dimacs_instance.specs.Arcs.{JoinsNodes}
 use Rattle.dimacs_instance.specs.MinFlows.{IsSupply, HasBounds}
 use Rattle.dimacs_instance.specs.MinTexts.{min_records}
 use Rattle.dimacs_records.specs.NodeValues.{NameNodes, is_of, has_value}
@@ -29,7 +29,6 @@ pub record IsMinBegun (begun : MinBegun) : Type 0 where
   pub supplied : All (IsSupply begun.nodes) (entries begun.supplies)
   pub joined : All (JoinsNodes begun.nodes) begun.arcs
   pub bounds : All HasBounds begun.arcs
-  pub simple : IsSimple begun.arcs
 
 abbrev pub is_named : MinBegun → ℕ → Bool
 is_named begun id = is_some (map.get begun.supplies id) || set.contains begun.zeros id

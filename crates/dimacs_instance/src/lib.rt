@@ -4,14 +4,12 @@
 //! alone, so a network may keep its arcs as it likes.
 #![tactic(auto)]
 
-mod ends;
 mod graph;
 mod max;
 mod min;
 mod network;
 mod plain;
 mod queries;
-mod seen;
 
 pub use graph::{Graph, GraphReading, read_graph, write_graph};
 pub use max::{MaxInstance, MaxReading, read_max, write_max};

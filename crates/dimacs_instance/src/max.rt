@@ -1,6 +1,6 @@
 //! Maximum flow instances.
 
-ghost use Rattle.std.specs.Prelude.{◌≡◌, ◌≤◌, ◌++◌, ◌∷◌, [], ℕ, List, Option, Some, OnOk, OnErr, false};
+ghost use Rattle.std.specs.Prelude.{◌≡◌, ◌≤◌, ◌++◌, ◌∷◌, [], ℕ, List, Option, Some, false};
 ghost use Rattle.std.specs.List.{list_any};
 ghost use Rattle.dimacs_lines.specs.Devices.{CountsFault};
 ghost use Rattle.dimacs_lines.specs.Lines.{lines};
@@ -13,13 +13,11 @@ ghost use Rattle.dimacs_records.specs.Faults.{Fault};
 ghost use Rattle.dimacs_records.specs.Texts.{Reads};
 ghost use Rattle.dimacs_instance.specs.MaxFlows.{MaxValue, IsMax};
 ghost use Rattle.dimacs_instance.specs.MaxTexts.{GivesMax, SpellsMax, canonical_max, max_arc, nodes_by_id};
-ghost use Rattle.dimacs_instance.specs.Plain.{capacity_arc};
-ghost use Rattle.dimacs_instance.specs.MaxReading.{AreApart, IsMaxBegun, end_records, max_node, max_begun_records, with_arc};
+ghost use Rattle.dimacs_instance.specs.MaxReading.{AreApart, IsMaxBegun, end_records, max_node, max_begun_records};
 
 use crate::network::{ArcView, Network};
 use crate::plain::{CapacityArc, PlainArcs};
-use crate::seen::SeenEnds;
-use dimacs_lines::{DeviceFault, Memory, Page, Sink, Source};
+use dimacs_lines::{DeviceFault, Page, Sink, Source};
 use dimacs_records::{
     End, ReadError, Reading, Reason, Record, TakeError, TextKind, read_text, write_record,
 };
@@ -141,18 +139,16 @@ pub(crate) struct BegunMax {
     declared: u32,
     ends: EndLines,
     network: PlainArcs<CapacityArc>,
-    /// The ends of the arcs.
-    seen: SeenEnds,
 }
 
 impl Model for BegunMax {
-    ghost use Rattle.dimacs_instance.specs.MaxReading.{MaxBegun, IsMaxKept};
+    ghost use Rattle.dimacs_instance.specs.MaxReading.{MaxBegun, IsMaxBegun};
 
     ghost Value = { MaxBegun };
 
     ghost view = { λ b. record { nodes = b.network.nodes; declared = b.declared; ends = b.ends; arcs = b.network.arcs } };
 
-    ghost invariant = { λ b. IsMaxKept (record { nodes = b.network.nodes; declared = b.declared; ends = b.ends; arcs = b.network.arcs }) b.seen };
+    ghost invariant = { λ b. IsMaxBegun (record { nodes = b.network.nodes; declared = b.declared; ends = b.ends; arcs = b.network.arcs }) };
 }
 
 impl BegunMax {
@@ -194,28 +190,10 @@ impl BegunMax {
         if cap < 0 {
             return Err(TakeError::refused(4, Reason::BoundOrder));
         }
-        if self.seen.contains(tail, head) {
-            return Err(TakeError::refused(0, Reason::ParallelArc));
-        }
         if self.network.arcs() == self.declared {
             return Err(TakeError::refused(0, Reason::TooMany));
         }
-        self.keep(CapacityArc { tail, head, cap })?;
-        Ok(())
-    }
-
-    /// Keeps an arc behind the others.
-    #[inline(always)]
-    fn keep(&mut self, arc: CapacityArc) -> Result<(), Memory>
-        requires { IsMaxBegun (with_arc self.old (capacity_arc arc.tail arc.head arc.cap)) }
-        ensures kept { OnOk result (self.new ≡ with_arc self.old (capacity_arc arc.tail arc.head arc.cap)) }
-        ensures unchanged { OnErr result (self.new ≡ self.old) }
-    {
-        self.network.push(arc)?;
-        let Ok(()) = self.seen.push(arc.tail, arc.head) else {
-            self.network.pop();
-            return Err(Memory);
-        };
+        self.network.push(CapacityArc { tail, head, cap })?;
         Ok(())
     }
 }
@@ -239,7 +217,6 @@ impl MaxReading {
             declared,
             ends: EndLines::Neither,
             network: PlainArcs::new(self.alloc, nodes),
-            seen: SeenEnds::new(self.alloc),
         });
         Ok(())
     }

@@ -1,7 +1,7 @@
 //! Minimum cost flow instances.
 
-ghost use Rattle.std.specs.Prelude.{◌≡◌, ◌≤◌, ◌<◌, ◌≤ℤ◌, ◌<ℤ◌, ◌+ℤ◌, ◌^◌, ◌++◌, ◌∷◌, [], ℕ, List, Option, length, map, Some, None, pos, OnOk, OnErr, false};
-ghost use Rattle.std.specs.List.{filter, list_any};
+ghost use Rattle.std.specs.Prelude.{◌≡◌, ◌≤◌, ◌<◌, ◌≤ℤ◌, ◌<ℤ◌, ◌+ℤ◌, ◌^◌, ◌++◌, ◌∷◌, [], ℕ, List, Option, map, Some, None, pos, OnOk, OnErr};
+ghost use Rattle.std.specs.List.{filter};
 ghost use Rattle.std.specs.FinMap.{entries};
 ghost use Rattle.dimacs_lines.specs.Devices.{CountsFault};
 ghost use Rattle.dimacs_lines.specs.Lines.{lines};
@@ -13,17 +13,15 @@ ghost use Rattle.dimacs_records.specs.Canonical.{canonical_text};
 ghost use Rattle.dimacs_records.specs.Readings.{CountsRead, records_of};
 ghost use Rattle.dimacs_records.specs.Faults.{Fault};
 ghost use Rattle.dimacs_records.specs.Texts.{Reads};
-ghost use Rattle.dimacs_instance.specs.Arcs.{joins, JoinsNodes};
-ghost use Rattle.dimacs_instance.specs.MinFlows.{MinValue, IsMin, HasBounds, supply_of, positive_part, negative_part, supplied, demanded};
+ghost use Rattle.dimacs_instance.specs.MinFlows.{MinValue, IsMin, supply_of, positive_part, negative_part, supplied, demanded};
 ghost use Rattle.dimacs_records.specs.Ranges.{IsNode};
 ghost use Rattle.dimacs_instance.specs.MinTexts.{GivesMin, SpellsMin, canonical_min, min_node, min_arc};
 ghost use Rattle.dimacs_records.specs.NodeValues.{has_value};
-ghost use Rattle.dimacs_instance.specs.MinReading.{is_named, with_supply, with_arc, IsBegunBy};
+ghost use Rattle.dimacs_instance.specs.MinReading.{is_named, with_supply, IsBegunBy};
 ghost use Rattle.dimacs_records.specs.Takings.{Takes, StandsFor};
 
 use crate::network::{ArcView, Network};
 use crate::plain::PlainArcs;
-use crate::seen::SeenEnds;
 use dimacs_lines::{DeviceFault, Memory, Page, Sink, Source};
 use dimacs_nodes::{NodeMap, NodeSet};
 use dimacs_records::{
@@ -146,13 +144,10 @@ pub(crate) struct BegunMin {
     /// The nodes that are named with supply 0.
     zeros: NodeSet,
     network: PlainArcs<ArcView>,
-    seen: SeenEnds,
 }
 
 impl Model for BegunMin {
-    ghost use Rattle.std.specs.Prelude.{map, IsPermutation};
     ghost use Rattle.dimacs_instance.specs.MinReading.{MinBegun, IsMinBegun};
-    ghost use Rattle.dimacs_instance.specs.Ends.{arc_ends};
     ghost use Rattle.dimacs_instance.specs.MinCodes.{begun_code};
 
     ghost Value = { MinBegun };
@@ -161,7 +156,7 @@ impl Model for BegunMin {
 
     ghost view = { λ b. record { nodes = b.network.nodes; declared = b.declared; supplies = b.supplies; zeros = b.zeros; arcs = b.network.arcs } };
 
-    ghost invariant = { λ b. IsMinBegun (record { nodes = b.network.nodes; declared = b.declared; supplies = b.supplies; zeros = b.zeros; arcs = b.network.arcs }) × IsPermutation (map arc_ends b.network.arcs) b.seen };
+    ghost invariant = { λ b. IsMinBegun (record { nodes = b.network.nodes; declared = b.declared; supplies = b.supplies; zeros = b.zeros; arcs = b.network.arcs }) };
 }
 
 impl BegunMin {
@@ -220,31 +215,11 @@ impl BegunMin {
         if arc.cap < arc.low {
             return Err(TakeError::refused(5, Reason::BoundOrder));
         }
-        if self.seen.contains(arc.tail, arc.head) {
-            return Err(TakeError::refused(0, Reason::ParallelArc));
-        }
         if self.network.arcs() == self.declared {
             return Err(TakeError::refused(0, Reason::TooMany));
         }
-        self.keep_arc(arc)?;
-        Ok(())
-    }
-
-    #[inline]
-    fn keep_arc(&mut self, arc: ArcView) -> Result<(), Memory>
-        requires joined { JoinsNodes self.old.nodes arc }
-        requires bounds { HasBounds arc }
-        requires alone { list_any (joins arc.tail arc.head) self.old.arcs ≡ false }
-        requires room { length self.old.arcs < self.old.declared }
-        ensures kept { OnOk result (self.new ≡ with_arc self.old arc) }
-        ensures unchanged { OnErr result (self.new ≡ self.old) }
-    {
         self.network.push(arc)?;
-        let seen = self.seen.push(arc.tail, arc.head);
-        if seen.is_err() {
-            self.network.pop();
-        }
-        seen
+        Ok(())
     }
 }
 
@@ -268,7 +243,6 @@ impl MinReading {
             supplies: NodeMap::new(self.alloc),
             zeros: NodeSet::new(self.alloc),
             network: PlainArcs::new(self.alloc, nodes),
-            seen: SeenEnds::new(self.alloc),
         });
         Ok(())
     }

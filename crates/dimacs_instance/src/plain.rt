@@ -1,6 +1,6 @@
 //! A network that scans its list.
 
-ghost use Rattle.std.specs.Prelude.{◌≡◌, ◌<◌, ◌≤◌, ◌+◌, ◌++◌, ◌∷◌, [], ℕ, List, Some, length, slice_get, OnOk, OnErr};
+ghost use Rattle.std.specs.Prelude.{◌≡◌, ◌<◌, ◌≤◌, ◌+◌, ◌++◌, ◌∷◌, [], List, Some, length, slice_get, OnOk, OnErr};
 ghost use Rattle.dimacs_instance.specs.declared.network.ArcView.{ArcView};
 ghost use Rattle.dimacs_instance.specs.Plain.{capacity_arc, weight_arc};
 
@@ -113,14 +113,6 @@ impl<A: KeptArc> PlainArcs<A> {
     {
         self.arcs.push(arc)?;
         Ok(())
-    }
-
-    /// Takes the last arc away, where there is one.
-    pub fn pop(&mut self)
-        ensures last { (arcs : List ArcView) (arc : ArcView) → self.old.arcs ≡ arcs ++ arc ∷ [] → self.new ≡ record self.old { arcs = arcs } }
-        ensures empty { self.old.arcs ≡ [] → self.new ≡ self.old }
-    {
-        self.arcs.pop();
     }
 }
 

@@ -13,7 +13,7 @@ mod Settling
 pub mod Reasons
 pub mod Passing
 pub mod LabelsPassing
-mod PutLemmas
+mod PlaceLemmas
 mod EntryLemmas
 pub mod Claims
 pub mod InfeasibleJudge

@@ -18,7 +18,7 @@ ends_joined tail head a e = elim (eqb_tells a.tail tail) [
 ]
 
 -- fewer arcs pass before one that passes than before a later one
-counted_before : (p : ArcView → Bool) (arcs : List ArcView) (i j : ℕ) (a : ArcView) → slice_get arcs i ≡ Some a → p a ≡ true → i < j → count_by p (take i arcs) < count_by p (take j arcs)
+pub counted_before : (p : ArcView → Bool) (arcs : List ArcView) (i j : ℕ) (a : ArcView) → slice_get arcs i ≡ Some a → p a ≡ true → i < j → count_by p (take i arcs) < count_by p (take j arcs)
 counted_before p arcs i j a here passes before =
     let next = count_by_more_yes p arcs i a (slice_get_within arcs i a here) (rw (get_or_from_slice_get arcs i a a here) passes) in
     let some = rw (take-take (i + 1) j arcs (omega (arith, before))) at (sum_by-take-le (λ b. cond (p b) 1 0) (take j arcs) (i + 1)) in

@@ -1,40 +1,18 @@
 -- Entries of solutions, and the flows that they claim.
-use Rattle.std.specs.Prelude.{ℕ, ◌≡◌, ◌==◌, ◌<◌, ◌≤◌, ◌&&◌, ◌⊎◌, Bool, if◌then◌else◌, List, [], ◌∷◌, All, length, take, get_or, map, count_by, ℤ, pos}
+use Rattle.std.specs.Prelude.{ℕ, ◌≡◌, ◌==◌, ◌<◌, ◌≤◌, ◌&&◌, ◌⊎◌, Bool, List, length, map, take, get_or, count_by, ℤ, pos}
+use Rattle.std.specs.List.{filter, range_with_len}
 use Rattle.dimacs_instance.specs.declared.network.ArcView.{ArcView}
 use Rattle.dimacs_instance.specs.Arcs.{joins}
 use Rattle.dimacs_claims.specs.declared.solution.Entry.{Entry}
 use Rattle.dimacs_records.specs.declared.reasons.Reason.{Reason}
 use Rattle.dimacs_records.specs.declared.reasons.Reason.TheVariants.{UnknownArc, ArcTwice}
 use Rattle.dimacs_judge.specs.declared.verdict.Where.TheVariants.{Solution}
+use Rattle.dimacs_judge.specs.Rows.{arc_at}
 use Rattle.dimacs_judge.specs.Tests.{Row}
 
 -- the entry has these ends
 abbrev pub is_between : ℕ → ℕ → Entry → Bool
 is_between tail head e = (e.tail == tail) && (e.head == head)
-
--- the flow of the first entry with these ends; 0 where there is none
-abbrev pub claimed_between : List Entry → ℕ → ℕ → ℤ
-claimed_between [] tail head = pos 0
-claimed_between (e ∷ entries) tail head = if is_between tail head e then e.flow else claimed_between entries tail head
-
--- what the entries claim of each arc, by its ends
-abbrev pub claimed_flow : List ArcView → List Entry → List ℤ
-claimed_flow arcs entries = map (λ a. claimed_between entries a.tail a.head) arcs
-
--- some arc has the ends of the entry
-abbrev pub IsKnown : List ArcView → Entry → Type 0
-IsKnown arcs e = 1 ≤ count_by (joins e.tail e.head) arcs
-
--- every entry has the ends of an arc, no two have the same ends, and the flow is what they claim
-pub record Carries (arcs : List ArcView) (entries : List Entry) (x : List ℤ) : Type 0 where
-  pub known : All (IsKnown arcs) entries
-  pub once : (tail head : ℕ) → count_by (is_between tail head) entries ≤ 1
-  pub amounts : x ≡ claimed_flow arcs entries
-
--- no arc has the ends of the entry; else an earlier entry has them
-abbrev pub EntryFails : List ArcView → List Entry → Entry → Reason → Type 0
-EntryFails arcs before e reason =
-    ((reason ≡ UnknownArc) × (¬ IsKnown arcs e)) ⊎ ((reason ≡ ArcTwice) × IsKnown arcs e × (1 ≤ count_by (is_between e.tail e.head) before))
 
 abbrev pub no_entry : Entry
 no_entry = record { tail = 0; head = 0; flow = pos 0; line = 0 }
@@ -42,6 +20,40 @@ no_entry = record { tail = 0; head = 0; flow = pos 0; line = 0 }
 -- the entry of this index
 abbrev pub entry_at : List Entry → ℕ → Entry
 entry_at entries k = get_or entries k no_entry
+
+-- the entries with these ends, in order
+abbrev pub entries_between : List Entry → ℕ → ℕ → List Entry
+entries_between entries tail head = filter (is_between tail head) entries
+
+-- how many arcs before the arc of this index have its ends
+abbrev pub twins_before : List ArcView → ℕ → ℕ
+twins_before arcs i = count_by (joins (arc_at arcs i).tail (arc_at arcs i).head) (take i arcs)
+
+-- what the entries claim of the arc of this index: where it is the k-th with its ends, the flow of the k-th entry with them; 0 where there is none
+abbrev pub claimed_of : List ArcView → List Entry → ℕ → ℤ
+claimed_of arcs entries i = (get_or (entries_between entries (arc_at arcs i).tail (arc_at arcs i).head) (twins_before arcs i) no_entry).flow
+
+-- what the entries claim of each arc
+abbrev pub claimed_flow : List ArcView → List Entry → List ℤ
+claimed_flow arcs entries = map (claimed_of arcs entries) (range_with_len 0 (length arcs))
+
+-- some arc has the ends of the entry
+abbrev pub IsKnown : List ArcView → Entry → Type 0
+IsKnown arcs e = 1 ≤ count_by (joins e.tail e.head) arcs
+
+-- the entry has an arc of its own: fewer earlier entries than arcs have its ends
+abbrev pub HasArc : List ArcView → List Entry → Entry → Type 0
+HasArc arcs before e = count_by (is_between e.tail e.head) before < count_by (joins e.tail e.head) arcs
+
+-- the k-th entry with given ends belongs to the k-th arc with them: every entry has its arc, and the flow is what they claim
+pub record Carries (arcs : List ArcView) (entries : List Entry) (x : List ℤ) : Type 0 where
+  pub each_has_arc : (k : ℕ) → k < length entries → HasArc arcs (take k entries) (entry_at entries k)
+  pub amounts : x ≡ claimed_flow arcs entries
+
+-- no arc has the ends of the entry; else as many earlier entries as arcs have them
+abbrev pub EntryFails : List ArcView → List Entry → Entry → Reason → Type 0
+EntryFails arcs before e reason =
+    ((reason ≡ UnknownArc) × (¬ IsKnown arcs e)) ⊎ ((reason ≡ ArcTwice) × IsKnown arcs e × (count_by (joins e.tail e.head) arcs ≤ count_by (is_between e.tail e.head) before))
 
 -- the tests of the entries, each named by its line
 abbrev pub entry_row : List ArcView → List Entry → Row

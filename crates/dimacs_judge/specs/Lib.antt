@@ -14,7 +14,7 @@ pub mod FlowTests
 pub mod CertificateTests
 pub mod Agreement
 pub mod Claims
-pub mod FlowSoFar
+pub mod Places
 pub mod InfeasibleJudge
 pub mod QueryTests
 pub mod Answers

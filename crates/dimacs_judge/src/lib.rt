@@ -19,6 +19,7 @@ mod laws;
 mod least;
 mod maximum;
 mod paths;
+mod places;
 mod potentials;
 mod queries;
 mod verdict;

@@ -7,7 +7,7 @@ use Rattle.dimacs_records.specs.declared.records.End.TheVariants.{Source, Sink}
 use Rattle.dimacs_records.specs.declared.records.QueryKind.TheVariants.{Sources, Pairs}
 use Rattle.dimacs_records.specs.declared.records.Record.{Record}
 use Rattle.dimacs_records.specs.declared.records.Record.TheVariants.{MaxProblem, MaxNode, MaxArc, MinProblem, MinNode, MinArc, GraphProblem, GraphArc, QueriesProblem, SourceQuery, PairQuery, SolutionValue, SolutionEntry, CutProblem, CutNode, PotentialsProblem, PotentialsNode, LabelsProblem, LabelsBlock, LabelsNode}
-use Rattle.dimacs_records.specs.declared.reasons.Reason.TheVariants.{UnknownLine, FieldCount, NumberRange, BadWord, ProblemMissing, RecordOrder, NodeRange, NodeTwice, EndTwice, EndMissing, BoundOrder, ParallelArc, TooMany, TooFew, SolutionMissing, SolutionTwice, PredUnknown}
+use Rattle.dimacs_records.specs.declared.reasons.Reason.TheVariants.{UnknownLine, FieldCount, NumberRange, BadWord, ProblemMissing, RecordOrder, NodeRange, NodeTwice, EndTwice, EndMissing, BoundOrder, TooMany, TooFew, SolutionMissing, SolutionTwice, PredUnknown}
 use Rattle.dimacs_records.specs.Order.{Place, at, shape_places}
 use Rattle.dimacs_records.specs.Shapes.{shape_condition}
 use Rattle.dimacs_records.proofs.FirstLemmas.{first_by}
@@ -72,7 +72,7 @@ arc_without_sink = refl
 negative_cap : first_place two_ends (MaxArc 1 2 (negsuc 0)) ≡ Some (at 4 BoundOrder)
 negative_cap = refl
 
-parallel_arc : first_place (MaxProblem 2 2 ∷ MaxNode 1 Source ∷ MaxNode 2 Sink ∷ MaxArc 1 2 (pos 1) ∷ []) (MaxArc 1 2 (pos 1)) ≡ Some (at 0 ParallelArc)
+parallel_arc : first_place (MaxProblem 2 2 ∷ MaxNode 1 Source ∷ MaxNode 2 Sink ∷ MaxArc 1 2 (pos 1) ∷ []) (MaxArc 1 2 (pos 1)) ≡ None
 parallel_arc = refl
 
 opposite_arc : first_place (MaxProblem 2 2 ∷ MaxNode 1 Source ∷ MaxNode 2 Sink ∷ MaxArc 1 2 (pos 1) ∷ []) (MaxArc 2 1 (pos 1)) ≡ None

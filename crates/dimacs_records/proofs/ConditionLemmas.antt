@@ -7,7 +7,7 @@ use Rattle.dimacs_records.specs.declared.kinds.TextKind.{TextKind}
 use Rattle.dimacs_records.specs.declared.records.Record.{Record}
 use Rattle.dimacs_records.specs.declared.records.Record.TheVariants.{MaxNode, MaxArc, MinNode, MinArc, GraphArc, CutNode, PotentialsNode, LabelsBlock, LabelsNode}
 use Rattle.dimacs_records.specs.declared.reasons.Reason.{Reason}
-use Rattle.dimacs_records.specs.declared.reasons.Reason.TheVariants.{ProblemMissing, ProblemTwice, RecordOrder, NodeRange, NodeTwice, EndTwice, EndMissing, BoundOrder, ParallelArc, TooMany, TooFew, SolutionMissing, SolutionTwice, PredUnknown}
+use Rattle.dimacs_records.specs.declared.reasons.Reason.TheVariants.{ProblemMissing, ProblemTwice, RecordOrder, NodeRange, NodeTwice, EndTwice, EndMissing, BoundOrder, TooMany, TooFew, SolutionMissing, SolutionTwice, PredUnknown}
 use Rattle.dimacs_records.specs.declared.faults.LineFault.{LineFault}
 use Rattle.dimacs_records.specs.Earlier.{Problem, problem_in}
 use Rattle.dimacs_records.specs.Conditions.{condition, end_condition, is_above_at, bounded_ids, is_bound_wrong}
@@ -77,11 +77,10 @@ listed earlier r f BoundOrder h = elim (bound_fields f r h) [
   | inl e ↦ (9, omega arith, ap (λ g. at g BoundOrder) (sym e))
   | inr e ↦ (10, omega arith, ap (λ g. at g BoundOrder) (sym e))
 ]
-listed earlier r f ParallelArc h = (11, omega arith, ap (λ g. at g ParallelArc) (sym (at_place f 0 _ h)))
-listed earlier r f TooMany h = (12, omega arith, ap (λ g. at g TooMany) (sym (at_place f 0 _ h)))
-listed earlier r f TooFew h = (13, omega arith, ap (λ g. at g TooFew) (sym (at_place f 0 _ h)))
-listed earlier r f SolutionTwice h = (14, omega arith, ap (λ g. at g SolutionTwice) (sym (at_place f 0 _ h)))
-listed earlier r f PredUnknown h = (15, omega arith, ap (λ g. at g PredUnknown) (sym (at_place f 0 _ h)))
+listed earlier r f TooMany h = (11, omega arith, ap (λ g. at g TooMany) (sym (at_place f 0 _ h)))
+listed earlier r f TooFew h = (12, omega arith, ap (λ g. at g TooFew) (sym (at_place f 0 _ h)))
+listed earlier r f SolutionTwice h = (13, omega arith, ap (λ g. at g SolutionTwice) (sym (at_place f 0 _ h)))
+listed earlier r f PredUnknown h = (14, omega arith, ap (λ g. at g PredUnknown) (sym (at_place f 0 _ h)))
 listed earlier r f reason h = absurd (cc)
 
 listed_at_end : (kind : TextKind) (all : List Record) (reason : Reason) → IsTrue (end_condition kind all reason) → Contains end_reasons reason

@@ -8,9 +8,9 @@ use Rattle.dimacs_records.specs.declared.records.QueryKind.TheVariants.{Sources,
 use Rattle.dimacs_records.specs.declared.records.Record.{Record}
 use Rattle.dimacs_records.specs.declared.records.Record.TheVariants.{MaxNode, MaxArc, MinNode, MinArc, GraphArc, SourceQuery, PairQuery, SolutionValue, CutNode, PotentialsNode, LabelsBlock, LabelsNode}
 use Rattle.dimacs_records.specs.declared.reasons.Reason.{Reason}
-use Rattle.dimacs_records.specs.declared.reasons.Reason.TheVariants.{LineTooLong, ProblemMissing, ProblemTwice, RecordOrder, NodeRange, NodeTwice, EndTwice, EndMissing, BoundOrder, ParallelArc, TooMany, TooFew, SolutionMissing, SolutionTwice, PredUnknown, LineLimit}
+use Rattle.dimacs_records.specs.declared.reasons.Reason.TheVariants.{LineTooLong, ProblemMissing, ProblemTwice, RecordOrder, NodeRange, NodeTwice, EndTwice, EndMissing, BoundOrder, TooMany, TooFew, SolutionMissing, SolutionTwice, PredUnknown, LineLimit}
 use Rattle.dimacs_records.specs.Spelling.{kind_of}
-use Rattle.dimacs_records.specs.Earlier.{Problem, problem_in, is_problem, is_above, is_full, is_short, is_counted, counted_in, asks_for, names, is_max_node, is_end, is_flow_arc, connects, is_value}
+use Rattle.dimacs_records.specs.Earlier.{Problem, problem_in, is_problem, is_above, is_full, is_short, is_counted, counted_in, asks_for, names, is_max_node, is_end, is_flow_arc, is_value}
 use Rattle.dimacs_records.specs.Blocks.{block_in, is_labelled, is_full_block, is_short_block}
 
 -- at field f of a line with this number the condition of a limit holds
@@ -84,11 +84,6 @@ is_bound_wrong f (MaxArc tail head cap) = (f == 4) && int_lt cap (pos 0)
 is_bound_wrong f (MinArc tail head low cap cost) = if f == 4 then int_lt low (pos 0) else (f == 5) && int_lt cap low
 is_bound_wrong f r = false
 
-abbrev pub is_parallel : List Record → Record → Bool
-is_parallel earlier (MaxArc tail head cap) = list_any (connects tail head) earlier
-is_parallel earlier (MinArc tail head low cap cost) = list_any (connects tail head) earlier
-is_parallel earlier r = false
-
 -- one more than the declared count, for a label that of its block
 abbrev pub is_too_many : List Record → Record → Bool
 is_too_many earlier (LabelsNode id dist pred) = is_full_block (block_in earlier)
@@ -117,7 +112,6 @@ condition earlier r f NodeTwice = (f == 2) && is_named_twice earlier r
 condition earlier r f EndTwice = (f == 3) && is_end_twice earlier r
 condition earlier r f EndMissing = (f == 0) && is_without_ends earlier r
 condition earlier r f BoundOrder = is_bound_wrong f r
-condition earlier r f ParallelArc = (f == 0) && is_parallel earlier r
 condition earlier r f TooMany = (f == 0) && is_too_many earlier r
 condition earlier r f TooFew = (f == 0) && is_too_few earlier r
 condition earlier r f SolutionTwice = (f == 0) && is_value_twice earlier r

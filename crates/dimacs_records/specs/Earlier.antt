@@ -1,5 +1,5 @@
 -- What the earlier records of a text say.
-use Rattle.std.specs.Prelude.{ℕ, ◌==◌, ◌&&◌, Bool, true, false, List, [], ◌∷◌, Option, Some, None, is_some, length, nat_lt, nat_le}
+use Rattle.std.specs.Prelude.{ℕ, ◌==◌, Bool, true, false, List, [], ◌∷◌, Option, Some, None, is_some, length, nat_lt, nat_le}
 use Rattle.std.specs.List.{filter}
 use Rattle.dimacs_records.specs.declared.records.End.{End}
 use Rattle.dimacs_records.specs.declared.records.End.TheVariants.{Source, Sink}
@@ -102,12 +102,6 @@ abbrev pub is_flow_arc : Record → Bool
 is_flow_arc (MaxArc tail head cap) = true
 is_flow_arc (MinArc tail head low cap cost) = true
 is_flow_arc r = false
-
--- an arc line of a flow instance, from this tail to this head
-abbrev pub connects : ℕ → ℕ → Record → Bool
-connects tail head (MaxArc t h cap) = (t == tail) && (h == head)
-connects tail head (MinArc t h low cap cost) = (t == tail) && (h == head)
-connects tail head r = false
 
 -- the line of a solution's value
 abbrev pub is_value : Record → Bool

@@ -1,20 +1,18 @@
 //! Texts of maximum flow: read, written again, and refused.
 
-use crate::checks::{holds, same};
+use crate::checks::same;
 use crate::texts::{
-    Arc, Converted, Line, MaxFlow, Refused, Text, answers_each, converts_each, is_made_of, refuses,
+    Arc, Converted, Line, MaxFlow, Refused, answers_each, converts_each, is_made_of, refuses,
     refuses_each, spelled, tells_each_failed_pull, tells_each_failed_put,
 };
 use dimacs_instance::{MaxReading, Network};
-use dimacs_lines::FlakySource;
 use dimacs_records::{At, Reading, Reason, TextKind};
-use std::alloc::Global;
 use std::test::Fail;
 
 const DIAMOND: &str = "p max 4 5\nn 1 s\nn 4 t\na 1 2 4\na 1 3 2\na 2 3 2\na 2 4 3\na 3 4 5\n";
 
 /// Texts, each with its canonical form.
-static CANONICAL_FORMS: [Converted; 5] = [
+static CANONICAL_FORMS: [Converted; 7] = [
     ("already canonical", DIAMOND, DIAMOND),
     (
         "node lines stand by ID, the sink's line first",
@@ -30,6 +28,16 @@ static CANONICAL_FORMS: [Converted; 5] = [
         "loops, an arc back, no capacity and the greatest one",
         "p max 2 4\nn 1 s\nn 2 t\na 1 1 0\na 2 1 9223372036854775807\na 1 2 0\na 2 2 1\n",
         "p max 2 4\nn 1 s\nn 2 t\na 1 1 0\na 2 1 9223372036854775807\na 1 2 0\na 2 2 1\n",
+    ),
+    (
+        "two arcs with the same ends",
+        "p max 2 2\nn 1 s\nn 2 t\na 1 2 1\na 1 2 1\n",
+        "p max 2 2\nn 1 s\nn 2 t\na 1 2 1\na 1 2 1\n",
+    ),
+    (
+        "two loops at one node",
+        "p max 2 2\nn 1 s\nn 2 t\na 2 2 1\nc\na 2 2 3\n",
+        "p max 2 2\nn 1 s\nn 2 t\na 2 2 1\na 2 2 3\n",
     ),
     (
         "comments, blanks, CR, empty line, signs, zeros, no last line end",
@@ -73,7 +81,7 @@ fn an_arc_is_found_by_its_ends(rt: HostRuntime) -> Result<(), Fail> {
 }
 
 /// Texts that are refused for their first fault.
-static REFUSED_TEXTS: [Refused; 17] = [
+static REFUSED_TEXTS: [Refused; 15] = [
     ("empty text", "", 1, 0, Reason::ProblemMissing),
     (
         "node before the problem",
@@ -138,20 +146,6 @@ static REFUSED_TEXTS: [Refused; 17] = [
         4,
         4,
         Reason::NumberRange,
-    ),
-    (
-        "two arcs with the same ends",
-        "p max 2 2\nn 1 s\nn 2 t\na 1 2 1\na 1 2 1\n",
-        5,
-        0,
-        Reason::ParallelArc,
-    ),
-    (
-        "two loops at one node",
-        "p max 2 2\nn 1 s\nn 2 t\na 2 2 1\nc\na 2 2 3\n",
-        6,
-        0,
-        Reason::ParallelArc,
     ),
     ("no end", "p max 2 1\n", 2, 0, Reason::EndMissing),
     (
@@ -305,12 +299,12 @@ static REFUSED_LINES: [(&str, &str, &str, u64, u32, Reason); 17] = [
         Reason::BoundOrder,
     ),
     (
-        "the arc before the count",
+        "the count, at an arc of the same ends",
         FULL,
         "a 1 2 1",
         5,
         0,
-        Reason::ParallelArc,
+        Reason::TooMany,
     ),
     ("the count", FULL, "a 2 1 1", 5, 0, Reason::TooMany),
 ];
@@ -332,7 +326,7 @@ fn one_line_tells_its_first_reason(rt: HostRuntime) -> Result<(), Fail> {
 }
 
 /// Lines by number, and why each is refused, if it is.
-static RECORDS: [Line; 17] = [
+static RECORDS: [Line; 15] = [
     (1, "n 2 s", Some((0, Reason::ProblemMissing))),
     (2, "p max 3 2", None),
     (3, "n 4 s", Some((2, Reason::NodeRange))),
@@ -345,14 +339,12 @@ static RECORDS: [Line; 17] = [
     (10, "n 1 s", Some((3, Reason::EndTwice))),
     (11, "a 1 2 -1", Some((4, Reason::BoundOrder))),
     (12, "a 1 2 5", None),
-    (13, "a 1 2 5", Some((0, Reason::ParallelArc))),
-    (14, "n 1 s", Some((0, Reason::RecordOrder))),
-    (15, "a 2 1 6", None),
-    (16, "a 2 1 6", Some((0, Reason::ParallelArc))),
-    (17, "a 2 2 6", Some((0, Reason::TooMany))),
+    (13, "n 1 s", Some((0, Reason::RecordOrder))),
+    (14, "a 1 2 6", None),
+    (15, "a 2 2 6", Some((0, Reason::TooMany))),
 ];
 
-static ARCS_TAKEN: [Arc; 2] = [(1, 2, 0, 5, 0), (2, 1, 0, 6, 0)];
+static ARCS_TAKEN: [Arc; 2] = [(1, 2, 0, 5, 0), (1, 2, 0, 6, 0)];
 
 #[test]
 fn a_refused_record_leaves_the_reading_as_it_was(rt: HostRuntime) -> Result<(), Fail> {
@@ -361,47 +353,6 @@ fn a_refused_record_leaves_the_reading_as_it_was(rt: HostRuntime) -> Result<(), 
     let max = reading.finish()?;
     same(&rt, "source and sink", (max.source(), max.sink()), (2, 3));
     is_made_of(&rt, max.network(), 3, &ARCS_TAKEN);
-    Ok(())
-}
-
-/// All arcs among sixty nodes, from each to each.
-fn all_arcs(alloc: Global) -> Result<Vec<u8>, Fail> {
-    let mut text = b"p max 60 3600\nn 1 s\nn 2 t\n".to_vec(alloc)?;
-    for tail in 1..61 {
-        for head in 1..61 {
-            text.extend_from_slice(format!(in alloc; "a {tail} {head} {tail}\n")?.as_bytes())?;
-        }
-    }
-    Ok(text)
-}
-
-/// Arcs that the text has already.
-static REPEATED_ARCS: [(&str, &str); 3] = [
-    ("one of the first of its tail", "a 17 3 1\n"),
-    ("one behind many of its tail", "a 17 42 1\n"),
-    ("the last of all", "a 60 60 1\n"),
-];
-
-#[test]
-fn a_repeated_arc_is_found_among_many(rt: HostRuntime) -> Result<(), Fail> {
-    let text = all_arcs(rt.alloc())?;
-    let read = MaxFlow::read(rt.alloc(), &mut FlakySource::new(&text, &[], &[]));
-    holds(&rt, "all arcs once", read.is_ok());
-    for &(name, line) in &REPEATED_ARCS {
-        let mut text = all_arcs(rt.alloc())?;
-        text.extend_from_slice(line.as_bytes())?;
-        refuses::<MaxFlow>(
-            &rt,
-            rt.alloc(),
-            name,
-            &text,
-            At {
-                line: 3_604,
-                field: 0,
-            },
-            Reason::ParallelArc,
-        )?;
-    }
     Ok(())
 }
 

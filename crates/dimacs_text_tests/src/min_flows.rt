@@ -13,7 +13,12 @@ const SHIPPING: &str =
     "p min 4 5\nn 1 4\nn 4 -4\na 1 2 0 4 2\na 1 3 0 2 2\na 2 3 0 2 1\na 2 4 0 3 3\na 3 4 0 5 1\n";
 
 /// Texts, each with its canonical form.
-static CANONICAL_FORMS: [Converted; 9] = [
+static CANONICAL_FORMS: [Converted; 10] = [
+    (
+        "the same ends again",
+        "p min 2 2\na 1 2 0 1 0\na 1 2 0 2 5\n",
+        "p min 2 2\na 1 2 0 1 0\na 1 2 0 2 5\n",
+    ),
     ("already canonical", SHIPPING, SHIPPING),
     (
         "a supply of zero is left out",
@@ -105,7 +110,7 @@ fn sums_of_supplies_leave_64_bits(rt: HostRuntime) -> Result<(), Fail> {
 }
 
 /// Texts that are refused for their first fault.
-static REFUSED_TEXTS: [Refused; 28] = [
+static REFUSED_TEXTS: [Refused; 27] = [
     ("empty text", "", 1, 0, Reason::ProblemMissing),
     (
         "node line before the problem",
@@ -263,18 +268,11 @@ static REFUSED_TEXTS: [Refused; 28] = [
         Reason::BoundOrder,
     ),
     (
-        "the same ends again",
-        "p min 2 2\na 1 2 0 1 0\na 1 2 0 2 5\n",
-        3,
-        0,
-        Reason::ParallelArc,
-    ),
-    (
         "the same ends past ARCS",
         "p min 2 1\na 1 2 0 1 0\na 1 2 0 1 0\n",
         3,
         0,
-        Reason::ParallelArc,
+        Reason::TooMany,
     ),
     (
         "one more than declared",

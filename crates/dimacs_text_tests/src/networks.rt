@@ -66,21 +66,6 @@ fn arcs_keep_their_order_and_weights(rt: HostRuntime) -> Result<(), Fail> {
     Ok(())
 }
 
-#[test]
-fn the_last_arc_may_be_taken_away(rt: HostRuntime) -> Result<(), Fail> {
-    let mut network = sample(&rt, rt.alloc())?;
-    network.pop();
-    is_made_of(&rt, &network, 4, &TOLD[..5]);
-    Ok(())
-}
-
-#[test]
-fn nothing_is_taken_from_a_network_without_arcs(rt: HostRuntime) {
-    let mut network: PlainArcs<WeightArc> = PlainArcs::new(rt.alloc(), 3);
-    network.pop();
-    is_made_of(&rt, &network, 3, &[]);
-}
-
 /// Two nodes, how many arcs between them are passed over, and the arc that is found.
 static FOUND: [(&str, u32, u32, u32, Option<u32>); 13] = [
     ("the first of three", 1, 2, 0, Some(0)),

@@ -5,6 +5,16 @@ use Rattle.dimacs_claims.specs.SolutionTexts.{claimed}
 use Rattle.dimacs_judge.proofs.MinJudge.{min_judged, min_shown, entries_refused, flow_refused, cost_refused, value_refused, nodes_refused, slack_refused, min_passed}
 use Rattle.dimacs_judge.proofs.Settling.{entries_refuse}
 use Rattle.dimacs_judge.proofs.least.judge_min.Goals as goal
+use Rattle.dimacs_judge.proofs.Claims.{length-carried}
+
+pub feasible-requires-clause-one_each : goal.feasible-requires-clause-one_each
+feasible-requires-clause-one_each g c = length-carried _ _ _ c.in_ok-flow.ensures
+
+pub cost_within-requires : goal.cost_within-requires
+cost_within-requires g c = record { one_each = length-carried _ _ _ c.in_ok-flow.ensures }
+
+pub slack_tests-requires : goal.slack_tests-requires
+slack_tests-requires g c = length-carried _ _ _ (rw c.network-network.ensures.arcs at c.in_ok-flow.ensures)
 
 pub returns-in_err-flow : goal.returns-in_err-flow
 returns-in_err-flow g c =

@@ -3,8 +3,15 @@ use Rattle.std.specs.Int.{w128}
 use Rattle.std.proofs.lemmas.Int.{to_z-of_z}
 use Rattle.dimacs_claims.specs.SolutionTexts.{claimed}
 use Rattle.dimacs_judge.proofs.MaxJudge.{max_judged, max_shown, entries_refused, flow_refused, value_refused, nodes_refused, cut_refused, max_passed}
+use Rattle.dimacs_judge.proofs.Claims.{length-carried}
 use Rattle.dimacs_judge.proofs.Settling.{entries_refuse}
 use Rattle.dimacs_judge.proofs.maximum.judge_max.Goals as goal
+
+pub feasible-requires-clause-one_each : goal.feasible-requires-clause-one_each
+feasible-requires-clause-one_each g c = length-carried _ _ _ c.in_ok-flow.ensures
+
+pub cut_tests-requires : goal.cut_tests-requires
+cut_tests-requires g c = length-carried _ _ _ (rw c.network-network.ensures.arcs at c.in_ok-flow.ensures)
 
 pub returns-in_err-flow : goal.returns-in_err-flow
 returns-in_err-flow g c =

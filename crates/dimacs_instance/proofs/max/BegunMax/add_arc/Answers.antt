@@ -1,9 +1,7 @@
 use Rattle.std.proofs.lemmas.Int.{to_z-of_z, ints}
-use Rattle.std.proofs.Common.{w64, ◌≡◌, ◌<◌, ◌≤◌, refl, sym, ◌∙◌, arith, length, map}
-use Rattle.std.proofs.lemmas.List.Sorted.{list_any-IsPermutation}
-use Rattle.dimacs_instance.specs.Ends.{arc_ends, has_ends}
+use Rattle.std.proofs.Common.{w64, ◌≡◌, ◌<◌, ◌≤◌, refl, arith, length}
+use Rattle.dimacs_instance.proofs.MaxLemmas.{tail_above, head_above, end_missing, negative, one_too_many, one_more_arc, ends_there, ends_lack, pushed_arc, more_lawful}
 use Rattle.dimacs_records.specs.Ranges.{IsWhole}
-use Rattle.dimacs_instance.proofs.MaxLemmas.{tail_above, head_above, end_missing, negative, parallel, one_too_many, one_more_arc, ends_there, ends_lack, pushed_arc, more_lawful}
 use Rattle.dimacs_instance.proofs.max.BegunMax.add_arc.Goals as goal
 
 pub returns-then-tail-nodes : goal.returns-then-tail-nodes
@@ -24,7 +22,7 @@ returns-in_default c =
     let b = c.self.inside in
     let tail : c.args.tail ≤ b.network.nodes = omega (arith, c.nodes.ensures, c.if-tail-nodes.false) in
     let head : c.args.head ≤ b.network.nodes = omega (arith, c.nodes-2.ensures, c.if-head-nodes.false) in
-    let lacks = ends_lack b.network.nodes b.declared b.ends b.network.arcs c.in_default.not-Both c.self.invariant.lawful.arcs_last in
+    let lacks = ends_lack b.network.nodes b.declared b.ends b.network.arcs c.in_default.not-Both c.self.invariant.arcs_last in
     rw (← c.self.view_is, c.refused-in_default.ensures) (end_missing b.network.nodes b.declared b.ends b.network.arcs c.args.tail c.args.head c.args.cap tail head lacks, refl)
 
 pub returns-then-cap-lt0 : goal.returns-then-cap-lt0
@@ -35,36 +33,14 @@ returns-then-cap-lt0 c =
     let there = ends_there b.network.nodes b.declared b.ends b.network.arcs c.in-Both.field-0 c.in-Both.field-1 c.in-Both.is in
     rw (← c.self.view_is, c.refused-then-cap-lt0.ensures) (negative b.network.nodes b.declared b.ends b.network.arcs c.args.tail c.args.head c.args.cap tail head there (rw (to_z-of_z w64 c.args.cap c.ranges.cap) at c.if-cap-lt0.true), refl)
 
-pub returns-then-contains : goal.returns-then-contains
-returns-then-contains c =
-    let b = c.self.inside in
-    let tail : c.args.tail ≤ b.network.nodes = omega (arith, c.nodes.ensures, c.if-tail-nodes.false) in
-    let head : c.args.head ≤ b.network.nodes = omega (arith, c.nodes-2.ensures, c.if-head-nodes.false) in
-    let there = ends_there b.network.nodes b.declared b.ends b.network.arcs c.in-Both.field-0 c.in-Both.field-1 c.in-Both.is in
-    let twice = list_any-IsPermutation (has_ends c.args.tail c.args.head) (map arc_ends b.network.arcs) b.seen c.self.invariant.seen_is ∙ sym c.if-contains.ensures in
-    rw (← c.self.view_is, c.refused-then-contains.ensures) (parallel b.network.nodes b.declared b.ends b.network.arcs c.args.tail c.args.head c.args.cap tail head there (rw (to_z-of_z w64 c.args.cap c.ranges.cap) at c.if-cap-lt0.false) twice, refl)
-
 pub returns-then-arcs-self : goal.returns-then-arcs-self
 returns-then-arcs-self c =
     let b = c.self.inside in
     let tail : c.args.tail ≤ b.network.nodes = omega (arith, c.nodes.ensures, c.if-tail-nodes.false) in
     let head : c.args.head ≤ b.network.nodes = omega (arith, c.nodes-2.ensures, c.if-head-nodes.false) in
     let there = ends_there b.network.nodes b.declared b.ends b.network.arcs c.in-Both.field-0 c.in-Both.field-1 c.in-Both.is in
-    let fresh = list_any-IsPermutation (has_ends c.args.tail c.args.head) (map arc_ends b.network.arcs) b.seen c.self.invariant.seen_is ∙ sym c.if-contains.ensures in
     let full : length b.network.arcs ≡ b.declared = omega (arith, c.arcs.ensures, c.if-arcs-self.true) in
-    rw (← c.self.view_is, c.refused-then-arcs-self.ensures) (one_too_many b.network.nodes b.declared b.ends b.network.arcs c.args.tail c.args.head c.args.cap tail head there (rw (to_z-of_z w64 c.args.cap c.ranges.cap) at c.if-cap-lt0.false) fresh full, refl)
-
-pub keep-requires : goal.keep-requires
-keep-requires c =
-    let b = c.self.inside in
-    let tail : c.args.tail ≤ b.network.nodes = omega (arith, c.nodes.ensures, c.if-tail-nodes.false) in
-    let head : c.args.head ≤ b.network.nodes = omega (arith, c.nodes-2.ensures, c.if-head-nodes.false) in
-    let fresh = list_any-IsPermutation (has_ends c.args.tail c.args.head) (map arc_ends b.network.arcs) b.seen c.self.invariant.seen_is ∙ sym c.if-contains.ensures in
-    let room : length b.network.arcs < b.declared = omega (arith, c.arcs.ensures, c.if-arcs-self.false, c.self.invariant.lawful.no_more) in
-    let whole : IsWhole c.args.cap = (omega (arith, ints, c.ranges.cap), omega (arith, ints, c.ranges.cap)) in
-    rw (← c.self.view_is, to_z-of_z w64 c.args.cap c.ranges.cap)
-    (more_lawful (record { nodes = b.network.nodes; declared = b.declared; ends = b.ends; arcs = b.network.arcs }) c.in-Both.field-0 c.in-Both.field-1 c.args.tail c.args.head c.args.cap
-    c.self.invariant.lawful c.in-Both.is (c.requires.tail, tail) (c.requires.head, head) (rw (to_z-of_z w64 c.args.cap c.ranges.cap) at c.if-cap-lt0.false) whole fresh room)
+    rw (← c.self.view_is, c.refused-then-arcs-self.ensures) (one_too_many b.network.nodes b.declared b.ends b.network.arcs c.args.tail c.args.head c.args.cap tail head there (rw (to_z-of_z w64 c.args.cap c.ranges.cap) at c.if-cap-lt0.false) full, refl)
 
 pub returns : goal.returns
 returns c =
@@ -72,7 +48,17 @@ returns c =
     let tail : c.args.tail ≤ b.network.nodes = omega (arith, c.nodes.ensures, c.if-tail-nodes.false) in
     let head : c.args.head ≤ b.network.nodes = omega (arith, c.nodes-2.ensures, c.if-head-nodes.false) in
     let there = ends_there b.network.nodes b.declared b.ends b.network.arcs c.in-Both.field-0 c.in-Both.field-1 c.in-Both.is in
-    let fresh = list_any-IsPermutation (has_ends c.args.tail c.args.head) (map arc_ends b.network.arcs) b.seen c.self.invariant.seen_is ∙ sym c.if-contains.ensures in
-    let room : length b.network.arcs < b.declared = omega (arith, c.arcs.ensures, c.if-arcs-self.false, c.self.invariant.lawful.no_more) in
-    rw (c.in_ok-keep.ensures.kept, ← c.self.view_is, to_z-of_z w64 c.args.cap c.ranges.cap)
-    (one_more_arc b.network.nodes b.declared b.ends b.network.arcs c.args.tail c.args.head c.args.cap tail head there (rw (to_z-of_z w64 c.args.cap c.ranges.cap) at c.if-cap-lt0.false) fresh room, pushed_arc b.network.nodes b.declared b.ends b.network.arcs c.args.tail c.args.head c.args.cap)
+    let room : length b.network.arcs < b.declared = omega (arith, c.arcs.ensures, c.if-arcs-self.false, c.self.invariant.no_more) in
+    rw (c.in_ok-push.ensures.pushed, ← c.self.view_is, to_z-of_z w64 c.args.cap c.ranges.cap)
+    (one_more_arc b.network.nodes b.declared b.ends b.network.arcs c.args.tail c.args.head c.args.cap tail head there (rw (to_z-of_z w64 c.args.cap c.ranges.cap) at c.if-cap-lt0.false) room, pushed_arc b.network.nodes b.declared b.ends b.network.arcs c.args.tail c.args.head c.args.cap)
+
+pub invariant_of-self-2 : goal.invariant_of-self-2
+invariant_of-self-2 c =
+    let b = c.self.inside in
+    let tail : c.args.tail ≤ b.network.nodes = omega (arith, c.nodes.ensures, c.if-tail-nodes.false) in
+    let head : c.args.head ≤ b.network.nodes = omega (arith, c.nodes-2.ensures, c.if-head-nodes.false) in
+    let room : length b.network.arcs < b.declared = omega (arith, c.arcs.ensures, c.if-arcs-self.false, c.self.invariant.no_more) in
+    let whole : IsWhole c.args.cap = (omega (arith, ints, c.ranges.cap), omega (arith, ints, c.ranges.cap)) in
+    rw (c.in_ok-push.ensures.pushed, to_z-of_z w64 c.args.cap c.ranges.cap)
+    (more_lawful (record { nodes = b.network.nodes; declared = b.declared; ends = b.ends; arcs = b.network.arcs }) c.in-Both.field-0 c.in-Both.field-1 c.args.tail c.args.head c.args.cap
+    c.self.invariant c.in-Both.is (c.requires.tail, tail) (c.requires.head, head) (rw (to_z-of_z w64 c.args.cap c.ranges.cap) at c.if-cap-lt0.false) whole room)

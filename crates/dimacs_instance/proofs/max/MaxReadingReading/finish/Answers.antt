@@ -10,7 +10,7 @@ pub returns-in_default-ends-clause-refused : goal.returns-in_default-ends-clause
 returns-in_default-ends-clause-refused c =
     let b = c.begun.inside in
     let records : max_records_so_far c.self.inside.begun ≡ max_begun_records (record { nodes = b.network.nodes; declared = b.declared; ends = b.ends; arcs = b.network.arcs }) = ap max_records_so_far c.in-Some.is ∙ ap max_begun_records (sym (c.begun.view_is ∙ c.in-Some.begun-is)) in
-    let lacks = ends_lack b.network.nodes b.declared b.ends b.network.arcs c.in_default-ends.not-Both c.begun.invariant.lawful.arcs_last in
+    let lacks = ends_lack b.network.nodes b.declared b.ends b.network.arcs c.in_default-ends.not-Both c.begun.invariant.arcs_last in
     λ rs h. rw (c.refused-in_default-ends.ensures, h, ← c.self.view_is, records) (refl, lacks_at_end b.network.nodes b.declared b.ends b.network.arcs lacks)
 
 pub returns-then-arcs-begun-clause-refused : goal.returns-then-arcs-begun-clause-refused

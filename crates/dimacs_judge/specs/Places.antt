@@ -1,0 +1,61 @@
+-- A flow while entries are put on their arcs, one after another.
+use Rattle.std.specs.Prelude.{ℕ, zero, suc, ◌≡◌, ◌<◌, ◌≤◌, ◌^◌, Bool, false, List, length, take, get_or, count_by, ℤ, Option, None, Some, Result, Ok, Err, ◌++◌, ◌∷◌, []}
+use Rattle.dimacs_instance.specs.declared.network.ArcView.{ArcView}
+use Rattle.dimacs_instance.specs.Arcs.{joins, IsKthBetween}
+use Rattle.dimacs_claims.specs.declared.solution.Entry.{Entry}
+use Rattle.dimacs_records.specs.declared.reasons.Reason.{Reason}
+use Rattle.dimacs_judge.specs.declared.verdict.Where.{Where}
+use Rattle.dimacs_judge.specs.Claims.{is_between, claimed_flow, Carries, EntryFails, entry_row}
+use Rattle.dimacs_judge.specs.Tests.{Clear, FirstOfRow}
+
+-- the arcs, what they carry, a count for each, how many entries came in the order of the arcs, whether all did, and the first entry that fails
+pub record PlacesValue : Type 0 where
+  pub arcs : List ArcView
+  pub flow : List ℤ
+  pub counts : List ℕ
+  pub in_order : ℕ
+  pub out_of_order : Bool
+  pub refusal : Option (Where × Reason)
+
+-- an amount and a count for each arc
+pub record HaveRoom (p : PlacesValue) : Type 0 where
+  pub flow : length p.flow ≡ length p.arcs
+  pub counts : length p.counts ≡ length p.arcs
+  pub in_order : p.in_order ≤ length p.arcs
+  pub few : length p.arcs < 2 ^ 32
+
+-- a count, or another number where nothing was counted
+abbrev pub counted_or : ℕ → ℕ → ℕ
+counted_or zero n = n
+counted_or (suc k) n = suc k
+
+-- how many entries came of these ends: the count at their first arc, or where nothing was counted there, the arcs of these ends among those whose entries came in order
+abbrev pub came_between : PlacesValue → ℕ → ℕ → ℕ → ℕ
+came_between p tail head first = counted_or (get_or p.counts first 0) (count_by (joins tail head) (take p.in_order p.arcs))
+
+-- the entries pass, and their flow was put on the arcs
+pub record HavePlaced (p : PlacesValue) (entries : List Entry) : Type 0 where
+  pub clear : Clear (entry_row p.arcs entries)
+  pub amounts : p.flow ≡ claimed_flow p.arcs entries
+  pub counted : (tail head first : ℕ) → IsKthBetween p.arcs tail head 0 (Some first) → came_between p tail head first ≡ count_by (is_between tail head) entries
+  pub uncounted : p.out_of_order ≡ false → (k : ℕ) → get_or p.counts k 0 ≡ 0
+  pub ordered : p.out_of_order ≡ false → (tail head : ℕ) → count_by (joins tail head) (take p.in_order p.arcs) ≡ count_by (is_between tail head) entries
+
+-- what the places hold of a first refusal, or of the flow where there is none
+abbrev pub Hold : PlacesValue → List Entry → Option (Where × Reason) → Type 0
+Hold p entries None = HavePlaced p entries
+Hold p entries (Some refusal) = FirstOfRow (entry_row p.arcs entries) refusal.0 refusal.1
+
+-- these entries were placed
+abbrev pub ArePlaced : PlacesValue → List Entry → Type 0
+ArePlaced p entries = Hold p entries p.refusal
+
+-- one more entry: it doesn't fail, and its flow was put; else the reason for which it fails
+abbrev pub PutsEntry : List ArcView → List Entry → Entry → Result Unit Reason → PlacesValue → Type 0
+PutsEntry arcs before e (Ok done) p = HavePlaced p (before ++ e ∷ [])
+PutsEntry arcs before e (Err reason) p = Clear (entry_row arcs before) × EntryFails arcs before e reason
+
+-- the flow that the entries carry, or the first of them that fails
+abbrev pub TellsFlow : List ArcView → List Entry → Result (List ℤ) (Where × Reason) → Type 0
+TellsFlow arcs entries (Ok x) = Carries arcs entries x
+TellsFlow arcs entries (Err refusal) = FirstOfRow (entry_row arcs entries) refusal.0 refusal.1

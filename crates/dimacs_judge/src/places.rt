@@ -1,0 +1,181 @@
+//! The flow that entries claim, put on the arcs as the entries come.
+
+ghost use Rattle.std.specs.Prelude.{◌≡◌, ◌≤◌, ◌<◌, ◌+◌, ◌++◌, ◌∷◌, [], List, Result, Some, None, true, false, length, take, count_by, IfOk, IsTrue};
+ghost use Rattle.dimacs_claims.specs.declared.solution.Entry.{Entry};
+ghost use Rattle.dimacs_instance.specs.Arcs.{joins, IsKthBetween};
+ghost use Rattle.dimacs_judge.specs.Places.{ArePlaced, HavePlaced, PutsEntry, TellsFlow, came_between};
+ghost use Rattle.dimacs_judge.specs.Rows.{arc_at};
+
+use crate::flow::Flow;
+use crate::verdict::Where;
+use dimacs_claims::Entry;
+use dimacs_instance::Network;
+use dimacs_lines::Memory;
+use dimacs_records::Reason;
+use std::alloc::Global;
+use std::marker::Model;
+
+/// The flow that entries claim, as far as they came: an amount and a count for each arc of a network, and no entry.
+///
+/// The k-th entry with given ends belongs to the k-th arc with them. As long as entries come in the order of the arcs,
+/// each belongs to the next arc and no arc is searched. After that the entries between two nodes are counted at the
+/// first arc between them.
+#[derive(Drop)]
+pub(crate) struct FlowPlaces<'a, N: Network> {
+    network: &'a N,
+    flow: Flow,
+    /// How many entries came between two nodes, at the first arc between them; 0 where none came out of order.
+    counts: Vec<u32>,
+    /// How many entries came before the first out of order.
+    in_order: u32,
+    out_of_order: bool,
+    /// The first entry that fails. Nothing is counted or put after it.
+    refusal: Option<(Where, Reason)>,
+}
+
+impl<'a, N: Network> Model for FlowPlaces<'a, N> {
+    ghost use Rattle.dimacs_judge.specs.Places.{PlacesValue, HaveRoom};
+
+    ghost Value = { PlacesValue };
+
+    ghost view = { λ p. record { arcs = N.list p.network.now; flow = p.flow; counts = p.counts.items; in_order = p.in_order; out_of_order = p.out_of_order; refusal = p.refusal } };
+
+    ghost invariant = { λ p. HaveRoom (record { arcs = N.list p.network.now; flow = p.flow; counts = p.counts.items; in_order = p.in_order; out_of_order = p.out_of_order; refusal = p.refusal }) };
+}
+
+impl<'a, N: Network> FlowPlaces<'a, N> {
+    /// Places for the arcs of a network, with no entry in them. Makes all their room.
+    pub(crate) fn new(alloc: Global, network: &'a N) -> Result<FlowPlaces<'a, N>, Memory>
+        ensures network { IfOk result (λ places. places.arcs ≡ N.list network.now) }
+        ensures empty { IfOk result (λ places. ArePlaced places []) }
+    {
+        let arcs = network.arcs();
+        Ok(FlowPlaces {
+            network,
+            flow: Flow::zero(alloc, arcs)?,
+            counts: vec![in alloc; 0u32; arcs as usize]?,
+            in_order: 0,
+            out_of_order: false,
+            refusal: None,
+        })
+    }
+
+    /// Places one more entry, which may fail; the first that does is kept.
+    #[inline(always)]
+    pub(crate) fn put(&mut self, entry: Entry)
+        ensures network { self.new.arcs ≡ self.old.arcs }
+        ensures placed { (before : List Entry) → ArePlaced self.old before → ArePlaced self.new (before ++ entry ∷ []) }
+    {
+        if self.refusal.is_some() {
+            return;
+        }
+        if let Err(reason) = self.put_on_arc(entry) {
+            let place = Where::Solution {
+                line: entry.line,
+                field: 0,
+            };
+            self.refusal = Some((place, reason));
+        }
+    }
+
+    /// The flow of the entries, or the first that fails.
+    pub(crate) fn into_flow(self) -> Result<Flow, (Where, Reason)>
+        ensures { (entries : List Entry) → ArePlaced self.entry entries → TellsFlow self.entry.arcs entries result }
+    {
+        match self.refusal {
+            None => Ok(self.flow),
+            Some(refusal) => Err(refusal),
+        }
+    }
+
+    /// Puts the flow of an entry on its arc.
+    #[inline(always)]
+    fn put_on_arc(&mut self, entry: Entry) -> Result<(), Reason>
+        requires { self.old.refusal ≡ None }
+        ensures network { self.new.arcs ≡ self.old.arcs }
+        ensures refusal { self.new.refusal ≡ None }
+        ensures puts { (before : List Entry) → HavePlaced self.old before → PutsEntry self.old.arcs before entry result self.new }
+    {
+        if self.is_next(entry) {
+            self.flow.set(self.in_order, entry.flow);
+            self.in_order += 1;
+            return Ok(());
+        }
+        self.out_of_order = true;
+        self.put_by_search(entry)
+    }
+
+    /// Whether all entries came in the order of the arcs, and this one has the ends of the next arc.
+    #[inline(always)]
+    fn is_next(&self, entry: Entry) -> bool
+        ensures { IsTrue result → (self.now.out_of_order ≡ false) × (self.now.in_order < length self.now.arcs) × (joins entry.tail entry.head (arc_at self.now.arcs self.now.in_order) ≡ true) }
+    {
+        if self.out_of_order || self.in_order >= self.network.arcs() {
+            return false;
+        }
+        let arc = self.network.arc(self.in_order);
+        arc.tail == entry.tail && arc.head == entry.head
+    }
+
+    /// Puts the flow of an entry on its arc, which may be any.
+    fn put_by_search(&mut self, entry: Entry) -> Result<(), Reason>
+        requires searched { self.old.out_of_order ≡ true }
+        requires no_refusal { self.old.refusal ≡ None }
+        ensures network { self.new.arcs ≡ self.old.arcs }
+        ensures refusal { self.new.refusal ≡ None }
+        ensures puts { (before : List Entry) → HavePlaced self.old before → PutsEntry self.old.arcs before entry result self.new }
+    {
+        let Some(first) = self.network.find(entry.tail, entry.head, 0) else {
+            return Err(Reason::UnknownArc);
+        };
+        let came = self.came(entry, first);
+        let Some(arc) = self.kth(entry, first, came) else {
+            return Err(Reason::ArcTwice);
+        };
+        self.flow.set(arc, entry.flow);
+        self.counts[first as usize] = came + 1;
+        Ok(())
+    }
+
+    /// How many entries came with the ends of this one, whose first arc is at hand.
+    fn came(&self, entry: Entry, first: u32) -> u32
+        requires { IsKthBetween self.now.arcs entry.tail entry.head 0 (Some first) }
+        ensures { result ≡ came_between self.now entry.tail entry.head first }
+    {
+        let counted = self.counts[first as usize];
+        if counted > 0 {
+            return counted;
+        }
+        if self.in_order <= first {
+            return 0;
+        }
+        arcs_below(self.network, entry.tail, entry.head, self.in_order)
+    }
+
+    /// The k-th arc with the ends of this entry, of which the first is at hand.
+    #[inline]
+    fn kth(&self, entry: Entry, first: u32, k: u32) -> Option<u32>
+        requires { IsKthBetween self.now.arcs entry.tail entry.head 0 (Some first) }
+        ensures { IsKthBetween self.now.arcs entry.tail entry.head k result }
+    {
+        if k == 0 {
+            Some(first)
+        } else {
+            self.network.find(entry.tail, entry.head, k)
+        }
+    }
+}
+
+/// How many of the arcs below `end` go from `tail` to `head`, where at least one does.
+fn arcs_below<N: Network>(network: &N, tail: u32, head: u32, end: u32) -> u32
+    requires { 1 ≤ count_by (joins tail head) (take end (N.list network.now)) }
+    ensures { result ≡ count_by (joins tail head) (take end (N.list network.now)) }
+{
+    for k in 1..network.arcs() {
+        match network.find(tail, head, k) {
+            Some(arc) if arc < end => {}
+            _ => return k,
+        }
+    }
+    network.arcs()
+}
