@@ -22,6 +22,7 @@ mod paths;
 mod places;
 mod potentials;
 mod queries;
+mod value;
 mod verdict;
 
 pub use cuts::cut_tests;
@@ -37,4 +38,5 @@ pub use least::judge_min;
 pub use maximum::judge_max;
 pub use paths::judge_paths;
 pub use potentials::slack_tests;
+pub use value::value_of;
 pub use verdict::{Answer, JudgeError, Verdict, Where};
