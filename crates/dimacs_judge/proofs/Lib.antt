@@ -1,9 +1,9 @@
 mod Products
-pub mod Sums
+mod Sums
 pub mod Duality
 pub mod Distances
-pub mod RowLemmas
-pub mod StepLemmas
+mod RowLemmas
+mod StepLemmas
 mod CrossLemmas
 mod SupportLemmas
 mod BlockLemmas

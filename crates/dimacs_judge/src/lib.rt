@@ -22,6 +22,7 @@ mod paths;
 mod places;
 mod potentials;
 mod queries;
+mod value;
 mod verdict;
 
 pub use cuts::cut_tests;
@@ -39,4 +40,5 @@ pub use maximum::judge_max;
 pub use paths::judge_paths;
 pub use potentials::slack_tests;
 pub use queries::{query_nodes_hold, source_asked};
+pub use value::value_of;
 pub use verdict::{Answer, JudgeError, Verdict, Where};

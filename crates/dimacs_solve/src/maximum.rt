@@ -8,9 +8,8 @@ ghost use Rattle.dimacs_solve.specs.SolveMax.{SolvesMax, IsSolutionFor, entries_
 use crate::climb::{Ascent, climb};
 use crate::error::SolveError;
 use dimacs_claims::{Cut, Entry, Solution};
-use dimacs_decide::value_of;
 use dimacs_instance::{MaxInstance, Network};
-use dimacs_judge::Flow;
+use dimacs_judge::{Flow, value_of};
 use dimacs_lines::Memory;
 use std::alloc::Global;
 
