@@ -1,25 +1,18 @@
-use Rattle.std.proofs.Common.{◌<◌, ◌+◌, ◌∷◌, [], length, arith}
-use Rattle.std.proofs.lemmas.List.{length-append}
-use Rattle.std.proofs.lemmas.List.Elements.{All-push}
-use Rattle.dimacs_claims.specs.Labels.{IsBlock, IsNewSource}
-use Rattle.dimacs_claims.proofs.BlockLemmas.{each_behind_push}
+use Rattle.dimacs_claims.proofs.BlockLemmas.{labels_push}
 use Rattle.dimacs_claims.proofs.LabelRecords.{are_sources_more}
 use Rattle.dimacs_claims.proofs.labels.Labels.push.Goals as goal
 
 pub invariant_of-self-2 : goal.invariant_of-self-2
 invariant_of-self-2 c =
     let inside = c.self.inside in
-    let blocks = inside.blocks.items in
-    let b = c.args.block in
-    let lawful : IsBlock inside.nodes b = rw (← c.self.view_is) at c.requires.lawful in
-    let new : IsNewSource blocks b = rw (← c.self.view_is) at c.requires.source in
-    let few : length blocks < 268435456 = rw (← c.self.view_is) at c.requires.few in
-    rw c.in_ok-push.ensures.items record {
-      nodes_few = c.self.invariant.nodes_few;
-      blocks_few = omega (arith, few, length-append blocks (b ∷ []));
-      blocks = All-push (IsBlock inside.nodes) blocks b c.self.invariant.blocks lawful;
-      sources = each_behind_push IsNewSource blocks b c.self.invariant.sources new;
-    }
+    let block = rw (← c.self.view_is) at c.requires in
+    rw c.in_ok-push.ensures.items (labels_push inside.nodes inside.blocks.items c.args.block c.self.invariant block.lawful block.source block.few)
+
+pub returns-clause-lawful : goal.returns-clause-lawful
+returns-clause-lawful c =
+    let inside = c.self.inside in
+    let block = rw (← c.self.view_is) at c.requires in
+    rw c.in_ok-push.ensures.items (labels_push inside.nodes inside.blocks.items c.args.block c.self.invariant block.lawful block.source block.few)
 
 pub returns-clause-sources : goal.returns-clause-sources
 returns-clause-sources c =
