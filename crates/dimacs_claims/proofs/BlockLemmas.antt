@@ -9,7 +9,7 @@ use Rattle.std.proofs.lemmas.List.Elements.{All-head, All-nil, All-push, All-tai
 use Rattle.dimacs_records.specs.Earlier.{or_else}
 use Rattle.dimacs_records.proofs.SplitLemmas.{two_places, same, sooner, later}
 use Rattle.dimacs_claims.specs.declared.block.Label.{Label}
-use Rattle.dimacs_claims.specs.Labels.{BlockValue, label, label_at, distance_in, with_label, EachBehind, IsFresh, HasPred, IsLabel, IsBlock}
+use Rattle.dimacs_claims.specs.Labels.{BlockValue, label, label_at, distance_in, with_label, EachBehind, IsFresh, HasPred, IsLabel, IsBlock, IsNewSource, AreLabels}
 use Rattle.dimacs_records.specs.Ranges.{IsNode, IsWide}
 
 -- a test before a choice
@@ -149,6 +149,15 @@ block_empty nodes source within = record {
   within = All-nil (IsLabel nodes);
   fresh = each_behind_nil (IsFresh source);
   preds = each_behind_nil (HasPred source);
+}
+
+-- ---- labels, with a block more
+pub labels_push : (nodes : ℕ) (blocks : List BlockValue) (b : BlockValue) → AreLabels (record { nodes = nodes; blocks = blocks }) → IsBlock nodes b → IsNewSource blocks b → length blocks < 268435456 → AreLabels (record { nodes = nodes; blocks = blocks ++ b ∷ [] })
+labels_push nodes blocks b are lawful new few = record {
+  nodes_few = are.nodes_few;
+  blocks_few = omega (arith, few, length-append blocks (b ∷ []));
+  blocks = All-push (IsBlock nodes) blocks b are.blocks lawful;
+  sources = each_behind_push IsNewSource blocks b are.sources new;
 }
 
 -- ---- claimed distances lie in their range

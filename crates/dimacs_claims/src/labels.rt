@@ -56,7 +56,8 @@ impl Labels {
     /// Labels of so many nodes, without blocks. Takes no memory.
     pub fn new(alloc: Global, nodes: u32) -> Labels
         requires { nodes ≤ 134217728 }
-        ensures { result ≡ record { nodes = nodes; blocks = [] } }
+        ensures made { result ≡ record { nodes = nodes; blocks = [] } }
+        ensures lawful { AreLabels result }
     {
         Labels {
             nodes,
@@ -84,6 +85,7 @@ impl Labels {
         requires source { IsNewSource self.old.blocks block }
         requires few { length self.old.blocks < 268435456 }
         ensures pushed { OnOk result (self.new ≡ with_block self.old block) }
+        ensures lawful { OnOk result (AreLabels self.new) }
         ensures sources { OnOk result ((sources : set.FinSet nat_cmp) → AreSources sources self.old.blocks → AreSources (set.insert sources block.source) self.new.blocks) }
         ensures unchanged { OnErr result (self.new ≡ self.old) }
     {

@@ -7,9 +7,9 @@ use dimacs_records::Reason;
 /// Why a producer gives no answer.
 #[derive(Clone, Copy, Debug, PartialEq, Eq)]
 pub enum SolveError {
-    /// The first arc with a negative weight, from 1.
+    /// The first arc of negative weight, from 1. `solve_paths` alone refuses it.
     NegativeWeight(u32),
-    /// The first query that asks for a node that is none.
+    /// The first query that names a node above the number of nodes.
     Refused(Where, Reason),
     /// A growth was refused.
     Memory,

@@ -1,10 +1,9 @@
 use Rattle.std.proofs.Common.{◌≡◌, ◌<◌, ◌+◌, ◌++◌, ◌∷◌, [], ◌∙◌, ap, length, subst, sym, arith}
 use Rattle.std.proofs.Math.Seq.{get_or-append_seam}
 use Rattle.std.proofs.lemmas.List.{length-append}
-use Rattle.std.proofs.lemmas.List.Elements.{All-push}
 use Rattle.dimacs_claims.specs.ById.{IsById, labels_at}
 use Rattle.dimacs_claims.specs.Labels.{BlockValue, IsBlock, IsNewSource}
-use Rattle.dimacs_claims.proofs.BlockLemmas.{each_behind_push}
+use Rattle.dimacs_claims.proofs.BlockLemmas.{labels_push}
 use Rattle.dimacs_claims.proofs.ByIdLemmas.{fresh_apart, indexed_more, indexed_wider}
 use Rattle.dimacs_claims.proofs.LabelRecords.{are_sources_more}
 use Rattle.dimacs_claims.proofs.labels.Labels.push.Goals as goal
@@ -30,15 +29,16 @@ invariant_of-self-in-Ok c =
     sym (ap (labels_at (blocks ++ b ∷ [])) count ∙ ap (λ (d : BlockValue). d.labels) (get_or-append_seam blocks b [] (record { source = 0; labels = [] }))) in
     let by_id : IsById (labels_at (blocks ++ b ∷ []) (length indices)) index = subst (λ labels. IsById labels index) (c.labels.ensures ∙ here) c.in_ok-index.ensures in
     rw (more_blocks, more_indices) (
-      record {
-        nodes_few = c.self.invariant.0.nodes_few;
-        blocks_few = omega (arith, few, size);
-        blocks = All-push (IsBlock inside.nodes) blocks b c.self.invariant.0.blocks lawful;
-        sources = each_behind_push IsNewSource blocks b c.self.invariant.0.sources new;
-      },
+      labels_push inside.nodes blocks b c.self.invariant.0 lawful new few,
       indexed_more (blocks ++ b ∷ []) indices index (indexed_wider blocks b indices c.self.invariant.1) (omega (arith, size, count)) by_id,
       omega (arith, count, length-append blocks (b ∷ []), length-append indices (index ∷ [])),
     )
+
+pub returns-clause-lawful : goal.returns-clause-lawful
+returns-clause-lawful c =
+    let inside = c.self.inside in
+    let block = rw (← c.self.view_is) at c.requires in
+    rw c.in-Ok.ensures.items (labels_push inside.nodes inside.blocks.items c.args.block c.self.invariant.0 block.lawful block.source block.few)
 
 pub returns-clause-sources : goal.returns-clause-sources
 returns-clause-sources c =

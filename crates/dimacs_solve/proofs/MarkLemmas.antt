@@ -1,0 +1,20 @@
+-- What is known of the nodes, when a mark comes.
+use Rattle.std.proofs.Common.{◌≡◌, ◌≢◌, ℕ, ◌≤◌, inl, inr, sym, subst, Result, Ok, Err}
+use Rattle.std.specs.Prelude.{OnOk, OnErr}
+use Rattle.std.proofs.lemmas.Bool.{cases_eq}
+use Rattle.dimacs_nodes.specs.declared.node_table.NodeTable.{NodeTable}
+use Rattle.dimacs_nodes.specs.Tables.{SameValues, value_of}
+use Rattle.dimacs_solve.specs.declared.marks.Mark.{Mark}
+
+-- no mark is later than the round, also after one was set
+module _ {D : Type 0} (round : ℕ) (old new : NodeTable (Mark D)) (earlier : (v : ℕ) → (value_of old v).round ≤ round) (node : ℕ) (mark : Mark D) (within : mark.round ≤ round) where
+  no_later_set : value_of new node ≡ mark → ((v : ℕ) → v ≢ node → value_of new v ≡ value_of old v) → (v : ℕ) → (value_of new v).round ≤ round
+  no_later_set here there v =
+      elim (cases_eq v node) [
+        | inl same ↦ subst (λ w. (value_of new w).round ≤ round) (sym same) (rw here within)
+        | inr apart ↦ rw (there v apart) (earlier v)
+      ]
+
+  pub no_later : {E : Type 0} (told : Result (Unit {0}) E) → OnOk told (value_of new node ≡ mark) → OnOk told ((v : ℕ) → v ≢ node → value_of new v ≡ value_of old v) → OnErr told (SameValues old new) → (v : ℕ) → (value_of new v).round ≤ round
+  no_later (Ok x) here there same = no_later_set here there
+  no_later (Err e) here there same = λ v. rw (same v) (earlier v)

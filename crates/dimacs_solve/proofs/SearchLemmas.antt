@@ -1,0 +1,635 @@
+-- The steps of a search.
+use Rattle.std.proofs.Common.{◌≡◌, ◌≢◌, ◌⊎◌, inl, inr, ℕ, zero, suc, ◌+◌, ◌-◌, ◌*◌, ◌^◌, ◌<◌, ◌≤◌, Bool, true, false, cond, List, [], ◌∷◌, ◌++◌, Some, None, ℤ, pos, All, Contains, length, get_or, take, refl, sym, ap, subst, ◌∙◌, arith, add-one}
+use Rattle.std.specs.Prelude.{◌==◌, ◌&&◌, ◌≤ℤ◌, if◌then◌else◌, IsPermutation}
+use Rattle.std.proofs.Math.Nat.{suc-mul, mul-le-mul_left}
+use Rattle.std.proofs.lemmas.Bool.{cases_order, cases_eq, cases_lt}
+use Rattle.std.proofs.lemmas.Bool.Decides.{eqb_tells}
+use Rattle.std.proofs.lemmas.Int.{ints}
+use Rattle.std.proofs.lemmas.List.{length-append, length-take, length-drop, get_or_append_left, take_all}
+use Rattle.std.proofs.Math.Seq.{get_or-append_seam}
+use Rattle.std.proofs.lemmas.List.Elements.{All-weaker, All-more, All-nil, All-get_or, All-take, All-drop, All-push, All-contains, Contains-get_or}
+use Rattle.std.proofs.lemmas.List.Sorted.{Contains-permutation, IsPermutation-sym, length_permutation}
+use Rattle.dimacs_records.specs.Ranges.{IsNode}
+use Rattle.dimacs_claims.specs.declared.block.Label.{Label}
+use Rattle.dimacs_claims.specs.Labels.{BlockValue, IsBlock, IsLabel, label, with_label}
+use Rattle.dimacs_solve.specs.declared.adjacency.Adjacency.{Adjacency}
+use Rattle.dimacs_solve.specs.declared.adjacency.Hop.{Hop}
+use Rattle.dimacs_solve.specs.declared.frontier.Reach.{Reach}
+use Rattle.dimacs_solve.specs.Adjacency.{AreByNode, IsHop, hop_to, out}
+use Rattle.dimacs_solve.specs.Marks.{Known, AreUnknown, IsSettled, IsWithin, Sets, reached, settled}
+use Rattle.dimacs_solve.specs.Paths.{IsNearestFirst}
+use Rattle.dimacs_solve.specs.Search.{is_settled, settled_count, settled_label, IsWay, IsWaiting, IsPending, IsFront, Lowers, Offers, IsPassed, IsReady, Relaxes, IsMade, IsSearch, IsPopped, IsClosed, IsTree, work}
+
+-- ---- lists
+true_or_false : (b : Bool) → (b ≡ true) ⊎ (b ≡ false)
+true_or_false true = inl refl
+true_or_false false = inr refl
+
+cons_cases : {X : Type 0} (x y : X) (xs : List X) → Contains (x ∷ xs) y → (x ≡ y) ⊎ Contains xs y
+cons_cases x y xs (zero, inside, is) = inl is
+cons_cases x y xs (suc k, inside, is) = inr (k, omega (arith, inside), is)
+
+cons_first : {X : Type 0} (x : X) (xs : List X) → Contains (x ∷ xs) x
+cons_first x xs = (0, omega arith, refl)
+
+cons_more : {X : Type 0} (x y : X) (xs : List X) → Contains xs y → Contains (x ∷ xs) y
+cons_more x y xs (k, inside, is) = (suc k, omega (arith, inside), is)
+
+times_more : (k m : ℕ) → (k + 1) * m ≡ k * m + m
+times_more k m = ap (λ n. n * m) (add-one k) ∙ suc-mul k m
+
+lt_or_le : (m n : ℕ) → (m ≤ n) ⊎ (n < m)
+lt_or_le m n = elim (cases_order m n) [ inl l ↦ inl (omega (arith, l)) | inr h ↦ elim h [ inl l ↦ inl (omega (arith, l)) | inr l ↦ inr l ] ]
+
+-- ---- what waits, when one way comes or goes
+module _ (e : Reach ℕ) (few more : List (Reach ℕ)) (moved : IsPermutation (e ∷ few) more) where
+  has_new : Contains more e
+  has_new = Contains-permutation (e ∷ few) more e moved (cons_first e few)
+
+  has_old : (o : Reach ℕ) → Contains few o → Contains more o
+  has_old o h = Contains-permutation (e ∷ few) more o moved (cons_more e o few h)
+
+  has_cases : (o : Reach ℕ) → Contains more o → (e ≡ o) ⊎ Contains few o
+  has_cases o h = cons_cases e o few (Contains-permutation more (e ∷ few) o (IsPermutation-sym (e ∷ few) more moved) h)
+
+-- ---- whether a node is settled
+settled_tells : (k : Known) → ((is_settled k ≡ true) × IsSettled k) ⊎ ((is_settled k ≡ false) × (¬ IsSettled k))
+settled_tells k = elim (true_or_false k.found) [
+  | inl f ↦ elim (true_or_false k.final) [
+    | inl s ↦ inl (ap (λ b. b && k.final) f ∙ s, (f, s))
+    | inr n ↦ inr (ap (λ b. b && k.final) f ∙ n, λ h. let s = h.1 in cc)
+  ]
+  | inr n ↦ inr (ap (λ b. b && k.final) n, λ h. let f = h.0 in cc)
+]
+
+off_from : (k : Known) → (¬ IsSettled k) → is_settled k ≡ false
+off_from k h = elim (settled_tells k) [ inl on ↦ absurd (h on.1) | inr off ↦ off.0 ]
+
+on_from : (k : Known) → IsSettled k → is_settled k ≡ true
+on_from k h = elim (settled_tells k) [ inl on ↦ on.0 | inr off ↦ absurd (off.1 h) ]
+
+-- ---- how many are settled
+abbrev ones : Bool → ℕ
+ones b = cond b 1 0
+
+at_most_one : (b : Bool) → ones b ≤ 1
+at_most_one true = omega arith
+at_most_one false = omega arith
+
+pub settled_count-le : (marks : ℕ → Known) (n : ℕ) → settled_count marks n ≤ n
+unfolding settled_count
+settled_count-le marks zero = omega arith
+settled_count-le marks (suc n) = omega (arith, settled_count-le marks n, at_most_one (is_settled (marks (suc n))))
+
+settled_count-same : (old new : ℕ → Known) (n : ℕ) → ((v : ℕ) → 1 ≤ v → v ≤ n → is_settled (new v) ≡ is_settled (old v)) → settled_count new n ≡ settled_count old n
+unfolding settled_count
+settled_count-same old new zero same = refl
+settled_count-same old new (suc n) same =
+    let before = settled_count-same old new n (λ v low high. same v low (omega arith)) in
+    let here = ap ones (same (suc n) (omega arith) (omega arith)) in
+    omega (arith, before, here)
+
+-- one more
+settled_count-more : (old new : ℕ → Known) (node n : ℕ) → IsNode n node → ((v : ℕ) → v ≢ node → new v ≡ old v) → is_settled (old node) ≡ false → is_settled (new node) ≡ true → settled_count new n ≡ settled_count old n + 1
+unfolding settled_count
+settled_count-more old new node zero is others off on = absurd (omega (arith, is.0, is.1))
+settled_count-more old new node (suc n) is others off on = elim (cases_eq (suc n) node) [
+  | inl same ↦
+      let before = settled_count-same old new n (λ v low high. ap is_settled (others v (λ at. absurd (omega (arith, at, same, high))))) in
+      let was : ones (is_settled (old (suc n))) ≡ 0 = ap (λ v. ones (is_settled (old v))) same ∙ ap ones off in
+      let now : ones (is_settled (new (suc n))) ≡ 1 = ap (λ v. ones (is_settled (new v))) same ∙ ap ones on in
+      omega (arith, before, was, now)
+  | inr apart ↦
+      let before = settled_count-more old new node n (is.0, omega (arith, is.1, apart)) others off on in
+      let here = ap (λ (k : Known). ones (is_settled k)) (others (suc n) apart) in
+      omega (arith, before, here)
+]
+
+settled_count-none : (marks : ℕ → Known) (n : ℕ) → ((v : ℕ) → ¬ IsSettled (marks v)) → settled_count marks n ≡ 0
+unfolding settled_count
+settled_count-none marks zero none = refl
+settled_count-none marks (suc n) none =
+    let before = settled_count-none marks n none in
+    let here = ap ones (off_from (marks (suc n)) (none (suc n))) in
+    omega (arith, before, here)
+
+-- ---- marks that fall
+pub lowers_none : (marks : ℕ → Known) → Lowers marks marks
+lowers_none marks = record { kept = λ v s. refl; none = λ v s. refl; within = λ v d w. w }
+
+lowers_more : (old mid new : ℕ → Known) → Lowers old mid → Lowers mid new → Lowers old new
+lowers_more old mid new l m = record {
+  kept = λ v s. m.kept v (subst IsSettled (sym (l.kept v s)) s) ∙ l.kept v s;
+  none = λ v s. let same = m.none v s in same ∙ l.none v (subst IsSettled same s);
+  within = λ v d w. m.within v d (l.within v d w);
+}
+
+lowers_settled : (old new : ℕ → Known) → Lowers old new → (v : ℕ) → is_settled (new v) ≡ is_settled (old v)
+lowers_settled old new l v = elim (settled_tells (new v)) [
+  | inl on ↦ ap is_settled (l.none v on.1)
+  | inr off ↦ off.0 ∙ sym (off_from (old v) (λ s. off.1 (subst IsSettled (sym (l.kept v s)) s)))
+]
+
+lowers_count : (old new : ℕ → Known) (n : ℕ) → Lowers old new → settled_count new n ≡ settled_count old n
+lowers_count old new n l = settled_count-same old new n (λ v low high. lowers_settled old new l v)
+
+-- ---- what stays when marks fall
+way_stays : (a : Adjacency) (old new : ℕ → Known) → ((v : ℕ) → IsSettled (old v) → new v ≡ old v) → (o : Reach ℕ) → IsWay a old o → IsWay a new o
+way_stays a old new kept o w = record {
+  weight = w.weight;
+  node = w.node;
+  pred = subst IsSettled (sym (kept o.pred w.pred)) w.pred;
+  hop = w.hop;
+  adds = w.adds ∙ ap (λ (k : Known). k.dist + w.weight) (sym (kept o.pred w.pred));
+}
+
+waiting_stays : (a : Adjacency) (floor : ℕ) (old new : ℕ → Known) → Lowers old new → (o : Reach ℕ) → IsWaiting a floor old o → IsWaiting a floor new o
+waiting_stays a floor old new l o w = record {
+  way = way_stays a old new l.kept o w.way;
+  beyond = w.beyond;
+  within = l.within o.node o.dist w.within;
+  bound = subst (λ n. o.dist ≤ a.greatest * n) (sym (lowers_count old new a.nodes l)) w.bound;
+}
+
+-- ---- the marks and the ways after an offer
+record IsOffered (a : Adjacency) (floor : ℕ) (e : Reach ℕ) (marks : ℕ → Known) (front : List (Reach ℕ)) (marks' : ℕ → Known) (front' : List (Reach ℕ)) : Type 0 where
+  waits : IsFront a floor marks' front'
+  lowers : Lowers marks marks'
+  within : IsWithin (marks' e.node) e.dist
+  few : length front' ≤ length front + 1
+
+module _ (a : Adjacency) (floor : ℕ) (e : Reach ℕ) (marks marks' : ℕ → Known) (front front' : List (Reach ℕ)) (is : IsFront a floor marks front) (beyond : floor ≤ e.dist) (off : ¬ IsWithin (marks e.node) e.dist)
+    (sets : Sets marks e.node (reached e.dist) marks') (moved : IsPermutation (e ∷ front) front') (way : IsWay a marks e) (bound : e.dist ≤ a.greatest * settled_count marks a.nodes) where
+  unsettled : ¬ IsSettled (marks e.node)
+  unsettled s = off (s.0, omega (arith, is.below e.node s, beyond))
+
+  taken_lowers : Lowers marks marks'
+  taken_lowers = record {
+    kept = λ v s. elim (cases_eq v e.node) [
+      | inl same ↦ absurd (unsettled (subst (λ w. IsSettled (marks w)) same s))
+      | inr apart ↦ sets.there v apart
+    ];
+    none = λ v s. elim (cases_eq v e.node) [
+      | inl same ↦ absurd (let f = (subst IsSettled sets.here (subst (λ w. IsSettled (marks' w)) same s)).1 in cc)
+      | inr apart ↦ sets.there v apart
+    ];
+    within = λ v d w. elim (cases_eq v e.node) [
+      | inl same ↦
+          let w' : IsWithin (marks e.node) d = subst (λ u. IsWithin (marks u) d) same w in
+          elim (lt_or_le e.dist d) [
+            | inl less ↦ subst (λ u. IsWithin (marks' u) d) (sym same) (subst (λ k. IsWithin k d) (sym sets.here) (refl, omega (arith, less)))
+            | inr more ↦ absurd (off (w'.0, omega (arith, w'.1, more)))
+          ]
+      | inr apart ↦ subst (λ k. IsWithin k d) (sym (sets.there v apart)) w
+    ];
+  }
+
+  taken_waits : IsWaiting a floor marks' e
+  taken_waits = record {
+    way = way_stays a marks marks' taken_lowers.kept e way;
+    beyond = beyond;
+    within = subst (λ k. IsWithin k e.dist) (sym sets.here) (refl, omega arith);
+    bound = subst (λ n. e.dist ≤ a.greatest * n) (sym (lowers_count marks marks' a.nodes taken_lowers)) bound;
+  }
+
+  taken_front : IsFront a floor marks' front'
+  taken_front = record {
+    adjacent = is.adjacent;
+    waiting = λ o h. elim (has_cases e front front' moved o h) [
+      | inl same ↦ subst (IsWaiting a floor marks') same taken_waits
+      | inr old ↦ waiting_stays a floor marks marks' taken_lowers o (is.waiting o old)
+    ];
+    pending = λ v f n. elim (cases_eq v e.node) [
+      | inl same ↦ subst (λ w. IsPending front' w (marks' w).dist) (sym same) (subst (λ (k : Known). IsPending front' e.node k.dist) (sym sets.here) (e.pred, has_new e front front' moved))
+      | inr apart ↦
+          let at = sets.there v apart in
+          let p = is.pending v (subst (λ (k : Known). k.found ≡ true) at f) (subst (λ (k : Known). k.final ≡ false) at n) in
+          subst (λ (k : Known). IsPending front' v k.dist) (sym at) (p.0, has_old e front front' moved (record { dist = (marks v).dist; node = v; pred = p.0 }) p.1)
+    ];
+    below = λ v s. let same = taken_lowers.none v s in subst (λ (k : Known). k.dist ≤ floor) (sym same) (is.below v (subst IsSettled same s));
+  }
+
+  taken_offered : IsOffered a floor e marks front marks' front'
+  taken_offered = record {
+    waits = taken_front;
+    lowers = taken_lowers;
+    within = taken_waits.within;
+    few = omega (arith, length_permutation (e ∷ front) front' moved);
+  }
+
+offered : (a : Adjacency) (floor : ℕ) (e : Reach ℕ) (marks : ℕ → Known) (front : List (Reach ℕ)) (marks' : ℕ → Known) (front' : List (Reach ℕ)) → IsFront a floor marks front → floor ≤ e.dist
+    → IsWay a marks e → e.dist ≤ a.greatest * settled_count marks a.nodes → Offers e marks front marks' front' → IsOffered a floor e marks front marks' front'
+offered a floor e marks front marks' front' is beyond way bound o = elim o [
+  | inl same ↦ rw (same.1, same.2) record { waits = is; lowers = lowers_none marks; within = same.0; few = omega arith }
+  | inr new ↦ taken_offered a floor e marks marks' front front' is beyond new.0 new.1 new.2 way bound
+]
+
+-- ---- the hops of a node
+out_hops : (a : Adjacency) (v : ℕ) → AreByNode a → All (IsHop a.nodes a.greatest) (out a v)
+unfolding out
+out_hops a v is = All-take (IsHop a.nodes a.greatest) _ _ (All-drop (IsHop a.nodes a.greatest) _ a.hops.items is.lawful)
+
+out_few : (a : Adjacency) (v : ℕ) → length (out a v) ≤ length a.hops.items
+unfolding out
+out_few a v = simp (length-take, length-drop) (omega arith)
+
+pub hop_at : (a : Adjacency) (node : ℕ) (hops : List Hop) (i : ℕ) (d : Hop) → AreByNode a → hops ≡ out a node → i < length hops → IsHop a.nodes a.greatest (get_or hops i d)
+hop_at a node hops i d is from inside = All-get_or (IsHop a.nodes a.greatest) hops i d inside (rw from (out_hops a node is))
+
+-- ---- a step of a relaxation
+pub record IsRelaxing (a : Adjacency) (dist : ℕ) (old : ℕ → Known) (ways : List (Reach ℕ)) (hops : List Hop) (i : ℕ) (marks : ℕ → Known) (front : List (Reach ℕ)) : Type 0 where
+  pub waits : IsFront a dist marks front
+  pub lowers : Lowers old marks
+  pub passed : All (IsPassed marks dist) (take i hops)
+  pub few : length front ≤ length ways + i
+
+pub relaxing_none : (a : Adjacency) (node dist : ℕ) (old : ℕ → Known) (ways : List (Reach ℕ)) (hops : List Hop) → IsReady a node dist old ways → IsRelaxing a dist old ways hops 0 old ways
+relaxing_none a node dist old ways hops ready = record { waits = ready.waits; lowers = lowers_none old; passed = All-nil (IsPassed old dist); few = omega arith }
+
+pub relaxing_more : (a : Adjacency) (dist node : ℕ) (old : ℕ → Known) (ways : List (Reach ℕ)) (hops : List Hop) (i : ℕ) (d : Hop) (marks : ℕ → Known) (front : List (Reach ℕ)) (marks' : ℕ → Known) (front' : List (Reach ℕ))
+    → IsReady a node dist old ways → hops ≡ out a node → i < length hops → IsRelaxing a dist old ways hops i marks front
+    → Offers (record { dist = dist + (get_or hops i d).weight; node = (get_or hops i d).head; pred = node }) marks front marks' front' → IsRelaxing a dist old ways hops (i + 1) marks' front'
+relaxing_more a dist node old ways hops i d marks front marks' front' ready from inside so_far offers =
+    let hop = get_or hops i d in
+    let e : Reach ℕ = record { dist = dist + hop.weight; node = hop.head; pred = node } in
+    let lawful : IsHop a.nodes a.greatest hop = hop_at a node hops i d so_far.waits.adjacent from inside in
+    let same = so_far.lowers.kept node ready.settled in
+    let way : IsWay a marks e = record {
+      weight = hop.weight;
+      node = ready.node;
+      pred = subst IsSettled (sym same) ready.settled;
+      hop = subst (λ hs. Contains hs hop) from (Contains-get_or hops i d inside);
+      adds = ap (λ n. n + hop.weight) (sym ready.at ∙ ap (λ (k : Known). k.dist) (sym same));
+    } in
+    let short : dist + hop.weight ≤ a.greatest * settled_count marks a.nodes = subst (λ n. dist + hop.weight ≤ a.greatest * n) (sym (lowers_count old marks a.nodes so_far.lowers)) (omega (arith, lawful.weight, ready.bound)) in
+    let new = offered a dist e marks front marks' front' so_far.waits (omega arith) way short offers in
+    record {
+      waits = new.waits;
+      lowers = lowers_more old marks marks' so_far.lowers new.lowers;
+      passed = All-more (IsPassed marks' dist) hops i d inside (All-weaker (IsPassed marks dist) (IsPassed marks' dist) (λ h p. new.lowers.within h.head (dist + h.weight) p) (take i hops) so_far.passed) new.within;
+      few = omega (arith, new.few, so_far.few);
+    }
+
+pub relaxing_all : (a : Adjacency) (dist node : ℕ) (old : ℕ → Known) (ways : List (Reach ℕ)) (hops : List Hop) (i : ℕ) (marks : ℕ → Known) (front : List (Reach ℕ)) → hops ≡ out a node → length hops ≡ i → IsRelaxing a dist old ways hops i marks front → Relaxes a node dist old ways marks front
+relaxing_all a dist node old ways hops i marks front from all is = record {
+  waits = is.waits;
+  lowers = is.lowers;
+  passed = subst (All (IsPassed marks dist)) (take_all i hops (omega (arith, all)) ∙ from) is.passed;
+  few = omega (arith, is.few, all, ap length from, out_few a node);
+}
+
+-- a hop more from a settled node stays below the limit
+pub hop_within : (a : Adjacency) (node dist limit : ℕ) (marks : ℕ → Known) (front : List (Reach ℕ)) (hop : Hop) → IsReady a node dist marks front → a.nodes * a.greatest < limit → IsHop a.nodes a.greatest hop → dist + hop.weight < limit
+hop_within a node dist limit marks front hop ready room lawful =
+    let most : a.greatest * settled_count marks a.nodes ≤ a.greatest * a.nodes = mul-le-mul_left a.greatest (settled_count-le marks a.nodes) in
+    omega (arith, room, ready.bound, lawful.weight, most)
+
+-- ---- labels, with one more
+-- what a label more does to the labels, as `Block::add` says
+abbrev pub AddsLabel : BlockValue → Label → Type 0
+AddsLabel b l = (v : ℕ) → label (with_label b l) v ≡ (if l.id == v then Some l.dist else label b v)
+
+module _ (b : BlockValue) (l : Label) (fresh : label b l.id ≡ None) (adds : AddsLabel b l) where
+  label_new : label (with_label b l) l.id ≡ Some l.dist
+  label_new = elim (eqb_tells l.id l.id) [
+    | inl same ↦ adds l.id ∙ ap (λ t. if t then Some l.dist else label b l.id) same.0
+    | inr other ↦ absurd (other.1 refl)
+  ]
+
+  label_other : (v : ℕ) → l.id ≢ v → label (with_label b l) v ≡ label b v
+  label_other v apart = elim (eqb_tells l.id v) [
+    | inl same ↦ absurd (apart same.1)
+    | inr other ↦ adds v ∙ ap (λ t. if t then Some l.dist else label b v) other.0
+  ]
+
+  label_stays : (v : ℕ) (d : ℤ) → label b v ≡ Some d → label (with_label b l) v ≡ Some d
+  label_stays v d h = elim (cases_eq l.id v) [
+    | inl same ↦ absurd (let e = sym h ∙ (ap (label b) (sym same) ∙ fresh) in cc)
+    | inr apart ↦ label_other v apart ∙ h
+  ]
+
+  made_stays : (a : Adjacency) (m : Label) → IsMade a b m → IsMade a (with_label b l) m
+  made_stays a m is = record { base = is.base; weight = is.weight; pred = label_stays m.pred (pos is.base) is.pred; hop = is.hop; adds = is.adds }
+
+-- ---- the label of a mark
+label_of_settled : (k : Known) → IsSettled k → settled_label k ≡ Some (pos k.dist)
+label_of_settled k h = ap (λ b. if b then Some (pos k.dist) else None) (on_from k h)
+
+label_of_other : (k : Known) → (¬ IsSettled k) → settled_label k ≡ None
+label_of_other k h = ap (λ b. if b then Some (pos k.dist) else None) (off_from k h)
+
+lowers_label : (old new : ℕ → Known) → Lowers old new → (v : ℕ) → settled_label (new v) ≡ settled_label (old v)
+lowers_label old new l v = elim (settled_tells (new v)) [
+  | inl on ↦ ap settled_label (l.none v on.1)
+  | inr off ↦ label_of_other (new v) off.1 ∙ sym (label_of_other (old v) (λ s. off.1 (subst IsSettled (sym (l.kept v s)) s)))
+]
+
+-- ---- the nearest first
+nearest_first_none : IsNearestFirst []
+nearest_first_none k d h = absurd (omega (arith, h))
+
+nearest_first_more : (ls : List Label) (l : Label) → IsNearestFirst ls → All (λ (m : Label). m.dist ≤ℤ l.dist) ls → IsNearestFirst (ls ++ l ∷ [])
+nearest_first_more ls l is low k d h = elim (cases_lt (k + 1) (length ls)) [
+  | inl inside ↦ rw (get_or_append_left ls (l ∷ []) d k (omega (arith, inside)), get_or_append_left ls (l ∷ []) d (k + 1) inside) (is k d inside)
+  | inr outside ↦
+      let at : k + 1 ≡ length ls = omega (arith, h, outside, length-append ls (l ∷ [])) in
+      let last : get_or (ls ++ l ∷ []) (k + 1) d ≡ l = rw at (get_or-append_seam ls l [] d) in
+      rw (last, get_or_append_left ls (l ∷ []) d k (omega (arith, at))) (low k d (omega (arith, at)))
+]
+
+-- ---- a way that was taken
+module _ (a : Adjacency) (b : BlockValue) (marks : ℕ → Known) (e : Reach ℕ) (front : List (Reach ℕ)) (p : IsPopped a b marks e front) where
+  abbrev is : IsSearch a b marks p.before
+  is = p.search
+
+  abbrev moved : IsPermutation (e ∷ front) p.before
+  moved = IsPermutation-sym p.before (e ∷ front) p.moved
+
+  pub popped_waits : IsWaiting a is.floor marks e
+  popped_waits = is.waits.waiting e (has_new e front p.before moved)
+
+  pub popped_lawful : IsHop a.nodes a.greatest (hop_to e.node popped_waits.way.weight)
+  popped_lawful = All-contains (IsHop a.nodes a.greatest) (out a e.pred) (hop_to e.node popped_waits.way.weight) (out_hops a e.pred is.waits.adjacent) popped_waits.way.hop
+
+  popped_known : (v : ℕ) → (marks v).found ≡ true → (marks v).final ≡ false → v ≢ e.node → IsPending front v (marks v).dist
+  popped_known v f n other =
+      let q = is.waits.pending v f n in
+      elim (has_cases e front p.before moved (record { dist = (marks v).dist; node = v; pred = q.0 }) q.1) [
+        | inl same ↦ absurd (other (sym (ap (λ (o : Reach ℕ). o.node) same)))
+        | inr old ↦ (q.0, old)
+      ]
+
+  -- its node was settled before
+  pub popped_again : IsSettled (marks e.node) → IsSearch a b marks front
+  popped_again s = record {
+    floor = is.floor;
+    waits = record {
+      adjacent = is.waits.adjacent;
+      waiting = λ o h. is.waits.waiting o (has_old e front p.before moved o h);
+      pending = λ v f n. popped_known v f n (λ same. let t = s.1 in let u = subst (λ w. (marks w).final ≡ false) same n in cc);
+      below = is.waits.below;
+    };
+    labelled = is.labelled;
+    counted = is.counted;
+    lawful = is.lawful;
+    made = is.made;
+    low = is.low;
+    nearest_first = is.nearest_first;
+    passed = is.passed;
+  }
+
+  popped_few : settled_count marks a.nodes ≤ a.nodes
+  popped_few = settled_count-le marks a.nodes
+
+  pub popped_small : e.dist < 2 ^ 90
+  popped_small =
+      let few : a.nodes ≤ 134217728 = is.waits.adjacent.few in
+      let less : a.greatest * settled_count marks a.nodes ≤ a.greatest * 134217728 = mul-le-mul_left a.greatest (omega (arith, popped_few, few)) in
+      omega (arith, popped_waits.bound, less, is.waits.adjacent.small)
+
+  module _ (not_before : ¬ IsSettled (marks e.node)) where
+    fresh : (marks e.node).final ≡ false
+    fresh = elim (true_or_false (marks e.node).final) [ inl on ↦ absurd (not_before (popped_waits.within.0, on)) | inr off ↦ off ]
+
+    pub has_none : label b e.node ≡ None
+    has_none = is.labelled e.node ∙ label_of_other (marks e.node) not_before
+
+    -- no shorter way to its node was known
+    nearest_known : e.dist ≤ (marks e.node).dist
+    nearest_known =
+        let q = is.waits.pending e.node popped_waits.within.0 fresh in
+        let o : Reach ℕ = record { dist = (marks e.node).dist; node = e.node; pred = q.0 } in
+        elim (has_cases e front p.before moved o q.1) [
+          | inl same ↦ let s = ap (λ (o : Reach ℕ). o.dist) same in omega (arith, s)
+          | inr old ↦ All-contains (λ (o : Reach ℕ). e.dist ≤ o.dist) front o p.nearest old
+        ]
+
+    module _ (marked : ℕ → Known) (sets : Sets marks e.node (settled e.dist) marked) where
+      marked_kept : (v : ℕ) → IsSettled (marks v) → marked v ≡ marks v
+      marked_kept v s = sets.there v (λ same. not_before (subst (λ w. IsSettled (marks w)) same s))
+
+      marked_settled : IsSettled (marked e.node)
+      marked_settled = subst IsSettled (sym sets.here) (refl, refl)
+
+      marked_count : settled_count marked a.nodes ≡ settled_count marks a.nodes + 1
+      marked_count = settled_count-more marks marked e.node a.nodes popped_lawful.node sets.there (off_from (marks e.node) not_before) (on_from (marked e.node) marked_settled)
+
+      marked_within : (v d : ℕ) → IsWithin (marks v) d → IsWithin (marked v) d
+      marked_within v d w = elim (cases_eq v e.node) [
+        | inl same ↦
+            let w' : IsWithin (marks e.node) d = subst (λ u. IsWithin (marks u) d) same w in
+            subst (λ u. IsWithin (marked u) d) (sym same) (subst (λ k. IsWithin k d) (sym sets.here) (refl, omega (arith, w'.1, nearest_known)))
+        | inr apart ↦ subst (λ k. IsWithin k d) (sym (sets.there v apart)) w
+      ]
+
+      marked_waiting : (o : Reach ℕ) → Contains front o → IsWaiting a e.dist marked o
+      marked_waiting o h =
+          let w = is.waits.waiting o (has_old e front p.before moved o h) in
+          record {
+            way = way_stays a marks marked marked_kept o w.way;
+            beyond = All-contains (λ (o : Reach ℕ). e.dist ≤ o.dist) front o p.nearest h;
+            within = marked_within o.node o.dist w.within;
+            bound = subst (λ n. o.dist ≤ a.greatest * n) (sym marked_count) (omega (arith, w.bound));
+          }
+
+      marked_front : IsFront a e.dist marked front
+      marked_front = record {
+        adjacent = is.waits.adjacent;
+        waiting = marked_waiting;
+        pending = λ v f n. elim (cases_eq v e.node) [
+          | inl same ↦ absurd (let t = subst (λ (k : Known). k.final ≡ false) sets.here (subst (λ w. (marked w).final ≡ false) same n) in cc)
+          | inr apart ↦
+              let at = sets.there v apart in
+              subst (λ (k : Known). IsPending front v k.dist) (sym at) (popped_known v (subst (λ (k : Known). k.found ≡ true) at f) (subst (λ (k : Known). k.final ≡ false) at n) apart)
+        ];
+        below = λ v s. elim (cases_eq v e.node) [
+          | inl same ↦ subst (λ w. (marked w).dist ≤ e.dist) (sym same) (subst (λ (k : Known). k.dist ≤ e.dist) (sym sets.here) (omega arith))
+          | inr apart ↦
+              let at = sets.there v apart in
+              let low = is.waits.below v (subst IsSettled at s) in
+              subst (λ (k : Known). k.dist ≤ e.dist) (sym at) (omega (arith, low, popped_waits.beyond))
+        ];
+      }
+
+      pub marked_ready : IsReady a e.node e.dist marked front
+      marked_ready = record {
+        node = popped_lawful.node;
+        settled = marked_settled;
+        at = ap (λ (k : Known). k.dist) sets.here;
+        bound = subst (λ n. e.dist + a.greatest ≤ a.greatest * n) (sym marked_count) (omega (arith, popped_waits.bound));
+        waits = marked_front;
+      }
+
+      module _ (marks' : ℕ → Known) (front' : List (Reach ℕ)) (r : Relaxes a e.node e.dist marked front marks' front') where
+        count_after : settled_count marks' a.nodes ≡ settled_count marks a.nodes + 1
+        count_after = lowers_count marked marks' a.nodes r.lowers ∙ marked_count
+
+        pub visited_less : work a marks' front' ≤ work a marks front
+        visited_less =
+            let c = settled_count marks a.nodes in
+            let k = a.nodes - (c + 1) in
+            let below : c + 1 ≤ a.nodes = omega (arith, settled_count-le marks' a.nodes, count_after) in
+            let left : a.nodes - c ≡ k + 1 = omega (arith, below) in
+            rw (count_after, left, times_more k (length a.hops.items + 1)) (omega (arith, r.few))
+
+      abbrev pub added : Label
+      added = record { dist = pos e.dist; id = e.node; pred = e.pred }
+
+      pub added_pred : label b e.pred ≡ Some (pos (marks e.pred).dist)
+      added_pred = is.labelled e.pred ∙ label_of_settled (marks e.pred) popped_waits.way.pred
+
+      pub added_label : IsLabel a.nodes added
+      added_label =
+          let wide : e.dist ≤ 10 ^ 30 = omega (arith, popped_small) in
+          record { id = popped_lawful.node; dist = (omega (arith, ints), omega (arith, ints, wide)); pred = popped_waits.way.node }
+
+      pub added_few : length b.labels < 268435456
+      added_few = omega (arith, is.counted, popped_few, is.waits.adjacent.few)
+
+      module _ (adds : AddsLabel b added) where
+        added_made : IsMade a (with_label b added) added
+        added_made = record {
+          base = (marks e.pred).dist;
+          weight = popped_waits.way.weight;
+          pred = label_stays b added has_none adds e.pred (pos (marks e.pred).dist) added_pred;
+          hop = popped_waits.way.hop;
+          adds = ap pos popped_waits.way.adds;
+        }
+
+        module _ (lawful : IsBlock a.nodes (with_label b added)) (marks' : ℕ → Known) (front' : List (Reach ℕ)) (r : Relaxes a e.node e.dist marked front marks' front') where
+          abbrev lowers : Lowers marked marks'
+          lowers = r.lowers
+
+          labelled_after : (u : ℕ) → label (with_label b added) u ≡ settled_label (marks' u)
+          labelled_after u = elim (cases_eq e.node u) [
+            | inl same ↦ subst (λ w. label (with_label b added) w ≡ settled_label (marks' w)) same
+                (label_new b added has_none adds ∙ sym (lowers_label marked marks' lowers e.node ∙ (ap settled_label sets.here ∙ label_of_settled (settled e.dist) (refl, refl))))
+            | inr apart ↦ label_other b added has_none adds u apart ∙ (is.labelled u ∙ sym (lowers_label marked marks' lowers u ∙ ap settled_label (sets.there u (λ same. apart (sym same)))))
+          ]
+
+          passed_after : (u : ℕ) → IsSettled (marks' u) → All (IsPassed marks' (marks' u).dist) (out a u)
+          passed_after u s =
+              let same_mark = lowers.none u s in
+              elim (cases_eq u e.node) [
+                | inl same ↦
+                    let at : marks' e.node ≡ settled e.dist = subst (λ w. marks' w ≡ marked w) same same_mark ∙ sets.here in
+                    subst (λ w. All (IsPassed marks' (marks' w).dist) (out a w)) (sym same) (subst (λ (k : Known). All (IsPassed marks' k.dist) (out a e.node)) (sym at) r.passed)
+                | inr apart ↦
+                    let at : marks' u ≡ marks u = same_mark ∙ sets.there u apart in
+                    let d = (marks u).dist in
+                    subst (λ (k : Known). All (IsPassed marks' k.dist) (out a u)) (sym at)
+                    (All-weaker (IsPassed marks d) (IsPassed marks' d) (λ h q. lowers.within h.head (d + h.weight) (marked_within h.head (d + h.weight) q)) (out a u) (is.passed u (subst IsSettled at s)))
+              ]
+
+          nearer_before : All (λ (l : Label). l.dist ≤ℤ pos e.dist) b.labels
+          nearer_before = All-weaker (λ (l : Label). l.dist ≤ℤ pos is.floor) (λ (l : Label). l.dist ≤ℤ pos e.dist) (λ l h. omega (arith, ints, h, popped_waits.beyond)) b.labels is.low
+
+          pub visited : IsSearch a (with_label b added) marks' front'
+          visited = record {
+            floor = e.dist;
+            waits = r.waits;
+            labelled = labelled_after;
+            counted = omega (arith, count_after marks' front' r, is.counted, length-append b.labels (added ∷ []));
+            lawful = lawful;
+            made = All-push (IsMade a (with_label b added)) b.labels added (All-weaker (IsMade a b) (IsMade a (with_label b added)) (made_stays b added has_none adds a) b.labels is.made) added_made;
+            low = All-push (λ (l : Label). l.dist ≤ℤ pos e.dist) b.labels added nearer_before (omega (arith, ints));
+            nearest_first = nearest_first_more b.labels added is.nearest_first nearer_before;
+            passed = passed_after;
+          }
+
+-- ---- the beginning
+module _ (a : Adjacency) (source : ℕ) (marks started : ℕ → Known) (is : AreByNode a) (node : IsNode a.nodes source) (unknown : AreUnknown marks) (sets : Sets marks source (settled 0) started) where
+  unsettled_before : (v : ℕ) → ¬ IsSettled (marks v)
+  unsettled_before v s = let f = s.0 in let g = unknown v in cc
+
+  only_source : (v : ℕ) → IsSettled (started v) → v ≡ source
+  only_source v s = elim (cases_eq v source) [
+    | inl same ↦ same
+    | inr apart ↦ absurd (unsettled_before v (subst IsSettled (sets.there v apart) s))
+  ]
+
+  start_settled : IsSettled (started source)
+  start_settled = subst IsSettled (sym sets.here) (refl, refl)
+
+  start_count : settled_count started a.nodes ≡ 1
+  start_count =
+      let zero_before = settled_count-none marks a.nodes unsettled_before in
+      let more = settled_count-more marks started source a.nodes node sets.there (off_from (marks source) (unsettled_before source)) (on_from (started source) start_settled) in
+      omega (arith, zero_before, more)
+
+  start_front : IsFront a 0 started []
+  start_front = record {
+    adjacent = is;
+    waiting = λ o h. absurd (omega (arith, h.1));
+    pending = λ v f n. elim (cases_eq v source) [
+      | inl same ↦ absurd (let t = subst (λ (k : Known). k.final ≡ false) sets.here (subst (λ w. (started w).final ≡ false) same n) in cc)
+      | inr apart ↦ absurd (let t = subst (λ (k : Known). k.found ≡ true) (sets.there v apart) f in let u = unknown v in cc)
+    ];
+    below = λ v s. let same = only_source v s in subst (λ w. (started w).dist ≤ 0) (sym same) (subst (λ (k : Known). k.dist ≤ 0) (sym sets.here) (omega arith));
+  }
+
+  pub start_ready : IsReady a source 0 started []
+  start_ready = record {
+    node = node;
+    settled = start_settled;
+    at = ap (λ (k : Known). k.dist) sets.here;
+    bound = subst (λ n. 0 + a.greatest ≤ a.greatest * n) (sym start_count) (omega arith);
+    waits = start_front;
+  }
+
+  abbrev bare : BlockValue
+  bare = record { source = source; labels = [] }
+
+  module _ (lawful : IsBlock a.nodes bare) (marks' : ℕ → Known) (front' : List (Reach ℕ)) (r : Relaxes a source 0 started [] marks' front') where
+    abbrev fallen : Lowers started marks'
+    fallen = r.lowers
+
+    start_labelled : (u : ℕ) → label bare u ≡ settled_label (marks' u)
+    start_labelled u = elim (eqb_tells source u) [
+      | inl same ↦ ap (λ t. if t then Some (pos 0) else None) same.0 ∙ sym (lowers_label started marks' fallen u ∙ (ap settled_label (subst (λ w. started w ≡ settled 0) same.1 sets.here) ∙ label_of_settled (settled 0) (refl, refl)))
+      | inr other ↦ ap (λ t. if t then Some (pos 0) else None) other.0 ∙ sym (lowers_label started marks' fallen u ∙ label_of_other (started u) (λ s. other.1 (sym (only_source u s))))
+    ]
+
+    pub start_search : IsSearch a bare marks' front'
+    start_search = record {
+      floor = 0;
+      waits = r.waits;
+      labelled = start_labelled;
+      counted = omega (arith, lowers_count started marks' a.nodes fallen, start_count);
+      lawful = lawful;
+      made = All-nil (IsMade a bare);
+      low = All-nil (λ (l : Label). l.dist ≤ℤ pos 0);
+      nearest_first = nearest_first_none;
+      passed = λ u s.
+          let at : marks' u ≡ started u = fallen.none u s in
+          let same = only_source u (subst IsSettled at s) in
+          let mark : marks' source ≡ settled 0 = subst (λ w. marks' w ≡ started w) same at ∙ sets.here in
+          subst (λ w. All (IsPassed marks' (marks' w).dist) (out a w)) (sym same) (subst (λ (k : Known). All (IsPassed marks' k.dist) (out a source)) (sym mark) r.passed);
+    }
+
+-- ---- the end
+module _ (a : Adjacency) (b : BlockValue) (marks : ℕ → Known) (is : IsSearch a b marks []) where
+  over_positive : (v : ℕ) (z : ℤ) → label b v ≡ Some z → (d : ℕ) × (z ≡ pos d)
+  over_positive v z h = elim (settled_tells (marks v)) [
+    | inl on ↦ let e = sym h ∙ (is.labelled v ∙ label_of_settled (marks v) on.1) in ((marks v).dist, cc)
+    | inr off ↦ absurd (let e = sym h ∙ (is.labelled v ∙ label_of_other (marks v) off.1) in cc)
+  ]
+
+  over_settled : (v : ℕ) → (marks v).found ≡ true → IsSettled (marks v)
+  over_settled v f = elim (true_or_false (marks v).final) [
+    | inl on ↦ (f, on)
+    | inr off ↦ let q = is.waits.pending v f off in absurd (omega (arith, q.1.1))
+  ]
+
+  over_closed : IsClosed a b
+  over_closed u d h = elim (settled_tells (marks u)) [
+    | inl on ↦
+        let e : Some (pos d) ≡ Some (pos (marks u).dist) = sym h ∙ (is.labelled u ∙ label_of_settled (marks u) on.1) in
+        let same : d ≡ (marks u).dist = cc in
+        All-weaker (IsPassed marks (marks u).dist) (λ hop. (e : ℕ) × (label b hop.head ≡ Some (pos e)) × (e ≤ d + hop.weight))
+        (λ hop w. ((marks hop.head).dist, is.labelled hop.head ∙ label_of_settled (marks hop.head) (over_settled hop.head w.0), omega (arith, w.1, same))) (out a u) (is.passed u on.1)
+    | inr off ↦ absurd (let e = sym h ∙ (is.labelled u ∙ label_of_other (marks u) off.1) in cc)
+  ]
+
+  pub over_tree : (source : ℕ) → b.source ≡ source → IsTree a source b
+  over_tree source from = record { from = from; lawful = is.lawful; made = is.made; nearest_first = is.nearest_first; positive = over_positive; closed = over_closed }

@@ -1,0 +1,52 @@
+use Rattle.std.proofs.Common.{◌∙◌, [], ap, arith}
+use Rattle.std.proofs.lemmas.List.Sorted.{IsPermutation-sym, length_permutation}
+use Rattle.dimacs_claims.specs.Labels.{BlockValue, IsBlock}
+use Rattle.dimacs_solve.specs.Marks.{Sets, known, settled}
+use Rattle.dimacs_solve.specs.Search.{IsSearch, Relaxes}
+use Rattle.dimacs_solve.proofs.SearchLemmas.{over_tree, start_ready, start_search}
+use Rattle.dimacs_solve.proofs.search.search.Goals as goal
+
+pub relax-requires-clause-ready : goal.relax-requires-clause-ready
+relax-requires-clause-ready g c =
+    let value = g.D.Distance.value in
+    let marks = known value c.next_round.new.self in
+    let started = known value c.settle.new.self in
+    let sets : Sets marks c.args.source (settled 0) started = rw c.zero.ensures at c.in_ok-settle.ensures.settled in
+    rw (c.zero-2.ensures, c.requires.empty) (start_ready c.args.adjacency.now c.args.source marks started c.requires.adjacent c.requires.source c.next_round.ensures.unknown sets)
+
+pub loop-reach-init : goal.loop-reach-init
+loop-reach-init g c =
+    let value = g.D.Distance.value in
+    let a = c.args.adjacency.now in
+    let source = c.args.source in
+    let marks = known value c.next_round.new.self in
+    let started = known value c.settle.new.self in
+    let marks' = known value c.relax.new.marks in
+    let sets : Sets marks source (settled 0) started = rw c.zero.ensures at c.in_ok-settle.ensures.settled in
+    let made = c.new-block.ensures.made in
+    let lawful : IsBlock a.nodes (record { source = source; labels = [] }) = rw made at (c.new-block.ensures.lawful a.nodes c.requires.source) in
+    let relaxes : Relaxes a source 0 started [] marks' c.relax.new.frontier = rw (c.zero-2.ensures, c.requires.empty) at c.in_ok-relax.ensures.relaxes in
+    record {
+      search = rw made (start_search a source marks started c.requires.adjacent c.requires.source c.next_round.ensures.unknown sets lawful marks' c.relax.new.frontier relaxes);
+      from = ap (λ (b : BlockValue). b.source) made;
+      round = c.in_ok-relax.ensures.round ∙ (c.in_ok-settle.ensures.round ∙ c.next_round.ensures.round);
+    }
+
+pub loop-reach-preserved : goal.loop-reach-preserved
+loop-reach-preserved g c = record {
+  search = c.in_ok-visit.ensures.search;
+  from = c.in_ok-visit.ensures.source ∙ c.loop-reach.invariant.from;
+  round = c.in_ok-visit.ensures.round ∙ c.loop-reach.invariant.round;
+}
+
+pub loop-reach-smaller : goal.loop-reach-smaller
+loop-reach-smaller g c =
+    let popped = c.in-Some.ensures in
+    let shorter = length_permutation _ _ (IsPermutation-sym _ _ popped.0) in
+    omega (arith, shorter, c.in_ok-visit.ensures.less)
+
+pub returns-clause-tree : goal.returns-clause-tree
+returns-clause-tree g c =
+    let marks = known g.D.Distance.value c.loop-reach.marks in
+    let is : IsSearch c.args.adjacency.now c.loop-reach.block marks [] = rw c.in_default.ensures.0 at c.loop-reach.invariant.search in
+    over_tree c.args.adjacency.now c.loop-reach.block marks is c.args.source c.loop-reach.invariant.from

@@ -1,0 +1,21 @@
+-- Ways that wait. No public clause cites this module.
+use Rattle.std.specs.Prelude.{ℕ, ◌≤◌, List, All}
+use Rattle.std.specs.Ordering.{nat_cmp, ordering_then}
+use Rattle.std.specs.declared.cmp.Ordering.{Ordering}
+use Rattle.std.specs.declared.cmp.Reverse.{Reverse}
+use Rattle.dimacs_solve.specs.declared.frontier.Reach.{Reach}
+
+-- the shorter way first
+abbrev pub reach_cmp : {D : Type 0} → (D → D → Ordering) → Reach D → Reach D → Ordering
+reach_cmp cmp a b = ordering_then (cmp a.dist b.dist) (ordering_then (nat_cmp a.node b.node) (nat_cmp a.pred b.pred))
+
+-- a way, whatever holds its distance
+abbrev pub way_of : {D : Type 0} → (D → ℕ) → Reach D → Reach ℕ
+way_of value e = record { dist = value e.dist; node = e.node; pred = e.pred }
+
+abbrev pub way_in : {D : Type 0} → (D → ℕ) → Reverse (Reach D) → Reach ℕ
+way_in value e = way_of value e.0
+
+-- no way that waits is shorter
+abbrev pub IsNearest : Reach ℕ → List (Reach ℕ) → Type 0
+IsNearest e front = All (λ (other : Reach ℕ). e.dist ≤ other.dist) front

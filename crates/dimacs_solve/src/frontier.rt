@@ -1,0 +1,66 @@
+//! The nodes that a search has come to, the nearest first.
+
+ghost use Rattle.std.specs.Prelude.{◌≡◌, ◌∷◌, [], OnOk, MatchOption, IsPermutation};
+ghost use Rattle.dimacs_solve.specs.Frontiers.{IsNearest, way_of};
+
+use crate::distance::Distance;
+use dimacs_lines::Memory;
+use std::alloc::Global;
+use std::cmp::Reverse;
+use std::collections::BinaryHeap;
+use std::marker::Model;
+
+/// A way to a node: how far it is from the source, and the node before it.
+#[derive(Clone, Copy, PartialEq, Eq, PartialOrd, Ord)]
+pub(crate) struct Reach<D> {
+    pub dist: D,
+    pub node: u32,
+    pub pred: u32,
+}
+
+/// Ways that wait, in any order.
+#[derive(Drop)]
+pub(crate) struct Frontier<D: Distance> {
+    heap: BinaryHeap<Reverse<Reach<D>>>,
+}
+
+impl<D: Distance> Model for Frontier<D> {
+    ghost use Rattle.std.specs.Prelude.{List, map, ℕ};
+    ghost use Rattle.std.specs.BinaryHeap.{heap_items, IsHeap};
+    ghost use Rattle.dimacs_solve.specs.declared.frontier.Reach.{Reach};
+    ghost use Rattle.dimacs_solve.specs.Frontiers.{reach_cmp, way_in};
+
+    ghost Value = { List (Reach ℕ) };
+
+    ghost view = { λ f. map (way_in D.value) (heap_items f.heap) };
+
+    ghost invariant = { λ f. IsHeap (λ x y. reach_cmp D.Ord.cmp y.0 x.0) (heap_items f.heap) };
+}
+
+impl<D: Distance> Frontier<D> {
+    /// No ways.
+    pub fn new(alloc: Global) -> Frontier<D>
+        ensures { result ≡ [] }
+    {
+        Frontier {
+            heap: BinaryHeap::new(alloc),
+        }
+    }
+
+    #[inline]
+    pub fn push(&mut self, reach: Reach<D>) -> Result<(), Memory>
+        ensures { OnOk result (IsPermutation (way_of D.value reach ∷ self.old) self.new) }
+    {
+        self.heap.push(Reverse(reach))?;
+        Ok(())
+    }
+
+    /// Takes the nearest.
+    #[inline]
+    pub fn pop(&mut self) -> Option<Reach<D>>
+        ensures { MatchOption result ((self.old ≡ []) × (self.new ≡ [])) (λ reach. IsPermutation self.old (way_of D.value reach ∷ self.new) × IsNearest (way_of D.value reach) self.new) }
+    {
+        let Reverse(reach) = self.heap.pop()?;
+        Some(reach)
+    }
+}

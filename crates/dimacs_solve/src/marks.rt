@@ -1,0 +1,102 @@
+//! What a search knows of the nodes.
+
+ghost use Rattle.std.specs.Prelude.{◌≡◌, ◌≤◌, ◌<◌, ◌+◌, ℕ, IsTrue, OnOk, ◌↔◌};
+ghost use Rattle.dimacs_nodes.specs.Tables.{value_of};
+
+use crate::distance::Distance;
+use dimacs_lines::Memory;
+use dimacs_nodes::NodeTable;
+use std::alloc::Global;
+
+/// What a search knows of a node. A mark of an earlier round says nothing.
+#[derive(Clone, Copy)]
+struct Mark<D> {
+    dist: D,
+    round: u32,
+    settled: bool,
+}
+
+/// What the search of this round knows of the nodes. A new round costs nothing, and memory is kept from round to round.
+#[derive(Drop)]
+pub(crate) struct Marks<D> {
+    round: u32,
+    marks: NodeTable<Mark<D>>,
+    ghost no_later: { (v : ℕ) → (value_of marks v).round ≤ round },
+}
+
+impl<D: Distance> Marks<D> {
+    ghost use Rattle.dimacs_solve.specs.Marks.{AreUnknown, IsSettled, IsWithin, Sets, known, reached, settled};
+
+    /// Round 0, in which nothing is marked. Takes no memory.
+    pub fn new(alloc: Global) -> Marks<D>
+        ensures { result.round ≡ 0 }
+    {
+        let unknown = Mark {
+            dist: D::zero(),
+            round: 0,
+            settled: false,
+        };
+        Marks {
+            round: 0,
+            marks: NodeTable::new(alloc, unknown),
+        }
+    }
+
+    /// Forgets all nodes.
+    pub fn next_round(&mut self)
+        requires { self.old.round + 1 < 4294967296 }
+        ensures round { self.new.round ≡ self.old.round + 1 }
+        ensures unknown { AreUnknown (known D.value self.new) }
+    {
+        self.round += 1;
+    }
+
+    /// Whether a way to the node was marked that is no longer than this.
+    #[inline]
+    pub fn is_within(&self, node: u32, dist: D) -> bool
+        ensures { IsTrue result ↔ IsWithin (known D.value self.now node) (D.value dist) }
+    {
+        let mark = self.marks.get(node);
+        mark.round == self.round && mark.dist <= dist
+    }
+
+    #[inline]
+    pub fn is_settled(&self, node: u32) -> bool
+        ensures { IsTrue result ↔ IsSettled (known D.value self.now node) }
+    {
+        let mark = self.marks.get(node);
+        mark.round == self.round && mark.settled
+    }
+
+    /// Marks a way to a node.
+    #[inline]
+    pub fn reach(&mut self, node: u32, dist: D) -> Result<(), Memory>
+        ensures round { OnOk result (self.new.round ≡ self.old.round) }
+        ensures reached { OnOk result (Sets (known D.value self.old) node (reached (D.value dist)) (known D.value self.new)) }
+    {
+        let round = self.round;
+        let mark = Mark {
+            dist,
+            round,
+            settled: false,
+        };
+        self.marks.set(node, mark)?;
+        Ok(())
+    }
+
+    /// Marks a node whose distance is this.
+    #[inline]
+    pub fn settle(&mut self, node: u32, dist: D) -> Result<(), Memory>
+        ensures round { OnOk result (self.new.round ≡ self.old.round) }
+        ensures settled { OnOk result (Sets (known D.value self.old) node (settled (D.value dist)) (known D.value self.new)) }
+    {
+        let round = self.round;
+        let mark = Mark {
+            dist,
+            round,
+            settled: true,
+        };
+        self.marks.set(node, mark)?;
+        Ok(())
+    }
+}

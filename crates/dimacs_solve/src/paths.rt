@@ -1,0 +1,126 @@
+//! Labels for queries.
+
+ghost use Rattle.std.specs.Prelude.{◌≡◌, ◌<◌, ◌≤◌, ◌*◌, [], ℕ, All, length, IfOk, OnOk, MatchOption};
+ghost use Rattle.dimacs_records.specs.Ranges.{IsNode};
+ghost use Rattle.dimacs_instance.specs.QueryTexts.{AreLawful, asked, query_lines};
+ghost use Rattle.dimacs_claims.specs.Labels.{AreLabels, BlockValue, IsNewSource};
+ghost use Rattle.dimacs_judge.specs.QueryTests.{sources_asked};
+ghost use Rattle.dimacs_solve.specs.Adjacency.{AreByNode};
+ghost use Rattle.dimacs_solve.specs.Blocks.{AddsBlock, AreSolved};
+ghost use Rattle.dimacs_solve.specs.Paths.{HasNoNegativeWeight, IsFirstNegative, SolvesPaths};
+
+use crate::adjacency::{Adjacency, by_tail};
+use crate::distance::Distance;
+use crate::error::SolveError;
+use crate::frontier::Frontier;
+use crate::marks::Marks;
+use crate::search::search;
+use dimacs_claims::Labels;
+use dimacs_instance::{Graph, Network, Queries};
+use dimacs_judge::{passing_shows, query_nodes_hold, source_asked};
+use dimacs_lines::Memory;
+use dimacs_nodes::NodeSet;
+use std::alloc::Global;
+
+/// Labels that pass the judge's tests, by Dijkstra's search: a block for each source that is asked for, in the order of
+/// first use, its labels the nearest first. It never gives up, and no sum leaves its range.
+///
+/// `Refused` exactly where a query names a node above the number of nodes, FROM before TO, at the first one; else
+/// `NegativeWeight` exactly where a weight is negative, at the first arc of one; else labels, unless memory runs out.
+///
+/// The arcs are ordered by their tails once. A block then takes time and memory by what it reaches, whatever the number
+/// of nodes is. Distances are held in 64 bits where the number of nodes by the greatest weight fits them, else in 128.
+pub fn solve_paths<N: Network>(
+    alloc: Global,
+    graph: &Graph<N>,
+    queries: &Queries,
+) -> Result<Labels, SolveError>
+    requires lawful { AreLawful (asked queries.now) }
+    ensures { SolvesPaths graph.now (asked queries.now) result }
+{
+    let network = graph.network();
+    query_nodes_hold(network.nodes(), queries)?;
+    if let Some(arc) = first_negative(network) {
+        return Err(SolveError::NegativeWeight(arc));
+    }
+    let adjacency = by_tail(alloc, network)?;
+    let labels = if adjacency.farthest() <= u128::from(u64::MAX) {
+        solve_all::<u64>(alloc, &adjacency, queries)?
+    } else {
+        solve_all::<u128>(alloc, &adjacency, queries)?
+    };
+    passing_shows();
+    Ok(labels)
+}
+
+/// The first arc of negative weight, from 1.
+fn first_negative<N: Network>(network: &N) -> Option<u32>
+    ensures { MatchOption result (All HasNoNegativeWeight (N.list network.now)) (IsFirstNegative (N.list network.now)) }
+{
+    for i in 0..network.arcs() {
+        if network.arc(i).cost < 0 {
+            return Some(i + 1);
+        }
+    }
+    None
+}
+
+/// A block for each source that is asked for.
+fn solve_all<D: Distance>(
+    alloc: Global,
+    adjacency: &Adjacency,
+    queries: &Queries,
+) -> Result<Labels, Memory>
+    requires adjacent { AreByNode adjacency.now }
+    requires room { adjacency.now.nodes * adjacency.now.greatest < D.limit }
+    requires few { length (sources_asked (asked queries.now)) ≤ 268435456 }
+    requires sources { All (IsNode adjacency.now.nodes) (sources_asked (asked queries.now)) }
+    requires same { length (query_lines (asked queries.now)) ≡ length (sources_asked (asked queries.now)) }
+    ensures { IfOk result (AreSolved adjacency.now (sources_asked (asked queries.now))) }
+{
+    let mut marks: Marks<D> = Marks::new(alloc);
+    let mut frontier = Frontier::new(alloc);
+    let mut done = NodeSet::new(alloc);
+    let mut labels = Labels::new(alloc, adjacency.nodes());
+    for i in 0..queries.len() {
+        let source = source_asked(queries, i);
+        if !done.contains(source) {
+            solve_one(
+                alloc,
+                adjacency,
+                source,
+                &mut marks,
+                &mut frontier,
+                &mut labels,
+            )?;
+            done.insert(source)?;
+        }
+    }
+    Ok(labels)
+}
+
+/// Adds the block of a source that has none.
+fn solve_one<D: Distance>(
+    alloc: Global,
+    adjacency: &Adjacency,
+    source: u32,
+    marks: &mut Marks<D>,
+    frontier: &mut Frontier<D>,
+    labels: &mut Labels,
+) -> Result<(), Memory>
+    requires adjacent { AreByNode adjacency.now }
+    requires room { adjacency.now.nodes * adjacency.now.greatest < D.limit }
+    requires nodes { labels.old.nodes ≡ adjacency.now.nodes }
+    requires source { IsNode adjacency.now.nodes source }
+    requires new { (b : BlockValue) → b.source ≡ source → IsNewSource labels.old.blocks b }
+    requires few { length labels.old.blocks < 268435456 }
+    requires rounds { marks.old.round ≡ length labels.old.blocks }
+    requires empty { frontier.old ≡ [] }
+    ensures block { OnOk result (AddsBlock adjacency.now source labels.old labels.new) }
+    ensures rounds { OnOk result (marks.new.round ≡ length labels.new.blocks) }
+    ensures empty { OnOk result (frontier.new ≡ []) }
+{
+    let block = search(alloc, adjacency, source, marks, frontier)?;
+    labels.push(block)?;
+    Ok(())
+}
