@@ -3,6 +3,7 @@
 
 mod augmenting;
 mod balancing;
+mod candidate;
 mod error;
 mod least;
 mod node_numbers;
