@@ -9,6 +9,8 @@ use Rattle.dimacs_judge.specs.Claims.{entry_at}
 use Rattle.dimacs_judge.specs.InfeasibleJudge.{ShowsNoFlow}
 use Rattle.dimacs_judge.specs.MinJudge.{ShowsLeast}
 use Rattle.dimacs_judge.specs.Rows.{arc_at}
+use Rattle.dimacs_solve.specs.declared.candidate.Candidate.{Candidate}
+use Rattle.dimacs_solve.specs.declared.candidate.Candidate.TheVariants.{Flow, Set, Neither}
 use Rattle.dimacs_solve.specs.declared.error.SolveError.{SolveError}
 use Rattle.dimacs_solve.specs.declared.error.SolveError.TheVariants.{NegativeWeight, Refused, Memory}
 use Rattle.dimacs_solve.specs.declared.least.MinAnswer.{MinAnswer}
@@ -24,6 +26,12 @@ pub record IsEntryOf (a : ArcView) (on_line : ℕ) (e : Entry) : Type 0 where
 pub record AreEntriesOf (arcs : List ArcView) (entries : List Entry) : Type 0 where
   pub one_each : length entries ≡ length arcs
   pub in_order : (k : ℕ) → k < length arcs → IsEntryOf (arc_at arcs k) (k + 2) (entry_at entries k)
+
+-- a flow has its cost on line 1, and an entry for every arc after it; nothing else is said before it is judged
+abbrev pub IsCandidate : MinValue → Candidate → Type 0
+IsCandidate i (Flow solution potentials) = (solution.value_line ≡ 1) × AreEntriesOf i.arcs solution.entries.items
+IsCandidate i (Set set) = Unit
+IsCandidate i Neither = Unit
 
 -- the cost stands on line 1, an entry for every arc after it, and the potentials show that the flow is least
 pub record IsLeastAnswer (i : MinValue) (s : SolutionValue) (p : PotentialsValue) : Type 0 where

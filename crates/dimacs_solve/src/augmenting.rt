@@ -19,8 +19,8 @@ pub(crate) struct Augmenter {
 enum Step {
     /// The node has a deficit.
     Arrived,
-    /// By the residual arc of this index, to this node.
-    Along(u32, u32),
+    /// By the residual arc of this index.
+    Along { arc: u32, head: u32 },
     /// It doesn't.
     Back,
 }
@@ -90,7 +90,7 @@ impl Augmenter {
         for _ in 0..u64::MAX {
             match next_step(arcs, nodes, at) {
                 Step::Arrived => return Ok(Some(at)),
-                Step::Along(arc, head) => {
+                Step::Along { arc, head } => {
                     self.path.push(arc)?;
                     at = head;
                 }
@@ -143,7 +143,10 @@ fn next_step(arcs: &ResidualArcs, nodes: &mut [Node], at: u32) -> Step {
     }
     node.mark = Mark::OnPath;
     match arcs.get(next) {
-        Some(arc) => Step::Along(next, arc.head),
+        Some(arc) => Step::Along {
+            arc: next,
+            head: arc.head,
+        },
         None => Step::Back,
     }
 }

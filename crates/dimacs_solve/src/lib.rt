@@ -4,6 +4,7 @@
 mod adjacency;
 mod augmenting;
 mod balancing;
+mod candidate;
 mod climb;
 mod distance;
 mod error;

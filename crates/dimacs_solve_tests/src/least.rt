@@ -79,7 +79,11 @@ fn solves(rt: &impl Abort, alloc: Global, line: &str) -> Result<(), Fail> {
     let mut parts = line.split(" | ");
     let name = parts.next().unwrap_or_default();
     let instance = instance(alloc, parts.next().unwrap_or_default())?;
-    let limit = parts.next().unwrap_or_default().parse::<u64>().unwrap_or(99);
+    let limit = parts
+        .next()
+        .unwrap_or_default()
+        .parse::<u64>()
+        .unwrap_or(99);
     let wanted = parts.next().unwrap_or_default();
     let answer = solve_min(alloc, &instance, limit)?;
     let said = told(alloc, &instance, answer)?;
