@@ -6,3 +6,4 @@
 mod checks;
 #[cfg(test)]
 mod least;
+mod maximum;
