@@ -1,15 +1,17 @@
 -- Records behind those of labels that were begun.
-use Rattle.std.proofs.Common.{◌≡◌, ℕ, zero, suc, ◌<◌, ◌≤◌, ◌+◌, ◌-◌, ◌∷◌, ◌++◌, [], List, true, false, Option, Some, None, length, map, refl, ap, ap₂, sym, ◌∙◌, subst, arith, append_assoc}
-use Rattle.std.specs.Prelude.{is_some, is_none, nat_le, slice_get, slice_index_or, slice_set, ◌==◌}
+use Rattle.std.proofs.Common.{◌≡◌, ◌≢◌, ℕ, zero, suc, ◌<◌, ◌≤◌, ◌+◌, ◌-◌, ◌∷◌, ◌++◌, [], List, Bool, true, false, inl, inr, Option, Some, None, length, map, refl, ap, ap₂, sym, ◌∙◌, subst, arith, append_assoc}
+use Rattle.std.specs.Prelude.{ℤ, ◌||◌, pos, is_some, is_none, nat_le, slice_get, slice_index_or, slice_set, ◌==◌}
 use Rattle.std.specs.List.{All, list_any}
 use Rattle.std.specs.Ordering.{nat_cmp}
 use Rattle.std.specs.FinSet as set
 use Rattle.std.proofs.Math.Seq.{get_or-append_seam}
-use Rattle.std.proofs.lemmas.Bool.{le-leb}
-use Rattle.std.proofs.lemmas.Bool.Decides.{nat_tests}
+use Rattle.std.proofs.lemmas.Bool.{cases_eq, eq-eqb, le-leb}
+use Rattle.std.proofs.lemmas.Bool.Decides.{eqb_tells, nat_tests}
 use Rattle.std.proofs.lemmas.List.{length-append, length-map}
 use Rattle.std.proofs.lemmas.List.Elements.{All-pop, All-push, All-nil}
 use Rattle.std.proofs.lemmas.List.Folds.{list_any-append}
+use Rattle.dimacs_nodes.specs.declared.node_table.NodeTable.{NodeTable}
+use Rattle.dimacs_nodes.specs.Tables.{value_of}
 use Rattle.dimacs_records.specs.declared.kinds.TextKind.TheVariants.{Labels}
 use Rattle.dimacs_records.specs.declared.records.Record.TheVariants.{LabelsProblem, LabelsBlock}
 use Rattle.dimacs_records.specs.declared.reasons.Reason.TheVariants.{ProblemTwice, RecordOrder, NodeRange, NodeTwice, TooMany, TooFew, PredUnknown}
@@ -18,10 +20,10 @@ use Rattle.dimacs_records.specs.Faults.{FirstAtEnd}
 use Rattle.dimacs_records.specs.FieldReader.{fault_at}
 use Rattle.dimacs_records.specs.Readings.{IsAllowed, IsFirstCondition, IsComplete}
 use Rattle.dimacs_claims.specs.declared.block.Label.{Label}
-use Rattle.dimacs_claims.specs.Labels.{AreSources, BlockValue, AreLabels, EachBehind, IsBlock, IsLabel, IsNewSource, label, with_label, has_source}
+use Rattle.dimacs_claims.specs.Labels.{AreSources, BlockValue, AreLabels, EachBehind, IsBlock, IsLabel, IsNewSource, distance_in, label, with_label, has_source}
 use Rattle.dimacs_claims.specs.LabelTexts.{label_line, label_records}
-use Rattle.dimacs_claims.specs.LabelsReading.{LabelsBegun, AreLabelsBegun, lines_of_blocks, labels_begun_records, label_records_so_far, with_opened}
-use Rattle.dimacs_claims.proofs.BlockLemmas.{label_id, is_some-label, block_push, each_behind_nil, each_behind_push}
+use Rattle.dimacs_claims.specs.LabelsReading.{LabelsBegun, AreLabelled, AreLabelsBegun, lines_of_blocks, labels_begun_records, label_records_so_far, with_opened}
+use Rattle.dimacs_claims.proofs.BlockLemmas.{label_id, is_some-label, is_some-push, some_if, block_push, each_behind_nil, each_behind_push}
 use Rattle.dimacs_claims.proofs.LabelStates.{Say, second_problem, source_above, source_twice, too_many_blocks, block_before_short, block_allowed, label_outside, id_above, pred_above, label_twice, too_many_labels, pred_unknown, label_allowed, too_few_blocks, too_few_labels, all_there}
 use Rattle.dimacs_claims.proofs.LabelRecords.{source_of, opened_with, last_after, last_is, say_taken, not_short, is_short, list_any-has_source, lines_of_blocks-push_block, lines_of_blocks-push_label, lines_of_blocks-zero, push_same}
 
@@ -184,3 +186,63 @@ added_last items new now n l len got is front b e =
     let at : n - 1 ≡ length front = omega (arith, len, ap length e, length-append front (b ∷ [])) in
     let same : now ≡ b = got ∙ (ap₂ (λ xs k. slice_index_or xs k now) e at ∙ get_or-append_seam front b [] now) in
     ap (λ xs. slice_set xs (n - 1) new) e ∙ (set_at front b new (n - 1) at ∙ ap (λ x. front ++ x ∷ []) (is ∙ ap (λ x. with_label x l) same))
+
+-- ---- the numbers of the blocks that labelled the nodes
+pub labelled_none : (labelled : NodeTable ℕ) → ((id : ℕ) → value_of labelled id ≡ 0) → AreLabelled labelled []
+labelled_none labelled none = record {
+  few = λ id. omega (arith, none id);
+  last = λ front b is. absurd (omega (arith, ap length is, length-append front (b ∷ [])));
+}
+
+pub labelled_opened : (labelled : NodeTable ℕ) (blocks : List BlockValue) (source : ℕ) → AreLabelled labelled blocks → AreLabelled labelled (blocks ++ record { source = source; labels = [] } ∷ [])
+labelled_opened labelled blocks source are =
+    let opened : BlockValue = record { source = source; labels = [] } in
+    let size : length (blocks ++ opened ∷ []) ≡ length blocks + 1 = omega (arith, length-append blocks (opened ∷ [])) in
+    record {
+      few = λ id. omega (arith, size, are.few id);
+      last = λ front b is id.
+          let none : b.labels ≡ [] = sym (ap (λ (x : BlockValue). x.labels) (push_same blocks front opened b is)) in
+          rw none (unequal (value_of labelled id) _ (omega (arith, size, are.few id)));
+    }
+  where
+    unequal : (m n : ℕ) → m < n → (m == n) ≡ false
+    unequal m n less = grind (arith, nat_tests, less)
+
+or_true : (x : Bool) → (x || true) ≡ true
+or_true true = refl
+or_true false = refl
+
+or_false : (x : Bool) → (x || false) ≡ x
+or_false true = refl
+or_false false = refl
+
+apart_ids : (a b : ℕ) → a ≢ b → (b == a) ≡ false
+apart_ids a b off = elim (eqb_tells b a) [ inl same ↦ absurd (off (sym same.1)) | inr told ↦ told.0 ]
+
+-- the last block has one label more
+pub labelled_more : (old new : NodeTable ℕ) (blocks front : List BlockValue) (b : BlockValue) (l : Label) → blocks ≡ front ++ b ∷ [] → AreLabelled old blocks → value_of new l.id ≡ length blocks → ((id : ℕ) → id ≢ l.id → value_of new id ≡ value_of old id) → AreLabelled new (front ++ with_label b l ∷ [])
+labelled_more old new blocks front b l is are here others =
+    let size : length (front ++ with_label b l ∷ []) ≡ length blocks = omega (arith, ap length is, length-append front (b ∷ []), length-append front (with_label b l ∷ [])) in
+    record {
+      few = λ id. elim (cases_eq id l.id) [
+        | inl same ↦ omega (arith, ap (value_of new) same, here, size)
+        | inr off ↦ omega (arith, others id off, are.few id, size)
+      ];
+      last = λ f last last_is id.
+          let with_is : b.labels ++ l ∷ [] ≡ last.labels = ap (λ (x : BlockValue). x.labels) (push_same front f (with_label b l) last last_is) in
+          rw (size, ← with_is) (elim (cases_eq id l.id) [
+            | inl same ↦
+                eq-eqb (value_of new id) (length blocks) (ap (value_of new) same ∙ here)
+                ∙ sym (is_some-push b.labels l id ∙ (ap (λ t. is_some (distance_in b.labels id) || t) (eq-eqb l.id id (sym same)) ∙ or_true (is_some (distance_in b.labels id))))
+            | inr off ↦
+                ap (λ n. n == length blocks) (others id off)
+                ∙ (are.last front b is id ∙ sym (is_some-push b.labels l id ∙ (ap (λ t. is_some (distance_in b.labels id) || t) (apart_ids id l.id off) ∙ or_false (is_some (distance_in b.labels id)))))
+          ]);
+    }
+
+pub begun_has_label : (labelled : NodeTable ℕ) (blocks front : List BlockValue) (b : BlockValue) (id : ℕ) → AreLabelled labelled blocks → blocks ≡ front ++ b ∷ [] → ((b.source == id) || (value_of labelled id == length blocks)) ≡ is_some (label b id)
+begun_has_label labelled blocks front b id are is = ap (λ t. (b.source == id) || t) (are.last front b is id) ∙ sym (some_if (b.source == id) (pos 0) (distance_in b.labels id))
+
+pub unlabelled : (x : Option ℤ) → is_some x ≡ false → x ≡ None
+unlabelled None e = refl
+unlabelled (Some d) e = absurd (cc)

@@ -2,9 +2,6 @@
 use Rattle.std.proofs.Common.{◌≡◌, ℕ, zero, suc, ◌<◌, ◌∷◌, ◌++◌, [], List, Bool, true, false, cond, Option, Some, None, length, slice_index_or, refl, ap, sym, ◌∙◌, subst, arith, inl, inr, ◌⊎◌}
 use Rattle.std.specs.Prelude.{ℤ, pos, IfSome, is_some, if◌then◌else◌, ◌==◌, ◌||◌, map}
 use Rattle.std.specs.List.{All, Contains, list_any}
-use Rattle.std.specs.Ordering.{nat_cmp}
-use Rattle.std.specs.Cmp.{unsigned_tied}
-use Rattle.std.specs.BTreeMap.{BTreeMap, get, is_at}
 use Rattle.std.proofs.lemmas.Bool.{eqb-true, eq-eqb, false_from_ne_true}
 use Rattle.std.proofs.lemmas.List.{length-append}
 use Rattle.std.proofs.lemmas.Int.{ints}
@@ -14,7 +11,6 @@ use Rattle.dimacs_records.proofs.SplitLemmas.{two_places, same, sooner, later}
 use Rattle.dimacs_claims.specs.declared.block.Label.{Label}
 use Rattle.dimacs_claims.specs.Labels.{BlockValue, label, label_at, distance_in, with_label, EachBehind, IsFresh, HasPred, IsLabel, IsBlock, IsNewSource, AreLabels}
 use Rattle.dimacs_records.specs.Ranges.{IsNode, IsWide}
-use Rattle.dimacs_claims.specs.Distances.{HasDistances}
 
 -- a test before a choice
 test_first : (b : Bool) (d : ℤ) (rest other : Option ℤ) → (if b then Some d else or_else rest other) ≡ or_else (if b then Some d else rest) other
@@ -40,18 +36,6 @@ one_more_at : (c : Bool) (d : ℤ) (x : Option ℤ) → (c ≡ true → x ≡ No
 one_more_at true d x h = sym (ap (λ y. or_else y (Some d)) (h refl))
 one_more_at false d x h = sym (or_else-none x)
 
-unlabelled : (b : BlockValue) (v : ℕ) → label b v ≡ None → distance_in b.labels v ≡ None
-unlabelled b v none = by_test (b.source == v) none
-  where
-    by_test : (c : Bool) → (if c then Some (pos 0) else distance_in b.labels v) ≡ None → distance_in b.labels v ≡ None
-    by_test true e = absurd (cc)
-    by_test false e = e
-
-pub are_distances_more : (old new : BTreeMap ℕ ℤ) (b : BlockValue) (l : Label) → HasDistances old b → label b l.id ≡ None → ((q : ℕ) → get nat_cmp new q ≡ cond (is_at (nat_cmp l.id) q) (Some l.dist) (get nat_cmp old q)) → HasDistances new (with_label b l)
-are_distances_more old new b l are fresh more v =
-    more v ∙ (ap (λ t. cond t (Some l.dist) (get nat_cmp old v)) (unsigned_tied l.id v) ∙ (ap (cond (l.id == v) (Some l.dist)) (are v)
-    ∙ (one_more_at (l.id == v) l.dist (distance_in b.labels v) (λ e. subst (λ w. distance_in b.labels w ≡ None) (eqb-true l.id v e) (unlabelled b l.id fresh)) ∙ sym (distance_in-push b.labels l v))))
-
 -- the labels of a block with one more
 pub label-with_label : (b : BlockValue) (l : Label) → label b l.id ≡ None → (v : ℕ) → label (with_label b l) v ≡ (if l.id == v then Some l.dist else label b v)
 label-with_label b l fresh v = label-push b l v ∙ sym (one_more_at (l.id == v) l.dist (label b v) (λ e. subst (λ w. label b w ≡ None) (eqb-true l.id v e) fresh))
@@ -67,7 +51,7 @@ each_behind_push P xs x each last before after y e = elim (two_places xs before 
   | later rest longer ↦ each before rest y longer
 ]
 
-some_if : (c : Bool) (d : ℤ) (x : Option ℤ) → is_some (if c then Some d else x) ≡ (c || is_some x)
+pub some_if : (c : Bool) (d : ℤ) (x : Option ℤ) → is_some (if c then Some d else x) ≡ (c || is_some x)
 some_if true d x = refl
 some_if false d x = refl
 
@@ -77,6 +61,16 @@ label_id l = l.id
 is_some-distance_in : (ls : List Label) (v : ℕ) → is_some (distance_in ls v) ≡ list_any (λ other. other == v) (map label_id ls)
 is_some-distance_in [] v = refl
 is_some-distance_in (l ∷ ls) v = some_if (l.id == v) l.dist (distance_in ls v) ∙ ap (λ t. (l.id == v) || t) (is_some-distance_in ls v)
+
+-- a node has a distance where it had one, or is that of the last label
+some_either : (x : Option ℤ) (c : Bool) (d : ℤ) → is_some (or_else x (if c then Some d else None)) ≡ (is_some x || c)
+some_either None true d = refl
+some_either None false d = refl
+some_either (Some e) true d = refl
+some_either (Some e) false d = refl
+
+pub is_some-push : (ls : List Label) (l : Label) (v : ℕ) → is_some (distance_in (ls ++ l ∷ []) v) ≡ (is_some (distance_in ls v) || (l.id == v))
+is_some-push ls l v = ap is_some (distance_in-push ls l v) ∙ some_either (distance_in ls v) (l.id == v) l.dist
 
 -- a node has a label where the block's source or an ID of its labels is its own
 pub is_some-label : (b : BlockValue) (v : ℕ) → is_some (label b v) ≡ list_any (λ other. other == v) (b.source ∷ map label_id b.labels)

@@ -1,5 +1,6 @@
 pub mod BegunLemmas
 pub mod BlockLemmas
+mod ByIdLemmas
 mod CutLemmas
 pub mod LabelLaws
 pub mod LabelRecords

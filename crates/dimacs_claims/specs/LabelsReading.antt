@@ -1,9 +1,11 @@
 -- How far labels have been read.
-use Rattle.std.specs.Prelude.{ℕ, ◌≡◌, ◌≤◌, ◌+◌, List, [], ◌∷◌, ◌++◌, map, length, Option, None, Some}
+use Rattle.std.specs.Prelude.{ℕ, ◌≡◌, ◌≤◌, ◌+◌, List, [], ◌∷◌, ◌++◌, map, length, Option, None, Some, is_some, ◌==◌}
 use Rattle.std.specs.List.{All}
+use Rattle.dimacs_nodes.specs.declared.node_table.NodeTable.{NodeTable}
+use Rattle.dimacs_nodes.specs.Tables.{value_of}
 use Rattle.dimacs_records.specs.declared.records.Record.{Record}
 use Rattle.dimacs_records.specs.declared.records.Record.TheVariants.{LabelsProblem, LabelsBlock}
-use Rattle.dimacs_claims.specs.Labels.{BlockValue, EachBehind, IsBlock, IsNewSource}
+use Rattle.dimacs_claims.specs.Labels.{BlockValue, EachBehind, IsBlock, IsNewSource, distance_in}
 use Rattle.dimacs_claims.specs.LabelTexts.{label_line}
 
 -- what the problem line declares, the blocks behind it, and how many labels the last one lacks
@@ -57,3 +59,8 @@ with_opened begun source count = record {
   missing = count;
   blocks = begun.blocks ++ record { source = source; labels = [] } ∷ [];
 }
+
+-- the table has, by node, the number of the last block that has a label of it, from 1
+pub record AreLabelled (labelled : NodeTable ℕ) (blocks : List BlockValue) : Type 0 where
+  pub few : (id : ℕ) → value_of labelled id ≤ length blocks
+  pub last : (front : List BlockValue) (b : BlockValue) → blocks ≡ front ++ b ∷ [] → (id : ℕ) → (value_of labelled id == length blocks) ≡ is_some (distance_in b.labels id)

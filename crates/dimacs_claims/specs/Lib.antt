@@ -1,6 +1,6 @@
+pub mod ById
 pub mod CutReading
 pub mod Cuts
-pub mod Distances
 pub mod LabelTexts
 pub mod Labels
 pub mod LabelsReading

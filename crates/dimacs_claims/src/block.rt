@@ -7,7 +7,6 @@ ghost use Rattle.dimacs_claims.specs.Labels as claims;
 
 use dimacs_lines::Memory;
 use std::alloc::Global;
-use std::collections::BTreeMap;
 use std::marker::Model;
 
 /// A claimed distance: `id` is reached at `dist`, by an arc from `pred`.
@@ -23,19 +22,14 @@ pub struct Label {
 pub struct Block {
     source: u32,
     labels: Vec<Label>,
-    /// By node; the source has none here.
-    distances: BTreeMap<u32, i128>,
 }
 
 impl Model for Block {
     ghost use Rattle.dimacs_claims.specs.Labels.{BlockValue};
-    ghost use Rattle.dimacs_claims.specs.Distances.{HasDistances};
 
     ghost Value = { BlockValue };
 
     ghost view = { λ b. record { source = b.source; labels = b.labels.items } };
-
-    ghost invariant = { λ b. HasDistances b.distances (record { source = b.source; labels = b.labels.items }) };
 }
 
 impl Block {
@@ -47,7 +41,6 @@ impl Block {
         Block {
             source,
             labels: Vec::new(alloc),
-            distances: BTreeMap::new(alloc),
         }
     }
 
@@ -60,10 +53,6 @@ impl Block {
         ensures unchanged { OnErr result (self.new ≡ self.old) }
     {
         self.labels.push(label)?;
-        let Ok(_) = self.distances.insert(label.id, label.dist) else {
-            self.labels.pop();
-            return Err(Memory);
-        };
         Ok(())
     }
 
@@ -78,16 +67,5 @@ impl Block {
         ensures { result.now ≡ self.now.labels }
     {
         &self.labels
-    }
-
-    /// The claimed distance of a node: 0 at the source, none where it has no label.
-    #[inline]
-    pub(crate) fn distance(&self, id: u32) -> Option<i128>
-        ensures { result ≡ claims.label self.now id }
-    {
-        if id == self.source {
-            return Some(0);
-        }
-        self.distances.get(&id).copied()
     }
 }

@@ -1,6 +1,6 @@
 //! Labels: claimed distances from sources.
 
-ghost use Rattle.std.specs.Prelude.{◌≡◌, ◌<◌, ◌≤◌, ◌++◌, ◌∷◌, [], ℕ, List, Option, Some, None, OnOk, OnErr, IfSome, length};
+ghost use Rattle.std.specs.Prelude.{◌≡◌, ◌<◌, ◌≤◌, ◌++◌, ◌∷◌, [], ℕ, List, Option, Some, None, OnOk, OnErr, IfOk, IfSome, is_some, length};
 ghost use Rattle.dimacs_lines.specs.Devices.{CountsFault};
 ghost use Rattle.dimacs_lines.specs.Lines.{lines};
 ghost use Rattle.dimacs_lines.specs.Pages.{FaultsAre, IsWritten};
@@ -11,17 +11,20 @@ ghost use Rattle.dimacs_records.specs.Canonical.{canonical_text};
 ghost use Rattle.dimacs_records.specs.Faults.{Fault};
 ghost use Rattle.dimacs_records.specs.Readings.{CountsRead, TakesRecord, records_of};
 ghost use Rattle.dimacs_records.specs.Texts.{Reads};
+ghost use Rattle.dimacs_claims.specs.ById.{AreIndexed};
 ghost use Rattle.dimacs_claims.specs.Labels as claims;
 ghost use Rattle.dimacs_claims.specs.Labels.{AreLabels, AreSources, BlockValue, IsBlock, IsNewSource, LabelsValue, label_at, with_block, with_label};
 ghost use Rattle.std.specs.FinSet as set;
+ghost use Rattle.std.specs.List.{All};
 ghost use Rattle.std.specs.Ordering.{nat_cmp};
 ghost use Rattle.dimacs_records.specs.Ranges.{IsWide};
 ghost use Rattle.dimacs_claims.specs.LabelTexts.{FitText, GivesLabels, SpellsLabels, block_lines, canonical_labels, label_line};
 ghost use Rattle.dimacs_claims.specs.LabelsReading.{AreLabelsBegun, labels_begun_records, with_opened};
 
 use crate::block::{Block, Label};
+use crate::by_id::ById;
 use dimacs_lines::{DeviceFault, Memory, Page, Sink, Source};
-use dimacs_nodes::NodeSet;
+use dimacs_nodes::{NodeSet, NodeTable};
 use dimacs_records::{
     ReadError, Reading, Reason, Record, TakeError, TextKind, read_text, write_record,
 };
@@ -33,16 +36,20 @@ use std::marker::Model;
 pub struct Labels {
     nodes: u32,
     blocks: Vec<Block>,
+    /// Of each block.
+    indices: Vec<ById>,
 }
 
 impl Model for Labels {
+    ghost use Rattle.std.specs.Prelude.{◌≡◌, length};
+    ghost use Rattle.dimacs_claims.specs.ById.{AreIndexed};
     ghost use Rattle.dimacs_claims.specs.Labels.{LabelsValue, AreLabels};
 
     ghost Value = { LabelsValue };
 
     ghost view = { λ l. record { nodes = l.nodes; blocks = l.blocks.items } };
 
-    ghost invariant = { λ l. AreLabels (record { nodes = l.nodes; blocks = l.blocks.items }) };
+    ghost invariant = { λ l. AreLabels (record { nodes = l.nodes; blocks = l.blocks.items }) × AreIndexed l.blocks.items l.indices.items × (length l.indices.items ≡ length l.blocks.items) };
 }
 
 impl Labels {
@@ -55,7 +62,21 @@ impl Labels {
         Labels {
             nodes,
             blocks: Vec::new(alloc),
+            indices: Vec::new(alloc),
         }
+    }
+
+    /// Labels of so many nodes, with these blocks.
+    fn of_blocks(nodes: u32, blocks: Vec<Block>) -> Result<Labels, Memory>
+        requires { AreLabels (record { nodes = nodes; blocks = blocks.items }) }
+        ensures { IfOk result (λ labels. labels ≡ record { nodes = nodes; blocks = blocks.items }) }
+    {
+        let indices = indices_of(*blocks.allocator(), &blocks)?;
+        Ok(Labels {
+            nodes,
+            blocks,
+            indices,
+        })
     }
 
     /// Adds a block of a source that none of the others has.
@@ -68,7 +89,12 @@ impl Labels {
         ensures sources { OnOk result ((sources : set.FinSet nat_cmp) → AreSources sources self.old.blocks → AreSources (set.insert sources block.source) self.new.blocks) }
         ensures unchanged { OnErr result (self.new ≡ self.old) }
     {
-        self.blocks.push(block)?;
+        let index = ById::new(*self.blocks.allocator(), block.labels())?;
+        self.indices.push(index)?;
+        let Ok(()) = self.blocks.push(block) else {
+            self.indices.pop();
+            return Err(Memory);
+        };
         Ok(())
     }
 
@@ -93,8 +119,25 @@ impl Labels {
         ensures label { result ≡ label_at self.now.blocks block id }
         ensures wide { IfSome result IsWide }
     {
-        self.blocks.get(block)?.distance(id)
+        let found = self.blocks.get(block)?;
+        if found.source() == id {
+            return Some(0);
+        }
+        self.indices[block].distance(found.labels(), id)
     }
+}
+
+/// The index of each block.
+fn indices_of(alloc: Global, blocks: &[Block]) -> Result<Vec<ById>, Memory>
+    requires { (nodes : ℕ) × All (IsBlock nodes) blocks.now }
+    ensures indices { IfOk result (λ indices. AreIndexed blocks.now indices.items) }
+    ensures all { IfOk result (λ indices. length indices.items ≡ length blocks.now) }
+{
+    let mut indices = Vec::with_capacity(alloc, blocks.len())?;
+    for block in blocks {
+        indices.push(ById::new(alloc, block.labels())?)?;
+    }
+    Ok(indices)
 }
 
 /// Makes labels of the records of a text.
@@ -122,18 +165,20 @@ pub(crate) struct BegunLabels {
     /// How many labels the last block lacks.
     missing: u32,
     sources: NodeSet,
+    /// By node, the number of the last block that has a label of it, from 1.
+    labelled: NodeTable<u32>,
     blocks: Vec<Block>,
 }
 
 impl Model for BegunLabels {
     ghost use Rattle.dimacs_claims.specs.Labels.{AreSources};
-    ghost use Rattle.dimacs_claims.specs.LabelsReading.{LabelsBegun, AreLabelsBegun};
+    ghost use Rattle.dimacs_claims.specs.LabelsReading.{LabelsBegun, AreLabelsBegun, AreLabelled};
 
     ghost Value = { LabelsBegun };
 
     ghost view = { λ b. record { nodes = b.nodes; declared = b.declared; missing = b.missing; blocks = b.blocks.items } };
 
-    ghost invariant = { λ b. AreLabelsBegun (record { nodes = b.nodes; declared = b.declared; missing = b.missing; blocks = b.blocks.items }) × AreSources b.sources b.blocks.items };
+    ghost invariant = { λ b. AreLabelsBegun (record { nodes = b.nodes; declared = b.declared; missing = b.missing; blocks = b.blocks.items }) × AreSources b.sources b.blocks.items × AreLabelled b.labelled b.blocks.items };
 }
 
 impl BegunLabels {
@@ -183,24 +228,36 @@ impl BegunLabels {
         let Some(block) = self.blocks.last() else {
             return Err(TakeError::refused(0, Reason::RecordOrder));
         };
+        let source = block.source();
         if label.id > self.nodes {
             return Err(TakeError::refused(2, Reason::NodeRange));
         }
         if label.pred > self.nodes {
             return Err(TakeError::refused(4, Reason::NodeRange));
         }
-        if block.distance(label.id).is_some() {
+        if self.has_label(source, label.id) {
             return Err(TakeError::refused(2, Reason::NodeTwice));
         }
         if self.missing == 0 {
             return Err(TakeError::refused(0, Reason::TooMany));
         }
-        if block.distance(label.pred).is_none() {
+        if !self.has_label(source, label.pred) {
             return Err(TakeError::refused(0, Reason::PredUnknown));
         }
+        let number = self.blocks.len() as u32;
+        self.labelled.reserve(label.id)?;
         add_to_last(&mut self.blocks, label)?;
+        self.labelled.put(label.id, number);
         self.missing -= 1;
         Ok(())
+    }
+
+    /// Whether the last block, which has this source, has a label of a node.
+    #[inline(always)]
+    fn has_label(&self, source: u32, id: u32) -> bool
+        ensures { (front : List BlockValue) (b : BlockValue) → self.now.blocks ≡ front ++ b ∷ [] → b.source ≡ source → result ≡ is_some (claims.label b id) }
+    {
+        source == id || self.labelled.get(id) as usize == self.blocks.len()
     }
 }
 
@@ -233,6 +290,7 @@ impl LabelsReading {
             declared,
             missing: 0,
             sources: NodeSet::new(self.alloc),
+            labelled: NodeTable::new(self.alloc, 0),
             blocks: Vec::new(self.alloc),
         });
         Ok(())
@@ -292,10 +350,8 @@ impl Reading for LabelsReading {
         if begun.missing > 0 {
             return Err(TakeError::refused(0, Reason::TooFew));
         }
-        Ok(Labels {
-            nodes: begun.nodes,
-            blocks: begun.blocks,
-        })
+        let labels = Labels::of_blocks(begun.nodes, begun.blocks)?;
+        Ok(labels)
     }
 }
 

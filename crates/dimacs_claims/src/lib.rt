@@ -2,6 +2,7 @@
 #![tactic(auto)]
 
 mod block;
+mod by_id;
 mod cut;
 mod labels;
 mod potentials;

@@ -1,7 +1,7 @@
 -- What the slots of pages hold, by ID.
 use Rattle.std.proofs.Common.{◌≡◌, ◌≢◌, ◌⊎◌, inl, inr, ℕ, ◌+◌, ◌*◌, ◌/◌, ◌%◌, ◌-◌, ◌<◌, ◌≤◌, List, [], ◌∷◌, ◌++◌, length, replicate, set, get_or, refl, sym, ◌∙◌, ap, arith, get_or-set_same, get_or-set_other}
 use Rattle.std.proofs.lemmas.Bool.{cases_eq, cases_lt}
-use Rattle.std.proofs.lemmas.List.{get_or_append_left, get_or-append_right, get_or_past, get_or-replicate, length-replicate}
+use Rattle.std.proofs.lemmas.List.{get_or_append_left, get_or-append_right, get_or_past, get_or-replicate, length-replicate, length-set}
 use Rattle.dimacs_nodes.specs.declared.node_table.TheConstants.{NO_PAGE}
 use Rattle.dimacs_nodes.specs.Slots.{IsDirectory, SameNumbers, number_of, place_of, slot_value}
 
@@ -10,7 +10,7 @@ unfolding place_of
 place_of-number directory id = omega arith
 
 pub no_pages : IsDirectory [] 0
-no_pages = record { whole = refl; few = omega arith; known = λ i some. absurd (some refl); apart = λ i j below same. absurd (omega (arith, below)) }
+no_pages = record { short = omega arith; whole = refl; few = omega arith; known = λ i some. absurd (some refl); apart = λ i j below same. absurd (omega (arith, below)) }
 
 -- places are the same for the same numbers
 pub place_of-same : (old new : List ℕ) → SameNumbers old new → (id : ℕ) → place_of new id ≡ place_of old id
@@ -39,6 +39,15 @@ module _ {T : Type 0} (blank : T) where
   pub slot_value-past : (directory : List ℕ) (slots : List T) (id : ℕ) → length slots ≤ place_of directory id → slot_value blank directory slots id ≡ blank
   unfolding slot_value
   slot_value-past directory slots id past = get_or_past slots (place_of directory id) blank past
+
+  -- a page that was not taken
+  pub slot_value-no_page : (directory : List ℕ) (slots : List T) (id : ℕ) → IsDirectory directory (length slots) → number_of directory id ≡ NO_PAGE → slot_value blank directory slots id ≡ blank
+  unfolding place_of
+  slot_value-no_page directory slots id is none = slot_value-past directory slots id (omega (arith, none, is.few))
+
+  pub slot_value-same_page : (directory : List ℕ) (slots : List T) (id other : ℕ) → IsDirectory directory (length slots) → length slots ≤ place_of directory id → other / 256 ≡ id / 256 → slot_value blank directory slots other ≡ blank
+  unfolding place_of
+  slot_value-same_page directory slots id other is past same = slot_value-past directory slots other (omega (arith, past, is.whole, ap (λ i. get_or directory i NO_PAGE) same))
 
   -- after a value was put
   pub slot_value-put : (directory : List ℕ) (slots : List T) (id : ℕ) (value : T) → place_of directory id < length slots → slot_value blank directory (set slots (place_of directory id) value) id ≡ value
@@ -92,6 +101,7 @@ module _ (directory : List ℕ) (slots id : ℕ) (is : IsDirectory directory slo
 
   pub page_numbered : IsDirectory longer (slots + 256)
   page_numbered = record {
+    short = rw length-set is.short;
     whole = omega (arith, is.whole);
     few = omega (arith, is.whole, room);
     known = λ i some. elim (cases_eq i (id / 256)) [
@@ -129,8 +139,9 @@ module _ (directory : List ℕ) (slots id : ℕ) (is : IsDirectory directory slo
         ]
 
 -- a longer directory
-pub same_directory : (old new : List ℕ) (slots : ℕ) → SameNumbers old new → IsDirectory old slots → IsDirectory new slots
-same_directory old new slots same is = record {
+pub same_directory : (old new : List ℕ) (slots : ℕ) → SameNumbers old new → length new ≤ 16777216 → IsDirectory old slots → IsDirectory new slots
+same_directory old new slots same short is = record {
+  short = short;
   whole = is.whole;
   few = is.few;
   known = λ i some. rw (same i) (is.known i (λ none. some (same i ∙ none)));

@@ -1,5 +1,5 @@
 -- The slots of IDs, in pages of 256. No public clause cites this module.
-use Rattle.std.specs.Prelude.{ℕ, ◌+◌, ◌*◌, ◌/◌, ◌%◌, ◌≡◌, ◌≢◌, ◌<◌, ◌≤◌, List, slice_index_or}
+use Rattle.std.specs.Prelude.{ℕ, ◌+◌, ◌*◌, ◌/◌, ◌%◌, ◌≡◌, ◌≢◌, ◌<◌, ◌≤◌, List, length, slice_index_or}
 use Rattle.dimacs_nodes.specs.declared.node_table.TheConstants.{NO_PAGE}
 
 -- the number of the page of this ID
@@ -16,6 +16,7 @@ slot_value blank directory slots id = slice_index_or slots (place_of directory i
 
 -- each page that was taken has a number of its own, and its 256 slots
 pub record IsDirectory (directory : List ℕ) (slots : ℕ) : Type 0 where
+  pub short : length directory ≤ 16777216
   pub whole : slots % 256 ≡ 0
   pub few : slots ≤ 256 * NO_PAGE
   pub known : (i : ℕ) → slice_index_or directory i NO_PAGE ≢ NO_PAGE → 256 * slice_index_or directory i NO_PAGE < slots

@@ -25,11 +25,12 @@ pub struct NodeTable<T> {
 }
 
 impl<T: Copy> NodeTable<T> {
-    ghost use Rattle.dimacs_nodes.specs.Tables.{HasPlace, SameValues, value_of};
+    ghost use Rattle.dimacs_nodes.specs.Tables.{HasPlace, SameValues, blank_of, value_of};
 
     /// All values are blank. Takes no memory.
     pub fn new(alloc: Global, blank: T) -> NodeTable<T>
-        ensures { (id : ℕ) → value_of result id ≡ blank }
+        ensures values { (id : ℕ) → value_of result id ≡ blank }
+        ensures blank { blank_of result ≡ blank }
     {
         NodeTable {
             blank,
@@ -54,6 +55,7 @@ impl<T: Copy> NodeTable<T> {
         ensures set { OnOk result (value_of self.new id ≡ value) }
         ensures others { OnOk result ((other : ℕ) → other ≢ id → value_of self.new other ≡ value_of self.old other) }
         ensures unchanged { OnErr result (SameValues self.old self.new) }
+        ensures blank { blank_of self.new ≡ blank_of self.old }
     {
         self.reserve(id)?;
         self.put(id, value);
@@ -65,6 +67,7 @@ impl<T: Copy> NodeTable<T> {
     pub fn reserve(&mut self, id: u32) -> Result<(), Memory>
         ensures same { SameValues self.old self.new }
         ensures place { OnOk result (HasPlace self.new id) }
+        ensures blank { blank_of self.new ≡ blank_of self.old }
     {
         if place(&self.directory, id) < self.slots.len() {
             return Ok(());
@@ -79,9 +82,31 @@ impl<T: Copy> NodeTable<T> {
         ensures set { value_of self.new id ≡ value }
         ensures others { (other : ℕ) → other ≢ id → value_of self.new other ≡ value_of self.old other }
         ensures places { (other : ℕ) → HasPlace self.old other → HasPlace self.new other }
+        ensures blank { blank_of self.new ≡ blank_of self.old }
     {
         let place = place(&self.directory, id);
         self.slots[place] = value;
+    }
+
+    /// An ID past all that were set.
+    pub fn end(&self) -> usize
+        ensures within { result ≤ 4294967296 }
+        ensures blank { (id : ℕ) → result ≤ id → value_of self.now id ≡ blank_of self.now }
+    {
+        self.directory.len() * PAGE
+    }
+
+    /// The first ID from this one on that may have been set: this one, or that behind a page that was not taken.
+    #[inline]
+    pub fn skip_blank(&self, id: u32) -> usize
+        ensures from { id ≤ result }
+        ensures blank { (other : ℕ) → id ≤ other → other < result → value_of self.now other ≡ blank_of self.now }
+    {
+        if place(&self.directory, id) < self.slots.len() {
+            id as usize
+        } else {
+            (id as usize / PAGE + 1) * PAGE
+        }
     }
 
     /// Takes the page of an ID that has none.
@@ -91,6 +116,7 @@ impl<T: Copy> NodeTable<T> {
         requires { ¬ HasPlace self.old id }
         ensures same { SameValues self.old self.new }
         ensures place { OnOk result (HasPlace self.new id) }
+        ensures blank { blank_of self.new ≡ blank_of self.old }
     {
         let number = self.slots.len() / PAGE;
         if number >= NO_PAGE as usize {
@@ -119,6 +145,7 @@ fn place(directory: &[u32], id: u32) -> usize
 fn extend_directory(directory: &mut Vec<u32>, id: u32) -> Result<(), Memory>
     ensures same { SameNumbers directory.old.items directory.new.items }
     ensures reached { OnOk result (id / 256 < length directory.new.items) }
+    ensures short { length directory.old.items ≤ 16777216 → length directory.new.items ≤ 16777216 }
 {
     let count = id as usize / PAGE + 1;
     if directory.len() < count {

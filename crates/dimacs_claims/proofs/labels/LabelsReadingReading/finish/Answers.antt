@@ -30,7 +30,7 @@ returns-clause-given c =
     let records : label_records_so_far c.self.inside.begun ≡ labels_begun_records begun = ap label_records_so_far c.in-Some.is ∙ ap labels_begun_records (sym (c.begun.view_is ∙ c.in-Some.begun-is)) in
     let all : length begun.blocks ≡ begun.declared = omega (arith, c.len.ensures, c.if-len-begun.false, c.begun.invariant.0.no_more) in
     let none : begun.missing ≡ 0 = omega (arith, c.if-begun-gt0.false) in
-    λ rs h. (h ∙ (sym c.self.view_is ∙ (records ∙ whole_records begun all none)), whole_lawful begun c.begun.invariant.0)
+    rw c.in_ok-labels.ensures (λ rs h. (h ∙ (sym c.self.view_is ∙ (records ∙ whole_records begun all none)), whole_lawful begun c.begun.invariant.0))
 
 pub returns-clause-complete : goal.returns-clause-complete
 returns-clause-complete c =

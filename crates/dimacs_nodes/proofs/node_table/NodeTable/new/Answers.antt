@@ -1,5 +1,5 @@
 use Rattle.dimacs_nodes.proofs.SlotLemmas.{slot_value-none}
 use Rattle.dimacs_nodes.proofs.node_table.NodeTable.new.Goals as goal
 
-pub returns : goal.returns
-returns g c = rw (c.new.ensures.items, c.new-2.ensures.items) (slot_value-none c.args.blank)
+pub returns-clause-values : goal.returns-clause-values
+returns-clause-values g c = rw (c.new.ensures.items, c.new-2.ensures.items) (slot_value-none c.args.blank)
