@@ -1,0 +1,8 @@
+//! The tests of producers, a file for each: that they find an answer where there is one, and that what they promise
+//! means what was meant, by answers worked out by hand.
+#![tactic(auto)]
+
+#[cfg(test)]
+mod checks;
+#[cfg(test)]
+mod paths;
