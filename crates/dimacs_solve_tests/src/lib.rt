@@ -6,4 +6,7 @@
 mod checks;
 #[cfg(test)]
 mod least;
+#[cfg(test)]
 mod maximum;
+#[cfg(test)]
+mod paths;

@@ -37,8 +37,12 @@ invariant_of-self-in-Ok c =
 pub returns-clause-lawful : goal.returns-clause-lawful
 returns-clause-lawful c =
     let inside = c.self.inside in
-    let block = rw (← c.self.view_is) at c.requires in
-    rw c.in-Ok.ensures.items (labels_push inside.nodes inside.blocks.items c.args.block c.self.invariant.0 block.lawful block.source block.few)
+    let blocks = inside.blocks.items in
+    let b = c.args.block in
+    let lawful : IsBlock inside.nodes b = rw (← c.self.view_is) at c.requires.lawful in
+    let new : IsNewSource blocks b = rw (← c.self.view_is) at c.requires.source in
+    let few : length blocks < 268435456 = rw (← c.self.view_is) at c.requires.few in
+    rw c.in-Ok.ensures.items (labels_push inside.nodes blocks b c.self.invariant.0 lawful new few)
 
 pub returns-clause-sources : goal.returns-clause-sources
 returns-clause-sources c =
