@@ -1,7 +1,7 @@
 //! Least flows that are made.
 
 use crate::checks::same;
-use dimacs_instance::{ArcView, MinInstance, PlainArcs, read_min};
+use dimacs_instance::{ArcView, ForwardStar, MinInstance, read_min};
 use dimacs_judge::{Verdict, judge_infeasible, judge_min};
 use dimacs_lines::MemorySource;
 use dimacs_solve::{MinAnswer, solve_min};
@@ -32,13 +32,19 @@ a cycle of negative cost | p min 2 2; a 1 2 0 2 -3; a 2 1 0 2 1 | 10 | v min -4
 an arc of negative cost that leads nowhere | p min 2 1; a 1 2 0 2 -3 | 10 | v min 0
 supplies at every node | p min 3 3; n 1 2; n 2 -1; n 3 -1; a 1 2 0 2 1; a 2 3 0 2 1; a 1 3 0 2 3 | 10 | v min 3
 two sources for two demands | p min 4 4; n 1 2; n 2 2; n 3 -2; n 4 -2; a 1 3 0 2 1; a 1 4 0 2 5; a 2 3 0 2 2; a 2 4 0 2 3 | 10 | v min 8
+three arcs between two nodes, the cheapest first filled | p min 2 3; n 1 5; n 2 -5; a 1 2 0 3 4; a 1 2 0 3 1; a 1 2 1 3 9 | 10 | v min 16
+two equal arcs | p min 2 2; n 1 3; n 2 -3; a 1 2 0 2 1; a 1 2 0 2 1 | 10 | v min 3
+two arcs of negative cost and one back | p min 2 3; a 1 2 0 2 -3; a 1 2 0 2 -1; a 2 1 0 3 2 | 10 | v min -2
+two loops at one node | p min 1 2; a 1 1 0 2 -1; a 1 1 1 2 1 | 0 | v min -1
 a cost near the end of its range | p min 1 1; a 1 1 0 9000000000000000000 9000000000000000000 | 10 | v min 0
 a cost out of its range | p min 1 1; a 1 1 0 9000000000000000000 -9000000000000000000 | 10 | g limit
 a path longer than a number of 64 bits | p min 4 3; n 1 1; n 4 -1; a 1 2 0 1 9223372036854775807; a 2 3 0 1 9223372036854775807; a 3 4 0 1 9223372036854775807 | 10 | v min 27670116110564327421
 as much as fits on an arc | p min 3 2; n 1 9223372036854775807; n 3 -9223372036854775807; a 1 2 0 9223372036854775807 1; a 2 3 0 9223372036854775807 -1 | 10 | v min 0";
 
+type Instance = MinInstance<ForwardStar<ArcView>>;
+
 /// An instance, of lines parted by semicolons.
-fn instance(alloc: Global, lines: &str) -> Result<MinInstance<PlainArcs<ArcView>>, Fail> {
+fn instance(alloc: Global, lines: &str) -> Result<Instance, Fail> {
     let mut text = Vec::new(alloc);
     for byte in lines.bytes() {
         text.push(if byte == b';' { b'\n' } else { byte })?;
@@ -50,7 +56,7 @@ fn instance(alloc: Global, lines: &str) -> Result<MinInstance<PlainArcs<ArcView>
 /// What is told of an answer: what the judge says of it.
 fn told(
     alloc: Global,
-    instance: &MinInstance<PlainArcs<ArcView>>,
+    instance: &Instance,
     answer: MinAnswer,
 ) -> Result<String, Fail> {
     match answer {
