@@ -17,7 +17,8 @@ ghost use Rattle.dimacs_runs.specs.Shown.{shown, shown_max, shown_min, shown_gra
 use crate::texts::Text;
 use dimacs_instance::{
     ArcView, CapacityArc, Graph, MaxInstance, MinInstance, Network, PlainArcs, Queries, WeightArc,
-    read_graph, read_max, read_min, read_queries, write_graph, write_max, write_min, write_queries,
+    read_plain_graph, read_plain_max, read_plain_min, read_queries, write_graph, write_max,
+    write_min, write_queries,
 };
 use dimacs_lines::{DeviceFault, Sink, Source};
 use dimacs_records::{Part, ReadError, put_line};
@@ -43,7 +44,7 @@ impl Text for MaxInstance<PlainArcs<CapacityArc>> {
     }
 
     fn read<S: Source>(alloc: Global, source: &mut S) -> Result<Self, ReadError> {
-        read_max(alloc, source)
+        read_plain_max(alloc, source)
     }
 
     fn write<K: Sink>(&self, sink: &mut K) -> Result<(), DeviceFault> {
@@ -86,7 +87,7 @@ impl Text for MinInstance<PlainArcs<ArcView>> {
     }
 
     fn read<S: Source>(alloc: Global, source: &mut S) -> Result<Self, ReadError> {
-        read_min(alloc, source)
+        read_plain_min(alloc, source)
     }
 
     fn write<K: Sink>(&self, sink: &mut K) -> Result<(), DeviceFault> {
@@ -130,7 +131,7 @@ impl Text for Graph<PlainArcs<WeightArc>> {
     }
 
     fn read<S: Source>(alloc: Global, source: &mut S) -> Result<Self, ReadError> {
-        read_graph(alloc, source)
+        read_plain_graph(alloc, source)
     }
 
     fn write<K: Sink>(&self, sink: &mut K) -> Result<(), DeviceFault> {

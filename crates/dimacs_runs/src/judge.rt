@@ -72,7 +72,8 @@ fn tell_max<P: Source, Q: Source, R: Source>(
         certificate,
     ) {
         Ok((instance, solution, cut)) => {
-            answer_told(judge_max(alloc, &instance, &solution, &cut))
+            let indexed = instance.indexed(alloc)?;
+            answer_told(judge_max(alloc, &indexed, &solution, &cut))
         }
         Err(unread) => unread.told(),
     }
@@ -97,7 +98,8 @@ fn tell_min<P: Source, Q: Source, R: Source>(
         certificate,
     ) {
         Ok((instance, solution, potentials)) => {
-            answer_told(judge_min(alloc, &instance, &solution, &potentials))
+            let indexed = instance.indexed(alloc)?;
+            answer_told(judge_min(alloc, &indexed, &solution, &potentials))
         }
         Err(unread) => unread.told(),
     }
@@ -135,7 +137,8 @@ fn tell_paths<P: Source, Q: Source, R: Source>(
         alloc, graph, queries, labels,
     ) {
         Ok((graph, queries, labels)) => {
-            answer_told(judge_paths(alloc, &graph, &queries, &labels))
+            let indexed = graph.indexed(alloc)?;
+            answer_told(judge_paths(alloc, &indexed, &queries, &labels))
         }
         Err(unread) => unread.told(),
     }

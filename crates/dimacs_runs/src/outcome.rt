@@ -3,7 +3,7 @@
 ghost use Rattle.std.specs.Prelude.{◌≡◌};
 ghost use Rattle.dimacs_runs.specs.Outcomes.{status_number};
 
-use dimacs_lines::DeviceFault;
+use dimacs_lines::{DeviceFault, Memory};
 
 /// What was put at the end of a run.
 #[derive(Clone, Copy, Debug, PartialEq, Eq)]
@@ -32,6 +32,16 @@ impl From<DeviceFault> for RunError {
 
     fn from(_fault: DeviceFault) -> RunError {
         RunError::Device
+    }
+}
+
+impl From<Memory> for RunError {
+    ghost use Rattle.dimacs_runs.specs.declared.outcome.RunError.TheVariants as errors;
+
+    ghost from_gives = { λ memory error. error ≡ errors.Memory };
+
+    fn from(_memory: Memory) -> RunError {
+        RunError::Memory
     }
 }
 

@@ -10,14 +10,14 @@ use Rattle.dimacs_runs.proofs.JudgingLemmas.{answer_alone, three_told, three_val
 use Rattle.dimacs_runs.proofs.judge.tell_min.Goals as goal
 
 -- the texts were read, and the judge answered
-pub returns-in-Ok-clause-told : goal.returns-in-Ok-clause-told
-returns-in-Ok-clause-told g c = λ a b d first second third.
+pub returns-in_ok-indexed-in-Ok-clause-told : goal.returns-in_ok-indexed-in-Ok-clause-told
+returns-in_ok-indexed-in-Ok-clause-told g c = λ a b d first second third.
     let read = c.in-Ok.ensures.reads a b d first second third in
     let i = c.in-Ok.instance in
     let s = claimed c.in-Ok.solution in
     let p = c.in-Ok.potentials in
     rw c.answer_told.ensures (three_values (says kinds.Min SpellsMin a) (says kinds.Solution SpellsSolution b) (says kinds.Potentials SpellsPotentials d) (λ i s p. VerdictOr (ShowsLeast i s p) (min_rows i s p) (min_line s.value)) i s p _ read.0 read.1 read.2
-    (answer_alone (ShowsLeast i s p) (min_rows i s p) _ (min_line s.value) (λ verdict is. ap verdict_lines is) c.judge_min.result c.judge_min.ensures))
+    (answer_alone (ShowsLeast i s p) (min_rows i s p) _ (min_line s.value) (λ verdict is. ap verdict_lines is) c.judge_min.result (rw c.in_ok-indexed-in-Ok.ensures at c.judge_min.ensures)))
 
 -- a text could not be read
 pub returns-in-Err-clause-told : goal.returns-in-Err-clause-told
