@@ -1,15 +1,13 @@
 -- What a search that is over tells.
-use Rattle.std.proofs.Common.{◌≡◌, ◌⊎◌, inl, inr, ℕ, zero, suc, ◌+◌, ◌<◌, ◌≤◌, ◌==◌, ◌&&◌, ◌||◌, Bool, true, false, not, nat_lt, List, length, ℤ, pos, ◌-ℤ◌, ◌≤ℤ◌, ◌<ℤ◌, refl, sym, ap, subst, ◌∙◌, arith, eq-eqb}
+use Rattle.std.proofs.Common.{◌≡◌, inl, inr, ℕ, zero, suc, ◌+◌, ◌<◌, ◌≤◌, ◌&&◌, Bool, true, false, not, nat_lt, List, length, ℤ, pos, ◌-ℤ◌, ◌≤ℤ◌, ◌<ℤ◌, refl, sym, ◌∙◌, arith, eq-eqb}
 use Rattle.std.proofs.lemmas.Int.{ints, by_lt_z}
 use Rattle.std.proofs.lemmas.Bool.{cases_order, lt-ltb, ne_eqb, false≢true}
 use borrow.Author.Tests.{ltb-true}
-use Rattle.std.specs.List.{AllZip}
-use Rattle.std.specs.FinSet.{contains, contains-empty}
+use Rattle.std.specs.FinSet.{contains-empty}
 use Rattle.std.specs.Ordering.{nat_cmp}
 use Rattle.dimacs_nodes.proofs.Nodes.{contains-insert}
 use Rattle.dimacs_claims.specs.Cuts.{CutValue, empty_cut, with_node}
 use Rattle.dimacs_records.specs.Ranges.{IsNode}
-use Rattle.dimacs_instance.specs.declared.network.ArcView.{ArcView}
 use Rattle.dimacs_instance.specs.MaxFlows.{MaxValue, IsMax}
 use Rattle.dimacs_judge.specs.Cuts.{CutTight, IsTightAt, members}
 use Rattle.dimacs_judge.specs.Feasible.{FeasibleMax, value}
@@ -29,7 +27,7 @@ tight_arc true false z cap h g to back = (λ e. by_lt_z z cap (λ l. absurd (fal
 tight_arc false true z cap h g to back = (λ e. absurd (false≢true e), λ e. by_lt_z (pos 0) z (λ l. absurd (false≢true (back refl l))) (λ l. omega (arith, ints, l, h)))
 tight_arc false false z cap h g to back = (λ e. absurd (false≢true e), λ e. absurd (false≢true e))
 
-module _ (i : MaxValue) (x : List ℤ) (visits : List Visit) (set : ℕ → Bool) (law : IsMax i) (feasible : FeasibleMax i x) (is : IsExplored i.arcs x i.source i.sink visits) (out : rank_of visits i.sink ≡ 0)
+module _ (i : MaxValue) (x : List ℤ) (visits : ℕ → Visit) (set : ℕ → Bool) (law : IsMax i) (feasible : FeasibleMax i x) (is : IsExplored i.arcs x i.source i.sink visits) (out : rank_of visits i.sink ≡ 0)
     (same : (v : ℕ) → IsNode i.nodes v → set v ≡ is_in visits v) where
   goes_on : (side : Side) (k : ℕ) (from to : ℕ) → k < length i.arcs → IsNode i.nodes from → IsNode i.nodes to → set from ≡ true → (0 < rank_of visits from → 0 < rank_of visits to) → set to ≡ true
   goes_on side k from to h here there inside step = same to there ∙ lt-ltb 0 (rank_of visits to) (step (ltb-true 0 (rank_of visits from) (sym (same from here) ∙ inside)))
@@ -57,19 +55,19 @@ pub better_tells : (i : MaxValue) (x y : List ℤ) → FeasibleMax i y → value
 better_tells i x y feasible more best = let le = best.greatest y feasible in omega (arith, ints, le, more)
 
 -- ---- the nodes that were reached
-pub record IsCutBelow (visits : List Visit) (nodes id : ℕ) (cut : CutValue) : Type 0 where
+pub record IsCutBelow (visits : ℕ → Visit) (nodes id : ℕ) (cut : CutValue) : Type 0 where
   pub of : cut.nodes ≡ nodes
   pub below : (v : ℕ) → 1 ≤ v → v < id → members cut v ≡ is_in visits v
   pub above : (v : ℕ) → id ≤ v → members cut v ≡ false
 
-pub cut_none : (visits : List Visit) (nodes : ℕ) → IsCutBelow visits nodes 1 (empty_cut nodes)
+pub cut_none : (visits : ℕ → Visit) (nodes : ℕ) → IsCutBelow visits nodes 1 (empty_cut nodes)
 cut_none visits nodes = record {
   of = refl;
   below = λ v some less. absurd (omega (arith, some, less));
   above = λ v more. contains-empty nat_cmp v;
 }
 
-pub cut_more_out : (visits : List Visit) (nodes id : ℕ) (cut : CutValue) → IsCutBelow visits nodes id cut → is_in visits id ≡ false → IsCutBelow visits nodes (id + 1) cut
+pub cut_more_out : (visits : ℕ → Visit) (nodes id : ℕ) (cut : CutValue) → IsCutBelow visits nodes id cut → is_in visits id ≡ false → IsCutBelow visits nodes (id + 1) cut
 cut_more_out visits nodes id cut is out = record {
   of = is.of;
   below = λ v some less. elim (cases_order v id) [
@@ -79,7 +77,7 @@ cut_more_out visits nodes id cut is out = record {
   above = λ v more. is.above v (omega (arith, more));
 }
 
-pub cut_more_in : (visits : List Visit) (nodes id : ℕ) (cut : CutValue) → IsCutBelow visits nodes id cut → is_in visits id ≡ true → IsCutBelow visits nodes (id + 1) (with_node cut id)
+pub cut_more_in : (visits : ℕ → Visit) (nodes id : ℕ) (cut : CutValue) → IsCutBelow visits nodes id cut → is_in visits id ≡ true → IsCutBelow visits nodes (id + 1) (with_node cut id)
 cut_more_in visits nodes id cut is inside =
     let there : members (with_node cut id) id ≡ true = contains-insert cut.ids id id ∙ rw (eq-eqb id id refl) refl in
     let other : (v : ℕ) → (v ≡ id → ⊥) → members (with_node cut id) v ≡ members cut v = λ v ne. contains-insert cut.ids id v ∙ rw (ne_eqb v id ne) refl in

@@ -1,11 +1,10 @@
 -- A flow raised along a way whose ranks fall from the sink to the source.
-use Rattle.std.proofs.Common.{◌≡◌, ◌≢◌, ◌⊎◌, inl, inr, ℕ, suc, zero, ◌+◌, ◌==◌, ◌<◌, ◌≤◌, ℤ, pos, ◌+ℤ◌, ◌-ℤ◌, ◌≤ℤ◌, ◌<ℤ◌, Bool, true, false, neg_ℤ, List, [], ◌∷◌, All, length, get_or, set, refl, sym, ap, subst, eq-eqb, ◌∙◌, arith}
+use Rattle.std.proofs.Common.{◌≡◌, ◌≢◌, ℕ, suc, zero, ◌==◌, ◌<◌, ℤ, pos, ◌+ℤ◌, ◌-ℤ◌, ◌≤ℤ◌, ◌<ℤ◌, Bool, true, false, neg_ℤ, List, [], ◌∷◌, length, get_or, set, refl, sym, ap, subst, eq-eqb, ◌∙◌, arith}
 use Rattle.std.proofs.lemmas.Int.{ints}
 use Rattle.std.proofs.lemmas.Bool.{ne_eqb}
 use Rattle.std.proofs.lemmas.List.{get_or-set_other}
 use Rattle.std.specs.List.{AllZip}
 use Rattle.dimacs_instance.specs.declared.network.ArcView.{ArcView}
-use Rattle.dimacs_instance.specs.Arcs.{JoinsNodes}
 use Rattle.dimacs_instance.specs.MaxFlows.{MaxValue}
 use Rattle.dimacs_judge.specs.Feasible.{FeasibleMax, value}
 use Rattle.dimacs_judge.specs.Flows.{sum_arcs, when, net}
@@ -16,7 +15,7 @@ use Rattle.dimacs_decide.specs.declared.search.Visit.{Visit}
 use Rattle.dimacs_decide.specs.Sides.{end_of, other_end, room_at}
 use Rattle.dimacs_decide.specs.Residual.{KeepsBounds, IsReachedBy, rank_of, room_of, via_of}
 use Rattle.dimacs_decide.specs.Raising.{Pushed, IsRaising}
-use Rattle.dimacs_decide.proofs.SideLemmas.{near_within, AllZip-at, length-AllZip}
+use Rattle.dimacs_decide.proofs.SideLemmas.{AllZip-at, length-AllZip}
 
 -- ---- one amount changed
 sum_arcs-set : (f : ArcView → ℤ → ℤ) (arcs : List ArcView) (y : List ℤ) (k : ℕ) (z : ℤ) → k < length arcs → k < length y
@@ -100,10 +99,9 @@ push_all i rank x y amount p apart some f =
       omega (arith, ints, more, some),
     )
 
-pub raising_none : (arcs : List ArcView) (x : List ℤ) (visits : List Visit) (sink : ℕ) → sink < length visits → 0 < rank_of visits sink → pos 0 <ℤ room_of visits sink → KeepsBounds arcs x
+pub raising_none : (arcs : List ArcView) (x : List ℤ) (visits : ℕ → Visit) (sink : ℕ) → 0 < rank_of visits sink → pos 0 <ℤ room_of visits sink → KeepsBounds arcs x
     → IsRaising arcs x x visits sink sink (room_of visits sink)
-raising_none arcs x visits sink inside reached some within = record {
-  inside = inside;
+raising_none arcs x visits sink reached some within = record {
   reached = reached;
   some = some;
   room = omega (arith, ints);
@@ -120,7 +118,7 @@ from_head : (side : Side) (a : ArcView) (v : ℕ) → other_end side a ≡ v →
 from_head Tail a v to ne = absurd (ne to)
 from_head Head a v to ne = refl
 
-module _ (nodes : ℕ) (arcs : List ArcView) (x y : List ℤ) (visits : List Visit) (t at : ℕ) (amount : ℤ) (size : length visits ≡ nodes + 1) (joined : All (JoinsNodes nodes) arcs)
+module _ (arcs : List ArcView) (x y : List ℤ) (visits : ℕ → Visit) (t at : ℕ) (amount : ℤ)
     (now : IsRaising arcs x y visits t at amount) (by : IsReachedBy arcs x visits at) where
   abbrev k : ℕ
   k = via_of visits at
@@ -173,7 +171,6 @@ module _ (nodes : ℕ) (arcs : List ArcView) (x y : List ℤ) (visits : List Vis
   step_forward e =
       let (to, reached, falls, before, room) = forward e in
       record {
-        inside = omega (arith, size, (near_within Tail nodes arcs k joined by.within).1);
         reached = reached;
         some = now.some;
         room = omega (arith, ints, now.room, before);
@@ -184,7 +181,6 @@ module _ (nodes : ℕ) (arcs : List ArcView) (x y : List ℤ) (visits : List Vis
   step_backward ne =
       let (to, reached, falls, before, room) = backward ne in
       record {
-        inside = omega (arith, size, (near_within Head nodes arcs k joined by.within).1);
         reached = reached;
         some = now.some;
         room = omega (arith, ints, now.room, before);

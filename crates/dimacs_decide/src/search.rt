@@ -1,9 +1,10 @@
 //! The search over the steps that a flow leaves.
 
-ghost use Rattle.std.specs.Prelude.{List, ℤ, ◌≡◌, ◌<◌, ◌≤◌, ◌+◌, ◌<ℤ◌, pos, All, length, slice_index, IfOk, OnOk};
+ghost use Rattle.std.specs.Prelude.{ℕ, List, ℤ, ◌≡◌, ◌<◌, ◌≤◌, ◌+◌, ◌<ℤ◌, pos, All, length, slice_index, IfOk, OnOk};
 ghost use Rattle.dimacs_instance.specs.declared.network.ArcView.{ArcView};
 ghost use Rattle.dimacs_instance.specs.Arcs.{JoinsNodes};
 ghost use Rattle.dimacs_records.specs.Ranges.{IsNode};
+ghost use Rattle.dimacs_nodes.specs.Tables.{value_of};
 ghost use Rattle.dimacs_decide.specs.Links.{IsIncidenceOf};
 ghost use Rattle.dimacs_decide.specs.Residual.{Grows, IsExplored, IsNext, IsPassed, IsSearch, KeepsBounds, Reaches, rank_of, room_of};
 
@@ -12,6 +13,7 @@ use crate::sides::Side;
 use dimacs_instance::Network;
 use dimacs_judge::Flow;
 use dimacs_lines::Memory;
+use dimacs_nodes::NodeTable;
 use std::alloc::Global;
 
 /// How a search came to a node: how much can be sent there, after how many others (0: not at all), and by which arc.
@@ -43,29 +45,28 @@ fn next_visit(from: Visit, via: u32, room: i64) -> Visit
 #[derive(Drop)]
 struct Search {
     source: u32,
-    visits: Vec<Visit>,
+    visits: NodeTable<Visit>,
     queue: Vec<u32>,
 }
 
 impl Search {
     /// The search that has reached its source alone.
-    fn new(alloc: Global, nodes: u32, source: u32) -> Result<Search, Memory>
-        requires few_nodes { nodes ≤ 134217728 }
-        requires source { IsNode nodes source }
+    fn new(alloc: Global, source: u32) -> Result<Search, Memory>
         ensures source { IfOk result (λ search. search.source ≡ source) }
-        ensures size { IfOk result (λ search. length search.visits.items ≡ nodes + 1) }
-        ensures begun { IfOk result (λ search. (arcs : List ArcView) (x : List ℤ) → IsSearch arcs x source search.visits.items search.queue.items 0) }
+        ensures begun { IfOk result (λ search. (nodes : ℕ) (arcs : List ArcView) (x : List ℤ) → source ≤ nodes → IsSearch nodes arcs x source (value_of search.visits) search.queue.items 0) }
     {
-        let mut visits = vec![in alloc; Visit {
+        let unvisited = Visit {
             room: 0,
             rank: 0,
-            via: 0
-        }; nodes as usize + 1]?;
-        visits[source as usize] = Visit {
+            via: 0,
+        };
+        let first = Visit {
             room: i64::MAX,
             rank: 1,
             via: 0,
         };
+        let mut visits = NodeTable::new(alloc, unvisited);
+        visits.set(source, first)?;
         let mut queue = Vec::new(alloc);
         queue.push(source)?;
         Ok(Search {
@@ -78,18 +79,17 @@ impl Search {
     /// Reaches a node from another by an arc with this room, if there is some and the node was not reached.
     #[inline(always)]
     fn reach(&mut self, from: u32, to: u32, via: u32, room: i64) -> Result<(), Memory>
-        requires from { from < length self.old.visits.items }
-        requires to { to < length self.old.visits.items }
-        requires rank { rank_of self.old.visits.items from < 4294967295 }
-        requires some { pos 0 <ℤ room_of self.old.visits.items from }
+        requires rank { rank_of (value_of self.old.visits) from < 4294967295 }
+        requires some { pos 0 <ℤ room_of (value_of self.old.visits) from }
         ensures source { self.new.source ≡ self.old.source }
-        ensures reaches { OnOk result (Reaches from to via room self.old.visits.items self.old.queue.items self.new.visits.items self.new.queue.items) }
+        ensures reaches { OnOk result (Reaches from to via room (value_of self.old.visits) self.old.queue.items (value_of self.new.visits) self.new.queue.items) }
     {
-        if room <= 0 || self.visits[to as usize].rank > 0 {
+        if room <= 0 || self.visits.get(to).rank > 0 {
             return Ok(());
         }
+        let visit = next_visit(self.visits.get(from), via, room);
+        self.visits.set(to, visit)?;
         self.queue.push(to)?;
-        self.visits[to as usize] = next_visit(self.visits[from as usize], via, room);
         Ok(())
     }
 
@@ -104,15 +104,14 @@ impl Search {
     ) -> Result<(), Memory>
         requires joined { All (JoinsNodes (N.node_count network.now)) (N.list network.now) }
         requires within { KeepsBounds (N.list network.now) flow.now }
-        requires incidence { IsIncidenceOf (N.node_count network.now) (N.list network.now) incidence.now }
-        requires size { length self.old.visits.items ≡ N.node_count network.now + 1 }
+        requires incidence { IsIncidenceOf (N.list network.now) incidence.now }
         requires few_nodes { N.node_count network.now ≤ 134217728 }
         requires at { at < length self.old.queue.items }
-        requires search { IsSearch (N.list network.now) flow.now self.old.source self.old.visits.items self.old.queue.items at }
+        requires search { IsSearch (N.node_count network.now) (N.list network.now) flow.now self.old.source (value_of self.old.visits) self.old.queue.items at }
         ensures source { OnOk result (self.new.source ≡ self.old.source) }
-        ensures search { OnOk result (IsSearch (N.list network.now) flow.now self.old.source self.new.visits.items self.new.queue.items at) }
-        ensures passed { OnOk result (IsPassed (N.list network.now) flow.now self.new.visits.items (slice_index self.old.queue.items at) side) }
-        ensures grows { OnOk result (Grows self.old.visits.items self.old.queue.items self.new.visits.items self.new.queue.items) }
+        ensures search { OnOk result (IsSearch (N.node_count network.now) (N.list network.now) flow.now self.old.source (value_of self.new.visits) self.new.queue.items at) }
+        ensures passed { OnOk result (IsPassed (N.list network.now) flow.now (value_of self.new.visits) (slice_index self.old.queue.items at) side) }
+        ensures grows { OnOk result (Grows (N.node_count network.now) (value_of self.old.visits) self.old.queue.items (value_of self.new.visits) self.new.queue.items) }
     {
         let links = incidence.links(side);
         let from = self.queue[at];
@@ -139,14 +138,12 @@ impl Search {
         requires joined { All (JoinsNodes (N.node_count network.now)) (N.list network.now) }
         requires within { KeepsBounds (N.list network.now) flow.now }
         requires sink { IsNode (N.node_count network.now) sink }
-        requires incidence { IsIncidenceOf (N.node_count network.now) (N.list network.now) incidence.now }
-        requires size { length self.old.visits.items ≡ N.node_count network.now + 1 }
-        requires search { IsSearch (N.list network.now) flow.now self.old.source self.old.visits.items self.old.queue.items 0 }
-        ensures size { OnOk result (length self.new.visits.items ≡ length self.old.visits.items) }
-        ensures explored { OnOk result (IsExplored (N.list network.now) flow.now self.old.source sink self.new.visits.items) }
+        requires incidence { IsIncidenceOf (N.list network.now) incidence.now }
+        requires search { IsSearch (N.node_count network.now) (N.list network.now) flow.now self.old.source (value_of self.old.visits) self.old.queue.items 0 }
+        ensures explored { OnOk result (IsExplored (N.list network.now) flow.now self.old.source sink (value_of self.new.visits)) }
     {
         let mut at = 0;
-        while at < self.queue.len() && self.visits[sink as usize].rank == 0 {
+        while at < self.queue.len() && self.visits.get(sink).rank == 0 {
             self.pass(network, flow, incidence, Side::Tail, at)?;
             self.pass(network, flow, incidence, Side::Head, at)?;
             at += 1;
@@ -163,17 +160,16 @@ pub(crate) fn explored<N: Network>(
     incidence: &Incidence,
     source: u32,
     sink: u32,
-) -> Result<Vec<Visit>, Memory>
+) -> Result<NodeTable<Visit>, Memory>
     requires few_nodes { N.node_count network.now ≤ 134217728 }
     requires joined { All (JoinsNodes (N.node_count network.now)) (N.list network.now) }
     requires within { KeepsBounds (N.list network.now) flow.now }
-    requires incidence { IsIncidenceOf (N.node_count network.now) (N.list network.now) incidence.now }
+    requires incidence { IsIncidenceOf (N.list network.now) incidence.now }
     requires source { IsNode (N.node_count network.now) source }
     requires sink { IsNode (N.node_count network.now) sink }
-    ensures size { IfOk result (λ visits. length visits.items ≡ N.node_count network.now + 1) }
-    ensures explored { IfOk result (λ visits. IsExplored (N.list network.now) flow.now source sink visits.items) }
+    ensures explored { IfOk result (λ visits. IsExplored (N.list network.now) flow.now source sink (value_of visits)) }
 {
-    let mut search = Search::new(alloc, network.nodes(), source)?;
+    let mut search = Search::new(alloc, source)?;
     search.explore(network, flow, incidence, sink)?;
     Ok(search.visits)
 }

@@ -1,4 +1,5 @@
 use Rattle.std.proofs.Common.{◌≡◌, ◌∙◌, ◌<◌, length, arith, sym, subst, slice_index}
+use Rattle.dimacs_nodes.specs.Tables.{value_of}
 use Rattle.dimacs_decide.specs.declared.sides.Side.TheVariants.{Tail, Head}
 use Rattle.dimacs_decide.specs.Residual.{IsPassed}
 use Rattle.dimacs_decide.proofs.SearchLemmas.{passed_still, search_next}
@@ -15,12 +16,11 @@ loop-at-preserved g c =
     let between : at < length c.pass.new.self.queue.items = omega (arith, before, one.grows.longer) in
     let first : slice_index c.pass.new.self.queue.items at ≡ slice_index c.loop-at.self.queue.items at = one.grows.places at before in
     let second : slice_index c.pass-in-loop-at.new.self.queue.items at ≡ slice_index c.pass.new.self.queue.items at = two.grows.places at between in
-    let tail = passed_still arcs x c.pass.new.self.visits.items c.pass-in-loop-at.new.self.visits.items (slice_index c.loop-at.self.queue.items at) Tail two.grows.reached one.passed in
+    let tail = passed_still arcs x (value_of c.pass.new.self.visits) (value_of c.pass-in-loop-at.new.self.visits) (slice_index c.loop-at.self.queue.items at) Tail two.grows.reached one.passed in
     record {
       source = two.source ∙ (one.source ∙ c.loop-at.invariant.source);
-      size = two.grows.size ∙ one.grows.size ∙ c.loop-at.invariant.size;
-      search = rw two.source (search_next arcs x c.pass.new.self.source c.pass-in-loop-at.new.self.visits.items c.pass-in-loop-at.new.self.queue.items at two.search
-          (subst (λ v. IsPassed arcs x c.pass-in-loop-at.new.self.visits.items v Tail) (sym (second ∙ first)) tail)
-          (subst (λ v. IsPassed arcs x c.pass-in-loop-at.new.self.visits.items v Head) (sym second) two.passed));
+      search = rw two.source (search_next (g.N.Network.node_count c.args.network.now) arcs x c.pass.new.self.source (value_of c.pass-in-loop-at.new.self.visits) c.pass-in-loop-at.new.self.queue.items at two.search
+          (subst (λ v. IsPassed arcs x (value_of c.pass-in-loop-at.new.self.visits) v Tail) (sym (second ∙ first)) tail)
+          (subst (λ v. IsPassed arcs x (value_of c.pass-in-loop-at.new.self.visits) v Head) (sym second) two.passed));
       within = omega (arith, between, two.grows.longer);
     }

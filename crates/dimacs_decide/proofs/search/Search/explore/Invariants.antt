@@ -1,4 +1,5 @@
 use Rattle.std.proofs.Common.{◌≡◌, ◌+◌, ◌-◌, ◌≤◌, length}
+use Rattle.dimacs_nodes.specs.Tables.{value_of}
 use Rattle.dimacs_decide.specs.Residual.{IsSearch, unreached}
 use Rattle.dimacs_decide.proofs.search.Search.explore.Given as goal
 
@@ -6,10 +7,9 @@ use Rattle.dimacs_decide.proofs.search.Search.explore.Given as goal
 abbrev pub invariant-loop-at : goal.invariant-loop-at
 invariant-loop-at g l = record {
   source : l.self.source ≡ l.initial.self.source;
-  size : length l.self.visits.items ≡ length l.initial.self.visits.items;
-  search : IsSearch (g.N.Network.list l.network) l.flow l.self.source l.self.visits.items l.self.queue.items l.at;
+  search : IsSearch (g.N.Network.node_count l.network) (g.N.Network.list l.network) l.flow l.self.source (value_of l.self.visits) l.self.queue.items l.at;
   within : l.at ≤ length l.self.queue.items;
 }
 
 abbrev pub decreases-loop-at : goal.decreases-loop-at
-decreases-loop-at g l = (unreached l.self.visits.items + length l.self.queue.items) - l.at
+decreases-loop-at g l = (unreached (value_of l.self.visits) (g.N.Network.node_count l.network + 1) + length l.self.queue.items) - l.at
