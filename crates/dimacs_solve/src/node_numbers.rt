@@ -20,12 +20,18 @@ impl NodeNumbers {
         alloc: Global,
         instance: &MinInstance<N>,
     ) -> Result<NodeNumbers, Memory> {
+        let mut numbers = NodeNumbers::of_ends(alloc, instance.network())?;
+        numbers.add_supplied(instance)?;
+        Ok(numbers)
+    }
+
+    /// Numbers the nodes that have an arc, in the order in which they occur.
+    pub fn of_ends<N: Network>(alloc: Global, network: &N) -> Result<NodeNumbers, Memory> {
         let mut numbers = NodeNumbers {
             numbers: NodeMap::new(alloc),
             ids: Vec::new(alloc),
         };
-        numbers.add_ends(instance.network())?;
-        numbers.add_supplied(instance)?;
+        numbers.add_ends(network)?;
         Ok(numbers)
     }
 
