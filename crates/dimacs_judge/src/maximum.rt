@@ -1,8 +1,7 @@
 //! Judging that a flow is maximum.
 
-ghost use Rattle.std.specs.Prelude.{◌≡◌, ◌+◌, List, ℤ, length};
+ghost use Rattle.std.specs.Prelude.{◌≡◌, List, ℤ};
 ghost use Rattle.dimacs_claims.specs.SolutionTexts.{claimed};
-ghost use Rattle.dimacs_records.specs.Ranges.{IsNode};
 ghost use Rattle.dimacs_judge.specs.declared.verdict.Verdict.TheVariants.{Max};
 ghost use Rattle.dimacs_judge.specs.Agreement.{value_row};
 ghost use Rattle.dimacs_judge.specs.Feasible.{value};
@@ -23,7 +22,7 @@ use std::alloc::Global;
 
 /// Whether the cut shows that the solution's flow is maximum. A yes, `Max` with the claimed value, means that the flow
 /// is feasible and has this value, and that no feasible flow of whole numbers has a greater one. `Memory` where there is
-/// none for a flow and a table of the nodes; it says nothing of the claim.
+/// none for a flow and a table of the nodes that have arcs; it says nothing of the claim.
 ///
 /// The tests in their order: each entry, `UnknownArc` or `ArcTwice` at its line; each arc, from 1, `BelowLow` or
 /// `AboveCap`; each node but source and sink, by ID, `Balance`; the value, `ValueDiffers` at its line; `NodesDiffer`,
@@ -51,9 +50,7 @@ fn value_holds<N: Network>(
     balances: &Balances,
     solution: &Solution,
 ) -> Result<(), (Where, Reason)>
-    requires source { IsNode instance.now.nodes instance.now.source }
-    requires one_each { length balances.now ≡ instance.now.nodes + 1 }
-    ensures { (x : List ℤ) → AreBalances instance.now.nodes instance.now.arcs x balances.now → TellsRow (value_row (value instance.now x) solution.now.value solution.now.value_line) result }
+    ensures { (x : List ℤ) → AreBalances instance.now.arcs x balances.now → TellsRow (value_row (value instance.now x) solution.now.value solution.now.value_line) result }
 {
     value_agrees(balances.of(instance.source()), solution)
 }
