@@ -1,7 +1,7 @@
 //! Augmenting paths of reduced cost 0.
 
-use crate::pseudoflow::{Mark, Node, add_excess, excess_of, set_mark};
-use crate::residual_arcs::{ResidualArc, ResidualArcs};
+use crate::least::pseudoflow::{Mark, Node, add_excess, excess_of, set_mark};
+use crate::least::residual_arcs::{ResidualArc, ResidualArcs};
 use dimacs_lines::Memory;
 use std::alloc::Global;
 

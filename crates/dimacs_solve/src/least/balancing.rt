@@ -1,8 +1,8 @@
 //! Successive shortest paths.
 
-use crate::augmenting::Augmenter;
-use crate::pseudoflow::{Pseudoflow, excess_of};
-use crate::shortest::Search;
+use crate::least::augmenting::Augmenter;
+use crate::least::pseudoflow::{Pseudoflow, excess_of};
+use crate::least::shortest::Search;
 use dimacs_lines::Memory;
 use std::alloc::Global;
 

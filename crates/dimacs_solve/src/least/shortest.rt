@@ -1,8 +1,8 @@
 //! Shortest paths from the nodes with excess, by Dijkstra's search.
 
-use crate::pseudoflow::{FAR, Mark, Node};
-use crate::residual_arcs::{ResidualArc, ResidualArcs};
-use crate::waiting::{Reach, Waiting};
+use crate::least::pseudoflow::{FAR, Mark, Node};
+use crate::least::residual_arcs::{ResidualArc, ResidualArcs};
+use crate::least::waiting::{Reach, Waiting};
 use dimacs_lines::Memory;
 use std::alloc::Global;
 

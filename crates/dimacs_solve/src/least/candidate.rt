@@ -3,8 +3,8 @@
 ghost use Rattle.std.specs.Prelude.{◌≡◌, IfOk};
 ghost use Rattle.dimacs_solve.specs.SolveMin.{AreEntriesOf, IsCandidate};
 
-use crate::balancing::{Ending, balance};
-use crate::pseudoflow::{Mark, Pseudoflow};
+use crate::least::balancing::{Ending, balance};
+use crate::least::pseudoflow::{Mark, Pseudoflow};
 use dimacs_claims::{Cut, Entry, Potentials, Solution};
 use dimacs_instance::{MinInstance, Network};
 use dimacs_lines::{Memory, WIDE};
