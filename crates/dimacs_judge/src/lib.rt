@@ -33,8 +33,9 @@ pub use labels::label_tests;
 pub use laws::{
     exchange, labels_give_distances, slack_is_least, tight_cut_is_maximum, violated_has_no_flow,
 };
-pub use least::judge_min;
-pub use maximum::judge_max;
+pub use least::{judge_min, judge_min_placed};
+pub use maximum::{judge_max, judge_max_placed};
 pub use paths::judge_paths;
+pub use places::FlowPlaces;
 pub use potentials::slack_tests;
 pub use verdict::{Answer, JudgeError, Verdict, Where};

@@ -13,6 +13,7 @@ loop-lines-init g c = record {
   counted = ap (λ (s : State). s.given) c.in_ok-lines.ensures;
   few = omega arith;
   read = λ text h. read_nothing c.args.kind c.in_ok-lines.lines text _ _ (ap (λ (s : State). s.held) c.in_ok-lines.ensures) h c.requires.new;
+  kept = λ value keeps. keeps;
   sound = refl;
 }
 

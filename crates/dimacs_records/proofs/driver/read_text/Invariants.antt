@@ -14,6 +14,7 @@ invariant-loop-lines g l = record {
   counted : l.lines.given ≡ l.count;
   few : l.count ≤ MAX_LINES;
   read : (text : List ℕ) → g.S.Source.coming l.fn.source ≡ Some text → IsReadSoFar l.kind (lines text) l.count (text_left l.lines (g.S.Source.coming l.source)) (g.R.Reading.stands_for l.reading);
+  kept : (value : _) → g.R.Reading.keeps l.reading value → g.R.Reading.keeps l.fn.reading value;
   sound : g.S.Source.faults l.source ≡ g.S.Source.faults l.fn.source;
 }
 
