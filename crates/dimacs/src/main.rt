@@ -6,10 +6,11 @@ mod usage;
 ghost use Rattle.std.specs.Prelude.{◌≡◌, length};
 ghost use Rattle.dimacs_runs.specs.Jobs.{file_count};
 
-use dimacs_lines::{FileSource, MemorySource, StdoutSink};
+use dimacs_lines::{FileSink, FileSource, MemorySink, MemorySource, StdoutSink};
 use dimacs_records::TextKind;
 use dimacs_runs::{
-    Job, JudgeKind, RunError, Status, exit_status, job, run_convert, run_judge, run_show,
+    Job, JudgeKind, RunError, SolveJob, Status, exit_status, job, run_convert, run_judge, run_show,
+    run_solve,
 };
 use std::fs::File;
 use std::io::ErrorKind;
@@ -48,7 +49,8 @@ fn outcome(rt: &HostRuntime) -> Option<Result<Status, RunError>> {
         Job::Show(kind, file) => Some(show(rt, kind, file)),
         Job::Judge(JudgeKind::Infeasible, files) => Some(judge_set(rt, files)),
         Job::Judge(kind, files) => Some(judge(rt, kind, files)),
-        Job::Solve(..) => None,
+        Job::Solve(SolveJob::Paths, files) => Some(solve_paths(rt, files)),
+        Job::Solve(solve, files) => Some(solve_flow(rt, solve, files)),
     }
 }
 
@@ -99,11 +101,62 @@ fn judge_set(rt: &HostRuntime, files: &[String]) -> Result<Status, RunError>
     )
 }
 
+/// Makes a flow, by the files of the instance, the claim and its certificate; nothing is asked.
+fn solve_flow(rt: &HostRuntime, solve: SolveJob, files: &[String]) -> Result<Status, RunError>
+    requires { length files.now ≡ 3 }
+{
+    let mut instance = open(rt, files[0].as_str())?;
+    let mut claim = create(rt, files[1].as_str())?;
+    let mut certificate = create(rt, files[2].as_str())?;
+    run_solve(
+        rt.alloc(),
+        solve,
+        &mut instance,
+        &mut MemorySource::new(&[]),
+        &mut claim,
+        &mut certificate,
+        &mut StdoutSink::new(rt),
+    )
+}
+
+/// Makes labels, by the files of the graph, the queries and the labels; nothing else is claimed.
+fn solve_paths(rt: &HostRuntime, files: &[String]) -> Result<Status, RunError>
+    requires { length files.now ≡ 3 }
+{
+    let mut graph = open(rt, files[0].as_str())?;
+    let mut queries = open(rt, files[1].as_str())?;
+    let mut labels = create(rt, files[2].as_str())?;
+    run_solve(
+        rt.alloc(),
+        SolveJob::Paths,
+        &mut graph,
+        &mut queries,
+        &mut MemorySink::new(rt.alloc()),
+        &mut labels,
+        &mut StdoutSink::new(rt),
+    )
+}
+
 /// Opens a file to be read.
 fn open(rt: &HostRuntime, file: &str) -> Result<FileSource<File>, RunError> {
     match File::open(rt, file) {
         Ok(file) => Ok(FileSource::new(file)),
-        Err(error) if error.kind() == ErrorKind::OutOfMemory => Err(RunError::Memory),
-        Err(_) => Err(RunError::Device),
+        Err(error) => Err(run_error(error)),
+    }
+}
+
+/// Creates a file to be written, or empties it.
+fn create(rt: &HostRuntime, file: &str) -> Result<FileSink<File>, RunError> {
+    match File::create(rt, file) {
+        Ok(file) => Ok(FileSink::new(file)),
+        Err(error) => Err(run_error(error)),
+    }
+}
+
+fn run_error(error: io::Error) -> RunError {
+    if error.kind() == ErrorKind::OutOfMemory {
+        RunError::Memory
+    } else {
+        RunError::Device
     }
 }

@@ -4,7 +4,7 @@ use clap::Command;
 use std::alloc::{AllocError, Global};
 
 /// The words of each run, and what it does.
-static RUNS: [(&str, &str); 6] = [
+static RUNS: [(&str, &str); 8] = [
     ("convert KIND FILE", "Prints the canonical form of a text"),
     ("show KIND FILE", "Prints a line about a text"),
     (
@@ -23,6 +23,14 @@ static RUNS: [(&str, &str); 6] = [
         "judge-paths GRAPH QUERY LABELS",
         "Answers queries by labels, if these are distances",
     ),
+    (
+        "solve-max INSTANCE SOLUTION CUT [--limit N]",
+        "Writes a maximum flow, and a cut that shows it",
+    ),
+    (
+        "solve-paths GRAPH QUERY LABELS",
+        "Writes labels that are distances, and answers queries",
+    ),
 ];
 
 /// Writes the usage text to the standard error: its first line alone where no memory is there for the rest.
@@ -35,8 +43,11 @@ pub fn tell(rt: &HostRuntime) {
 
 fn usage_text(alloc: Global) -> Result<String, AllocError> {
     let mut command = Command::new(alloc, "dimacs")
-        .about("Reads, converts and judges the DIMACS texts of flows and shortest paths")
-        .after_help("KIND is max, min, gr, query, solution, cut, pot or dist.");
+        .about("Reads, converts, judges and makes the DIMACS texts of flows and shortest paths")
+        .after_help(
+            "KIND is max, min, gr, query, solution, cut, pot or dist. \
+             N is how many flows are tried, 0 to 1000000000, and 1000000 if it isn't told.",
+        );
     for &(words, about) in &RUNS {
         command = command.subcommand(Command::new(alloc, words).about(about))?;
     }

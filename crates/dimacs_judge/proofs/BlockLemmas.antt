@@ -1,13 +1,15 @@
 -- Blocks of labels, one after another.
-use Rattle.std.proofs.Common.{◌≡◌, ◌∙◌, ap, get_or, refl, inl, inr, ℕ, suc, zero, ◌+◌, ◌<◌, List, [], ◌∷◌, length, take, add-one, arith}
+use Rattle.std.proofs.Common.{◌≡◌, ◌∙◌, ap, get_or, refl, inl, inr, ℕ, suc, zero, ◌+◌, ◌<◌, List, [], ◌∷◌, length, take, add-one, arith, Err}
 use Rattle.dimacs_instance.specs.declared.network.ArcView.{ArcView}
 use Rattle.dimacs_records.specs.declared.reasons.Reason.{Reason}
+use Rattle.dimacs_judge.specs.declared.verdict.JudgeError.{JudgeError}
+use Rattle.dimacs_judge.specs.declared.verdict.JudgeError.TheVariants.{Refused, Memory}
 use Rattle.dimacs_judge.specs.declared.verdict.Where.{Where}
 use Rattle.dimacs_claims.specs.declared.block.Label.{Label}
 use Rattle.dimacs_claims.specs.Labels.{BlockValue, label, label_at}
 use Rattle.dimacs_judge.specs.Labels.{block_at}
 use Rattle.dimacs_judge.specs.CertificateTests.{block_rows, label_rows}
-use Rattle.dimacs_judge.specs.Tests.{AllClear, First}
+use Rattle.dimacs_judge.specs.Tests.{AllClear, First, TellsAll}
 
 blocks_more_suc : (arcs : List ArcView) (blocks : List BlockValue) (k : ℕ) → k < length blocks → AllClear (label_rows arcs (take k blocks)) → AllClear (block_rows arcs (block_at blocks k)) → AllClear (label_rows arcs (take (suc k) blocks))
 blocks_more_suc arcs [] k inside before here = absurd (omega arith)
@@ -39,3 +41,11 @@ the_element (x ∷ xs) (suc k) d e inside = the_element xs k d e (omega arith)
 -- the labels of the block of this number
 pub labels_of_block : (blocks : List BlockValue) (k : ℕ) (b : BlockValue) (labels : List Label) → k < length blocks → b ≡ get_or blocks k b → labels ≡ b.labels → labels ≡ (block_at blocks k).labels
 labels_of_block blocks k b labels inside is labels_are = labels_are ∙ ap (λ (d : BlockValue). d.labels) (is ∙ the_element blocks k b _ inside)
+
+-- ---- what the tests of one block say of all
+pub block_is : (blocks : List BlockValue) (k : ℕ) (b : BlockValue) → k < length blocks → b ≡ get_or blocks k b → b ≡ block_at blocks k
+block_is blocks k b inside is = is ∙ the_element blocks k b _ inside
+
+pub blocks_told : (arcs : List ArcView) (blocks : List BlockValue) (k : ℕ) (error : JudgeError) → k < length blocks → AllClear (label_rows arcs (take k blocks)) → TellsAll (block_rows arcs (block_at blocks k)) (Err error) → TellsAll (label_rows arcs blocks) (Err error)
+blocks_told arcs blocks k (Refused place reason) inside clear first = blocks_first arcs blocks k place reason inside clear first
+blocks_told arcs blocks k Memory inside clear first = tt

@@ -23,3 +23,4 @@ pub mod QueriesPassing
 pub mod PathsPassing
 pub mod MaxJudge
 pub mod MinJudge
+mod MarkLemmas

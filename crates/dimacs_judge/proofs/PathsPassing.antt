@@ -1,5 +1,5 @@
 -- Labels and queries whose tests all pass, and the distances that they then tell.
-use Rattle.std.proofs.Common.{◌≡◌, ℕ, List, [], ◌∷◌, All, map, Result, inl, inr, subst}
+use Rattle.std.proofs.Common.{◌≡◌, ℕ, List, [], ◌∷◌, All, map, Result, Err, inl, inr, subst}
 use Rattle.std.specs.Prelude.{IsErrAnd}
 use Rattle.std.proofs.lemmas.List.Elements.{All-nil, All-cons, All-head, All-tail}
 use Rattle.dimacs_instance.specs.declared.network.ArcView.{ArcView}
@@ -14,10 +14,11 @@ use Rattle.dimacs_judge.specs.declared.verdict.Verdict.{Verdict}
 use Rattle.dimacs_judge.specs.declared.verdict.Where.TheVariants as places
 use Rattle.dimacs_judge.specs.Agreement.{nodes_row}
 use Rattle.dimacs_judge.specs.Answers.{AnswersQueries, distance_from}
+use Rattle.dimacs_judge.specs.CertificateTests.{label_rows}
 use Rattle.dimacs_judge.specs.Labels.{AreDistances}
 use Rattle.dimacs_judge.specs.PathsJudge.{paths_rows, PassesPaths, AnswersAreDistances, ShowsDistances}
 use Rattle.dimacs_judge.specs.QueryTests.{HasBlock, sources_asked, query_node_row, block_row}
-use Rattle.dimacs_judge.specs.Tests.{Clear, AllClear, FirstOfRow, First, Refuses, Judges}
+use Rattle.dimacs_judge.specs.Tests.{Clear, AllClear, FirstOfRow, First, Refuses, Judges, TellsAll}
 use Rattle.dimacs_judge.specs.Walks.{IsDistance}
 use Rattle.dimacs_judge.proofs.BlockNumbers.{block_found}
 use Rattle.dimacs_judge.proofs.Firsts.{AllOneWay, one_test_one_way}
@@ -70,10 +71,8 @@ passing_shows g q l lawful passes =
     let labels = passing_are_distances g.arcs l lawful passes.labels in
     record { passes = passes; labels = labels; answers = answers_are_distances g.arcs l.blocks q labels passes.blocks }
 
-pub paths_shown : (g : NetworkValue) (q : QueriesValue) (l : LabelsValue) → AllClear (paths_rows g q l) → AreDistances g.arcs l.blocks → ShowsDistances g q l
-paths_shown g q l clear labels =
-    let passes = paths_pass g q l clear in
-    record { passes = passes; labels = labels; answers = answers_are_distances g.arcs l.blocks q labels passes.blocks }
+pub paths_shown : (g : NetworkValue) (q : QueriesValue) (l : LabelsValue) → AreLabels l → AllClear (paths_rows g q l) → ShowsDistances g q l
+paths_shown g q l lawful clear = passing_shows g q l lawful (paths_pass g q l clear)
 
 -- the first test that fails is the judge's error
 pub paths_judged : (g : NetworkValue) (q : QueriesValue) (l : LabelsValue) (error : JudgeError) → Refuses (First (paths_rows g q l)) error → (result : Result Verdict JudgeError) → IsErrAnd result (λ e. e ≡ error)
@@ -83,3 +82,7 @@ paths_judged g q l error first result is = error_judges (paths_rows g q l) (Show
 pub blocks_refused : (g : NetworkValue) (q : QueriesValue) (l : LabelsValue) → Clear (nodes_row g.nodes l.nodes) → Clear (query_node_row g.nodes q) → (error : JudgeError) → Refuses (FirstOfRow (block_row l.blocks q)) error → Refuses (First (paths_rows g q l)) error
 blocks_refused g q l nodes named (Refused place reason) first = inr (nodes, inr (named, inl first))
 blocks_refused g q l nodes named Memory first = tt
+
+pub labels_refused : (g : NetworkValue) (q : QueriesValue) (l : LabelsValue) → Clear (nodes_row g.nodes l.nodes) → Clear (query_node_row g.nodes q) → Clear (block_row l.blocks q) → (error : JudgeError) → TellsAll (label_rows g.arcs l.blocks) (Err error) → Refuses (First (paths_rows g q l)) error
+labels_refused g q l nodes named found (Refused place reason) first = inr (nodes, inr (named, inr (found, first)))
+labels_refused g q l nodes named found Memory first = tt

@@ -1,5 +1,6 @@
 -- Sums over the arcs so far, and one more arc.
-use Rattle.std.proofs.Common.{◌≡◌, ℕ, suc, zero, ◌+◌, ◌*◌, ◌^◌, ◌<◌, ◌==◌, ℤ, ◌+ℤ◌, ◌-ℤ◌, ◌*ℤ◌, Bool, true, false, List, [], ◌∷◌, length, take, get_or, slice_get, Some, refl, add-one, arith}
+use Rattle.std.proofs.Common.{◌≡◌, ℕ, suc, zero, ◌+◌, ◌*◌, ◌^◌, ◌<◌, ◌==◌, ℤ, ◌+ℤ◌, ◌-ℤ◌, ◌*ℤ◌, Bool, true, false, List, [], ◌∷◌, length, take, get_or, slice_get, Some, refl, ap₂, ◌∙◌, ◌≤◌, pos, add-one, arith}
+use Rattle.std.proofs.lemmas.List.{take_all}
 use Rattle.std.proofs.lemmas.Int.{ints}
 use Rattle.std.proofs.lemmas.Option.{get_or_from_slice_get, slice_get_within}
 use Rattle.dimacs_instance.specs.declared.network.ArcView.{ArcView}
@@ -67,3 +68,9 @@ pub balance_more : (arcs : List ArcView) (y : List ℤ) (i v : ℕ) (a : ArcView
 balance_more arcs y i v a x old new here carries small was e =
     let t = when_within (a.tail == v) (a.head == v) (i * 2 ^ 64) (2 ^ 63) old x was.1 small in
     (omega (arith, ints, e, was.0, net_more arcs y i a x here carries v), rw e (omega (arith, ints, t)))
+
+pub balance_none : (arcs : List ArcView) (y : List ℤ) (v : ℕ) (sum : ℤ) → sum ≡ pos 0 → IsBalanceOf arcs y 0 v sum
+balance_none arcs y v sum none = (omega (arith, ints, none), omega (arith, ints, none))
+
+pub balance_all : (arcs : List ArcView) (y : List ℤ) (i v : ℕ) (sum : ℤ) → length arcs ≤ i → length y ≡ length arcs → IsBalanceOf arcs y i v sum → sum ≡ net arcs y v
+balance_all arcs y i v sum all same is = is.0 ∙ ap₂ (λ (some : List ArcView) (zs : List ℤ). net some zs v) (take_all i arcs all) (take_all i y (omega (arith, all, same)))

@@ -1,6 +1,7 @@
 -- The tests of a flow: its bounds, its balances, its cost.
 use Rattle.std.specs.Prelude.{ℕ, ◌≡◌, ◌≢◌, ◌+◌, ◌≤◌, ◌⊎◌, ◌==◌, if◌then◌else◌, List, [], ◌∷◌, take, length, get_or, Option, Some, None, Result, Ok, Err, ℤ, pos, ◌≤ℤ◌, ◌<ℤ◌}
 use Rattle.dimacs_instance.specs.declared.network.ArcView.{ArcView}
+use Rattle.dimacs_nodes.specs.Tables.{value_of}
 use Rattle.dimacs_records.specs.declared.reasons.Reason.{Reason}
 use Rattle.dimacs_records.specs.declared.reasons.Reason.TheVariants.{BelowLow, AboveCap, Balance, CostRange}
 use Rattle.dimacs_records.specs.Ranges.{IsWide}
@@ -9,6 +10,7 @@ use Rattle.dimacs_judge.specs.Rows.{arc_row, flow_row, node_row}
 use Rattle.dimacs_judge.specs.Tests.{Row, Clear, FirstOfRow, AllClear, First, Refuses}
 use Rattle.dimacs_instance.specs.MaxFlows.{MaxValue}
 use Rattle.dimacs_instance.specs.MinFlows.{MinValue, supply_of}
+use Rattle.dimacs_judge.specs.declared.balances.Balances.{Balances}
 use Rattle.dimacs_judge.specs.declared.verdict.JudgeError.{JudgeError}
 use Rattle.dimacs_judge.specs.declared.verdict.Where.{Where}
 
@@ -56,12 +58,11 @@ abbrev pub TellsCost : List ArcView → List ℤ → Result ℤ (Where × Reason
 TellsCost arcs x (Ok sum) = (sum ≡ cost arcs x) × Clear (cost_row arcs x)
 TellsCost arcs x (Err refusal) = FirstOfRow (cost_row arcs x) refusal.0 refusal.1
 
--- the table of the balances of all nodes
-pub record AreBalances (nodes : ℕ) (arcs : List ArcView) (x : List ℤ) (sums : List ℤ) : Type 0 where
-  pub one_each : length sums ≡ nodes + 1
-  pub sums_are : (v : ℕ) → v ≤ nodes → get_or sums v (pos 0) ≡ net arcs x v
+-- the balances of all nodes, also of those without arcs
+abbrev pub AreBalances : List ArcView → List ℤ → Balances → Type 0
+AreBalances arcs x balances = (v : ℕ) → value_of balances.sums v ≡ net arcs x v
 
 -- the balances of a feasible flow, or the first test that fails
-abbrev pub TellsFeasible : ℕ → List ArcView → (ℕ → Option ℤ) → List ℤ → Result (List ℤ) JudgeError → Type 0
-TellsFeasible nodes arcs demand x (Ok sums) = AreBalances nodes arcs x sums × AllClear (feasible_rows nodes arcs demand x)
+abbrev pub TellsFeasible : ℕ → List ArcView → (ℕ → Option ℤ) → List ℤ → Result Balances JudgeError → Type 0
+TellsFeasible nodes arcs demand x (Ok balances) = AreBalances arcs x balances × AllClear (feasible_rows nodes arcs demand x)
 TellsFeasible nodes arcs demand x (Err error) = Refuses (First (feasible_rows nodes arcs demand x)) error

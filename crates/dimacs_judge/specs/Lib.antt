@@ -19,5 +19,6 @@ pub mod InfeasibleJudge
 pub mod QueryTests
 pub mod Answers
 pub mod PathsJudge
+pub mod Marks
 pub mod MaxJudge
 pub mod MinJudge

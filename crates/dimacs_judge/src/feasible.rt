@@ -1,7 +1,6 @@
 //! Whether a flow keeps its bounds, and whether the nodes are in balance.
 
-ghost use Rattle.std.specs.Prelude.{◌≡◌, ◌+◌, ◌≤◌, ℕ, ℤ, List, Option, All, length};
-ghost use Rattle.dimacs_instance.specs.Arcs.{JoinsNodes};
+ghost use Rattle.std.specs.Prelude.{◌≡◌, ◌≤◌, ℕ, ℤ, List, Option, length};
 ghost use Rattle.dimacs_judge.specs.Feasible.{FeasibleMax, FeasibleMin};
 ghost use Rattle.dimacs_judge.specs.FlowTests.{BoundFails, BalanceFails, AreBalances, TellsFeasible, bound_row, balance_row, feasible_max_rows, feasible_min_rows, max_demand, min_demand};
 ghost use Rattle.dimacs_judge.specs.Tests.{Settles, TellsReason, TellsRow};
@@ -14,7 +13,7 @@ use dimacs_records::Reason;
 use std::alloc::Global;
 
 /// Whether the flow is feasible: each arc carries from 0 to its capacity, and each node but source and sink is in
-/// balance. Takes a table of the nodes.
+/// balance. Takes a table of the nodes that have arcs.
 ///
 /// Arcs are tested first, from 1: `BelowLow` below 0, else `AboveCap`. Then nodes, by ID: `Balance`.
 pub fn feasible_max<N: Network>(
@@ -30,7 +29,7 @@ pub fn feasible_max<N: Network>(
 }
 
 /// Whether the flow is feasible: each arc carries from its lower bound to its capacity, and the balance of each node
-/// is its supply. Takes a table of the nodes.
+/// is its supply. Takes a table of the nodes that have arcs.
 ///
 /// Arcs are tested first, from 1: `BelowLow`, else `AboveCap`. Then nodes, by ID: `Balance`.
 pub fn feasible_min<N: Network>(
@@ -54,7 +53,6 @@ pub(crate) fn feasible<N: Network, D: Demands>(
 ) -> Result<Balances, JudgeError>
     requires few_nodes { N.node_count network.now ≤ 134217728 }
     requires few_arcs { length (N.list network.now) ≤ 268435456 }
-    requires joined { All (JoinsNodes (N.node_count network.now)) (N.list network.now) }
     requires one_each { length flow.now ≡ length (N.list network.now) }
     ensures { TellsFeasible (N.node_count network.now) (N.list network.now) (D.demand demands.now) flow.now result }
 {
@@ -124,9 +122,8 @@ pub(crate) fn balances_hold<N: Network, D: Demands>(
     balances: &Balances,
     demands: &D,
 ) -> Result<(), (Where, Reason)>
-    requires few_nodes { N.node_count network.now ≤ 134217728 }
-    requires one_each { length balances.now ≡ N.node_count network.now + 1 }
-    ensures { (x : List ℤ) → AreBalances (N.node_count network.now) (N.list network.now) x balances.now → TellsRow (balance_row (N.node_count network.now) (N.list network.now) (D.demand demands.now) x) result }
+    requires { N.node_count network.now ≤ 134217728 }
+    ensures { (x : List ℤ) → AreBalances (N.list network.now) x balances.now → TellsRow (balance_row (N.node_count network.now) (N.list network.now) (D.demand demands.now) x) result }
 {
     for v in 1..network.nodes() + 1 {
         if let Some(reason) = balance_fault(demands.demand_at(v), balances.of(v)) {

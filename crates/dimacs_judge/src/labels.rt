@@ -140,7 +140,8 @@ fn relax_fault(labels: &Labels, block: usize, arc: ArcView) -> Option<Reason>
 }
 
 /// Whether `to` is further than the weight leads from `from`.
-fn is_beyond(to: i128, from: i128, weight: i64) -> bool
+#[inline(always)]
+pub(crate) fn is_beyond(to: i128, from: i128, weight: i64) -> bool
     requires { IsWide from }
     ensures { IsTrue result ↔ ((from +ℤ weight) <ℤ to) }
 {

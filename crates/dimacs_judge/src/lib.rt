@@ -17,6 +17,7 @@ mod infeasible;
 mod labels;
 mod laws;
 mod least;
+mod marks;
 mod maximum;
 mod paths;
 mod places;
@@ -35,10 +36,11 @@ pub use laws::{
     exchange, labels_give_distances, passing_shows, slack_is_least, tight_cut_is_maximum,
     violated_has_no_flow,
 };
-pub use least::judge_min;
-pub use maximum::judge_max;
+pub use least::{judge_min, judge_min_placed};
+pub use maximum::{judge_max, judge_max_placed};
 pub use paths::judge_paths;
+pub use places::FlowPlaces;
 pub use potentials::slack_tests;
-pub use queries::{query_nodes_hold, source_asked};
+pub use queries::{answer_queries, query_nodes_hold, source_asked};
 pub use value::value_of;
 pub use verdict::{Answer, JudgeError, Verdict, Where};

@@ -6,7 +6,7 @@ ghost use Rattle.dimacs_judge.specs.PathsJudge.{ShowsDistances, paths_rows};
 ghost use Rattle.dimacs_judge.specs.Tests.{Judges};
 
 use crate::agreement::nodes_agree;
-use crate::labels::label_tests;
+use crate::marks::marked_blocks_hold;
 use crate::queries::{answers, blocks_exist, query_nodes_hold};
 use crate::verdict::{JudgeError, Verdict};
 use dimacs_claims::Labels;
@@ -17,7 +17,7 @@ use std::alloc::Global;
 /// a query asks for it, the label of a node is the least weight of all walks to it from the block's source, and that no
 /// walk leads to a node without a label, whatever its ID. `Sources` tells how many sources were asked for; `Pairs` the
 /// distance between the nodes of each pair, in order, or none where there is no walk. `Memory` where there is none for
-/// the numbers of the blocks or for the answers; it says nothing of the labels.
+/// a table of the nodes that have labels, for the numbers of the blocks or for the answers; it says nothing of the labels.
 ///
 /// The tests in their order: `NodesDiffer`, where the labels aren't of as many nodes as the graph; each query,
 /// `QueryNode` at a node above that number, FROM before TO; each query, `BlockMissing` at its source, where no block has
@@ -31,10 +31,11 @@ pub fn judge_paths<N: Network>(
     requires lawful { AreLawful (asked queries.now) }
     ensures { Judges (paths_rows graph.now (asked queries.now) labels.now) (ShowsDistances graph.now (asked queries.now) labels.now) (AnswersQueries labels.now.blocks (asked queries.now)) result }
 {
-    let nodes = graph.network().nodes();
+    let network = graph.network();
+    let nodes = network.nodes();
     nodes_agree(nodes, labels.nodes())?;
     query_nodes_hold(nodes, queries)?;
     let numbers = blocks_exist(alloc, labels, queries)?;
-    label_tests(graph, labels)?;
+    marked_blocks_hold(alloc, network, labels)?;
     Ok(answers(alloc, queries, labels, &numbers)?)
 }

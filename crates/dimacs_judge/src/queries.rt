@@ -99,6 +99,19 @@ pub fn source_asked(queries: &Queries, i: usize) -> u32
     }
 }
 
+/// What labels answer to queries, whether or not they pass a test. A query whose source has no block is answered by none.
+pub fn answer_queries(
+    alloc: Global,
+    queries: &Queries,
+    labels: &Labels,
+) -> Result<Verdict, Memory>
+    requires { AreLawful (asked queries.now) }
+    ensures { IfOk result (AnswersQueries labels.now.blocks (asked queries.now)) }
+{
+    let numbers = block_numbers(alloc, labels)?;
+    answers(alloc, queries, labels, &numbers)
+}
+
 /// What the labels answer to queries, by the numbers of the blocks.
 pub(crate) fn answers(
     alloc: Global,

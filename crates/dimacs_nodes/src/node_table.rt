@@ -1,7 +1,7 @@
 //! A value for each node, blank but for those that were set.
 
-ghost use Rattle.std.specs.Prelude.{◌≡◌, ◌≢◌, ◌<◌, ◌≤◌, ◌/◌, ◌*◌, ◌+◌, ℕ, List, length, vec_len, OnOk, OnErr};
-ghost use Rattle.dimacs_nodes.specs.Slots.{IsDirectory, SameNumbers, number_of, place_of};
+ghost use Rattle.std.specs.Prelude.{◌≡◌, ◌≢◌, ◌<◌, ◌≤◌, ◌/◌, ◌⊎◌, ℕ, length, OnOk, OnErr};
+ghost use Rattle.dimacs_nodes.specs.Slots.{IsDirectory, SameNumbers, place_of};
 
 use dimacs_lines::Memory;
 use std::alloc::Global;
@@ -41,7 +41,8 @@ impl<T: Copy> NodeTable<T> {
 
     #[inline]
     pub fn get(&self, id: u32) -> T
-        ensures { result ≡ value_of self.now id }
+        ensures value { result ≡ value_of self.now id }
+        ensures place { (result ≡ blank_of self.now) ⊎ HasPlace self.now id }
     {
         match self.slots.get(place(&self.directory, id)) {
             Some(value) => *value,

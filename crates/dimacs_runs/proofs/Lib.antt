@@ -1,3 +1,4 @@
 pub mod JudgingLemmas
 mod WordLemmas
 pub mod ReportLemmas
+pub mod SolvingLemmas

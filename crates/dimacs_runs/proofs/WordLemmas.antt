@@ -7,8 +7,8 @@ use Rattle.dimacs_runs.specs.declared.jobs.Job.{Job}
 use Rattle.dimacs_runs.specs.declared.jobs.Job.TheVariants.{Convert, Show, Judge, Solve}
 use Rattle.dimacs_runs.specs.declared.jobs.JudgeKind.{JudgeKind}
 use Rattle.dimacs_runs.specs.declared.jobs.SolveJob.{SolveJob}
-use Rattle.dimacs_runs.specs.declared.jobs.SolveJob.TheVariants.{Max, Paths}
-use Rattle.dimacs_runs.specs.Jobs.{AreOptions, Asks, AsksProducer, IsLimit, file_count, judge_word, solve_word}
+use Rattle.dimacs_runs.specs.declared.jobs.SolveJob.TheVariants.{Max, Min, Paths}
+use Rattle.dimacs_runs.specs.Jobs.{AreOptions, Asks, AsksProducer, IsLimit, TellLimit, file_count, judge_word, solve_word}
 
 pub two_words : {A : Type 0} (f : A → List ℕ) (words : List A) (a b : A) (x y : List ℕ) → 2 ≤ length words → length words < 3 → a ≡ get_or words 0 a → b ≡ get_or words 1 b
     → x ≡ f a → y ≡ f b → map f words ≡ x ∷ y ∷ []
@@ -18,14 +18,20 @@ two_words f (p ∷ []) a b x y least most first second is_x is_y = absurd (omega
 two_words f (p ∷ q ∷ r ∷ more) a b x y least most first second is_x is_y = absurd (omega (arith, most))
 
 -- ---- what stands after the files of a producer
-pub limited : (told : Option ℕ) (words : List (List ℕ)) (number : List ℕ) → words ≡ codes "--limit" ∷ number ∷ [] → IfSome told (IsLimit number) → IfSome told (λ limit. AreOptions (Max limit) words)
+pub limited : (told : Option ℕ) (words : List (List ℕ)) (number : List ℕ) → words ≡ codes "--limit" ∷ number ∷ [] → IfSome told (IsLimit number) → IfSome told (TellLimit words)
 limited (Some limit) words number is read = rw is (refl, read)
 limited None words number is read = tt
 
-pub unlimited : (word : List ℕ) (options : List (List ℕ)) → word ≡ codes "solve-max" → ((limit : ℕ) → ¬ AreOptions (Max limit) options)
-    → (job : SolveJob) → word ≡ solve_word job → ¬ AreOptions job options
-unlimited word options is none (Max limit) same = none limit
-unlimited word options is none Paths same = absurd cc
+module _ (word : List ℕ) (options : List (List ℕ)) (none : (limit : ℕ) → ¬ TellLimit options limit) where
+  pub no_max : word ≡ codes "solve-max" → (job : SolveJob) → word ≡ solve_word job → ¬ AreOptions job options
+  no_max is (Max limit) same = none limit
+  no_max is (Min limit) same = absurd cc
+  no_max is Paths same = absurd cc
+
+  pub no_min : word ≡ codes "solve-min" → (job : SolveJob) → word ≡ solve_word job → ¬ AreOptions job options
+  no_min is (Max limit) same = absurd cc
+  no_min is (Min limit) same = none limit
+  no_min is Paths same = absurd cc
 
 -- lists that begin with as many members have the same rest
 same_rest : {A : Type 0} (xs ys us vs : List A) → length xs ≡ length us → xs ++ ys ≡ us ++ vs → ys ≡ vs

@@ -1,4 +1,4 @@
--- What the words behind the program's name ask for.
+-- What the words after the program's name ask for.
 use Rattle.std.specs.Prelude.{ℕ, ◌≡◌, ◌≤◌, ◌++◌, List, [], ◌∷◌, codes, map, length, pos}
 use Rattle.std.specs.String.{string_bytes}
 use Rattle.dimacs_lines.specs.Number.{Spells}
@@ -36,17 +36,23 @@ file_count judges.Paths = 3
 
 abbrev pub solve_word : SolveJob → List ℕ
 solve_word (solves.Max limit) = codes "solve-max"
+solve_word (solves.Min limit) = codes "solve-min"
 solve_word solves.Paths = codes "solve-paths"
 
 -- a number from 0 to 10^9
 abbrev pub IsLimit : List ℕ → ℕ → Type 0
 IsLimit word limit = Spells word (pos limit) × (limit ≤ 1000000000)
 
--- what may stand after the files: `--limit` and a number where flows are improved, and 10^6 where it doesn't
+-- the limit that these words tell: 10^6 where there are none, else `--limit` and a number
+abbrev pub TellLimit : List (List ℕ) → ℕ → Type 0
+TellLimit [] limit = limit ≡ 1000000
+TellLimit (word ∷ number ∷ []) limit = (word ≡ codes "--limit") × IsLimit number limit
+TellLimit other limit = ⊥
+
+-- what may stand after the files: a limit where a flow is made
 abbrev pub AreOptions : SolveJob → List (List ℕ) → Type 0
-AreOptions (solves.Max limit) [] = limit ≡ 1000000
-AreOptions (solves.Max limit) (word ∷ number ∷ []) = (word ≡ codes "--limit") × IsLimit number limit
-AreOptions (solves.Max limit) other = ⊥
+AreOptions (solves.Max limit) options = TellLimit options limit
+AreOptions (solves.Min limit) options = TellLimit options limit
 AreOptions solves.Paths options = options ≡ []
 
 -- three files, and what stands after them

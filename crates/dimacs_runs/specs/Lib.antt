@@ -2,8 +2,11 @@ pub mod Jobs
 pub mod Judged
 pub mod Judgings
 pub mod Outcomes
+pub mod Outputs
+pub mod Produced
 pub mod Refusals
 pub mod Runs
 pub mod Shown
+pub mod Solved
 pub mod Told
 pub mod Verdicts

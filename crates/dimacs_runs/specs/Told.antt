@@ -1,26 +1,28 @@
--- What a judge's run tells, in lines and with a status.
+-- What a run tells of a claim, in lines and with a status.
 use Rattle.std.specs.Prelude.{ℕ, ◌≡◌, List, Option, Result, Ok, Err}
 use Rattle.dimacs_lines.specs.Devices.{after_piece, one_more}
 use Rattle.dimacs_lines.specs.Puts.{AcceptsFront}
 use Rattle.dimacs_runs.specs.declared.outcome.Status.{Status}
-use Rattle.dimacs_runs.specs.declared.outcome.Status.TheVariants.{Done, Refused}
+use Rattle.dimacs_runs.specs.declared.outcome.Status.TheVariants as statuses
 use Rattle.dimacs_runs.specs.declared.outcome.RunError.{RunError}
 use Rattle.dimacs_runs.specs.declared.outcome.RunError.TheVariants.{Device}
 use Rattle.dimacs_runs.specs.declared.told.Told.{Told}
-use Rattle.dimacs_runs.specs.declared.told.Told.TheVariants.{Yes, No, Fault}
+use Rattle.dimacs_runs.specs.declared.told.Told.TheVariants.{Yes, No, Fault, GaveUp}
 use Rattle.dimacs_runs.specs.Refusals.{refusal_line}
 use Rattle.dimacs_runs.specs.Runs.{TellsAlone}
-use Rattle.dimacs_runs.specs.Verdicts.{verdict_lines, failure_line}
+use Rattle.dimacs_runs.specs.Verdicts.{verdict_lines, failure_line, gave_up_line}
 
 abbrev pub told_status : Told → Status
-told_status (Yes verdict) = Done
-told_status (No place reason) = Refused
-told_status (Fault text place reason) = Refused
+told_status (Yes verdict) = statuses.Done
+told_status (No place reason) = statuses.Refused
+told_status (Fault text place reason) = statuses.Refused
+told_status GaveUp = statuses.GaveUp
 
 abbrev pub told_lines : Told → List ℕ
 told_lines (Yes verdict) = verdict_lines verdict
 told_lines (No place reason) = failure_line place reason
 told_lines (Fault text place reason) = refusal_line text.now place.line place.field reason
+told_lines GaveUp = gave_up_line
 
 -- what is told, where something is, is told alone
 abbrev pub ToldAlone : (Status → List ℕ → Type 0) → Result Told RunError → Type 0

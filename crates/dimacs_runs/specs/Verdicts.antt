@@ -42,6 +42,10 @@ verdict_lines verdicts.Infeasible = infeasible_line
 verdict_lines (verdicts.Sources count) = sources_line count
 verdict_lines (verdicts.Pairs answers) = flat_map answer_line answers.items
 
+-- the limit was reached
+abbrev pub gave_up_line : List ℕ
+gave_up_line = spaced_line (codes "g") (codes "limit" ∷ [])
+
 -- what fails, its number and the reason
 abbrev pub numbered_line : List ℕ → ℕ → Reason → List ℕ
 numbered_line what number reason = spaced_line (codes "x") (what ∷ decimal number ∷ name_of reason ∷ [])

@@ -20,6 +20,8 @@ pub enum JudgeKind {
 pub enum SolveJob {
     /// A maximum flow. Flows are improved, from the flow of zeros on; at most so many of them are tried.
     Max(u64),
+    /// A flow of least cost. Paths are added; at most so many of them are.
+    Min(u64),
     /// Distances.
     Paths,
 }
@@ -34,7 +36,7 @@ pub enum Job<'a> {
     /// Judges a claim. The files of the instance, the claim and its certificate; nothing is claimed of an instance
     /// without a feasible flow, so there the certificate is the second.
     Judge(JudgeKind, &'a [String]),
-    /// Makes a claim. The file of the instance, which is read, and those of the claim and its certificate, which are
-    /// written; of distances the files of the graph and of the queries, which are read, and that of the labels.
+    /// Makes a claim. The file of the instance, which is read, and those of the claim and of its certificate, which are
+    /// written; for distances those of the graph and of the queries, which are read, and that of the labels.
     Solve(SolveJob, &'a [String]),
 }

@@ -1,4 +1,4 @@
-//! What a judge's run tells, and how it is put.
+//! What a run tells of a claim, and how it is put.
 
 ghost use Rattle.std.specs.Prelude.{◌≡◌};
 ghost use Rattle.dimacs_lines.specs.Devices.{CountsFault};
@@ -8,7 +8,7 @@ ghost use Rattle.dimacs_runs.specs.Told.{EndsAfter, told_lines, told_status};
 
 use crate::outcome::{RunError, Status};
 use crate::refusal::put_refusal;
-use crate::verdict::{put_failure, put_verdict};
+use crate::verdict::{put_failure, put_gave_up, put_verdict};
 use dimacs_judge::{JudgeError, Verdict, Where};
 use dimacs_lines::{DeviceFault, Sink};
 use dimacs_records::{At, Reason};
@@ -22,19 +22,22 @@ pub(crate) enum Told {
     No(Where, Reason),
     /// The fault of a text.
     Fault(&'static str, At, Reason),
+    /// A producer reached its limit.
+    GaveUp,
 }
 
 impl Told {
-    fn status(&self) -> Status
+    pub(crate) fn status(&self) -> Status
         ensures { result ≡ told_status self.now }
     {
         match self {
             Told::Yes(_) => Status::Done,
             Told::No(..) | Told::Fault(..) => Status::Refused,
+            Told::GaveUp => Status::GaveUp,
         }
     }
 
-    fn put<K: Sink>(&self, sink: &mut K) -> Result<(), DeviceFault>
+    pub(crate) fn put<K: Sink>(&self, sink: &mut K) -> Result<(), DeviceFault>
         ensures puts { Puts result (K.accepted sink.old) (told_lines self.now) (K.accepted sink.new) }
         ensures fault { CountsFault result (K.faults sink.old) (K.faults sink.new) }
     {
@@ -42,6 +45,7 @@ impl Told {
             Told::Yes(verdict) => put_verdict(sink, verdict),
             Told::No(place, reason) => put_failure(sink, *place, *reason),
             Told::Fault(text, place, reason) => put_refusal(sink, text, *place, *reason),
+            Told::GaveUp => put_gave_up(sink),
         }
     }
 }

@@ -33,7 +33,8 @@ impl Unread {
     }
 }
 
-fn read<V: Text, P: Source>(alloc: Global, source: &mut P) -> Result<V, Unread>
+/// Reads a text.
+pub(crate) fn read<V: Text, P: Source>(alloc: Global, source: &mut P) -> Result<V, Unread>
     ensures reads { (a : List ℕ) → P.coming source.old ≡ Some a → ReadsOne V.said (says V.kind V.spells a) result }
     ensures faults { CountsUnread result (P.faults source.old ∷ []) (P.faults source.new ∷ []) }
     ensures lawful { IfOk result (λ value. V.lawful (V.said value)) }
@@ -56,6 +57,7 @@ pub(crate) fn read_two<V: Text, W: Text, P: Source, Q: Source>(
     ensures reads { (a b : List ℕ) → P.coming first.old ≡ Some a → Q.coming second.old ≡ Some b → ReadsTwo V.said W.said (says V.kind V.spells a) (says W.kind W.spells b) result }
     ensures faults { CountsUnread result (P.faults first.old ∷ Q.faults second.old ∷ []) (P.faults first.new ∷ Q.faults second.new ∷ []) }
     ensures first_alone { (a : List ℕ) (l f : ℕ) (r : Reason) → P.coming first.old ≡ Some a → Fault V.kind (lines a) l f r → second.new ≡ second.old }
+    ensures lawful { IfOk result (λ values. V.lawful (V.said values.0) × W.lawful (W.said values.1)) }
 {
     let value = read(alloc, first)?;
     let other = read(alloc, second)?;

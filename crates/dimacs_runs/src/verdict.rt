@@ -5,7 +5,7 @@ ghost use Rattle.std.specs.List.{flat_map};
 ghost use Rattle.dimacs_lines.specs.Devices.{CountsFault};
 ghost use Rattle.dimacs_lines.specs.Pages.{FaultsAre, IsWritten};
 ghost use Rattle.dimacs_lines.specs.Puts.{Puts};
-ghost use Rattle.dimacs_runs.specs.Verdicts.{verdict_lines, failure_line, numbered_line, answer_line};
+ghost use Rattle.dimacs_runs.specs.Verdicts.{verdict_lines, failure_line, gave_up_line, numbered_line, answer_line};
 
 use crate::refusal::put_refusal;
 use dimacs_judge::{Answer, Verdict, Where};
@@ -57,6 +57,14 @@ fn write_answer<K: Sink>(page: &mut Page, sink: &mut K, answer: &Answer)
     let from = Part::Number(i64::from(answer.from));
     let to = Part::Number(i64::from(answer.to));
     write_line(page, sink, b"v", &[from, to, distance]);
+}
+
+/// Puts the line that tells that a limit was reached.
+pub(crate) fn put_gave_up<K: Sink>(sink: &mut K) -> Result<(), DeviceFault>
+    ensures puts { Puts result (K.accepted sink.old) gave_up_line (K.accepted sink.new) }
+    ensures fault { CountsFault result (K.faults sink.old) (K.faults sink.new) }
+{
+    put_line(sink, b"g", &[Part::Word(b"limit")])
 }
 
 /// Puts the line of a test that fails.

@@ -1,13 +1,12 @@
-//! What the words behind the program's name mean.
+//! What the words after the program's name mean.
 
 ghost use Rattle.std.specs.Prelude.{◌≡◌, ◌≢◌, ◌∷◌, [], ℕ, List, IfSome, IfNone, length, map};
 ghost use Rattle.dimacs_records.specs.declared.kinds.TextKind.{TextKind};
 ghost use Rattle.dimacs_runs.specs.declared.jobs.Job.{Job};
 ghost use Rattle.dimacs_runs.specs.declared.jobs.JudgeKind.{JudgeKind};
 ghost use Rattle.dimacs_runs.specs.declared.jobs.SolveJob.{SolveJob};
-ghost use Rattle.dimacs_runs.specs.declared.jobs.SolveJob.TheVariants.{Max};
 ghost use Rattle.std.specs.String.{string_bytes};
-ghost use Rattle.dimacs_runs.specs.Jobs.{AreOptions, Asks, AsksProducer, IsLimit, file_count, judge_word, kind_word, solve_word};
+ghost use Rattle.dimacs_runs.specs.Jobs.{AreOptions, Asks, AsksProducer, IsLimit, TellLimit, file_count, judge_word, kind_word, solve_word};
 
 use crate::jobs::{Job, JudgeKind, SolveJob};
 use dimacs_lines::number;
@@ -16,7 +15,7 @@ use dimacs_records::TextKind;
 /// The files of a producer's run.
 const PRODUCER_FILES: usize = 3;
 
-/// How many flows are tried where no limit is told.
+/// The limit where none is told.
 const LIMIT: u64 = 1_000_000;
 
 /// The greatest limit.
@@ -65,7 +64,7 @@ fn files_job<'a>(verb: &str, words: &'a [String]) -> Option<Job<'a>>
     Some(Job::Solve(solve_job(verb, options)?, files))
 }
 
-/// What a word asks a judge about, with so many files behind it.
+/// What a word asks a judge about, with so many files after it.
 fn judge_kind(word: &str, files: usize) -> Option<JudgeKind>
     ensures named { IfSome result (λ kind. (word.now ≡ judge_word kind) × (files ≡ file_count kind)) }
     ensures not_named { IfNone result ((kind : JudgeKind) → word.now ≡ judge_word kind → files ≢ file_count kind) }
@@ -86,6 +85,7 @@ fn solve_job(word: &str, options: &[String]) -> Option<SolveJob>
 {
     match word {
         "solve-max" => Some(SolveJob::Max(limit(options)?)),
+        "solve-min" => Some(SolveJob::Min(limit(options)?)),
         "solve-paths" if options.is_empty() => Some(SolveJob::Paths),
         _ => None,
     }
@@ -93,8 +93,8 @@ fn solve_job(word: &str, options: &[String]) -> Option<SolveJob>
 
 /// The limit that these words tell.
 fn limit(options: &[String]) -> Option<u64>
-    ensures told { IfSome result (λ limit. AreOptions (Max limit) (map string_bytes options.now)) }
-    ensures not_told { IfNone result ((limit : ℕ) → ¬ AreOptions (Max limit) (map string_bytes options.now)) }
+    ensures told { IfSome result (TellLimit (map string_bytes options.now)) }
+    ensures not_told { IfNone result ((limit : ℕ) → ¬ TellLimit (map string_bytes options.now) limit) }
 {
     match options {
         [] => Some(LIMIT),

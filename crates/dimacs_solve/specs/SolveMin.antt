@@ -9,8 +9,8 @@ use Rattle.dimacs_judge.specs.Claims.{entry_at}
 use Rattle.dimacs_judge.specs.InfeasibleJudge.{ShowsNoFlow}
 use Rattle.dimacs_judge.specs.MinJudge.{ShowsLeast}
 use Rattle.dimacs_judge.specs.Rows.{arc_at}
-use Rattle.dimacs_solve.specs.declared.candidate.Candidate.{Candidate}
-use Rattle.dimacs_solve.specs.declared.candidate.Candidate.TheVariants.{Flow, Set, Neither}
+use Rattle.dimacs_solve.specs.declared.least.candidate.Candidate.{Candidate}
+use Rattle.dimacs_solve.specs.declared.least.candidate.Candidate.TheVariants.{Flow, Set, Neither}
 use Rattle.dimacs_solve.specs.declared.error.SolveError.{SolveError}
 use Rattle.dimacs_solve.specs.declared.error.SolveError.TheVariants.{NegativeWeight, Refused, Memory}
 use Rattle.dimacs_solve.specs.declared.least.MinAnswer.{MinAnswer}

@@ -1,10 +1,21 @@
-//! Solving minimum cost flow.
+//! Solving minimum cost flow, by successive shortest paths.
+//!
+//! Nothing is believed of what the method comes to: it is a candidate, and counts only if a judge says yes to it.
 
 ghost use Rattle.std.specs.Prelude.{◌≡◌, Ok};
 ghost use Rattle.dimacs_solve.specs.SolveMin.{AreEntriesOf, SolvesMin};
 
-use crate::candidate::{Candidate, make_candidate};
+mod augmenting;
+mod balancing;
+mod candidate;
+mod node_numbers;
+mod pseudoflow;
+mod residual_arcs;
+mod shortest;
+mod waiting;
+
 use crate::error::SolveError;
+use crate::least::candidate::{Candidate, make_candidate};
 use dimacs_claims::{Cut, Potentials, Solution};
 use dimacs_instance::{MinInstance, Network};
 use dimacs_judge::{JudgeError, judge_infeasible, judge_min};

@@ -2,9 +2,6 @@
 #![tactic(auto)]
 
 mod adjacency;
-mod augmenting;
-mod balancing;
-mod candidate;
 mod climb;
 mod distance;
 mod error;
@@ -13,14 +10,9 @@ mod improve;
 mod least;
 mod marks;
 mod maximum;
-mod node_numbers;
 mod paths;
 mod preflow;
-mod pseudoflow;
-mod residual_arcs;
 mod search;
-mod shortest;
-mod waiting;
 
 pub use error::SolveError;
 pub use least::{MinAnswer, solve_min};

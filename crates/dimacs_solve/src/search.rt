@@ -85,7 +85,7 @@ fn relax<D: Distance>(
     ensures relaxes { OnOk result (Relaxes adjacency.now node (D.value dist) (known D.value marks.old) frontier.old (known D.value marks.new) frontier.new) }
     ensures round { OnOk result (marks.new.round ≡ marks.old.round) }
 {
-    let hops = adjacency.out(node);
+    let hops = adjacency.leaving(node);
     for hop in hops {
         let reach = Reach {
             dist: dist.plus(hop.weight),

@@ -18,6 +18,8 @@ mod paths;
 #[cfg(test)]
 mod shown;
 #[cfg(test)]
+mod solving;
+#[cfg(test)]
 mod truncations;
 #[cfg(test)]
 mod words;

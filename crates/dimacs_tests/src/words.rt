@@ -75,7 +75,7 @@ fn words_ask_for_each_judge(rt: HostRuntime) -> Result<(), Fail> {
 }
 
 /// Command lines that ask for a producer. The three words after the first are its files.
-static PRODUCERS: [(&str, SolveJob); 12] = [
+static PRODUCERS: [(&str, SolveJob); 14] = [
     ("solve-max instance solution cut", SolveJob::Max(1_000_000)),
     (
         "solve-max instance solution cut --limit 10",
@@ -100,6 +100,8 @@ static PRODUCERS: [(&str, SolveJob); 12] = [
     ("solve-max instance --limit 5", SolveJob::Max(1_000_000)),
     ("solve-max --limit 5 cut", SolveJob::Max(1_000_000)),
     ("solve-max - --limit --limit --limit 5", SolveJob::Max(5)),
+    ("solve-min instance solution pot", SolveJob::Min(1_000_000)),
+    ("solve-min instance solution pot --limit 2", SolveJob::Min(2)),
     ("solve-paths graph query labels", SolveJob::Paths),
     ("solve-paths --limit --help -", SolveJob::Paths),
     ("solve-paths solve-paths --limit 5", SolveJob::Paths),
@@ -116,7 +118,7 @@ fn words_ask_for_each_producer(rt: HostRuntime) -> Result<(), Fail> {
 }
 
 /// Command lines that ask for nothing.
-static OTHER_WORDS: [&str; 37] = [
+static OTHER_WORDS: [&str; 38] = [
     "",
     "convert",
     "convert gr",
@@ -151,6 +153,7 @@ static OTHER_WORDS: [&str; 37] = [
     "solve-max instance solution cut --limit ",
     "solve-max instance solution cut --limit 99999999999999999999",
     "solve-max --limit 5 instance solution cut",
+    "solve-min instance solution pot --limit -2",
     "solve-paths graph query",
     "solve-paths graph query labels --limit 5",
     "solve instance solution cut",

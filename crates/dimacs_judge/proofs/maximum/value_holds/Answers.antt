@@ -8,5 +8,5 @@ pub returns : goal.returns
 returns g c x are =
     let i = c.args.instance.now in
     let fits : SFits w128 c.of.result = search rules in
-    let is_value : c.of.result ≡ value i x = c.of.ensures ∙ rw c.source.ensures (are.sums_are i.source c.requires.source.1) in
+    let is_value : c.of.result ≡ value i x = c.of.ensures ∙ rw c.source.ensures (are i.source) in
     rw (to_z-of_z w128 c.of.result fits, is_value) at c.value_agrees.ensures

@@ -1,0 +1,10 @@
+use Rattle.std.proofs.Common.{◌≡◌, List}
+use Rattle.dimacs_instance.specs.declared.network.ArcView.{ArcView}
+use Rattle.dimacs_claims.specs.Labels.{BlockValue}
+use Rattle.dimacs_judge.specs.CertificateTests.{support_row}
+use Rattle.dimacs_judge.specs.Marks.{AreMade}
+use Rattle.dimacs_judge.specs.Tests.{ClearBelow}
+use Rattle.dimacs_judge.proofs.marks.labels_made.Given as goal
+
+abbrev pub invariant-loop-label : goal.invariant-loop-label
+invariant-loop-label l = (arcs : List ArcView) (b : BlockValue) → b.labels ≡ l.labels → AreMade arcs b l.marks → ClearBelow (support_row arcs b) l.label-index

@@ -1,0 +1,12 @@
+use Rattle.std.proofs.Common.{◌+◌, take}
+use Rattle.dimacs_judge.specs.CertificateTests.{label_rows}
+use Rattle.dimacs_judge.specs.Marks.{AreEarlier}
+use Rattle.dimacs_judge.specs.Tests.{AllClear}
+use Rattle.dimacs_judge.proofs.marks.marked_blocks_hold.Given as goal
+
+-- all tests of the blocks so far pass
+abbrev pub invariant-loop-i : goal.invariant-loop-i
+invariant-loop-i g l = record {
+  clear : AllClear (label_rows (g.N.Network.list l.network) (take l.i l.labels.blocks));
+  earlier : AreEarlier (l.i + 1) l.marks;
+}

@@ -1,0 +1,194 @@
+//! Whether the labels of blocks are distances, by one pass over the arcs for each block.
+
+ghost use Rattle.std.specs.Prelude.{◌≡◌, ◌<◌, ◌≤◌, ◌+◌, ◌↔◌, ◌+ℤ◌, ℕ, List, OnOk, IsTrue};
+ghost use Rattle.dimacs_instance.specs.declared.network.ArcView.{ArcView};
+ghost use Rattle.dimacs_claims.specs.Labels.{AreLabels, BlockValue, IsBlock};
+ghost use Rattle.dimacs_nodes.specs.Tables.{blank_of, value_of};
+ghost use Rattle.dimacs_records.specs.Ranges.{IsWide};
+ghost use Rattle.dimacs_judge.specs.CertificateTests.{RelaxFails, block_rows, label_rows, relax_row, support_row};
+ghost use Rattle.dimacs_judge.specs.Marks.{AreEarlier, AreMade, AreUnmade, AreWide, IsMarked, MarksArc, first_told, marked_dist};
+ghost use Rattle.dimacs_judge.specs.Tests.{TellsAll, TellsReason, TellsRow};
+
+use crate::labels::is_beyond;
+use crate::verdict::{JudgeError, Where};
+use dimacs_claims::{Block, Label, Labels};
+use dimacs_instance::{ArcView, Network};
+use dimacs_lines::Memory;
+use dimacs_nodes::NodeTable;
+use dimacs_records::Reason;
+use std::alloc::Global;
+
+/// What a block of labels says of a node.
+#[derive(Clone, Copy)]
+pub(crate) struct Mark {
+    dist: i128,
+    pred: u32,
+    /// The number of the block, from 1. Other blocks say nothing of the node by this mark.
+    block: u32,
+    /// Whether an arc was found that makes the label.
+    made: bool,
+}
+
+/// Set by no block.
+const NO_MARK: Mark = Mark {
+    dist: 0,
+    pred: 0,
+    block: 0,
+    made: false,
+};
+
+/// The first test that fails, block by block. One table of the nodes serves all blocks.
+pub(crate) fn marked_blocks_hold<N: Network>(
+    alloc: Global,
+    network: &N,
+    labels: &Labels,
+) -> Result<(), JudgeError>
+    ensures tests { TellsAll (label_rows (N.list network.now) labels.now.blocks) result }
+    ensures lawful { AreLabels labels.now }
+{
+    let mut marks = NodeTable::new(alloc, NO_MARK);
+    let blocks = labels.blocks();
+    for i in 0..blocks.len() {
+        marked_block_holds(network, &blocks[i], i as u32 + 1, &mut marks)?;
+    }
+    Ok(())
+}
+
+/// The tests of one block: first its labels, then the arcs.
+fn marked_block_holds<N: Network>(
+    network: &N,
+    block: &Block,
+    number: u32,
+    marks: &mut NodeTable<Mark>,
+) -> Result<(), JudgeError>
+    requires lawful { (nodes : ℕ) × IsBlock nodes block.now }
+    requires number { 1 ≤ number }
+    requires earlier { AreEarlier number marks.old }
+    ensures tests { TellsAll (block_rows (N.list network.now) block.now) result }
+    ensures earlier { OnOk result (AreEarlier (number + 1) marks.new) }
+{
+    mark_labels(block, number, marks)?;
+    let relaxed = arcs_passed(network, number, marks);
+    labels_made(block.labels(), marks)?;
+    relaxed?;
+    Ok(())
+}
+
+/// Marks the nodes that a block labels.
+fn mark_labels(block: &Block, number: u32, marks: &mut NodeTable<Mark>) -> Result<(), Memory>
+    requires lawful { (nodes : ℕ) × IsBlock nodes block.now }
+    requires earlier { AreEarlier number marks.old }
+    ensures marked { OnOk result (IsMarked number block.now marks.new) }
+    ensures unmade { OnOk result (AreUnmade block.now marks.new) }
+{
+    let source = Mark {
+        block: number,
+        ..NO_MARK
+    };
+    marks.set(block.source(), source)?;
+    for label in block.labels() {
+        let mark = Mark {
+            dist: label.dist,
+            pred: label.pred,
+            block: number,
+            made: false,
+        };
+        marks.set(label.id, mark)?;
+    }
+    Ok(())
+}
+
+/// Marks the labels that arcs make, and tells the first arc with a labelled tail whose head has no label, or a label
+/// that is too great.
+fn arcs_passed<N: Network>(
+    network: &N,
+    number: u32,
+    marks: &mut NodeTable<Mark>,
+) -> Result<(), (Where, Reason)>
+    requires blank { (blank_of marks.old).block < number }
+    requires wide { AreWide number marks.old }
+    ensures marked { (b : BlockValue) → IsMarked number b marks.old → IsMarked number b marks.new }
+    ensures made { (b : BlockValue) → IsMarked number b marks.old → AreUnmade b marks.old → AreMade (N.list network.now) b marks.new }
+    ensures relaxed { (b : BlockValue) → IsMarked number b marks.old → TellsRow (relax_row (N.list network.now) b) result }
+{
+    let mut told = Ok(());
+    for i in 0..network.arcs() {
+        let fault = pass_arc(network.arc(i), number, marks);
+        told = first_fault(told, i, fault);
+    }
+    told
+}
+
+/// The fault that was told, or else that of the arc of this index.
+#[inline(always)]
+fn first_fault(
+    told: Result<(), (Where, Reason)>,
+    i: u32,
+    fault: Option<Reason>,
+) -> Result<(), (Where, Reason)>
+    requires { i < 4294967295 }
+    ensures { result ≡ first_told told i fault }
+{
+    match told {
+        Err(refusal) => Err(refusal),
+        Ok(()) => match fault {
+            Some(reason) => Err((Where::Arc(i + 1), reason)),
+            None => Ok(()),
+        },
+    }
+}
+
+/// Looks the head up only where the tail has a label, and marks it where the arc makes its label.
+#[inline(always)]
+fn pass_arc(arc: ArcView, number: u32, marks: &mut NodeTable<Mark>) -> Option<Reason>
+    requires blank { (blank_of marks.old).block < number }
+    requires wide { AreWide number marks.old }
+    ensures told { TellsReason (RelaxFails (marked_dist number (value_of marks.old arc.tail)) (marked_dist number (value_of marks.old arc.head)) arc.cost) result }
+    ensures marks { MarksArc number arc marks.old marks.new }
+{
+    let from = distance_by(marks.get(arc.tail), number)?;
+    let head = marks.get(arc.head);
+    let Some(to) = distance_by(head, number) else {
+        return Some(Reason::Escapes);
+    };
+    if is_beyond(to, from, arc.cost) {
+        return Some(Reason::NotShortest);
+    }
+    if makes(arc, from, to, head.pred) {
+        marks.put(arc.head, Mark { made: true, ..head });
+    }
+    None
+}
+
+/// Whether the arc leads from the one distance to the other, and from the predecessor.
+#[inline(always)]
+fn makes(arc: ArcView, from: i128, to: i128, pred: u32) -> bool
+    requires { IsWide from }
+    ensures { IsTrue result ↔ (((from +ℤ arc.cost) ≡ to) × (pred ≡ arc.tail)) }
+{
+    from + i128::from(arc.cost) == to && pred == arc.tail
+}
+
+/// What the block of this number says of a node by its mark.
+#[inline(always)]
+fn distance_by(mark: Mark, number: u32) -> Option<i128>
+    ensures { result ≡ marked_dist number mark }
+{
+    if mark.block == number {
+        Some(mark.dist)
+    } else {
+        None
+    }
+}
+
+/// The first label that no arc makes, by the marks.
+fn labels_made(labels: &[Label], marks: &NodeTable<Mark>) -> Result<(), (Where, Reason)>
+    ensures { (arcs : List ArcView) (b : BlockValue) → b.labels ≡ labels.now → AreMade arcs b marks.now → TellsRow (support_row arcs b) result }
+{
+    for label in labels {
+        if !marks.get(label.id).made {
+            return Err((Where::Node(label.id), Reason::NoTightArc));
+        }
+    }
+    Ok(())
+}

@@ -1,0 +1,30 @@
+-- What a run puts to several sinks, one text to each, in order.
+use Rattle.std.specs.Prelude.{◌≡◌, ◌⊎◌, ℕ, List, [], ◌∷◌, Option, Result, Ok, Err}
+use Rattle.dimacs_lines.specs.Devices.{after_piece}
+use Rattle.dimacs_lines.specs.Puts.{AcceptsFront}
+use Rattle.dimacs_runs.specs.declared.outcome.Status.{Status}
+use Rattle.dimacs_runs.specs.declared.outcome.Status.TheVariants.{Refused}
+use Rattle.dimacs_runs.specs.declared.outcome.RunError.{RunError}
+
+-- each sink has accepted its text
+abbrev pub AcceptAll : List (List ℕ) → List (Option (List ℕ)) → List (Option (List ℕ)) → Type 0
+AcceptAll [] old new = new ≡ old
+AcceptAll (text ∷ texts) [] new = ⊥
+AcceptAll (text ∷ texts) (held ∷ old) [] = ⊥
+AcceptAll (text ∷ texts) (held ∷ old) (holds ∷ new) = (holds ≡ after_piece held text) × AcceptAll texts old new
+
+-- the first sinks have accepted their texts, one a beginning of its own, and those after it nothing
+abbrev pub AcceptInTurn : List (List ℕ) → List (Option (List ℕ)) → List (Option (List ℕ)) → Type 0
+AcceptInTurn [] old new = ⊥
+AcceptInTurn (text ∷ texts) [] new = ⊥
+AcceptInTurn (text ∷ texts) (held ∷ old) [] = ⊥
+AcceptInTurn (text ∷ texts) (held ∷ old) (holds ∷ new) = (AcceptsFront held text holds × (new ≡ old)) ⊎ ((holds ≡ after_piece held text) × AcceptInTurn texts old new)
+
+-- this may be told; and where a refusal may be, it is what is told
+abbrev pub MayTell : (Status → List (List ℕ) → Type 0) → Status → List (List ℕ) → Type 0
+MayTell tells status out = tells status out × ((refusal : List (List ℕ)) → tells Refused refusal → (status ≡ Refused) × (out ≡ refusal))
+
+-- all that is told was put; after an error, nothing or a beginning of it
+abbrev pub ReportsAll : (Status → List (List ℕ) → Type 0) → Result Status RunError → List (Option (List ℕ)) → List (Option (List ℕ)) → Type 0
+ReportsAll tells (Ok status) old new = (out : List (List ℕ)) × MayTell tells status out × AcceptAll out old new
+ReportsAll tells (Err error) old new = (new ≡ old) ⊎ ((status : Status) × (out : List (List ℕ)) × MayTell tells status out × AcceptInTurn out old new)

@@ -1,0 +1,96 @@
+-- What a producer tells of the bytes of an instance, and of queries: the text of a claim, that of its certificate, and a report. A text that isn't put is empty here.
+use Rattle.std.specs.Prelude.{ℕ, ◌≡◌, ◌⊎◌, List, [], ◌∷◌, Option, Some, Ok}
+use Rattle.dimacs_records.specs.declared.kinds.TextKind.{TextKind}
+use Rattle.dimacs_records.specs.declared.kinds.TextKind.TheVariants as kinds
+use Rattle.dimacs_records.specs.declared.reasons.Reason.{Reason}
+use Rattle.dimacs_records.specs.declared.reasons.Reason.TheVariants.{NegativeWeight}
+use Rattle.dimacs_claims.specs.Cuts.{CutValue, canonical_cut}
+use Rattle.dimacs_claims.specs.LabelTexts.{canonical_labels}
+use Rattle.dimacs_claims.specs.Labels.{LabelsValue}
+use Rattle.dimacs_claims.specs.Potentials.{PotentialsValue, canonical_potentials}
+use Rattle.dimacs_claims.specs.SolutionTexts.{SolutionValue, canonical_solution}
+use Rattle.dimacs_instance.specs.Arcs.{NetworkValue}
+use Rattle.dimacs_instance.specs.Graph.{SpellsGraph}
+use Rattle.dimacs_instance.specs.MaxFlows.{MaxValue}
+use Rattle.dimacs_instance.specs.MaxTexts.{SpellsMax}
+use Rattle.dimacs_instance.specs.MinFlows.{MinValue}
+use Rattle.dimacs_instance.specs.MinTexts.{SpellsMin}
+use Rattle.dimacs_instance.specs.QueryTexts.{QueriesValue, SpellsQueries}
+use Rattle.dimacs_judge.specs.declared.verdict.Where.{Where}
+use Rattle.dimacs_judge.specs.declared.verdict.Where.TheVariants.{Arc}
+use Rattle.dimacs_judge.specs.InfeasibleJudge.{ShowsNoFlow}
+use Rattle.dimacs_judge.specs.QueryTests.{query_node_row}
+use Rattle.dimacs_judge.specs.Tests.{Clear, FirstOfRow}
+use Rattle.dimacs_solve.specs.Climbing.{GivesUp}
+use Rattle.dimacs_solve.specs.Paths.{IsFirstNegative, SolvesPaths}
+use Rattle.dimacs_solve.specs.SolveMax.{IsOptimal}
+use Rattle.dimacs_solve.specs.SolveMin.{IsLeastAnswer}
+use Rattle.dimacs_runs.specs.declared.jobs.SolveJob.{SolveJob}
+use Rattle.dimacs_runs.specs.declared.jobs.SolveJob.TheVariants.{Max, Min, Paths}
+use Rattle.dimacs_runs.specs.declared.outcome.Status.{Status}
+use Rattle.dimacs_runs.specs.declared.outcome.Status.TheVariants.{Done, Refused, GaveUp}
+use Rattle.dimacs_runs.specs.Judged.{paths_lines}
+use Rattle.dimacs_runs.specs.Judgings.{TextSays, says}
+use Rattle.dimacs_runs.specs.Refusals.{refusal_line}
+use Rattle.dimacs_runs.specs.Verdicts.{failure_line, gave_up_line, infeasible_line, max_line, min_line}
+
+-- a report, with neither claim nor certificate
+abbrev pub report_alone : List ℕ → List (List ℕ)
+report_alone line = [] ∷ [] ∷ line ∷ []
+
+-- the line of the text's fault alone is told; or the text spells a value, and what follows from it is told
+abbrev pub FaultAloneOr : {V : Type 0} → TextSays V → (V → Status → List (List ℕ) → Type 0) → Status → List (List ℕ) → Type 0
+FaultAloneOr text next status out =
+    ((l : ℕ) × (f : ℕ) × (r : Reason) × text.fault l f r × (status ≡ Refused) × (out ≡ report_alone (refusal_line text.name l f r))) ⊎ ((v : _) × text.spells v × next v status out)
+
+-- a solution, a cut that shows it maximum, and the verdict on them; or that none of so many flows is maximum
+abbrev pub FindsMaximum : MaxValue → ℕ → Status → List (List ℕ) → Type 0
+FindsMaximum i limit Done out = (s : SolutionValue) × (c : CutValue) × IsOptimal i s c × (out ≡ canonical_solution s ∷ canonical_cut c ∷ max_line s.value ∷ [])
+FindsMaximum i limit Refused out = ⊥
+FindsMaximum i limit GaveUp out = GivesUp i limit × (out ≡ report_alone gave_up_line)
+
+-- a solution, potentials that show that it costs least, and the verdict on them; a set that shows that no flow is feasible, and the verdict on it; or neither
+abbrev pub FindsLeast : MinValue → Status → List (List ℕ) → Type 0
+FindsLeast i Done out =
+    ((s : SolutionValue) × (p : PotentialsValue) × IsLeastAnswer i s p × (out ≡ canonical_solution s ∷ canonical_potentials p ∷ min_line s.value ∷ [])) ⊎ ((c : CutValue) × ShowsNoFlow i c × (out ≡ [] ∷ canonical_cut c ∷ infeasible_line ∷ []))
+FindsLeast i Refused out = ⊥
+FindsLeast i GaveUp out = out ≡ report_alone gave_up_line
+
+-- the first query that names no node; else the first arc of negative weight
+abbrev pub RefusesPaths : NetworkValue → QueriesValue → Where → Reason → Type 0
+RefusesPaths g q place reason = FirstOfRow (query_node_row g.nodes q) place reason ⊎ (Clear (query_node_row g.nodes q) × ((k : ℕ) × IsFirstNegative g.arcs k × (place ≡ Arc k) × (reason ≡ NegativeWeight)))
+
+-- labels that are distances, and the verdict on them; or the line of a refusal
+abbrev pub FindsPaths : NetworkValue → QueriesValue → Status → List (List ℕ) → Type 0
+FindsPaths g q Done out = (l : LabelsValue) × SolvesPaths g q (Ok l) × (out ≡ [] ∷ canonical_labels l ∷ paths_lines l.blocks q ∷ [])
+FindsPaths g q Refused out = (place : Where) × (reason : Reason) × RefusesPaths g q place reason × (out ≡ report_alone (failure_line place reason))
+FindsPaths g q GaveUp out = ⊥
+
+abbrev pub SolvedMax : ℕ → List ℕ → Status → List (List ℕ) → Type 0
+SolvedMax limit instance = FaultAloneOr (says kinds.Max SpellsMax instance) (λ i. FindsMaximum i limit)
+
+abbrev pub SolvedMin : List ℕ → Status → List (List ℕ) → Type 0
+SolvedMin instance = FaultAloneOr (says kinds.Min SpellsMin instance) FindsLeast
+
+abbrev pub SolvedPaths : List ℕ → List ℕ → Status → List (List ℕ) → Type 0
+SolvedPaths graph queries =
+    FaultAloneOr (says kinds.Graph SpellsGraph graph) (λ g.
+    FaultAloneOr (says kinds.Queries SpellsQueries queries) (λ q.
+    FindsPaths g q))
+
+-- what is told of an instance, and of queries where paths are asked for
+abbrev pub Solved : SolveJob → List ℕ → List ℕ → Status → List (List ℕ) → Type 0
+Solved (Max limit) instance queries = SolvedMax limit instance
+Solved (Min limit) instance queries = SolvedMin instance
+Solved Paths instance queries = SolvedPaths instance queries
+
+-- the bytes of the queries, where there are any
+abbrev pub AreQueries : SolveJob → Option (List ℕ) → List ℕ → Type 0
+AreQueries (Max limit) coming bytes = Unit {0}
+AreQueries (Min limit) coming bytes = Unit {0}
+AreQueries Paths coming bytes = coming ≡ Some bytes
+
+abbrev pub solved_kind : SolveJob → TextKind
+solved_kind (Max limit) = kinds.Max
+solved_kind (Min limit) = kinds.Min
+solved_kind Paths = kinds.Graph

@@ -1,0 +1,150 @@
+//! What a producer's run tells, and how it is put.
+
+ghost use Rattle.std.specs.Prelude.{◌≡◌, ◌∷◌, [], IfOk};
+ghost use Rattle.dimacs_runs.specs.Produced.{CountsPuts, EndsProducing, IsClaimless, PutTexts, least_produced, made_texts, maximum_produced, reported};
+ghost use Rattle.dimacs_runs.specs.Produced as produced;
+
+use crate::outcome::{RunError, Status};
+use crate::told::Told;
+use dimacs_claims::{
+    Cut, Labels, Potentials, Solution, write_cut, write_labels, write_potentials, write_solution,
+};
+use dimacs_judge::{Verdict, Where};
+use dimacs_lines::{DeviceFault, Sink};
+use dimacs_records::Reason;
+use dimacs_solve::{MaxAnswer, MinAnswer, SolveError};
+
+/// A claim and its certificate, as far as they were made.
+#[derive(Drop)]
+pub(crate) enum Made {
+    Nothing,
+    /// A maximum flow, and a cut that shows it.
+    Maximum(Solution, Cut),
+    /// A flow of least cost, and potentials that show it.
+    Least(Solution, Potentials),
+    /// A set that shows that there is no flow, which is claimed by nothing else.
+    Set(Cut),
+    /// Labels. What they answer is claimed by nothing else.
+    Distances(Labels),
+}
+
+impl Made {
+    /// Puts the claim, and then the certificate.
+    fn put<C: Sink, D: Sink>(&self, claim: &mut C, certificate: &mut D) -> Result<(), DeviceFault>
+        ensures puts { PutTexts result (made_texts self.now) (C.accepted claim.old ∷ D.accepted certificate.old ∷ []) (C.accepted claim.new ∷ D.accepted certificate.new ∷ []) }
+        ensures faults { CountsPuts result (C.faults claim.old ∷ D.faults certificate.old ∷ []) (C.faults claim.new ∷ D.faults certificate.new ∷ []) }
+        ensures unclaimed { IsClaimless self.now → claim.new ≡ claim.old }
+    {
+        match self {
+            Made::Nothing => Ok(()),
+            Made::Maximum(solution, cut) => {
+                write_solution(solution, claim)?;
+                write_cut(cut, certificate)
+            }
+            Made::Least(solution, potentials) => {
+                write_solution(solution, claim)?;
+                write_potentials(potentials, certificate)
+            }
+            Made::Set(set) => write_cut(set, certificate),
+            Made::Distances(labels) => write_labels(labels, certificate),
+        }
+    }
+}
+
+/// What is to be put: a claim and its certificate, as far as they were made, and a report.
+#[derive(Drop)]
+pub(crate) struct Produced {
+    pub(crate) made: Made,
+    pub(crate) told: Told,
+}
+
+impl Produced {
+    fn put<C: Sink, D: Sink, K: Sink>(
+        &self,
+        claim: &mut C,
+        certificate: &mut D,
+        report: &mut K,
+    ) -> Result<(), DeviceFault>
+        ensures puts { PutTexts result (produced.produced_texts self.now) (C.accepted claim.old ∷ D.accepted certificate.old ∷ K.accepted report.old ∷ []) (C.accepted claim.new ∷ D.accepted certificate.new ∷ K.accepted report.new ∷ []) }
+        ensures faults { CountsPuts result (C.faults claim.old ∷ D.faults certificate.old ∷ K.faults report.old ∷ []) (C.faults claim.new ∷ D.faults certificate.new ∷ K.faults report.new ∷ []) }
+        ensures unclaimed { IsClaimless self.now.made → claim.new ≡ claim.old }
+    {
+        self.made.put(claim, certificate)?;
+        self.told.put(report)
+    }
+}
+
+/// What is told without a claim.
+pub(crate) fn report_alone(told: Result<Told, RunError>) -> Result<Produced, RunError>
+    ensures { result ≡ reported told }
+{
+    let told = told?;
+    Ok(Produced {
+        made: Made::Nothing,
+        told,
+    })
+}
+
+/// What is told of the answer about a maximum flow.
+pub(crate) fn maximum_answered(answer: Result<MaxAnswer, SolveError>) -> Result<Produced, RunError>
+    ensures { result ≡ maximum_produced answer }
+{
+    match answer {
+        Ok(MaxAnswer::Optimal(solution, cut)) => {
+            let told = Told::Yes(Verdict::Max(solution.value));
+            Ok(Produced {
+                made: Made::Maximum(solution, cut),
+                told,
+            })
+        }
+        Ok(MaxAnswer::GaveUp) => report_alone(Ok(Told::GaveUp)),
+        Err(error) => report_alone(refused(error)),
+    }
+}
+
+/// What is told of the answer about a flow of least cost.
+pub(crate) fn least_answered(answer: Result<MinAnswer, SolveError>) -> Result<Produced, RunError>
+    ensures { result ≡ least_produced answer }
+{
+    match answer {
+        Ok(MinAnswer::Optimal(solution, potentials)) => {
+            let told = Told::Yes(Verdict::Min(solution.value));
+            Ok(Produced {
+                made: Made::Least(solution, potentials),
+                told,
+            })
+        }
+        Ok(MinAnswer::Infeasible(set)) => Ok(Produced {
+            made: Made::Set(set),
+            told: Told::Yes(Verdict::Infeasible),
+        }),
+        Ok(MinAnswer::GaveUp) => report_alone(Ok(Told::GaveUp)),
+        Err(error) => report_alone(refused(error)),
+    }
+}
+
+/// What is told of a producer's error.
+pub(crate) fn refused(error: SolveError) -> Result<Told, RunError>
+    ensures { result ≡ produced.refused error }
+{
+    match error {
+        SolveError::NegativeWeight(arc) => Ok(Told::No(Where::Arc(arc), Reason::NegativeWeight)),
+        SolveError::Refused(place, reason) => Ok(Told::No(place, reason)),
+        SolveError::Memory => Err(RunError::Memory),
+    }
+}
+
+/// Puts what was produced, where something was: the claim, the certificate and the report, in this order.
+pub(crate) fn put_produced<C: Sink, D: Sink, K: Sink>(
+    produced: Result<Produced, RunError>,
+    claim: &mut C,
+    certificate: &mut D,
+    report: &mut K,
+) -> Result<Status, RunError>
+    ensures ends { EndsProducing produced result (C.accepted claim.old ∷ D.accepted certificate.old ∷ K.accepted report.old ∷ []) (C.accepted claim.new ∷ D.accepted certificate.new ∷ K.accepted report.new ∷ []) (C.faults claim.old ∷ D.faults certificate.old ∷ K.faults report.old ∷ []) (C.faults claim.new ∷ D.faults certificate.new ∷ K.faults report.new ∷ []) }
+    ensures unclaimed { IfOk produced (λ p. IsClaimless p.made) → claim.new ≡ claim.old }
+{
+    let produced = produced?;
+    produced.put(claim, certificate, report)?;
+    Ok(produced.told.status())
+}

@@ -1,0 +1,131 @@
+//! Making a claim about an instance.
+
+ghost use Rattle.std.specs.Prelude.{◌≡◌, ◌≢◌, ◌⊎◌, ◌∷◌, [], ℕ, List, Some, Ok, Err, IfOk};
+ghost use Rattle.dimacs_lines.specs.Lines.{lines};
+ghost use Rattle.dimacs_records.specs.declared.kinds.TextKind.TheVariants as kinds;
+ghost use Rattle.dimacs_records.specs.declared.reasons.Reason.{Reason};
+ghost use Rattle.dimacs_records.specs.Faults.{Fault};
+ghost use Rattle.dimacs_instance.specs.QueryTexts.{AreLawful, asked};
+ghost use Rattle.dimacs_runs.specs.declared.jobs.SolveJob.TheVariants as jobs;
+ghost use Rattle.dimacs_runs.specs.declared.outcome.RunError.TheVariants.{Device, Memory};
+ghost use Rattle.dimacs_runs.specs.Judgings.{CountsDevices};
+ghost use Rattle.dimacs_runs.specs.Outputs.{ReportsAll};
+ghost use Rattle.dimacs_runs.specs.Produced.{IsClaimless, MayProduce};
+ghost use Rattle.dimacs_runs.specs.Solved.{AreQueries, FindsPaths, Solved, SolvedMax, SolvedMin, SolvedPaths, solved_kind};
+
+use crate::jobs::SolveJob;
+use crate::outcome::{RunError, Status};
+use crate::produced::{
+    Made, Produced, least_answered, maximum_answered, put_produced, refused, report_alone,
+};
+use crate::told::Told;
+use crate::unread::{read, read_two};
+use dimacs_instance::{
+    ArcView, CapacityArc, Graph, MaxInstance, MinInstance, Network, PlainArcs, Queries, WeightArc,
+};
+use dimacs_judge::answer_queries;
+use dimacs_lines::{Sink, Source};
+use dimacs_solve::{solve_max, solve_min, solve_paths};
+use std::alloc::Global;
+
+/// Reads an instance, and puts a claim about it, its certificate and the verdict of the judge on them, in this order; or
+/// the line of a refusal, or the line that tells that a limit was reached, and then nothing else.
+///
+/// `Max` puts a solution and a cut; it gives up after so many flows, none of them maximum. `Min` puts a solution and
+/// potentials, or a set alone where there is no flow; it gives up where one more path than the limit is needed, or where
+/// the judge refuses what was found. `Paths` reads queries too, after a graph without a fault, and puts labels alone; it
+/// never gives up, and refuses a query that names no node, and then a negative weight.
+pub fn run_solve<P: Source, Q: Source, C: Sink, D: Sink, K: Sink>(
+    alloc: Global,
+    job: SolveJob,
+    instance: &mut P,
+    queries: &mut Q,
+    claim_out: &mut C,
+    certificate_out: &mut D,
+    report: &mut K,
+) -> Result<Status, RunError>
+    ensures reports { (a b : List ℕ) → P.coming instance.old ≡ Some a → AreQueries job (Q.coming queries.old) b → ReportsAll (Solved job a b) result (C.accepted claim_out.old ∷ D.accepted certificate_out.old ∷ K.accepted report.old ∷ []) (C.accepted claim_out.new ∷ D.accepted certificate_out.new ∷ K.accepted report.new ∷ []) }
+    ensures faults { CountsDevices result (P.faults instance.old ∷ Q.faults queries.old ∷ C.faults claim_out.old ∷ D.faults certificate_out.old ∷ K.faults report.old ∷ []) (P.faults instance.new ∷ Q.faults queries.new ∷ C.faults claim_out.new ∷ D.faults certificate_out.new ∷ K.faults report.new ∷ []) }
+    ensures unread { (P.faults instance.new ≢ P.faults instance.old) ⊎ (Q.faults queries.new ≢ Q.faults queries.old) → (C.accepted claim_out.new ≡ C.accepted claim_out.old) × (D.accepted certificate_out.new ≡ D.accepted certificate_out.old) × (K.accepted report.new ≡ K.accepted report.old) }
+    ensures memory { result ≡ Err Memory → (C.accepted claim_out.new ≡ C.accepted claim_out.old) × (D.accepted certificate_out.new ≡ D.accepted certificate_out.old) × (K.accepted report.new ≡ K.accepted report.old) }
+    ensures instance_alone { (a : List ℕ) (l f : ℕ) (r : Reason) → P.coming instance.old ≡ Some a → Fault (solved_kind job) (lines a) l f r → queries.new ≡ queries.old }
+    ensures unqueried { job ≢ jobs.Paths → queries.new ≡ queries.old }
+    ensures unclaimed { job ≡ jobs.Paths → claim_out.new ≡ claim_out.old }
+{
+    let produced = match job {
+        SolveJob::Max(limit) => produce_maximum(alloc, limit, instance),
+        SolveJob::Min(limit) => produce_least(alloc, limit, instance),
+        SolveJob::Paths => produce_labels(alloc, instance, queries),
+    };
+    put_produced(produced, claim_out, certificate_out, report)
+}
+
+/// A maximum flow and a cut, or what is told in their place.
+fn produce_maximum<P: Source>(
+    alloc: Global,
+    limit: u64,
+    instance: &mut P,
+) -> Result<Produced, RunError>
+    ensures produces { (a : List ℕ) → P.coming instance.old ≡ Some a → MayProduce (SolvedMax limit a) result }
+    ensures faults { CountsDevices result (P.faults instance.old ∷ []) (P.faults instance.new ∷ []) }
+{
+    match read::<MaxInstance<PlainArcs<CapacityArc>>, P>(alloc, instance) {
+        Ok(instance) => maximum_answered(solve_max(alloc, &instance, limit)),
+        Err(unread) => report_alone(unread.told()),
+    }
+}
+
+/// A flow of least cost and potentials, or what is told in their place.
+fn produce_least<P: Source>(
+    alloc: Global,
+    limit: u64,
+    instance: &mut P,
+) -> Result<Produced, RunError>
+    ensures produces { (a : List ℕ) → P.coming instance.old ≡ Some a → MayProduce (SolvedMin a) result }
+    ensures faults { CountsDevices result (P.faults instance.old ∷ []) (P.faults instance.new ∷ []) }
+{
+    match read::<MinInstance<PlainArcs<ArcView>>, P>(alloc, instance) {
+        Ok(instance) => least_answered(solve_min(alloc, &instance, limit)),
+        Err(unread) => report_alone(unread.told()),
+    }
+}
+
+/// Labels that answer queries, or what is told in their place.
+fn produce_labels<P: Source, Q: Source>(
+    alloc: Global,
+    graph: &mut P,
+    queries: &mut Q,
+) -> Result<Produced, RunError>
+    ensures produces { (a b : List ℕ) → P.coming graph.old ≡ Some a → Q.coming queries.old ≡ Some b → MayProduce (SolvedPaths a b) result }
+    ensures faults { CountsDevices result (P.faults graph.old ∷ Q.faults queries.old ∷ []) (P.faults graph.new ∷ Q.faults queries.new ∷ []) }
+    ensures graph_alone { (a : List ℕ) (l f : ℕ) (r : Reason) → P.coming graph.old ≡ Some a → Fault kinds.Graph (lines a) l f r → queries.new ≡ queries.old }
+    ensures unclaimed { IfOk result (λ produced. IsClaimless produced.made) }
+{
+    match read_two::<Graph<PlainArcs<WeightArc>>, Queries, P, Q>(alloc, graph, queries) {
+        Ok((graph, queries)) => label(alloc, &graph, &queries),
+        Err(unread) => report_alone(unread.told()),
+    }
+}
+
+/// Labels that are distances and answer queries, or what is told in their place.
+fn label<N: Network>(
+    alloc: Global,
+    graph: &Graph<N>,
+    queries: &Queries,
+) -> Result<Produced, RunError>
+    requires lawful { AreLawful (asked queries.now) }
+    ensures produces { MayProduce (FindsPaths graph.now (asked queries.now)) result }
+    ensures no_device { result ≢ Err Device }
+    ensures unclaimed { IfOk result (λ produced. IsClaimless produced.made) }
+{
+    match solve_paths(alloc, graph, queries) {
+        Ok(labels) => {
+            let answers = answer_queries(alloc, queries, &labels)?;
+            Ok(Produced {
+                made: Made::Distances(labels),
+                told: Told::Yes(answers),
+            })
+        }
+        Err(error) => report_alone(refused(error)),
+    }
+}

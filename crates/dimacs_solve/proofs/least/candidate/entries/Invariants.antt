@@ -1,0 +1,11 @@
+use Rattle.std.proofs.Common.{ℕ, ◌≡◌, ◌+◌, ◌<◌, length}
+use Rattle.dimacs_judge.specs.Claims.{entry_at}
+use Rattle.dimacs_judge.specs.Rows.{arc_at}
+use Rattle.dimacs_solve.specs.SolveMin.{IsEntryOf}
+use Rattle.dimacs_solve.proofs.least.candidate.entries.Given as goal
+
+abbrev pub invariant-loop-i : goal.invariant-loop-i
+invariant-loop-i g l = record {
+  one_each : length l.entries.items ≡ l.i;
+  in_order : (k : ℕ) → k < l.i → IsEntryOf (arc_at (g.N.Network.list l.network) k) (k + 2) (entry_at l.entries.items k);
+}
