@@ -8,7 +8,6 @@ ghost use Rattle.dimacs_solve.specs.SolveMin.{AreEntriesOf, SolvesMin};
 mod augmenting;
 mod balancing;
 mod candidate;
-mod node_numbers;
 mod pseudoflow;
 mod residual_arcs;
 mod shortest;

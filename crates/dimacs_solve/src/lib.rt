@@ -10,6 +10,7 @@ mod improve;
 mod least;
 mod marks;
 mod maximum;
+mod node_numbers;
 mod paths;
 mod preflow;
 mod search;

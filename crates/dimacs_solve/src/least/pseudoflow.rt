@@ -1,7 +1,7 @@
 //! A flow that keeps the bounds of arcs, and the balances of nodes not yet.
 
-use crate::least::node_numbers::NodeNumbers;
 use crate::least::residual_arcs::{ResidualArcs, first_amount};
+use crate::node_numbers::NodeNumbers;
 use dimacs_instance::{MinInstance, Network};
 use dimacs_lines::Memory;
 use std::alloc::Global;
