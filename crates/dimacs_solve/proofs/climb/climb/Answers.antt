@@ -1,5 +1,4 @@
-use Rattle.std.proofs.Common.{◌≡◌, List, ℤ, pos, replicate, length}
-use Rattle.dimacs_solve.proofs.Rising.{first_flow, next_flow, given_up}
+use Rattle.dimacs_solve.proofs.Rising.{first_flow, next_flow}
 use Rattle.dimacs_solve.proofs.climb.climb.Goals as goal
 
 pub loop-turn-init : goal.loop-turn-init

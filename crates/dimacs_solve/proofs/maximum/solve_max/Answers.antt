@@ -1,6 +1,4 @@
-use Rattle.std.proofs.Common.{◌≡◌, ◌∙◌, sym, length}
-use Rattle.dimacs_claims.specs.SolutionTexts.{claimed}
-use Rattle.dimacs_solve.specs.Climbing.{Climbs}
+use Rattle.std.proofs.Common.{sym}
 use Rattle.dimacs_solve.proofs.Rising.{one_each}
 use Rattle.dimacs_solve.proofs.maximum.solve_max.Goals as goal
 
