@@ -3,7 +3,7 @@
 use crate::checks::{holds, same};
 use dimacs_claims::Cut;
 use dimacs_decide::{Decision, decide_max};
-use dimacs_instance::{CapacityArc, MaxInstance, Network, PlainArcs, read_max};
+use dimacs_instance::{CapacityArc, ForwardStar, MaxInstance, Network, read_max};
 use dimacs_judge::{Flow, Verdict, feasible_max, judge_max};
 use dimacs_lines::MemorySource;
 use dimacs_solve::{MaxAnswer, solve_max};
@@ -47,7 +47,7 @@ three of three pairs | p max 8 11; n 1 s; n 8 t; a 1 2 1; a 1 3 1; a 1 4 1; a 2 
 two of three pairs | p max 8 9; n 1 s; n 8 t; a 1 2 1; a 1 3 1; a 1 4 1; a 2 6 1; a 3 6 1; a 4 6 1; a 4 7 1; a 6 8 1; a 7 8 1 | 10 | v max 2
 the better flow is made the best before the second question | p max 8 11; n 1 s; n 8 t; a 1 2 1; a 1 3 1; a 1 4 1; a 2 6 1; a 2 5 1; a 3 7 1; a 3 6 1; a 4 7 1; a 5 8 1; a 6 8 1; a 7 8 1 | 2 | v max 3";
 
-type Instance = MaxInstance<PlainArcs<CapacityArc>>;
+type Instance = MaxInstance<ForwardStar<CapacityArc>>;
 
 /// An instance, of lines parted by semicolons.
 fn instance(alloc: Global, lines: &str) -> Result<Instance, Fail> {
