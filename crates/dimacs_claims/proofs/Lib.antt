@@ -1,6 +1,6 @@
 pub mod BegunLemmas
 pub mod BlockLemmas
-mod ByIdLemmas
+pub mod ByIdLemmas
 mod CutLemmas
 pub mod LabelLaws
 pub mod LabelRecords

@@ -1,16 +1,18 @@
 -- The records of a solution.
-use Rattle.std.proofs.Common.{◌≡◌, ℕ, suc, ◌≤◌, ◌∷◌, ◌++◌, [], List, true, false, Option, Some, None, Result, Ok, Err, length, map, ◌+◌, refl, ap, sym, ◌∙◌, arith}
-use Rattle.std.specs.Prelude.{ℤ, pos, neg_ℤ, ◌^◌, codes, is_some, IfOk}
+use Rattle.std.proofs.Common.{◌≡◌, ℕ, suc, ◌≤◌, ◌∷◌, ◌++◌, [], List, true, false, Option, Some, None, Result, Ok, Err, length, map, ◌+◌, refl, ap, sym, ◌∙◌, arith, append_assoc}
+use Rattle.std.specs.Prelude.{ℤ, pos, neg_ℤ, ◌^◌, codes, is_some, IfOk, IfErr, OnOk, OnErr, IsErrAnd, ◌↔◌}
 use Rattle.std.specs.List.{All, list_any}
 use Rattle.std.specs.Result.{result_map_both}
 use Rattle.std.proofs.lemmas.Int.{ints}
-use Rattle.std.proofs.lemmas.List.{append-nil, length-append, length-map}
+use Rattle.std.proofs.lemmas.List.{append-nil, length-append, length-map, map-append}
 use Rattle.std.proofs.lemmas.List.Elements.{All-nil, All-cons, All-head, All-tail}
+use Rattle.dimacs_lines.specs.Lines.{lines}
 use Rattle.dimacs_lines.specs.Number.{IsWithin}
 use Rattle.dimacs_records.specs.declared.kinds.TextKind.TheVariants as kinds
 use Rattle.dimacs_records.specs.declared.records.Record.{Record}
 use Rattle.dimacs_records.specs.declared.records.Record.TheVariants as records
 use Rattle.dimacs_records.specs.declared.reasons.Reason.TheVariants.{SolutionTwice, SolutionMissing}
+use Rattle.dimacs_records.specs.declared.faults.TakeError.{TakeError}
 use Rattle.dimacs_records.specs.declared.faults.ReadError.{ReadError}
 use Rattle.dimacs_records.specs.declared.faults.ReadError.TheVariants as read_errors
 use Rattle.dimacs_records.specs.Earlier.{problem_in, is_value}
@@ -19,18 +21,18 @@ use Rattle.dimacs_records.specs.FieldReader.{fault_at}
 use Rattle.dimacs_records.specs.Spelling.{parts_of, texts_in}
 use Rattle.dimacs_records.specs.Forms.{form, Wide, Id, Whole}
 use Rattle.dimacs_records.specs.Canonical.{CanBeSpelled, FitAll, canonical_text}
-use Rattle.dimacs_records.specs.Readings.{LineRecord, IsOfKind, ReadsLines, IsAllowed, IsFirstCondition, IsComplete, on_line, records_of, numbered}
+use Rattle.dimacs_records.specs.Readings.{LineRecord, AreBefore, IsOfKind, ReadsLines, IsAllowed, RefusesRecord, IsFirstCondition, IsComplete, on_line, records_of, numbered}
 use Rattle.dimacs_records.specs.Texts.{AreFaultless, AreSpelled}
 use Rattle.dimacs_records.proofs.CanonicalLaws.{canonical_spelled}
 use Rattle.dimacs_records.proofs.ConditionLemmas.{is_first_condition, is_allowed, is_first_at_end, is_complete}
 use Rattle.dimacs_records.proofs.FitLaws.{fits_of}
-use Rattle.dimacs_records.proofs.ReadLaws.{spelled_of_faultless}
+use Rattle.dimacs_records.proofs.ReadLaws.{reads_exactly, spelled_of_faultless}
 use Rattle.dimacs_records.proofs.SplitLemmas.{image_at}
 use Rattle.dimacs_claims.specs.declared.solution.Entry.{Entry}
 use Rattle.dimacs_claims.specs.declared.solution.Solution.{Solution}
 use Rattle.dimacs_claims.specs.declared.solution.ValueLine.{ValueLine}
 use Rattle.dimacs_claims.specs.SolutionTexts.{SolutionValue, StandsAmong, GivesSolution, SpellsSolution, IsLawful, IsLawfulEntry, canonical_solution, claimed, entry_line, entry_record, on_lines_from, renumbered, solution_records}
-use Rattle.dimacs_claims.specs.SolutionReading.{AreTaken}
+use Rattle.dimacs_claims.specs.SolutionReading.{AreTaken, StandsFor, GivesPlaced, IsPlaced, AnswersAlike, ReadsLike, TakesLine}
 
 abbrev IsSolutionLine : LineRecord → Type 0
 IsSolutionLine r = IsOfKind kinds.Solution r.says
@@ -144,13 +146,6 @@ solution_faultless rs s h = record {
   allowed = λ before after r e. allowed_at before r (place_of s.entries h.before h.after s.value_line s.value before after r h.others_are (rw h.all_are at e));
   complete = complete_with_value s.entries rs s.value_line s.value h;
 }
-
--- what is read is what the value read claims
-pub claimed_read : (all : List (List ℕ)) (result : Result Solution ReadError) → ReadsLines kinds.Solution (λ rs s. GivesSolution rs (claimed s)) all result → ReadsLines kinds.Solution GivesSolution all (result_map_both claimed (λ e. e) result)
-claimed_read all (Ok s) h = record { said = h.said; faultless = h.faultless; given = h.given }
-claimed_read all (Err (read_errors.Refused place reason)) h = h
-claimed_read all (Err read_errors.Device) h = tt
-claimed_read all (Err read_errors.Memory) h = tt
 
 -- the solution that records give
 with_line : ℕ → Record → SolutionValue → SolutionValue
@@ -280,6 +275,94 @@ lawful_given all said s spelled h =
     let count : length (numbered 1 said) ≡ length s.entries + 1 = omega (arith, ap length h.all_are, length-append h.before (r ∷ h.after), ap length h.others_are, length-append h.before h.after, length-map s.entries entry_line) in
     record { value = spelled_value s.value are.0; entries = spelled_entries s.entries entries; few = omega (arith, count, one_a_line all said 1 spelled.spell, spelled.few) }
 
-pub lawful_read : (all : List (List ℕ)) (result : Result Solution ReadError) → ReadsLines kinds.Solution (λ rs s. GivesSolution rs (claimed s)) all result → IfOk result (λ s. IsLawful (claimed s))
-lawful_read all (Ok s) h = lawful_given all h.said (claimed s) (spelled_of_faultless kinds.Solution all h.said h.faultless) h.given
+lawful_read : (all : List (List ℕ)) (told : Result SolutionValue ReadError) → ReadsLines kinds.Solution GivesSolution all told → IfOk told IsLawful
+lawful_read all (Ok s) h = lawful_given all h.said s (spelled_of_faultless kinds.Solution all h.said h.faultless) h.given
 lawful_read all (Err error) h = tt
+
+-- ---- what is read into a place
+module _ {W : Type 0} (value : W → ℤ) (value_line : W → ℕ) (holds : W → List Entry → Type 0) where
+  abbrev like : SolutionValue → W → Type 0
+  like s w = IsPlaced (value w) (value_line w) (holds w) s
+
+  -- the lines of a text and the solution that they give are what a reader of solutions would answer
+  read_as : (text : List ℕ) (result : Result W ReadError) (told : Result SolutionValue ReadError) → ReadsLines kinds.Solution GivesSolution (lines text) told → AnswersAlike like told result → ReadsLike like text result
+  read_as text result told reads alike = record {
+    told = told;
+    reads = reads_exactly kinds.Solution GivesSolution (lines text) told solution_faultless one_solution reads;
+    lawful = lawful_read (lines text) told reads;
+    alike = alike;
+  }
+
+  pub reads_placed : (text : List ℕ) (result : Result W ReadError) → ReadsLines kinds.Solution (λ rs w. GivesPlaced (value w) (value_line w) (holds w) rs) (lines text) result → ReadsLike like text result
+  reads_placed text (Ok w) h =
+      let s : SolutionValue = record { value = value w; value_line = value_line w; entries = h.given.0 } in
+      read_as text (Ok w) (Ok s) (record { said = h.said; faultless = h.faultless; given = h.given.2 }) (record { value_is = refl; line_is = refl; entries = h.given.1 })
+  reads_placed text (Err (read_errors.Refused place reason)) h = read_as text (Err (read_errors.Refused place reason)) (Err (read_errors.Refused place reason)) h refl
+  reads_placed text (Err read_errors.Device) h = read_as text (Err read_errors.Device) (Err read_errors.Device) tt refl
+  reads_placed text (Err read_errors.Memory) h = read_as text (Err read_errors.Memory) (Err read_errors.Memory) tt refl
+
+-- ---- what a reading that places entries stands for
+module _ (holds : List Entry → Type 0) (rs : List LineRecord) where
+  pub none_taken : (entries : List Entry) → holds entries → StandsFor None holds (map entry_line entries)
+  none_taken entries stands = (entries, stands, refl)
+
+  pub no_value_placed : (value : Option ValueLine) → value ≡ None → StandsFor value holds rs → FirstAtEnd kinds.Solution (records_of rs) SolutionMissing
+  no_value_placed None none h = no_value_at_end h.0 rs h.2
+  no_value_placed (Some v) none h = absurd (cc)
+
+  pub complete_placed : (v : ValueLine) → StandsFor (Some v) holds rs → IsComplete kinds.Solution (records_of rs)
+  complete_placed v h = complete_with_value h.0 rs v.line v.value h.2
+
+  pub value_refused : (value : Option ValueLine) (other : ℤ) → is_some value ≡ true → StandsFor value holds rs → IsFirstCondition (records_of rs) (value_record other) (fault_at 0 SolutionTwice)
+  value_refused value other came h = value_came value h.0 rs other came h.2
+
+  pub value_placed : (value : Option ValueLine) (line : ℕ) (said : ℤ) → is_some value ≡ false → StandsFor value holds rs
+      → IsAllowed (records_of rs) (value_record said) × StandsFor (Some (record { value = said; line = line })) holds (rs ++ on_line line (value_record said) ∷ [])
+  value_placed value line said none h = let both = value_first value h.0 rs line said none h.2 in (both.0, (h.0, h.1, both.1))
+
+  pub entry_placed : (value : Option ValueLine) (e : Entry) (more : List Entry → Type 0) → ((es : List Entry) → holds es → more (es ++ e ∷ [])) → StandsFor value holds rs
+      → IsAllowed (records_of rs) (entry_record e) × StandsFor value more (rs ++ entry_line e ∷ [])
+  entry_placed value e more placed h = (entry_allowed (records_of rs) e, (h.0 ++ e ∷ [], placed h.0 h.1, taken_more value h.0 e h.2))
+    where
+      taken_more : (value : Option ValueLine) (es : List Entry) (e : Entry) → AreTaken value es rs → AreTaken value (es ++ e ∷ []) (rs ++ entry_line e ∷ [])
+      taken_more None es e are = ap (λ t. t ++ entry_line e ∷ []) are ∙ sym (map-append entry_line es (e ∷ []))
+      taken_more (Some v) es e among = record {
+        before = among.before;
+        after = among.after ++ entry_line e ∷ [];
+        others_are = map-append entry_line es (e ∷ []) ∙ (ap (λ t. t ++ entry_line e ∷ []) among.others_are ∙ append_assoc among.before among.after (entry_line e ∷ []));
+        all_are = ap (λ t. t ++ entry_line e ∷ []) among.all_are ∙ append_assoc among.before (on_line v.line (value_record v.value) ∷ among.after) (entry_line e ∷ []);
+      }
+
+  -- where the place stands for the same, so does the reading
+  pub same_placed : (value : Option ValueLine) (other : List Entry → Type 0) → ((es : List Entry) → holds es ↔ other es) → StandsFor value holds rs ↔ StandsFor value other rs
+  same_placed value other same = ((λ h. (h.0, (same h.0).0 h.1, h.2)), (λ h. (h.0, (same h.0).1 h.1, h.2)))
+
+-- a solution whose entries were kept
+pub kept_solution : {W : Type 0} (value : W → ℤ) (value_line : W → ℕ) (entries : W → List Entry) (told : Result SolutionValue ReadError) (w : W) → AnswersAlike (λ s x. IsPlaced (value x) (value_line x) (λ kept. entries x ≡ kept) s) told (Ok w)
+    → told ≡ Ok (record { value = value w; value_line = value_line w; entries = entries w })
+kept_solution value value_line entries (Ok s) w alike = rw (alike.value_is, alike.line_is, alike.entries) refl
+kept_solution value value_line entries (Err e) w alike = absurd alike
+
+-- and where none was read
+pub error_kept : {W : Type 0} (like : SolutionValue → W → Type 0) (told : Result SolutionValue ReadError) (e : ReadError) (result : Result Solution ReadError) → AnswersAlike like told (Err e) → IsErrAnd result (λ f. f ≡ e) → told ≡ result_map_both claimed (λ f. f) result
+error_kept like (Err f) e (Err h) alike is = ap Err (alike ∙ sym is)
+error_kept like (Ok s) e result alike is = absurd alike
+error_kept like (Err f) e (Ok s) alike is = absurd is
+
+-- ---- what becomes of a reading, clause by clause
+module _ (old new : List LineRecord → Type 0) (r : LineRecord) where
+  pub line_allowed : (result : Result Unit TakeError) → TakesLine old r result new → OnOk result ((rs : List LineRecord) → old rs → IsAllowed (records_of rs) r.says)
+  line_allowed (Ok done) takes = λ rs h. (takes rs h).0
+  line_allowed (Err error) takes = tt
+
+  pub line_taken : (line : ℕ) (result : Result Unit TakeError) → TakesLine old r result new → OnOk result ((rs : List LineRecord) → old rs → AreBefore line rs → new (rs ++ r ∷ []))
+  line_taken line (Ok done) takes = λ rs h before. (takes rs h).1
+  line_taken line (Err error) takes = tt
+
+  pub line_refused : (result : Result Unit TakeError) → TakesLine old r result new → IfErr result (λ error. (rs : List LineRecord) → old rs → RefusesRecord (records_of rs) r.says error)
+  line_refused (Ok done) takes = tt
+  line_refused (Err error) takes = λ rs. (takes rs).1
+
+  pub line_unchanged : (result : Result Unit TakeError) → TakesLine old r result new → OnErr result ((rs : List LineRecord) → new rs ↔ old rs)
+  line_unchanged (Ok done) takes = tt
+  line_unchanged (Err error) takes = λ rs. (takes rs).0

@@ -1,26 +1,51 @@
 -- How far a solution has been read.
-use Rattle.std.specs.Prelude.{◌≡◌, List, [], ◌∷◌, ◌++◌, map, Option, None, Some, Result, Ok, Err}
+use Rattle.std.specs.Prelude.{ℕ, ℤ, ◌≡◌, ◌↔◌, List, [], ◌∷◌, ◌++◌, map, Option, None, Some, Result, Ok, Err, IfOk}
+use Rattle.dimacs_lines.specs.Lines.{lines}
+use Rattle.dimacs_records.specs.declared.faults.ReadError.{ReadError}
 use Rattle.dimacs_records.specs.declared.faults.TakeError.{TakeError}
+use Rattle.dimacs_records.specs.declared.kinds.TextKind.TheVariants as kinds
 use Rattle.dimacs_records.specs.declared.records.Record.TheVariants.{SolutionValue}
+use Rattle.dimacs_records.specs.Faults.{Fault}
 use Rattle.dimacs_records.specs.Readings.{LineRecord, on_line, records_of, IsAllowed, RefusesRecord}
+use Rattle.dimacs_records.specs.Texts.{Reads}
 use Rattle.dimacs_claims.specs.declared.solution.Entry.{Entry}
 use Rattle.dimacs_claims.specs.declared.solution.ValueLine.{ValueLine}
-use Rattle.dimacs_claims.specs.SolutionTexts.{StandsAmong, entry_line}
-
--- the value, once it came, and the entries so far
-pub record SolutionSoFar : Type 0 where
-  pub value : Option ValueLine
-  pub entries : List Entry
+use Rattle.dimacs_claims.specs.SolutionTexts.{StandsAmong, GivesSolution, SpellsSolution, IsLawful, entry_line}
+use Rattle.dimacs_claims.specs.SolutionTexts as texts
 
 -- these are the records of the entries, and somewhere among them that of the value
 abbrev pub AreTaken : Option ValueLine → List Entry → List LineRecord → Type 0
 AreTaken None entries rs = rs ≡ map entry_line entries
 AreTaken (Some v) entries rs = StandsAmong (on_line v.line (SolutionValue v.value)) (map entry_line entries) rs
 
-abbrev pub StandsFor : SolutionSoFar → List LineRecord → Type 0
-StandsFor so_far rs = AreTaken so_far.value so_far.entries rs
+-- these are the records of the value, once it came, and of entries for which the place stands
+abbrev pub StandsFor : Option ValueLine → (List Entry → Type 0) → List LineRecord → Type 0
+StandsFor value holds rs = (entries : List Entry) × holds entries × AreTaken value entries rs
 
 -- what becomes of a reading that is told the record of one more line
-abbrev pub TakesLine : SolutionSoFar → LineRecord → Result Unit TakeError → SolutionSoFar → Type 0
-TakesLine old r (Ok done) new = (rs : List LineRecord) → StandsFor old rs → IsAllowed (records_of rs) r.says × StandsFor new (rs ++ r ∷ [])
-TakesLine old r (Err error) new = (new ≡ old) × ((rs : List LineRecord) → StandsFor old rs → RefusesRecord (records_of rs) r.says error)
+abbrev pub TakesLine : (List LineRecord → Type 0) → LineRecord → Result Unit TakeError → (List LineRecord → Type 0) → Type 0
+TakesLine old r (Ok done) new = (rs : List LineRecord) → old rs → IsAllowed (records_of rs) r.says × new (rs ++ r ∷ [])
+TakesLine old r (Err error) new = (rs : List LineRecord) → (new rs ↔ old rs) × (old rs → RefusesRecord (records_of rs) r.says error)
+
+-- the records give a solution of this value, with entries for which the place stands
+abbrev pub GivesPlaced : ℤ → ℕ → (List Entry → Type 0) → List LineRecord → Type 0
+GivesPlaced value value_line holds rs = (entries : List Entry) × holds entries × GivesSolution rs (record { value = value; value_line = value_line; entries = entries })
+
+-- the solution has this value, and the place stands for its entries
+pub record IsPlaced (value : ℤ) (value_line : ℕ) (holds : List Entry → Type 0) (s : texts.SolutionValue) : Type 0 where
+  pub value_is : value ≡ s.value
+  pub line_is : value_line ≡ s.value_line
+  pub entries : holds s.entries
+
+-- one answers what the other does, with values that are related
+abbrev pub AnswersAlike : {V W : Type 0} → (V → W → Type 0) → Result V ReadError → Result W ReadError → Type 0
+AnswersAlike like (Ok v) (Ok w) = like v w
+AnswersAlike like (Err e) (Err f) = e ≡ f
+AnswersAlike like told other = ⊥
+
+-- what a reader of solutions answers, with a value that is related to the solution
+pub record ReadsLike {W : Type 0} (like : texts.SolutionValue → W → Type 0) (text : List ℕ) (result : Result W ReadError) : Type 0 where
+  pub told : Result texts.SolutionValue ReadError
+  pub reads : Reads (SpellsSolution text) (Fault kinds.Solution (lines text)) told
+  pub lawful : IfOk told IsLawful
+  pub alike : AnswersAlike like told result

@@ -5,11 +5,15 @@ mod block;
 mod by_id;
 mod cut;
 mod labels;
+mod place;
 mod potentials;
 mod solution;
 
 pub use block::{Block, Label};
 pub use cut::{Cut, CutReading, read_cut, write_cut};
 pub use labels::{Labels, LabelsReading, read_labels, write_labels};
+pub use place::{Place, Placed};
 pub use potentials::{Potentials, PotentialsReading, read_potentials, write_potentials};
-pub use solution::{Entry, Solution, SolutionReading, read_solution, write_solution};
+pub use solution::{
+    Entry, Solution, SolutionReading, read_solution, read_solution_into, write_solution,
+};

@@ -1,6 +1,7 @@
 //! Solutions: a value, and the flows of arcs.
 
-ghost use Rattle.std.specs.Prelude.{◌≡◌, ℕ, List, [], Some, None, IfOk};
+ghost use Rattle.std.specs.Prelude.{◌≡◌, ℕ, List, [], Some, IfOk, map};
+ghost use Rattle.dimacs_claims.specs.declared.solution.Entry.{Entry};
 ghost use Rattle.std.specs.Result.{result_map_both};
 ghost use Rattle.dimacs_lines.specs.Devices.{CountsFault};
 ghost use Rattle.dimacs_lines.specs.Lines.{lines};
@@ -10,15 +11,15 @@ ghost use Rattle.dimacs_records.specs.declared.records.Record.TheVariants as rec
 ghost use Rattle.dimacs_records.specs.Faults.{Fault};
 ghost use Rattle.dimacs_records.specs.Readings.{CountsRead, on_line};
 ghost use Rattle.dimacs_records.specs.Texts.{Reads};
-ghost use Rattle.dimacs_claims.specs.SolutionTexts.{SolutionValue, GivesSolution, IsLawful, SpellsSolution, canonical_solution, claimed, entry_line, entry_record, renumbered};
-ghost use Rattle.dimacs_claims.specs.SolutionReading.{StandsFor, TakesLine};
+ghost use Rattle.dimacs_claims.specs.SolutionTexts.{SolutionValue, IsLawful, SpellsSolution, canonical_solution, claimed, entry_line, entry_record, renumbered};
+ghost use Rattle.dimacs_claims.specs.SolutionReading.{GivesPlaced, IsPlaced, ReadsLike, StandsFor, TakesLine};
 
+use crate::place::{Place, Placed};
 use dimacs_lines::{DeviceFault, Page, Sink, Source};
 use dimacs_records::{
     ReadError, Reading, Reason, Record, TakeError, TextKind, read_text, write_record,
 };
 use std::alloc::Global;
-use std::marker::Model;
 
 /// A claimed flow: its value or its cost, and what arcs carry. The fields are open. What was read from a source that
 /// tells its bytes is lawful, and `read_solution` says so.
@@ -62,33 +63,24 @@ pub(crate) struct ValueLine {
     line: u64,
 }
 
-/// Makes a solution of the records of a text. The value may come anywhere.
+/// Puts the entries of a text's records in a place, and keeps the value, which may come anywhere.
 #[derive(Drop)]
-pub struct SolutionReading {
+pub struct SolutionReading<P: Place> {
     value: Option<ValueLine>,
-    entries: Vec<Entry>,
+    place: P,
 }
 
-impl Model for SolutionReading {
-    ghost use Rattle.dimacs_claims.specs.SolutionReading.{SolutionSoFar};
-
-    ghost Value = { SolutionSoFar };
-
-    ghost view = { λ reading. record { value = reading.value; entries = reading.entries.items } };
-}
-
-impl SolutionReading {
-    pub fn new(alloc: Global) -> SolutionReading
-        ensures { result ≡ record { value = None; entries = [] } }
+impl<P: Place> SolutionReading<P> {
+    pub fn new(place: P) -> SolutionReading<P>
+        ensures begins { (entries : List Entry) → P.stands_for place entries → StandsFor result.value (P.stands_for result.place) (map entry_line entries) }
+        ensures fixed { P.fixed result.place ≡ P.fixed place }
     {
-        SolutionReading {
-            value: None,
-            entries: Vec::new(alloc),
-        }
+        SolutionReading { value: None, place }
     }
 
     fn take_value(&mut self, said: ValueLine) -> Result<(), TakeError>
-        ensures { TakesLine self.old (on_line said.line (records.SolutionValue said.value)) result self.new }
+        ensures takes { TakesLine (StandsFor self.old.value (P.stands_for self.old.place)) (on_line said.line (records.SolutionValue said.value)) result (StandsFor self.new.value (P.stands_for self.new.place)) }
+        ensures fixed { P.fixed self.new.place ≡ P.fixed self.old.place }
     {
         if self.value.is_some() {
             return Err(TakeError::refused(0, Reason::SolutionTwice));
@@ -99,21 +91,24 @@ impl SolutionReading {
 
     #[inline(always)]
     fn take_entry(&mut self, entry: Entry) -> Result<(), TakeError>
-        ensures { TakesLine self.old (entry_line entry) result self.new }
+        ensures takes { TakesLine (StandsFor self.old.value (P.stands_for self.old.place)) (entry_line entry) result (StandsFor self.new.value (P.stands_for self.new.place)) }
+        ensures fixed { P.fixed self.new.place ≡ P.fixed self.old.place }
     {
-        self.entries.push(entry)?;
+        self.place.place(entry)?;
         Ok(())
     }
 }
 
-impl Reading for SolutionReading {
-    type Value = Solution;
+impl<P: Place> Reading for SolutionReading<P> {
+    type Value = Placed<P>;
 
     ghost kind = { λ reading. kinds.Solution };
 
-    ghost stands_for = { λ reading rs. StandsFor reading rs };
+    ghost stands_for = { λ reading rs. StandsFor reading.value (P.stands_for reading.place) rs };
 
-    ghost gives = { λ rs solution. GivesSolution rs (claimed solution) };
+    ghost gives = { λ rs placed. GivesPlaced placed.value placed.value_line (P.stands_for placed.place) rs };
+
+    ghost keeps = { λ reading placed. P.fixed placed.place ≡ P.fixed reading.place };
 
     #[inline(always)]
     fn take(&mut self, line: u64, said: Record) -> Result<(), TakeError> {
@@ -129,14 +124,14 @@ impl Reading for SolutionReading {
         }
     }
 
-    fn finish(self) -> Result<Solution, TakeError> {
+    fn finish(self) -> Result<Placed<P>, TakeError> {
         let Some(said) = self.value else {
             return Err(TakeError::refused(0, Reason::SolutionMissing));
         };
-        Ok(Solution {
+        Ok(Placed {
             value: said.value,
             value_line: said.line,
-            entries: self.entries,
+            place: self.place,
         })
     }
 }
@@ -147,10 +142,30 @@ pub fn read_solution<S: Source>(alloc: Global, source: &mut S) -> Result<Solutio
     ensures lawful { (text : List ℕ) → S.coming source.old ≡ Some text → IfOk result (λ solution. IsLawful (claimed solution)) }
     ensures device { CountsRead result (S.faults source.old) (S.faults source.new) }
 {
+    let placed = read_solution_into(alloc, Vec::new(alloc), source)?;
+    Ok(Solution {
+        value: placed.value,
+        value_line: placed.value_line,
+        entries: placed.place,
+    })
+}
+
+/// Reads a text of a solution, and puts each entry in the place as it is read. Answers what `read_solution` would, with
+/// the entries in the place.
+pub fn read_solution_into<P: Place, S: Source>(
+    alloc: Global,
+    place: P,
+    source: &mut S,
+) -> Result<Placed<P>, ReadError>
+    requires empty { P.stands_for place [] }
+    ensures reads { (text : List ℕ) → S.coming source.old ≡ Some text → ReadsLike (λ solution placed. IsPlaced placed.value placed.value_line (P.stands_for placed.place) solution) text result }
+    ensures fixed { IfOk result (λ placed. P.fixed placed.place ≡ P.fixed place) }
+    ensures device { CountsRead result (S.faults source.old) (S.faults source.new) }
+{
     read_text(
         alloc,
         TextKind::Solution,
-        SolutionReading::new(alloc),
+        SolutionReading::new(place),
         source,
     )
 }

@@ -4,18 +4,18 @@ ghost use Rattle.dimacs_judge.specs.Agreement.{value_row, nodes_row};
 ghost use Rattle.dimacs_judge.specs.Tests.{TellsRow};
 
 use crate::verdict::Where;
-use dimacs_claims::Solution;
+use dimacs_claims::{Place, Placed};
 use dimacs_records::Reason;
 
 /// Whether the solution claims this value, or this cost.
-pub(crate) fn value_agrees(value: i128, solution: &Solution) -> Result<(), (Where, Reason)>
-    ensures { TellsRow (value_row value solution.now.value solution.now.value_line) result }
+pub(crate) fn value_agrees<P: Place>(value: i128, placed: &Placed<P>) -> Result<(), (Where, Reason)>
+    ensures { TellsRow (value_row value placed.now.value placed.now.value_line) result }
 {
-    if solution.value == value {
+    if placed.value == value {
         return Ok(());
     }
     let place = Where::Solution {
-        line: solution.value_line,
+        line: placed.value_line,
         field: 2,
     };
     Err((place, Reason::ValueDiffers))

@@ -1,6 +1,8 @@
 //! The flow that the entries of a solution claim.
 
 ghost use Rattle.std.specs.Prelude.{◌≡◌, ◌∷◌, [], IfOk};
+ghost use Rattle.dimacs_claims.specs.SolutionReading.{IsPlaced};
+ghost use Rattle.dimacs_claims.specs.SolutionTexts.{claimed};
 ghost use Rattle.dimacs_judge.specs.Claims.{Carries, entry_row};
 ghost use Rattle.dimacs_judge.specs.Places.{ArePlaced};
 ghost use Rattle.dimacs_judge.specs.Tests.{Settles};
@@ -8,7 +10,7 @@ ghost use Rattle.dimacs_judge.specs.Tests.{Settles};
 use crate::flow::Flow;
 use crate::places::FlowPlaces;
 use crate::verdict::JudgeError;
-use dimacs_claims::{Entry, Solution};
+use dimacs_claims::{Entry, Placed, Solution};
 use dimacs_instance::Network;
 use dimacs_lines::Memory;
 use std::alloc::Global;
@@ -28,8 +30,24 @@ pub fn flow_of<N: Network>(
     Ok(flow)
 }
 
+/// A solution whose entries are placed on the arcs of a network.
+pub(crate) fn placed<'a, N: Network>(
+    alloc: Global,
+    network: &'a N,
+    solution: &Solution,
+) -> Result<Placed<FlowPlaces<'a, N>>, Memory>
+    ensures network { IfOk result (λ placed. placed.place.arcs ≡ N.list network.now) }
+    ensures placed { IfOk result (λ placed. IsPlaced placed.value placed.value_line (ArePlaced placed.place) (claimed solution.now)) }
+{
+    Ok(Placed {
+        value: solution.value,
+        value_line: solution.value_line,
+        place: places_of(alloc, network, &solution.entries)?,
+    })
+}
+
 /// The places of a network, with these entries in them.
-pub(crate) fn places_of<'a, N: Network>(
+fn places_of<'a, N: Network>(
     alloc: Global,
     network: &'a N,
     entries: &[Entry],

@@ -1,18 +1,21 @@
 //! Judging that a flow is least.
 
 ghost use Rattle.std.specs.Prelude.{◌≡◌};
-ghost use Rattle.dimacs_claims.specs.SolutionTexts.{claimed};
+ghost use Rattle.dimacs_claims.specs.SolutionReading.{IsPlaced};
+ghost use Rattle.dimacs_claims.specs.SolutionTexts.{SolutionValue, claimed};
 ghost use Rattle.dimacs_judge.specs.declared.verdict.Verdict.TheVariants.{Min};
 ghost use Rattle.dimacs_judge.specs.MinJudge.{ShowsLeast, min_rows};
+ghost use Rattle.dimacs_judge.specs.Places.{ArePlaced};
 ghost use Rattle.dimacs_judge.specs.Tests.{Judges};
 
 use crate::agreement::{nodes_agree, value_agrees};
 use crate::costs::cost_within;
-use crate::entries::flow_of;
+use crate::entries::placed;
 use crate::feasible::feasible;
+use crate::places::FlowPlaces;
 use crate::potentials::slack_tests;
 use crate::verdict::{JudgeError, Verdict};
-use dimacs_claims::{Potentials, Solution};
+use dimacs_claims::{Placed, Potentials, Solution};
 use dimacs_instance::{MinInstance, Network};
 use std::alloc::Global;
 
@@ -32,12 +35,27 @@ pub fn judge_min<N: Network>(
 ) -> Result<Verdict, JudgeError>
     ensures { Judges (min_rows instance.now (claimed solution.now) potentials.now) (ShowsLeast instance.now (claimed solution.now) potentials.now) (λ verdict. verdict ≡ Min solution.now.value) result }
 {
+    let placed = placed(alloc, instance.network(), solution)?;
+    judge_min_placed(alloc, instance, &placed, potentials)
+}
+
+/// The same of a solution whose entries were placed on the arcs of the instance: what `judge_min` answers of any solution
+/// that the placed values stand for.
+pub fn judge_min_placed<N: Network>(
+    alloc: Global,
+    instance: &MinInstance<N>,
+    placed: &Placed<FlowPlaces<'_, N>>,
+    potentials: &Potentials,
+) -> Result<Verdict, JudgeError>
+    requires network { placed.now.place.arcs ≡ instance.now.arcs }
+    ensures { (s : SolutionValue) → IsPlaced placed.now.value placed.now.value_line (ArePlaced placed.now.place) s → Judges (min_rows instance.now s potentials.now) (ShowsLeast instance.now s potentials.now) (λ verdict. verdict ≡ Min s.value) result }
+{
     let network = instance.network();
-    let flow = flow_of(alloc, network, solution)?;
-    feasible(alloc, network, &flow, instance)?;
-    let cost = cost_within(network, &flow)?;
-    value_agrees(cost, solution)?;
+    let flow = placed.place.flow()?;
+    feasible(alloc, network, flow, instance)?;
+    let cost = cost_within(network, flow)?;
+    value_agrees(cost, placed)?;
     nodes_agree(network.nodes(), potentials.nodes())?;
-    slack_tests(instance, &flow, potentials)?;
-    Ok(Verdict::Min(solution.value))
+    slack_tests(instance, flow, potentials)?;
+    Ok(Verdict::Min(placed.value))
 }

@@ -36,9 +36,10 @@ pub use laws::{
     exchange, labels_give_distances, passing_shows, slack_is_least, tight_cut_is_maximum,
     violated_has_no_flow,
 };
-pub use least::judge_min;
-pub use maximum::judge_max;
+pub use least::{judge_min, judge_min_placed};
+pub use maximum::{judge_max, judge_max_placed};
 pub use paths::judge_paths;
+pub use places::FlowPlaces;
 pub use potentials::slack_tests;
 pub use queries::{query_nodes_hold, source_asked};
 pub use value::value_of;

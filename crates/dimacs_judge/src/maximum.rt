@@ -1,21 +1,24 @@
 //! Judging that a flow is maximum.
 
 ghost use Rattle.std.specs.Prelude.{◌≡◌, List, ℤ};
-ghost use Rattle.dimacs_claims.specs.SolutionTexts.{claimed};
+ghost use Rattle.dimacs_claims.specs.SolutionReading.{IsPlaced};
+ghost use Rattle.dimacs_claims.specs.SolutionTexts.{SolutionValue, claimed};
 ghost use Rattle.dimacs_judge.specs.declared.verdict.Verdict.TheVariants.{Max};
 ghost use Rattle.dimacs_judge.specs.Agreement.{value_row};
 ghost use Rattle.dimacs_judge.specs.Feasible.{value};
 ghost use Rattle.dimacs_judge.specs.FlowTests.{AreBalances};
 ghost use Rattle.dimacs_judge.specs.MaxJudge.{ShowsMaximum, max_rows};
+ghost use Rattle.dimacs_judge.specs.Places.{ArePlaced};
 ghost use Rattle.dimacs_judge.specs.Tests.{Judges, TellsRow};
 
 use crate::agreement::{nodes_agree, value_agrees};
 use crate::balances::Balances;
 use crate::cuts::cut_tests;
-use crate::entries::flow_of;
+use crate::entries::placed;
 use crate::feasible::feasible;
+use crate::places::FlowPlaces;
 use crate::verdict::{JudgeError, Verdict, Where};
-use dimacs_claims::{Cut, Solution};
+use dimacs_claims::{Cut, Place, Placed, Solution};
 use dimacs_instance::{MaxInstance, Network};
 use dimacs_records::Reason;
 use std::alloc::Global;
@@ -35,22 +38,37 @@ pub fn judge_max<N: Network>(
 ) -> Result<Verdict, JudgeError>
     ensures { Judges (max_rows instance.now (claimed solution.now) cut.now) (ShowsMaximum instance.now (claimed solution.now) cut.now) (λ verdict. verdict ≡ Max solution.now.value) result }
 {
+    let placed = placed(alloc, instance.network(), solution)?;
+    judge_max_placed(alloc, instance, &placed, cut)
+}
+
+/// The same of a solution whose entries were placed on the arcs of the instance: what `judge_max` answers of any solution
+/// that the placed values stand for.
+pub fn judge_max_placed<N: Network>(
+    alloc: Global,
+    instance: &MaxInstance<N>,
+    placed: &Placed<FlowPlaces<'_, N>>,
+    cut: &Cut,
+) -> Result<Verdict, JudgeError>
+    requires network { placed.now.place.arcs ≡ instance.now.arcs }
+    ensures { (s : SolutionValue) → IsPlaced placed.now.value placed.now.value_line (ArePlaced placed.now.place) s → Judges (max_rows instance.now s cut.now) (ShowsMaximum instance.now s cut.now) (λ verdict. verdict ≡ Max s.value) result }
+{
     let network = instance.network();
-    let flow = flow_of(alloc, network, solution)?;
-    let balances = feasible(alloc, network, &flow, instance)?;
-    value_holds(instance, &balances, solution)?;
+    let flow = placed.place.flow()?;
+    let balances = feasible(alloc, network, flow, instance)?;
+    value_holds(instance, &balances, placed)?;
     nodes_agree(network.nodes(), cut.nodes())?;
-    cut_tests(instance, &flow, cut)?;
-    Ok(Verdict::Max(solution.value))
+    cut_tests(instance, flow, cut)?;
+    Ok(Verdict::Max(placed.value))
 }
 
 /// Whether the flow that has these balances has the claimed value.
-fn value_holds<N: Network>(
+fn value_holds<N: Network, P: Place>(
     instance: &MaxInstance<N>,
     balances: &Balances,
-    solution: &Solution,
+    placed: &Placed<P>,
 ) -> Result<(), (Where, Reason)>
-    ensures { (x : List ℤ) → AreBalances instance.now.arcs x balances.now → TellsRow (value_row (value instance.now x) solution.now.value solution.now.value_line) result }
+    ensures { (x : List ℤ) → AreBalances instance.now.arcs x balances.now → TellsRow (value_row (value instance.now x) placed.now.value placed.now.value_line) result }
 {
-    value_agrees(balances.of(instance.source()), solution)
+    value_agrees(balances.of(instance.source()), placed)
 }

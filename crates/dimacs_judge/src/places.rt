@@ -1,14 +1,17 @@
 //! The flow that entries claim, put on the arcs as the entries come.
 
-ghost use Rattle.std.specs.Prelude.{◌≡◌, ◌≤◌, ◌<◌, ◌+◌, ◌++◌, ◌∷◌, [], List, Result, Some, None, true, false, length, take, count_by, IfOk, IsTrue};
+ghost use Rattle.std.specs.Prelude.{◌≡◌, ◌≤◌, ◌<◌, ◌+◌, ◌++◌, ◌∷◌, [], List, Result, Some, None, true, false, length, take, count_by, IfOk, IfErr, IsOk, IsTrue, OnOk, OnErr, ◌↔◌};
 ghost use Rattle.dimacs_claims.specs.declared.solution.Entry.{Entry};
+ghost use Rattle.dimacs_instance.specs.declared.network.ArcView.{ArcView};
 ghost use Rattle.dimacs_instance.specs.Arcs.{joins, IsKthBetween};
+ghost use Rattle.dimacs_judge.specs.Claims.{Carries, entry_row};
 ghost use Rattle.dimacs_judge.specs.Places.{ArePlaced, HavePlaced, PutsEntry, TellsFlow, came_between};
 ghost use Rattle.dimacs_judge.specs.Rows.{arc_at};
+ghost use Rattle.dimacs_judge.specs.Tests.{FirstOfRow};
 
 use crate::flow::Flow;
 use crate::verdict::Where;
-use dimacs_claims::Entry;
+use dimacs_claims::{Entry, Place};
 use dimacs_instance::Network;
 use dimacs_lines::Memory;
 use dimacs_records::Reason;
@@ -21,7 +24,7 @@ use std::marker::Model;
 /// each belongs to the next arc and no arc is searched. After that the entries between two nodes are counted at the
 /// first arc between them.
 #[derive(Drop)]
-pub(crate) struct FlowPlaces<'a, N: Network> {
+pub struct FlowPlaces<'a, N: Network> {
     network: &'a N,
     flow: Flow,
     /// How many entries came between two nodes, at the first arc between them; 0 where none came out of order.
@@ -34,6 +37,7 @@ pub(crate) struct FlowPlaces<'a, N: Network> {
 }
 
 impl<'a, N: Network> Model for FlowPlaces<'a, N> {
+    ghost use Rattle.dimacs_judge.specs.Claims.{Carries, entry_row};
     ghost use Rattle.dimacs_judge.specs.Places.{PlacesValue, HaveRoom};
 
     ghost Value = { PlacesValue };
@@ -44,8 +48,8 @@ impl<'a, N: Network> Model for FlowPlaces<'a, N> {
 }
 
 impl<'a, N: Network> FlowPlaces<'a, N> {
-    /// Places for the arcs of a network, with no entry in them. Makes all their room.
-    pub(crate) fn new(alloc: Global, network: &'a N) -> Result<FlowPlaces<'a, N>, Memory>
+    /// Places for the arcs of a network, with no entry in them. Makes all their room: to place an entry takes none.
+    pub fn new(alloc: Global, network: &'a N) -> Result<FlowPlaces<'a, N>, Memory>
         ensures network { IfOk result (λ places. places.arcs ≡ N.list network.now) }
         ensures empty { IfOk result (λ places. ArePlaced places []) }
     {
@@ -79,6 +83,18 @@ impl<'a, N: Network> FlowPlaces<'a, N> {
     }
 
     /// The flow of the entries, or the first that fails.
+    pub(crate) fn flow(&self) -> Result<&Flow, (Where, Reason)>
+        ensures one_each { IfOk result (λ flow. length flow.now ≡ length self.now.arcs) }
+        ensures carried { IfOk result (λ flow. (entries : List Entry) → ArePlaced self.now entries → Carries self.now.arcs entries flow.now) }
+        ensures first { IfErr result (λ refusal. (entries : List Entry) → ArePlaced self.now entries → FirstOfRow (entry_row self.now.arcs entries) refusal.0 refusal.1) }
+    {
+        match self.refusal {
+            None => Ok(&self.flow),
+            Some(refusal) => Err(refusal),
+        }
+    }
+
+    /// The same, without the places.
     pub(crate) fn into_flow(self) -> Result<Flow, (Where, Reason)>
         ensures { (entries : List Entry) → ArePlaced self.entry entries → TellsFlow self.entry.arcs entries result }
     {
@@ -163,6 +179,26 @@ impl<'a, N: Network> FlowPlaces<'a, N> {
         } else {
             self.network.find(entry.tail, entry.head, k)
         }
+    }
+}
+
+/// Each entry is placed, also one that fails, and no entry takes memory.
+impl<'a, N: Network> Place for FlowPlaces<'a, N> {
+    ghost stands_for = { λ places entries. ArePlaced places entries };
+
+    ghost Fixed = { List ArcView };
+
+    ghost fixed = { λ places. places.arcs };
+
+    #[inline(always)]
+    fn place(&mut self, entry: Entry) -> Result<(), Memory>
+        ensures always { IsOk result }
+        ensures fixed { self.new.arcs ≡ self.old.arcs }
+        ensures placed { OnOk result ((entries : List Entry) → ArePlaced self.old entries → ArePlaced self.new (entries ++ entry ∷ [])) }
+        ensures unchanged { OnErr result ((entries : List Entry) → ArePlaced self.new entries ↔ ArePlaced self.old entries) }
+    {
+        self.put(entry);
+        Ok(())
     }
 }
 

@@ -1,7 +1,7 @@
-//! Values and sets by node.
+//! Values, sets and tables by node.
 
 use crate::checks::{holds, holds_at, same, same_at};
-use dimacs_nodes::{NodeMap, NodeSet};
+use dimacs_nodes::{NodeMap, NodeSet, NodeTable};
 use std::alloc::Global;
 use std::test::Fail;
 
@@ -118,5 +118,64 @@ fn a_set_has_the_nodes_that_were_inserted(rt: HostRuntime) -> Result<(), Fail> {
             !nodes.contains(id),
         );
     }
+    Ok(())
+}
+
+/// A table of the values, and 5 for other nodes.
+fn table(alloc: Global) -> Result<NodeTable<i64>, Fail> {
+    let mut table = NodeTable::new(alloc, 5);
+    for &(id, value) in &VALUES {
+        table.set(id, value).ok().ok_or("memory")?;
+    }
+    Ok(table)
+}
+
+#[test]
+fn a_table_has_the_values_that_were_set(rt: HostRuntime) -> Result<(), Fail> {
+    let table = table(rt.alloc())?;
+    for &(id, value) in &VALUES {
+        same_at(&rt, "node", id as u64, table.get(id), value);
+    }
+    for &id in &UNSET {
+        same_at(&rt, "a blank node", id as u64, table.get(id), 5);
+    }
+    Ok(())
+}
+
+#[test]
+fn the_last_value_in_a_table_stands(rt: HostRuntime) -> Result<(), Fail> {
+    let mut table = table(rt.alloc())?;
+    table.reserve(256).ok().ok_or("memory")?;
+    same(&rt, "the value that stays", table.get(256), 12);
+    table.set(256, -1).ok().ok_or("memory")?;
+    same(&rt, "the value set last", table.get(256), -1);
+    same(&rt, "its neighbour", table.get(255), 11);
+    Ok(())
+}
+
+/// IDs, and the first ID from each on that may have been set.
+static SKIPS: [(u32, usize); 8] = [
+    (0, 0),
+    (511, 511),
+    (512, 768),
+    (767, 768),
+    (65_790, 65_792),
+    (65_793, 65_793),
+    (66_048, 66_304),
+    (GREATEST, GREATEST as usize),
+];
+
+#[test]
+fn pages_that_were_not_taken_are_skipped(rt: HostRuntime) -> Result<(), Fail> {
+    let table = table(rt.alloc())?;
+    for &(id, wanted) in &SKIPS {
+        same_at(&rt, "from node", id as u64, table.skip_blank(id), wanted);
+    }
+    same(
+        &rt,
+        "past the greatest",
+        table.end(),
+        GREATEST as usize + 256,
+    );
     Ok(())
 }

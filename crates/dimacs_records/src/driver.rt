@@ -33,6 +33,7 @@ pub fn read_text<R: Reading, S: Source>(
     requires kind { R.kind reading ≡ kind }
     requires new { R.stands_for reading [] }
     ensures reads { (text : List ℕ) → S.coming source.old ≡ Some text → ReadsLines kind R.gives (lines text) result }
+    ensures kept { IfOk result (λ value. R.keeps reading value) }
     ensures device { CountsRead result (S.faults source.old) (S.faults source.new) }
 {
     let mut reading = reading;
@@ -58,6 +59,7 @@ fn read_lines<R: Reading, S: Source>(
     ensures few { IfOk result (λ count. count ≤ MAX_LINES) }
     ensures reads { (all : List (List ℕ)) → IsReadSoFar kind all lines.old.given (text_left lines.old (S.coming source.old)) (R.stands_for reading.old)
         → ReadsAll kind all (R.stands_for reading.new) result }
+    ensures kept { (value : R.Value) → R.keeps reading.new value → R.keeps reading.old value }
     ensures device { CountsRead result (S.faults source.old) (S.faults source.new) }
 {
     loop {
@@ -83,6 +85,7 @@ fn take_held<R: Reading>(
     ensures few { lines.old.given ≤ MAX_LINES → lines.new.given ≤ MAX_LINES }
     ensures reads { (all : List (List ℕ)) (coming : Option (List ℕ)) → IsReadSoFar kind all lines.old.given (text_left lines.old coming) (R.stands_for reading.old)
         → ReadsSome kind all lines.new.given (text_left lines.new coming) (R.stands_for reading.new) result }
+    ensures kept { (value : R.Value) → R.keeps reading.new value → R.keeps reading.old value }
     ensures undisturbed { IfErr result (λ error. error ≢ Device) }
 {
     if lines.given() > MAX_LINES - MAX_HELD as u64 {
@@ -107,6 +110,7 @@ fn take_plain<R: Reading>(
     ensures within { IfOk result (λ taken. taken.bytes ≤ length held.now) }
     ensures few { IfOk result (λ taken. given + taken.lines ≤ MAX_LINES) }
     ensures takes { (all : List (List ℕ)) (coming : Option (List ℕ)) → IsReadSoFar kind all given (before_piece held.now coming) (R.stands_for reading.old) → TakesPlain kind all given held.now coming (R.stands_for reading.new) result }
+    ensures kept { (value : R.Value) → R.keeps reading.new value → R.keeps reading.old value }
     ensures undisturbed { IfErr result (λ error. error ≢ Device) }
 {
     let mut bytes = 0;
@@ -135,6 +139,7 @@ fn read_line<R: Reading, S: Source>(
     ensures next { IfOk result (λ answer. IfSome answer (λ number. (lines.new.progress ≡ Open) × (lines.new.given ≡ number) × (number ≡ lines.old.given + 1) × (number ≤ MAX_LINES))) }
     ensures reads { (all : List (List ℕ)) → IsReadSoFar kind all lines.old.given (text_left lines.old (S.coming source.old)) (R.stands_for reading.old)
         → ReadsOne kind all lines.old.given (text_left lines.new (S.coming source.new)) (R.stands_for reading.new) result }
+    ensures kept { (value : R.Value) → R.keeps reading.new value → R.keeps reading.old value }
     ensures device { CountsRead result (S.faults source.old) (S.faults source.new) }
 {
     match lines.next_line(source) {
@@ -159,6 +164,7 @@ fn take_line<R: Reading>(
     ensures kind { R.kind reading.new ≡ kind }
     ensures takes { (before : List (List ℕ)) (said : List (Option Record)) → IsBehind kind before said number line.now → R.stands_for reading.old (numbered 1 said)
         → TakesLine kind before said line.now (R.stands_for reading.new) result }
+    ensures kept { (value : R.Value) → R.keeps reading.new value → R.keeps reading.old value }
 {
     match record(kind, line) {
         Ok(None) => Ok(()),

@@ -54,11 +54,7 @@ fn instance(alloc: Global, lines: &str) -> Result<Instance, Fail> {
 }
 
 /// What is told of an answer: what the judge says of it.
-fn told(
-    alloc: Global,
-    instance: &Instance,
-    answer: MinAnswer,
-) -> Result<String, Fail> {
+fn told(alloc: Global, instance: &Instance, answer: MinAnswer) -> Result<String, Fail> {
     match answer {
         MinAnswer::Optimal(solution, potentials) => {
             let verdict = judge_min(alloc, instance, &solution, &potentials)?;

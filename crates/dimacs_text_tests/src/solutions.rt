@@ -252,15 +252,15 @@ static RECORDS: [Line; 5] = [
 
 #[test]
 fn a_refused_record_leaves_the_reading_as_it_was(rt: HostRuntime) -> Result<(), Fail> {
-    let mut reading = SolutionReading::new(rt.alloc());
+    let mut reading = SolutionReading::new(Vec::new(rt.alloc()));
     answers_each(&rt, &mut reading, TextKind::Solution, &RECORDS);
-    let solution = reading.finish()?;
-    same(&rt, "value", solution.value, 5);
-    same(&rt, "line of the value", solution.value_line, 3);
+    let placed = reading.finish()?;
+    same(&rt, "value", placed.value, 5);
+    same(&rt, "line of the value", placed.value_line, 3);
     same(
         &rt,
         "entries",
-        solution.entries.as_slice(),
+        placed.place.as_slice(),
         [entry(1, 2, 3, 1), entry(2, 1, 0, 7)].as_slice(),
     );
     Ok(())
@@ -269,10 +269,10 @@ fn a_refused_record_leaves_the_reading_as_it_was(rt: HostRuntime) -> Result<(), 
 #[test]
 fn a_reading_without_a_value_is_refused_at_its_end(rt: HostRuntime) -> Result<(), Fail> {
     let missing = Some(TakeError::refused(0, Reason::SolutionMissing));
-    let reading = SolutionReading::new(rt.alloc());
+    let reading = SolutionReading::new(Vec::new(rt.alloc()));
     same(&rt, "no record", reading.finish().err(), missing);
 
-    let mut reading = SolutionReading::new(rt.alloc());
+    let mut reading = SolutionReading::new(Vec::new(rt.alloc()));
     take_line(&mut reading, TextKind::Solution, 1, "f 1 2 3")?;
     same(&rt, "an entry", reading.finish().err(), missing);
     Ok(())

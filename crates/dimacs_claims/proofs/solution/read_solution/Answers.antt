@@ -1,15 +1,35 @@
-use Rattle.std.specs.Result.{result_map_both}
+use Rattle.std.proofs.Common.{◌≡◌, SFits, Result, rules, subst}
+use Rattle.std.specs.Int.{w128}
+use Rattle.std.specs.Prelude.{IfOk}
+use Rattle.std.proofs.lemmas.Int.{to_z-of_z}
 use Rattle.dimacs_lines.specs.Lines.{lines}
+use Rattle.dimacs_records.specs.declared.faults.ReadError.{ReadError}
 use Rattle.dimacs_records.specs.declared.kinds.TextKind.TheVariants.{Solution}
-use Rattle.dimacs_records.proofs.ReadLaws.{reads_exactly}
-use Rattle.dimacs_claims.specs.SolutionTexts.{GivesSolution, claimed}
-use Rattle.dimacs_claims.proofs.SolutionLemmas.{claimed_read, lawful_read, one_solution, solution_faultless}
+use Rattle.dimacs_records.specs.Faults.{Fault}
+use Rattle.dimacs_records.specs.Texts.{Reads}
+use Rattle.dimacs_claims.specs.SolutionReading.{IsPlaced}
+use Rattle.dimacs_claims.specs.SolutionTexts.{IsLawful, SolutionValue, SpellsSolution}
+use Rattle.dimacs_claims.proofs.SolutionLemmas.{error_kept, kept_solution}
 use Rattle.dimacs_claims.proofs.solution.read_solution.Goals as goal
 
 pub returns-clause-reads : goal.returns-clause-reads
 returns-clause-reads g c = λ text coming.
-    let result = c.read_text.result in
-    reads_exactly Solution GivesSolution (lines text) (result_map_both claimed (λ e. e) result) solution_faultless one_solution (claimed_read (lines text) result (c.read_text.ensures.reads text coming))
+    let placed = c.in_ok-placed.placed in
+    let fits : SFits w128 placed.value = search rules in
+    let read = c.in_ok-placed.ensures.reads text coming in
+    let same = kept_solution (λ w. w.value) (λ w. w.value_line) (λ w. w.place.items) read.told placed read.alike in
+    rw (to_z-of_z w128 placed.value fits) (subst (λ (told : Result SolutionValue ReadError). Reads (SpellsSolution text) (Fault Solution (lines text)) told) same read.reads)
 
 pub returns-clause-lawful : goal.returns-clause-lawful
-returns-clause-lawful g c = λ text coming. lawful_read (lines text) c.read_text.result (c.read_text.ensures.reads text coming)
+returns-clause-lawful g c = λ text coming.
+    let placed = c.in_ok-placed.placed in
+    let fits : SFits w128 placed.value = search rules in
+    let read = c.in_ok-placed.ensures.reads text coming in
+    let same = kept_solution (λ w. w.value) (λ w. w.value_line) (λ w. w.place.items) read.told placed read.alike in
+    rw (to_z-of_z w128 placed.value fits) (subst (λ (told : Result SolutionValue ReadError). IfOk told IsLawful) same read.lawful)
+
+pub returns-in_err-placed-clause-reads : goal.returns-in_err-placed-clause-reads
+returns-in_err-placed-clause-reads g c = λ text coming.
+    let read = c.in_err-placed.ensures.reads text coming in
+    let same = error_kept (λ s w. IsPlaced w.value w.value_line (λ kept. w.place.items ≡ kept) s) read.told c.in_err-placed.field-0.0 c.from_residual.result read.alike c.from_residual.ensures.1 in
+    subst (λ (told : Result SolutionValue ReadError). Reads (SpellsSolution text) (Fault Solution (lines text)) told) same read.reads

@@ -13,6 +13,7 @@ invariant-loop-lines g l = record {
   few : l.lines.given ≤ MAX_LINES;
   read : (all : List (List ℕ)) → IsReadSoFar l.kind all l.fn.lines.given (text_left l.fn.lines (g.S.Source.coming l.fn.source)) (g.R.Reading.stands_for l.fn.reading)
       → IsReadSoFar l.kind all l.lines.given (text_left l.lines (g.S.Source.coming l.source)) (g.R.Reading.stands_for l.reading);
+  kept : (value : _) → g.R.Reading.keeps l.reading value → g.R.Reading.keeps l.fn.reading value;
   sound : g.S.Source.faults l.source ≡ g.S.Source.faults l.fn.source;
 }
 

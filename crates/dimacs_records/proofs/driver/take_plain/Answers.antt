@@ -39,4 +39,5 @@ loop-line-preserved g c =
           let step = plain_step c.args.kind all bytes given line.size coming line.said (g.R.Reading.stands_for loop.reading) (g.R.Reading.stands_for c.take.new.self) (Ok c.in_default-take.field-0) says few (loop.invariant.read all coming h)
           c.in_default-take.ensures.allowed (rw next at c.in_default-take.ensures.taken) c.in_default-take.ensures.refused in
           rw (next, ← drop-drop line.size loop.bytes held) step;
+      kept = λ value keeps. loop.invariant.kept value (c.take.ensures.kept value keeps);
     }

@@ -11,6 +11,7 @@ invariant-loop-line g l = record {
   few : l.lines ≤ l.bytes;
   read : (all : List (List ℕ)) (coming : Option (List ℕ)) → IsReadSoFar l.kind all l.given (before_piece l.held coming) (g.R.Reading.stands_for l.fn.reading)
       → IsReadSoFar l.kind all (l.given + l.lines) (before_piece (drop l.bytes l.held) coming) (g.R.Reading.stands_for l.reading);
+  kept : (value : _) → g.R.Reading.keeps l.reading value → g.R.Reading.keeps l.fn.reading value;
 }
 
 abbrev pub decreases-loop-line : goal.decreases-loop-line
