@@ -8,7 +8,7 @@ use dimacs_claims::{
     read_solution_into,
 };
 use dimacs_instance::{
-    ArcView, CapacityArc, Graph, MaxInstance, MinInstance, Network, PlainArcs, WeightArc,
+    ArcView, CapacityArc, ForwardStar, Graph, MaxInstance, MinInstance, Network, WeightArc,
     read_graph, read_max, read_min, read_queries,
 };
 use dimacs_judge::{
@@ -22,7 +22,7 @@ use std::alloc::Global;
 use std::test::Fail;
 
 /// A network of three nodes.
-fn max(alloc: Global) -> Result<MaxInstance<PlainArcs<CapacityArc>>, ReadError> {
+fn max(alloc: Global) -> Result<MaxInstance<ForwardStar<CapacityArc>>, ReadError> {
     let text = b"p max 3 3\nn 1 s\nn 3 t\na 1 2 4\na 2 3 2\na 1 3 1\n";
     read_max(alloc, &mut MemorySource::new(text))
 }
@@ -36,7 +36,7 @@ fn max_flow(alloc: Global) -> Result<Solution, ReadError> {
 }
 
 /// Both, the flow by arc.
-fn flow_in_max(alloc: Global) -> Result<(MaxInstance<PlainArcs<CapacityArc>>, Flow), Fail>
+fn flow_in_max(alloc: Global) -> Result<(MaxInstance<ForwardStar<CapacityArc>>, Flow), Fail>
     ensures { IfOk result (λ both. length both.1 ≡ length both.0.arcs) }
 {
     let instance = max(alloc)?;
@@ -177,7 +177,7 @@ fn the_first_placed_entry_that_fails_is_named(rt: HostRuntime) -> Result<(), Fai
 }
 
 /// Two nodes, and an arc each way between them.
-fn min(alloc: Global) -> Result<MinInstance<PlainArcs<ArcView>>, ReadError> {
+fn min(alloc: Global) -> Result<MinInstance<ForwardStar<ArcView>>, ReadError> {
     let text = b"p min 2 2\nn 1 1\nn 2 -1\na 1 2 0 1 3\na 2 1 0 1 0\n";
     read_min(alloc, &mut MemorySource::new(text))
 }
@@ -188,7 +188,7 @@ fn least(alloc: Global) -> Result<Solution, ReadError> {
 }
 
 /// Both, the flow by arc.
-fn flow_in_min(alloc: Global) -> Result<(MinInstance<PlainArcs<ArcView>>, Flow), Fail>
+fn flow_in_min(alloc: Global) -> Result<(MinInstance<ForwardStar<ArcView>>, Flow), Fail>
     ensures { IfOk result (λ both. length both.1 ≡ length both.0.arcs) }
 {
     let instance = min(alloc)?;
@@ -284,7 +284,7 @@ fn a_set_that_is_not_violated_shows_nothing(rt: HostRuntime) -> Result<(), Fail>
 }
 
 /// Two nodes on a cycle of weight 0, and one that no arc enters.
-fn graph(alloc: Global) -> Result<Graph<PlainArcs<WeightArc>>, ReadError> {
+fn graph(alloc: Global) -> Result<Graph<ForwardStar<WeightArc>>, ReadError> {
     read_graph(
         alloc,
         &mut MemorySource::new(b"p sp 3 2\na 1 2 5\na 2 1 -5\n"),
