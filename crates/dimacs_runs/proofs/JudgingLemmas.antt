@@ -11,6 +11,7 @@ use Rattle.dimacs_judge.specs.declared.verdict.Verdict.TheVariants as verdicts
 use Rattle.dimacs_judge.specs.declared.verdict.Where.{Where}
 use Rattle.dimacs_judge.specs.Answers.{AnswersQueries}
 use Rattle.dimacs_claims.specs.Labels.{BlockValue}
+use Rattle.dimacs_claims.specs.SolutionReading.{AnswersAlike}
 use Rattle.dimacs_instance.specs.QueryTexts as queries
 use Rattle.dimacs_instance.specs.QueryTexts.{QueriesValue}
 use Rattle.std.specs.List.{flat_map}
@@ -112,6 +113,16 @@ module _ (holds : Type 0) (rows : List Row) (says : Verdict → Type 0) (lines :
   answer_alone (Ok verdict) answer = yes_alone verdict answer
   answer_alone (Err (judge_errors.Refused place reason)) answer = no_alone place reason answer
   answer_alone (Err judge_errors.Memory) answer = tt
+
+-- a text that was read into a place
+pub one_placed : {V T : Type 0} (like : V → T → Type 0) (text : TextSays V) (told : Result V ReadError) (w : T) → AnswersAlike like told (Ok w) → ReadsIn text told → (v : V) × like v w × ReadsIn text (Ok v)
+one_placed like text (Ok v) w alike read = (v, alike, read)
+one_placed like text (Err error) w alike read = absurd alike
+
+-- and one that wasn't
+pub none_placed : {V T : Type 0} (like : V → T → Type 0) (text : TextSays V) (told : Result V ReadError) (error : ReadError) → AnswersAlike like told (Err error) → ReadsIn text told → ReadsIn text (Err error)
+none_placed like text (Ok v) error alike read = absurd alike
+none_placed like text (Err other) error alike read = subst (λ (e : ReadError). ReadsIn text (Err e)) alike read
 
 -- the verdict of queries has these lines
 pub paths_said : (blocks : List BlockValue) (q : QueriesValue) (verdict : Verdict) → AnswersQueries blocks q verdict → verdict_lines verdict ≡ paths_lines blocks q

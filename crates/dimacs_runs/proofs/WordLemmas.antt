@@ -25,11 +25,11 @@ limited None words number is read = tt
 module _ (word : List ℕ) (options : List (List ℕ)) (none : (limit : ℕ) → ¬ TellLimit options limit) where
   pub no_max : word ≡ codes "solve-max" → (job : SolveJob) → word ≡ solve_word job → ¬ AreOptions job options
   no_max is (Max limit) same = none limit
-  no_max is (Min limit) same = absurd cc
+  no_max is (Min limit) same = let letter : 97 ≡ 105 = ap (λ (w : List ℕ). get_or w 7 0) (sym is ∙ same) in absurd (omega (arith, letter))
   no_max is Paths same = absurd cc
 
   pub no_min : word ≡ codes "solve-min" → (job : SolveJob) → word ≡ solve_word job → ¬ AreOptions job options
-  no_min is (Max limit) same = absurd cc
+  no_min is (Max limit) same = let letter : 105 ≡ 97 = ap (λ (w : List ℕ). get_or w 7 0) (sym is ∙ same) in absurd (omega (arith, letter))
   no_min is (Min limit) same = none limit
   no_min is Paths same = absurd cc
 

@@ -77,6 +77,16 @@ abbrev pub ReadsThree : {T U S V W X : Type 0} → (T → V) → (U → W) → (
 ReadsThree f g h x y z (Ok values) = ReadsIn x (Ok (f values.0)) × ReadsIn y (Ok (g values.1)) × ReadsIn z (Ok (h values.2))
 ReadsThree f g h x y z (Err unread) = StopsAt x unread ⊎ ((v : _) × ReadsIn x (Ok v) × (StopsAt y unread ⊎ ((w : _) × ReadsIn y (Ok w) × StopsAt z unread)))
 
+-- a text of a solution is read into a place: it spells a solution that the placed values stand for
+abbrev pub PlacesOne : {T V : Type 0} → (V → T → Type 0) → TextSays V → Result T Unread → Type 0
+PlacesOne stands text (Ok placed) = (v : _) × stands v placed × ReadsIn text (Ok v)
+PlacesOne stands text (Err unread) = StopsAt text unread
+
+-- and another text after it
+abbrev pub ReadsPlaced : {T U V W : Type 0} → (V → T → Type 0) → (U → W) → TextSays V → TextSays W → Result (T × U) Unread → Type 0
+ReadsPlaced stands g x y (Ok values) = (v : _) × stands v values.0 × ReadsIn x (Ok v) × ReadsIn y (Ok (g values.1))
+ReadsPlaced stands g x y (Err unread) = StopsAt x unread ⊎ ((v : _) × ReadsIn x (Ok v) × StopsAt y unread)
+
 -- one count of faults is one more, and the others are as before
 abbrev pub OneMore : List ℕ → List ℕ → Type 0
 OneMore [] new = ⊥

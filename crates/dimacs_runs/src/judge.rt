@@ -16,12 +16,12 @@ ghost use Rattle.dimacs_runs.specs.Told.{ToldAlone};
 use crate::jobs::JudgeKind;
 use crate::outcome::{RunError, Status};
 use crate::told::{Told, answer_told, put_told};
-use crate::unread::{read_three, read_two};
-use dimacs_claims::{Cut, Labels, Potentials, Solution};
+use crate::unread::{read, read_placed, read_three, read_two};
+use dimacs_claims::{Cut, Labels, Potentials};
 use dimacs_instance::{
     ArcView, CapacityArc, Graph, MaxInstance, MinInstance, PlainArcs, Queries, WeightArc,
 };
-use dimacs_judge::{judge_infeasible, judge_max, judge_min, judge_paths};
+use dimacs_judge::{FlowPlaces, judge_infeasible, judge_max_placed, judge_min_placed, judge_paths};
 use dimacs_lines::{Sink, Source};
 use std::alloc::Global;
 
@@ -65,16 +65,14 @@ fn tell_max<P: Source, Q: Source, R: Source>(
     ensures instance_alone { (a : List ℕ) (l f : ℕ) (r : Reason) → P.coming instance.old ≡ Some a → Fault kinds.Max (lines a) l f r → (claim.new ≡ claim.old) × (certificate.new ≡ certificate.old) }
     ensures claim_alone { (b : List ℕ) (l f : ℕ) (r : Reason) → Q.coming claim.old ≡ Some b → Fault kinds.Solution (lines b) l f r → certificate.new ≡ certificate.old }
 {
-    match read_three::<MaxInstance<PlainArcs<CapacityArc>>, Solution, Cut, P, Q, R>(
-        alloc,
-        instance,
-        claim,
-        certificate,
-    ) {
-        Ok((instance, solution, cut)) => {
-            let indexed = instance.indexed(alloc)?;
-            answer_told(judge_max(alloc, &indexed, &solution, &cut))
-        }
+    let instance = match read::<MaxInstance<PlainArcs<CapacityArc>>, P>(alloc, instance) {
+        Ok(instance) => instance,
+        Err(unread) => return unread.told(),
+    };
+    let indexed = instance.indexed(alloc)?;
+    let places = FlowPlaces::new(alloc, indexed.network())?;
+    match read_placed::<_, Cut, Q, R>(alloc, places, claim, certificate) {
+        Ok((placed, cut)) => answer_told(judge_max_placed(alloc, &indexed, &placed, &cut)),
         Err(unread) => unread.told(),
     }
 }
@@ -91,16 +89,19 @@ fn tell_min<P: Source, Q: Source, R: Source>(
     ensures instance_alone { (a : List ℕ) (l f : ℕ) (r : Reason) → P.coming instance.old ≡ Some a → Fault kinds.Min (lines a) l f r → (claim.new ≡ claim.old) × (certificate.new ≡ certificate.old) }
     ensures claim_alone { (b : List ℕ) (l f : ℕ) (r : Reason) → Q.coming claim.old ≡ Some b → Fault kinds.Solution (lines b) l f r → certificate.new ≡ certificate.old }
 {
-    match read_three::<MinInstance<PlainArcs<ArcView>>, Solution, Potentials, P, Q, R>(
-        alloc,
-        instance,
-        claim,
-        certificate,
-    ) {
-        Ok((instance, solution, potentials)) => {
-            let indexed = instance.indexed(alloc)?;
-            answer_told(judge_min(alloc, &indexed, &solution, &potentials))
-        }
+    let instance = match read::<MinInstance<PlainArcs<ArcView>>, P>(alloc, instance) {
+        Ok(instance) => instance,
+        Err(unread) => return unread.told(),
+    };
+    let indexed = instance.indexed(alloc)?;
+    let places = FlowPlaces::new(alloc, indexed.network())?;
+    match read_placed::<_, Potentials, Q, R>(alloc, places, claim, certificate) {
+        Ok((placed, potentials)) => answer_told(judge_min_placed(
+            alloc,
+            &indexed,
+            &placed,
+            &potentials,
+        )),
         Err(unread) => unread.told(),
     }
 }

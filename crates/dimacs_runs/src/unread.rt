@@ -4,11 +4,15 @@ ghost use Rattle.std.specs.Prelude.{◌≡◌, ℕ, List, [], ◌∷◌, Some, I
 ghost use Rattle.dimacs_lines.specs.Lines.{lines};
 ghost use Rattle.dimacs_records.specs.declared.reasons.Reason.{Reason};
 ghost use Rattle.dimacs_records.specs.Faults.{Fault};
-ghost use Rattle.dimacs_runs.specs.Judgings.{CountsUnread, ReadsOne, ReadsTwo, ReadsThree, error_told, says};
+ghost use Rattle.dimacs_records.specs.declared.kinds.TextKind.TheVariants as kinds;
+ghost use Rattle.dimacs_claims.specs.SolutionReading.{IsPlaced};
+ghost use Rattle.dimacs_claims.specs.SolutionTexts.{SpellsSolution};
+ghost use Rattle.dimacs_runs.specs.Judgings.{CountsUnread, PlacesOne, ReadsOne, ReadsPlaced, ReadsTwo, ReadsThree, error_told, says};
 
 use crate::outcome::RunError;
 use crate::texts::Text;
 use crate::told::Told;
+use dimacs_claims::{Place, Placed, Solution, read_solution_into};
 use dimacs_lines::Source;
 use dimacs_records::ReadError;
 use std::alloc::Global;
@@ -33,7 +37,7 @@ impl Unread {
     }
 }
 
-/// Reads a text.
+/// Reads one text.
 pub(crate) fn read<V: Text, P: Source>(alloc: Global, source: &mut P) -> Result<V, Unread>
     ensures reads { (a : List ℕ) → P.coming source.old ≡ Some a → ReadsOne V.said (says V.kind V.spells a) result }
     ensures faults { CountsUnread result (P.faults source.old ∷ []) (P.faults source.new ∷ []) }
@@ -81,4 +85,43 @@ pub(crate) fn read_three<V: Text, W: Text, X: Text, P: Source, Q: Source, R: Sou
     let other = read(alloc, second)?;
     let last = read(alloc, third)?;
     Ok((value, other, last))
+}
+
+/// Reads a solution into a place, and the text that certifies it. The second isn't pulled where the first has a fault.
+pub(crate) fn read_placed<E: Place, W: Text, P: Source, Q: Source>(
+    alloc: Global,
+    place: E,
+    first: &mut P,
+    second: &mut Q,
+) -> Result<(Placed<E>, W), Unread>
+    requires empty { E.stands_for place [] }
+    ensures reads { (a b : List ℕ) → P.coming first.old ≡ Some a → Q.coming second.old ≡ Some b
+        → ReadsPlaced (λ solution placed. IsPlaced placed.value placed.value_line (E.stands_for placed.place) solution) W.said (says kinds.Solution SpellsSolution a) (says W.kind W.spells b) result }
+    ensures fixed { IfOk result (λ values. E.fixed values.0.place ≡ E.fixed place) }
+    ensures faults { CountsUnread result (P.faults first.old ∷ Q.faults second.old ∷ []) (P.faults first.new ∷ Q.faults second.new ∷ []) }
+    ensures first_alone { (a : List ℕ) (l f : ℕ) (r : Reason) → P.coming first.old ≡ Some a → Fault kinds.Solution (lines a) l f r → second.new ≡ second.old }
+    ensures lawful { IfOk result (λ values. W.lawful (W.said values.1)) }
+{
+    let placed = place_solution(alloc, place, first)?;
+    let certificate = read(alloc, second)?;
+    Ok((placed, certificate))
+}
+
+fn place_solution<E: Place, P: Source>(
+    alloc: Global,
+    place: E,
+    source: &mut P,
+) -> Result<Placed<E>, Unread>
+    requires empty { E.stands_for place [] }
+    ensures reads { (a : List ℕ) → P.coming source.old ≡ Some a → PlacesOne (λ solution placed. IsPlaced placed.value placed.value_line (E.stands_for placed.place) solution) (says kinds.Solution SpellsSolution a) result }
+    ensures fixed { IfOk result (λ placed. E.fixed placed.place ≡ E.fixed place) }
+    ensures faults { CountsUnread result (P.faults source.old ∷ []) (P.faults source.new ∷ []) }
+{
+    match read_solution_into(alloc, place, source) {
+        Ok(placed) => Ok(placed),
+        Err(error) => Err(Unread {
+            text: Solution::name(),
+            error,
+        }),
+    }
 }

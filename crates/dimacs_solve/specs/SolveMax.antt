@@ -1,5 +1,5 @@
 -- What solving maximum flow answers.
-use Rattle.std.specs.Prelude.{ℕ, ◌≡◌, ◌+◌, List, [], ◌∷◌, ℤ, Result, Ok, Err}
+use Rattle.std.specs.Prelude.{ℕ, ◌≡◌, ◌+◌, List, [], ◌∷◌, length, ℤ, Result, Ok, Err}
 use Rattle.dimacs_claims.specs.declared.solution.Entry.{Entry}
 use Rattle.dimacs_claims.specs.Cuts.{CutValue}
 use Rattle.dimacs_claims.specs.SolutionTexts.{SolutionValue, claimed}
@@ -23,6 +23,7 @@ entries_from line (a ∷ arcs) (z ∷ x) = record { tail = a.tail; head = a.head
 pub record IsSolutionFor (i : MaxValue) (x : List ℤ) (s : SolutionValue) : Type 0 where
   pub value_is : s.value ≡ value i x
   pub value_line : s.value_line ≡ 1
+  pub one_each : length x ≡ length i.arcs
   pub entries : s.entries ≡ entries_from 2 i.arcs x
 
 -- the solution has an entry for every arc, and the cut shows that it is maximum

@@ -5,14 +5,16 @@ ghost use Rattle.std.specs.Prelude.{◌≡◌, length, IfOk};
 use crate::checks::same;
 use dimacs_claims::{
     Cut, Labels, Potentials, Solution, read_cut, read_labels, read_potentials, read_solution,
+    read_solution_into,
 };
 use dimacs_instance::{
-    ArcView, CapacityArc, Graph, MaxInstance, MinInstance, Network, PlainArcs, WeightArc,
+    ArcView, CapacityArc, ForwardStar, Graph, MaxInstance, MinInstance, Network, WeightArc,
     read_graph, read_max, read_min, read_queries,
 };
 use dimacs_judge::{
-    Answer, Flow, JudgeError, Verdict, Where, cut_tests, feasible_max, feasible_min, flow_of,
-    judge_infeasible, judge_max, judge_min, judge_paths, label_tests, slack_tests,
+    Answer, Flow, FlowPlaces, JudgeError, Verdict, Where, cut_tests, feasible_max, feasible_min,
+    flow_of, judge_infeasible, judge_max, judge_max_placed, judge_min, judge_min_placed,
+    judge_paths, label_tests, slack_tests,
 };
 use dimacs_lines::MemorySource;
 use dimacs_records::{ReadError, Reason};
@@ -20,7 +22,7 @@ use std::alloc::Global;
 use std::test::Fail;
 
 /// A network of three nodes.
-fn max(alloc: Global) -> Result<MaxInstance<PlainArcs<CapacityArc>>, ReadError> {
+fn max(alloc: Global) -> Result<MaxInstance<ForwardStar<CapacityArc>>, ReadError> {
     let text = b"p max 3 3\nn 1 s\nn 3 t\na 1 2 4\na 2 3 2\na 1 3 1\n";
     read_max(alloc, &mut MemorySource::new(text))
 }
@@ -34,7 +36,7 @@ fn max_flow(alloc: Global) -> Result<Solution, ReadError> {
 }
 
 /// Both, the flow by arc.
-fn flow_in_max(alloc: Global) -> Result<(MaxInstance<PlainArcs<CapacityArc>>, Flow), Fail>
+fn flow_in_max(alloc: Global) -> Result<(MaxInstance<ForwardStar<CapacityArc>>, Flow), Fail>
     ensures { IfOk result (λ both. length both.1 ≡ length both.0.arcs) }
 {
     let instance = max(alloc)?;
@@ -121,7 +123,7 @@ fn an_entry_of_no_arc_claims_no_flow(rt: HostRuntime) -> Result<(), Fail> {
 }
 
 #[test]
-fn a_flow_goes_on_all_arcs_with_the_ends_of_its_entry(rt: HostRuntime) -> Result<(), Fail> {
+fn an_arc_without_an_entry_carries_nothing(rt: HostRuntime) -> Result<(), Fail> {
     let alloc = rt.alloc();
     let graph = read_graph(
         alloc,
@@ -134,13 +136,48 @@ fn a_flow_goes_on_all_arcs_with_the_ends_of_its_entry(rt: HostRuntime) -> Result
         &rt,
         "amounts",
         (flow.amount(0), flow.amount(1), flow.amount(2)),
-        (5, 0, 5),
+        (5, 0, 0),
+    );
+    Ok(())
+}
+
+#[test]
+fn a_placed_maximum_flow_is_judged_by_a_cut(rt: HostRuntime) -> Result<(), Fail> {
+    let alloc = rt.alloc();
+    let instance = max(alloc)?;
+    let places = FlowPlaces::new(alloc, instance.network())?;
+    let text = b"f 1 3 1\nf 1 2 2\nf 2 3 2\ns 3\n";
+    let placed = read_solution_into(alloc, places, &mut MemorySource::new(text))?;
+    let cut = tight_cut(alloc)?;
+    same(
+        &rt,
+        "verdict",
+        judge_max_placed(alloc, &instance, &placed, &cut),
+        Ok(Verdict::Max(3)),
+    );
+    Ok(())
+}
+
+#[test]
+fn the_first_placed_entry_that_fails_is_named(rt: HostRuntime) -> Result<(), Fail> {
+    let alloc = rt.alloc();
+    let instance = max(alloc)?;
+    let places = FlowPlaces::new(alloc, instance.network())?;
+    let text = b"f 1 3 1\nc\nf 1 3 2\nf 3 1 2\ns 3\n";
+    let placed = read_solution_into(alloc, places, &mut MemorySource::new(text))?;
+    let cut = tight_cut(alloc)?;
+    let place = Where::Solution { line: 3, field: 0 };
+    same(
+        &rt,
+        "refusal",
+        judge_max_placed(alloc, &instance, &placed, &cut),
+        Err(JudgeError::Refused(place, Reason::ArcTwice)),
     );
     Ok(())
 }
 
 /// Two nodes, and an arc each way between them.
-fn min(alloc: Global) -> Result<MinInstance<PlainArcs<ArcView>>, ReadError> {
+fn min(alloc: Global) -> Result<MinInstance<ForwardStar<ArcView>>, ReadError> {
     let text = b"p min 2 2\nn 1 1\nn 2 -1\na 1 2 0 1 3\na 2 1 0 1 0\n";
     read_min(alloc, &mut MemorySource::new(text))
 }
@@ -151,7 +188,7 @@ fn least(alloc: Global) -> Result<Solution, ReadError> {
 }
 
 /// Both, the flow by arc.
-fn flow_in_min(alloc: Global) -> Result<(MinInstance<PlainArcs<ArcView>>, Flow), Fail>
+fn flow_in_min(alloc: Global) -> Result<(MinInstance<ForwardStar<ArcView>>, Flow), Fail>
     ensures { IfOk result (λ both. length both.1 ≡ length both.0.arcs) }
 {
     let instance = min(alloc)?;
@@ -218,6 +255,22 @@ fn a_flow_of_least_cost_is_judged_by_potentials(rt: HostRuntime) -> Result<(), F
 }
 
 #[test]
+fn a_placed_flow_of_least_cost_is_judged_by_potentials(rt: HostRuntime) -> Result<(), Fail> {
+    let alloc = rt.alloc();
+    let instance = min(alloc)?;
+    let places = FlowPlaces::new(alloc, instance.network())?;
+    let placed = read_solution_into(alloc, places, &mut MemorySource::new(b"s 3\nf 1 2 1\n"))?;
+    let potentials = slack(alloc)?;
+    same(
+        &rt,
+        "verdict",
+        judge_min_placed(alloc, &instance, &placed, &potentials),
+        Ok(Verdict::Min(3)),
+    );
+    Ok(())
+}
+
+#[test]
 fn a_set_that_is_not_violated_shows_nothing(rt: HostRuntime) -> Result<(), Fail> {
     let instance = min(rt.alloc())?;
     let set = read_cut(rt.alloc(), &mut MemorySource::new(b"p cut 2 1\nu 1\n"))?;
@@ -231,7 +284,7 @@ fn a_set_that_is_not_violated_shows_nothing(rt: HostRuntime) -> Result<(), Fail>
 }
 
 /// Two nodes on a cycle of weight 0, and one that no arc enters.
-fn graph(alloc: Global) -> Result<Graph<PlainArcs<WeightArc>>, ReadError> {
+fn graph(alloc: Global) -> Result<Graph<ForwardStar<WeightArc>>, ReadError> {
     read_graph(
         alloc,
         &mut MemorySource::new(b"p sp 3 2\na 1 2 5\na 2 1 -5\n"),

@@ -1,7 +1,10 @@
 //! What the tests of judges share.
 
 use crate::checks::{holds, same};
-use dimacs_lines::{FlakySink, FlakySource};
+use dimacs_claims::{read_cut, read_labels, read_potentials, read_solution};
+use dimacs_instance::{read_plain_graph, read_plain_max, read_plain_min, read_queries};
+use dimacs_judge::{judge_infeasible, judge_max, judge_min, judge_paths};
+use dimacs_lines::{FlakySink, FlakySource, MemorySource};
 use dimacs_runs::{JudgeKind, RunError, Status, run_judge};
 use std::alloc::Global;
 use std::process::Abort;
@@ -88,7 +91,98 @@ pub fn judges(
     Ok(())
 }
 
-/// Whether a case of this kind is judged as it says.
+/// What comes of a text.
+fn source(text: &str) -> MemorySource<'_> {
+    MemorySource::new(text.as_bytes())
+}
+
+/// Whether a claim about a maximum flow is judged alike with an index of the arcs and without one.
+fn judges_max_alike(
+    rt: &impl Abort,
+    alloc: Global,
+    name: &str,
+    texts: Texts<'_>,
+) -> Result<(), Fail> {
+    if let Ok(plain) = read_plain_max(alloc, &mut source(texts.instance))
+        && let Ok(claim) = read_solution(alloc, &mut source(texts.claim))
+        && let Ok(cut) = read_cut(alloc, &mut source(texts.certificate))
+    {
+        let scanned = judge_max(alloc, &plain, &claim, &cut);
+        let star = plain.indexed(alloc)?;
+        same(rt, name, judge_max(alloc, &star, &claim, &cut), scanned);
+    }
+    Ok(())
+}
+
+/// Whether a claim about a flow of least cost is judged alike with an index of the arcs and without one.
+fn judges_min_alike(
+    rt: &impl Abort,
+    alloc: Global,
+    name: &str,
+    texts: Texts<'_>,
+) -> Result<(), Fail> {
+    if let Ok(plain) = read_plain_min(alloc, &mut source(texts.instance))
+        && let Ok(claim) = read_solution(alloc, &mut source(texts.claim))
+        && let Ok(slack) = read_potentials(alloc, &mut source(texts.certificate))
+    {
+        let scanned = judge_min(alloc, &plain, &claim, &slack);
+        let star = plain.indexed(alloc)?;
+        same(rt, name, judge_min(alloc, &star, &claim, &slack), scanned);
+    }
+    Ok(())
+}
+
+/// Whether a violated set is judged alike with an index of the arcs and without one.
+fn judges_infeasible_alike(
+    rt: &impl Abort,
+    alloc: Global,
+    name: &str,
+    texts: Texts<'_>,
+) -> Result<(), Fail> {
+    if let Ok(plain) = read_plain_min(alloc, &mut source(texts.instance))
+        && let Ok(set) = read_cut(alloc, &mut source(texts.certificate))
+    {
+        let scanned = judge_infeasible(&plain, &set);
+        let star = plain.indexed(alloc)?;
+        same(rt, name, judge_infeasible(&star, &set), scanned);
+    }
+    Ok(())
+}
+
+/// Whether labels are judged alike with an index of the arcs and without one.
+fn judges_paths_alike(
+    rt: &impl Abort,
+    alloc: Global,
+    name: &str,
+    texts: Texts<'_>,
+) -> Result<(), Fail> {
+    if let Ok(plain) = read_plain_graph(alloc, &mut source(texts.instance))
+        && let Ok(queries) = read_queries(alloc, &mut source(texts.claim))
+        && let Ok(labels) = read_labels(alloc, &mut source(texts.certificate))
+    {
+        let scanned = judge_paths(alloc, &plain, &queries, &labels);
+        let star = plain.indexed(alloc)?;
+        same(rt, name, judge_paths(alloc, &star, &queries, &labels), scanned);
+    }
+    Ok(())
+}
+
+/// Whether texts are judged alike by both networks, unless one has a fault.
+fn judges_alike(
+    rt: &impl Abort,
+    alloc: Global,
+    name: &str,
+    texts: Texts<'_>,
+) -> Result<(), Fail> {
+    match texts.kind {
+        JudgeKind::Max => judges_max_alike(rt, alloc, name, texts),
+        JudgeKind::Min => judges_min_alike(rt, alloc, name, texts),
+        JudgeKind::Infeasible => judges_infeasible_alike(rt, alloc, name, texts),
+        JudgeKind::Paths => judges_paths_alike(rt, alloc, name, texts),
+    }
+}
+
+/// Whether a case of this kind is judged as it says, by both networks.
 fn judges_case(rt: &impl Abort, alloc: Global, kind: JudgeKind, case: &Case) -> Result<(), Fail> {
     let (name, instance, claim, certificate, status, output) = *case;
     let texts = Texts {
@@ -97,6 +191,7 @@ fn judges_case(rt: &impl Abort, alloc: Global, kind: JudgeKind, case: &Case) -> 
         claim,
         certificate,
     };
+    judges_alike(rt, alloc, name, texts)?;
     judges(rt, alloc, name, texts, status, output)
 }
 

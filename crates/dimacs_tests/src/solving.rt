@@ -44,7 +44,7 @@ struct Outputs<'a> {
 }
 
 /// Sinks that accept pieces of these sizes.
-fn outputs<'a>(alloc: Global, sizes: &'a [usize]) -> Outputs<'a> {
+fn new_outputs<'a>(alloc: Global, sizes: &'a [usize]) -> Outputs<'a> {
     Outputs {
         claim: FlakySink::new(alloc, sizes, &[]),
         certificate: FlakySink::new(alloc, sizes, &[]),
@@ -80,9 +80,9 @@ fn puts(
     texts: [&str; 3],
 ) -> Result<(), Fail> {
     let ones = Vec::from_elem(alloc, 1, 1000)?;
-    let mut sinks = outputs(alloc, &[]);
+    let mut sinks = new_outputs(alloc, &[]);
     puts_pieces(rt, alloc, name, given, &[], &mut sinks, status, texts);
-    let mut sinks = outputs(alloc, &ones);
+    let mut sinks = new_outputs(alloc, &ones);
     puts_pieces(rt, alloc, name, given, &ones, &mut sinks, status, texts);
     Ok(())
 }
@@ -299,7 +299,7 @@ fn each_of_two_arcs_between_two_nodes_has_an_entry(rt: HostRuntime) -> Result<()
 /// Whether what is made is judged with this verdict, which is also reported.
 fn is_made(rt: &impl Abort, alloc: Global, kind: JudgeKind, given: Given<'_>, report: &str) {
     let name = given.instance;
-    let mut made = outputs(alloc, &[]);
+    let mut made = new_outputs(alloc, &[]);
     let mut verdict = FlakySink::new(alloc, &[], &[]);
     let ended = solve(alloc, given, &[], &mut made);
     same(rt, name, ended, Ok(Status::Done));
@@ -429,10 +429,10 @@ const FLOW: Given<'static> = Given {
 #[test]
 fn a_certificate_that_fails_comes_after_the_whole_claim(rt: HostRuntime) {
     let fails = [1];
-    let mut whole = outputs(rt.alloc(), &[]);
+    let mut whole = new_outputs(rt.alloc(), &[]);
     let ended = solve(rt.alloc(), FLOW, &[], &mut whole);
     same(&rt, "with sinks that accept", ended, Ok(Status::Done));
-    let mut failing = outputs(rt.alloc(), &[]);
+    let mut failing = new_outputs(rt.alloc(), &[]);
     failing.certificate = FlakySink::new(rt.alloc(), &[], &fails);
     let ended = solve(rt.alloc(), FLOW, &[], &mut failing);
     same(&rt, "with a sink that fails", ended, Err(RunError::Device));
@@ -450,12 +450,12 @@ fn a_certificate_that_fails_comes_after_the_whole_claim(rt: HostRuntime) {
 #[test]
 fn a_put_that_fails_leaves_the_later_sinks_empty(rt: HostRuntime) -> Result<(), Fail> {
     let ones = Vec::from_elem(rt.alloc(), 1, 1000)?;
-    let mut whole = outputs(rt.alloc(), &[]);
+    let mut whole = new_outputs(rt.alloc(), &[]);
     let ended = solve(rt.alloc(), FLOW, &[], &mut whole);
     same(&rt, "with sinks that accept", ended, Ok(Status::Done));
     for put in 1..=30 {
         let fails = [put];
-        let mut failing = outputs(rt.alloc(), &ones);
+        let mut failing = new_outputs(rt.alloc(), &ones);
         failing.claim = FlakySink::new(rt.alloc(), &ones, &fails);
         let ended = solve(rt.alloc(), FLOW, &[], &mut failing);
         same(&rt, "the end", ended, Err(RunError::Device));
@@ -478,7 +478,7 @@ fn a_pull_that_fails_leaves_all_sinks_empty(rt: HostRuntime) -> Result<(), Fail>
     let ones = Vec::from_elem(rt.alloc(), 1, 1000)?;
     for pull in 1..=15 {
         let fails = [pull];
-        let mut sinks = outputs(rt.alloc(), &[]);
+        let mut sinks = new_outputs(rt.alloc(), &[]);
         let ended = run_solve(
             rt.alloc(),
             SolveJob::Paths,

@@ -2,7 +2,7 @@
 
 use crate::checks::same;
 use crate::texts::{Arc, is_made_of};
-use dimacs_instance::{MAX_ARCS, Network, PlainArcs, WeightArc};
+use dimacs_instance::{ForwardStar, MAX_ARCS, Network, PlainArcs, WeightArc};
 use dimacs_lines::Memory;
 use std::alloc::Global;
 use std::process::Abort;
@@ -26,6 +26,14 @@ fn sample(rt: &impl Abort, alloc: Global) -> Result<PlainArcs<WeightArc>, Memory
         network.push(WeightArc { tail, head, weight })?;
     }
     Ok(network)
+}
+
+/// The same arcs with an index.
+fn indexed(alloc: Global, arcs: PlainArcs<WeightArc>) -> Result<ForwardStar<WeightArc>, Memory> {
+    match ForwardStar::build(alloc, arcs) {
+        Ok(star) => Ok(star),
+        Err((_, memory)) => Err(memory),
+    }
 }
 
 /// The weight of an arc that is found.
@@ -86,15 +94,116 @@ static FOUND: [(&str, u32, u32, u32, Option<u32>); 13] = [
 #[test]
 fn find_counts_the_arcs_between_two_nodes(rt: HostRuntime) -> Result<(), Fail> {
     let network = sample(&rt, rt.alloc())?;
+    let star = indexed(rt.alloc(), sample(&rt, rt.alloc())?)?;
     for &(name, tail, head, k, found) in &FOUND {
         same(&rt, name, network.find(tail, head, k), found);
+        same(&rt, name, star.find(tail, head, k), found);
+    }
+    Ok(())
+}
+
+/// Arcs by tail and head, each with how many arcs between the same nodes stand before it.
+type Counted = &'static [(u32, u32, u32)];
+
+/// Networks, each with its number of nodes.
+static NETWORKS: [(&str, u32, Counted); 10] = [
+    ("a few", 2, &[(1, 2, 0), (2, 1, 0), (1, 2, 1)]),
+    (
+        "falling order",
+        4,
+        &[
+            (4, 1, 0),
+            (3, 2, 0),
+            (3, 1, 0),
+            (2, 4, 0),
+            (1, 4, 0),
+            (1, 1, 0),
+        ],
+    ),
+    (
+        "loops",
+        3,
+        &[(3, 3, 0), (1, 1, 0), (3, 3, 1), (2, 2, 0), (1, 1, 1)],
+    ),
+    (
+        "parallel",
+        2,
+        &[
+            (1, 2, 0),
+            (1, 2, 1),
+            (1, 2, 2),
+            (1, 2, 3),
+            (1, 2, 4),
+            (1, 2, 5),
+        ],
+    ),
+    (
+        "one tail",
+        9,
+        &[
+            (4, 9, 0),
+            (4, 2, 0),
+            (4, 9, 1),
+            (4, 1, 0),
+            (4, 4, 0),
+            (4, 2, 1),
+        ],
+    ),
+    (
+        "as many nodes as arcs",
+        3,
+        &[(3, 1, 0), (2, 3, 0), (1, 3, 0)],
+    ),
+    (
+        "more nodes than arcs",
+        900,
+        &[(899, 1, 0), (898, 5, 0), (899, 0, 0), (4, 5, 0)],
+    ),
+    (
+        "tails above the nodes",
+        2,
+        &[(7, 1, 0), (2, 2, 0), (7, 1, 1), (3, 9, 0), (0, 0, 0)],
+    ),
+    (
+        "the greatest number",
+        0xffff_ffff,
+        &[(0xffff_ffff, 3, 0), (5, 3, 0), (0xffff_ffff, 3, 1)],
+    ),
+    ("no arcs", 7, &[]),
+];
+
+#[test]
+fn an_index_finds_each_arc(rt: HostRuntime) -> Result<(), Fail> {
+    for &(name, nodes, arcs) in &NETWORKS {
+        let mut plain = PlainArcs::new(rt.alloc(), nodes);
+        for &(tail, head, _) in arcs {
+            assert!(rt; plain.arcs() < MAX_ARCS);
+            let weight = 0;
+            plain.push(WeightArc { tail, head, weight })?;
+        }
+        let star = indexed(rt.alloc(), plain)?;
+        let mut i = 0;
+        for &(tail, head, k) in arcs {
+            same(&rt, name, star.find(tail, head, k), Some(i));
+            same(&rt, name, star.find(tail, head, 6), None);
+            i = i.wrapping_add(1);
+        }
+        same(&rt, name, star.find(8, 8, 0), None);
     }
     Ok(())
 }
 
 #[test]
+fn arcs_come_back_without_their_index(rt: HostRuntime) -> Result<(), Fail> {
+    let star = indexed(rt.alloc(), sample(&rt, rt.alloc())?)?;
+    is_made_of(&rt, &star, 4, &TOLD);
+    is_made_of(&rt, &star.into_plain(), 4, &TOLD);
+    Ok(())
+}
+
+#[test]
 fn any_network_tells_what_was_found(rt: HostRuntime) -> Result<(), Fail> {
-    let network = sample(&rt, rt.alloc())?;
+    let network = indexed(rt.alloc(), sample(&rt, rt.alloc())?)?;
     same(
         &rt,
         "the second arc",

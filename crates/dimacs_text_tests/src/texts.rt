@@ -8,8 +8,9 @@ use dimacs_claims::{
     write_cut, write_labels, write_potentials, write_solution,
 };
 use dimacs_instance::{
-    ArcView, CapacityArc, Graph, MaxInstance, MinInstance, Network, PlainArcs, Queries, WeightArc,
-    read_graph, read_max, read_min, read_queries, write_graph, write_max, write_min, write_queries,
+    ArcView, CapacityArc, ForwardStar, Graph, MaxInstance, MinInstance, Network, Queries,
+    WeightArc, read_graph, read_max, read_min, read_queries, write_graph, write_max, write_min,
+    write_queries,
 };
 use dimacs_lines::{DeviceFault, FlakySink, FlakySource};
 use dimacs_records::{At, ReadError, Reading, Reason, TakeError, TextKind, record};
@@ -17,11 +18,11 @@ use std::alloc::Global;
 use std::process::Abort;
 use std::test::Fail;
 
-pub type MaxFlow = MaxInstance<PlainArcs<CapacityArc>>;
+pub type MaxFlow = MaxInstance<ForwardStar<CapacityArc>>;
 
-pub type MinFlow = MinInstance<PlainArcs<ArcView>>;
+pub type MinFlow = MinInstance<ForwardStar<ArcView>>;
 
-pub type Weights = Graph<PlainArcs<WeightArc>>;
+pub type Weights = Graph<ForwardStar<WeightArc>>;
 
 /// A value that texts of one kind spell.
 pub trait Text: Drop {

@@ -1,7 +1,7 @@
-use Rattle.std.proofs.Common.{ap}
+use Rattle.std.proofs.Common.{ap, inl, inr}
 use Rattle.dimacs_records.specs.declared.kinds.TextKind.TheVariants as kinds
 use Rattle.dimacs_claims.specs.Potentials.{SpellsPotentials}
-use Rattle.dimacs_claims.specs.SolutionTexts.{SpellsSolution, claimed}
+use Rattle.dimacs_claims.specs.SolutionTexts.{SpellsSolution}
 use Rattle.dimacs_instance.specs.MinTexts.{SpellsMin}
 use Rattle.dimacs_judge.specs.MinJudge.{ShowsLeast, min_rows}
 use Rattle.dimacs_runs.specs.Judgings.{VerdictOr, says}
@@ -10,16 +10,26 @@ use Rattle.dimacs_runs.proofs.JudgingLemmas.{answer_alone, three_told, three_val
 use Rattle.dimacs_runs.proofs.judge.tell_min.Goals as goal
 
 -- the texts were read, and the judge answered
-pub returns-in_ok-indexed-in-Ok-clause-told : goal.returns-in_ok-indexed-in-Ok-clause-told
-returns-in_ok-indexed-in-Ok-clause-told g c = λ a b d first second third.
-    let read = c.in-Ok.ensures.reads a b d first second third in
+pub returns-in-Ok-read_placed-clause-told : goal.returns-in-Ok-read_placed-clause-told
+returns-in-Ok-read_placed-clause-told g c = λ a b d first second third.
     let i = c.in-Ok.instance in
-    let s = claimed c.in-Ok.solution in
-    let p = c.in-Ok.potentials in
-    rw c.answer_told.ensures (three_values (says kinds.Min SpellsMin a) (says kinds.Solution SpellsSolution b) (says kinds.Potentials SpellsPotentials d) (λ i s p. VerdictOr (ShowsLeast i s p) (min_rows i s p) (min_line s.value)) i s p _ read.0 read.1 read.2
-    (answer_alone (ShowsLeast i s p) (min_rows i s p) _ (min_line s.value) (λ verdict is. ap verdict_lines is) c.judge_min.result (rw c.in_ok-indexed-in-Ok.ensures at c.judge_min.ensures)))
+    let k = c.in-Ok-read_placed.potentials in
+    let (s, placed, solution, certificate) = c.in-Ok-read_placed.ensures.reads b d second third in
+    rw c.answer_told.ensures (three_values (says kinds.Min SpellsMin a) (says kinds.Solution SpellsSolution b) (says kinds.Potentials SpellsPotentials d) (λ i s k. VerdictOr (ShowsLeast i s k) (min_rows i s k) (min_line s.value)) i s k _ (c.in-Ok.ensures.reads a first) solution certificate
+    (answer_alone (ShowsLeast i s k) (min_rows i s k) _ (min_line s.value) (λ verdict is. ap verdict_lines is) c.judge_min_placed.result (rw c.in_ok-indexed.ensures at (c.judge_min_placed.ensures s placed))))
 
--- a text could not be read
+-- the instance could not be read
 pub returns-in-Err-clause-told : goal.returns-in-Err-clause-told
-returns-in-Err-clause-told g c = λ a b d first second third.
-    rw c.told.ensures (three_told (says kinds.Min SpellsMin a) (says kinds.Solution SpellsSolution b) (says kinds.Potentials SpellsPotentials d) (λ i s p. VerdictOr (ShowsLeast i s p) (min_rows i s p) (min_line s.value)) c.in-Err.unread (c.in-Err.ensures.reads a b d first second third))
+returns-in-Err-clause-told g c = λ a b d first second third. rw c.told.ensures (three_told (says kinds.Min SpellsMin a) (says kinds.Solution SpellsSolution b) (says kinds.Potentials SpellsPotentials d) (λ i s k. VerdictOr (ShowsLeast i s k) (min_rows i s k) (min_line s.value)) c.in-Err.unread (inl (c.in-Err.ensures.reads a first)))
+
+-- another text could not be read
+pub returns-clause-told : goal.returns-clause-told
+returns-clause-told g c = λ a b d first second third.
+    rw c.told-in-Err-read_placed.ensures (three_told (says kinds.Min SpellsMin a) (says kinds.Solution SpellsSolution b) (says kinds.Potentials SpellsPotentials d) (λ i s k. VerdictOr (ShowsLeast i s k) (min_rows i s k) (min_line s.value)) c.in-Err-read_placed.unread (inr (c.in-Ok.instance, c.in-Ok.ensures.reads a first, c.in-Err-read_placed.ensures.reads b d second third)))
+
+-- the instance has no fault
+pub returns-in-Ok-read_placed-clause-instance_alone : goal.returns-in-Ok-read_placed-clause-instance_alone
+returns-in-Ok-read_placed-clause-instance_alone g c = λ a l f r coming fault. absurd ((c.in-Ok.ensures.reads a coming).2 l f r fault)
+
+pub returns-clause-instance_alone : goal.returns-clause-instance_alone
+returns-clause-instance_alone g c = λ a l f r coming fault. absurd ((c.in-Ok.ensures.reads a coming).2 l f r fault)

@@ -5,4 +5,4 @@ pub returns-in_err-limit-in-text-clause-not_named : goal.returns-in_err-limit-in
 returns-in_err-limit-in-text-clause-not_named c = rw c.from_residual.ensures (no_max c.args.word.now _ c.in_err-limit-in-text.ensures.not_told c.in-text.is)
 
 pub returns-in_err-limit-in-text-2-clause-not_named : goal.returns-in_err-limit-in-text-2-clause-not_named
-returns-in_err-limit-in-text-2-clause-not_named c = rw c.from_residual-in-text-2.ensures (no_min c.args.word.now _ c.in_err-limit-in-text-2.ensures.not_told c.in-text-2.is)
+returns-in_err-limit-in-text-2-clause-not_named c = rw c.from_residual-in_err-limit-in-text-2.ensures (no_min c.args.word.now _ c.in_err-limit-in-text-2.ensures.not_told c.in-text-2.is)
