@@ -1,5 +1,5 @@
 -- What a producer tells of the texts that it was given.
-use Rattle.std.proofs.Common.{◌≡◌, ◌≢◌, ◌∙◌, ◌+◌, ℕ, List, [], ◌∷◌, Option, Result, Ok, Err, refl, sym, subst, ap, inl, inr, ◌⊎◌, arith}
+use Rattle.std.proofs.Common.{◌≡◌, ◌≢◌, ◌∙◌, ◌+◌, ℕ, List, Option, Result, Ok, Err, refl, sym, subst, ap, inl, inr, ◌⊎◌, arith}
 use Rattle.std.proofs.lemmas.Int.{ints}
 use Rattle.std.proofs.lemmas.Bool.{cases_order}
 use Rattle.dimacs_instance.specs.declared.network.ArcView.{ArcView}
@@ -28,7 +28,7 @@ use Rattle.dimacs_solve.specs.Paths.{IsFirstNegative, SolvesPaths}
 use Rattle.dimacs_solve.specs.SolveMax.{SolvesMax}
 use Rattle.dimacs_solve.specs.SolveMin.{SolvesMin}
 use Rattle.dimacs_runs.specs.declared.outcome.Status.{Status}
-use Rattle.dimacs_runs.specs.declared.outcome.Status.TheVariants.{Done, Refused, GaveUp}
+use Rattle.dimacs_runs.specs.declared.outcome.Status.TheVariants.{Refused}
 use Rattle.dimacs_runs.specs.declared.outcome.RunError.{RunError}
 use Rattle.dimacs_runs.specs.declared.outcome.RunError.TheVariants.{Device, Memory}
 use Rattle.dimacs_runs.specs.declared.produced.Produced.{Produced}

@@ -1,4 +1,4 @@
-use Rattle.std.proofs.Common.{◌≡◌, [], ◌∷◌, List, ℕ, subst}
+use Rattle.std.proofs.Common.{[], ◌∷◌, subst}
 use Rattle.dimacs_lines.specs.Lines.{lines}
 use Rattle.dimacs_records.specs.Faults.{Fault}
 use Rattle.dimacs_runs.specs.declared.jobs.SolveJob.{SolveJob}
