@@ -4,7 +4,7 @@ use clap::Command;
 use std::alloc::{AllocError, Global};
 
 /// The words of each run, and what it does.
-static RUNS: [(&str, &str); 8] = [
+static RUNS: [(&str, &str); 9] = [
     ("convert KIND FILE", "Prints the canonical form of a text"),
     ("show KIND FILE", "Prints a line about a text"),
     (
@@ -28,6 +28,10 @@ static RUNS: [(&str, &str); 8] = [
         "Writes a maximum flow, and a cut that shows it",
     ),
     (
+        "solve-min INSTANCE SOLUTION CERTIFICATE [--limit N]",
+        "Writes a flow of least cost, and potentials; or a set alone, if no flow is feasible",
+    ),
+    (
         "solve-paths GRAPH QUERY LABELS",
         "Writes labels that are distances, and answers queries",
     ),
@@ -46,7 +50,7 @@ fn usage_text(alloc: Global) -> Result<String, AllocError> {
         .about("Reads, converts, judges and makes the DIMACS texts of flows and shortest paths")
         .after_help(
             "KIND is max, min, gr, query, solution, cut, pot or dist. \
-             N is how many flows are tried, 0 to 1000000000, and 1000000 if it isn't told.",
+             N is how many flows or paths are tried, 0 to 1000000000, and 1000000 if it isn't told.",
         );
     for &(words, about) in &RUNS {
         command = command.subcommand(Command::new(alloc, words).about(about))?;
