@@ -42,6 +42,9 @@ fn flow_in_max(alloc: Global) -> Result<(MaxInstance<ForwardStar<CapacityArc>>, 
     let instance = max(alloc)?;
     let solution = max_flow(alloc)?;
     let flow = flow_of(alloc, instance.network(), &solution)?;
+    if flow.len() != instance.network().arcs() as usize {
+        return Err(Fail::from("a flow of other arcs"));
+    }
     Ok((instance, flow))
 }
 
@@ -194,6 +197,9 @@ fn flow_in_min(alloc: Global) -> Result<(MinInstance<ForwardStar<ArcView>>, Flow
     let instance = min(alloc)?;
     let solution = least(alloc)?;
     let flow = flow_of(alloc, instance.network(), &solution)?;
+    if flow.len() != instance.network().arcs() as usize {
+        return Err(Fail::from("a flow of other arcs"));
+    }
     Ok((instance, flow))
 }
 

@@ -162,18 +162,18 @@ fn judges_paths_alike(
     {
         let scanned = judge_paths(alloc, &plain, &queries, &labels);
         let star = plain.indexed(alloc)?;
-        same(rt, name, judge_paths(alloc, &star, &queries, &labels), scanned);
+        same(
+            rt,
+            name,
+            judge_paths(alloc, &star, &queries, &labels),
+            scanned,
+        );
     }
     Ok(())
 }
 
 /// Whether texts are judged alike by both networks, unless one has a fault.
-fn judges_alike(
-    rt: &impl Abort,
-    alloc: Global,
-    name: &str,
-    texts: Texts<'_>,
-) -> Result<(), Fail> {
+fn judges_alike(rt: &impl Abort, alloc: Global, name: &str, texts: Texts<'_>) -> Result<(), Fail> {
     match texts.kind {
         JudgeKind::Max => judges_max_alike(rt, alloc, name, texts),
         JudgeKind::Min => judges_min_alike(rt, alloc, name, texts),

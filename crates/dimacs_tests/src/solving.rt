@@ -288,11 +288,7 @@ fn each_of_two_arcs_between_two_nodes_has_an_entry(rt: HostRuntime) -> Result<()
         instance: "p max 2 2\nn 1 s\nn 2 t\na 1 2 1\na 1 2 3\n",
         queries: "",
     };
-    let texts = [
-        "s 4\nf 1 2 1\nf 1 2 3\n",
-        "p cut 2 1\nu 1\n",
-        "v max 4\n",
-    ];
+    let texts = ["s 4\nf 1 2 1\nf 1 2 3\n", "p cut 2 1\nu 1\n", "v max 4\n"];
     puts(&rt, rt.alloc(), "two arcs", given, Status::Done, texts)
 }
 

@@ -101,7 +101,10 @@ static PRODUCERS: [(&str, SolveJob); 14] = [
     ("solve-max --limit 5 cut", SolveJob::Max(1_000_000)),
     ("solve-max - --limit --limit --limit 5", SolveJob::Max(5)),
     ("solve-min instance solution pot", SolveJob::Min(1_000_000)),
-    ("solve-min instance solution pot --limit 2", SolveJob::Min(2)),
+    (
+        "solve-min instance solution pot --limit 2",
+        SolveJob::Min(2),
+    ),
     ("solve-paths graph query labels", SolveJob::Paths),
     ("solve-paths --limit --help -", SolveJob::Paths),
     ("solve-paths solve-paths --limit 5", SolveJob::Paths),
