@@ -100,11 +100,7 @@ pub fn source_asked(queries: &Queries, i: usize) -> u32
 }
 
 /// What labels answer to queries, whether or not they pass a test. A query whose source has no block is answered by none.
-pub fn answer_queries(
-    alloc: Global,
-    queries: &Queries,
-    labels: &Labels,
-) -> Result<Verdict, Memory>
+pub fn answer_queries(alloc: Global, queries: &Queries, labels: &Labels) -> Result<Verdict, Memory>
     requires { AreLawful (asked queries.now) }
     ensures { IfOk result (AnswersQueries labels.now.blocks (asked queries.now)) }
 {
