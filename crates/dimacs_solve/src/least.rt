@@ -3,7 +3,9 @@
 //! Nothing is believed of what the method comes to: it is a candidate, and counts only if a judge says yes to it.
 
 ghost use Rattle.std.specs.Prelude.{◌≡◌, Ok};
-ghost use Rattle.dimacs_solve.specs.SolveMin.{AreEntriesOf, SolvesMin};
+ghost use Rattle.dimacs_claims.specs.SolutionTexts.{claimed};
+ghost use Rattle.dimacs_solve.specs.Entries.{IsSolutionOf};
+ghost use Rattle.dimacs_solve.specs.SolveMin.{SolvesMin};
 
 mod augmenting;
 mod balancing;
@@ -56,8 +58,7 @@ fn judged_flow<N: Network>(
     solution: Solution,
     potentials: Potentials,
 ) -> Result<MinAnswer, SolveError>
-    requires value { solution.value_line ≡ 1 }
-    requires entries { AreEntriesOf instance.now.arcs solution.entries.items }
+    requires { IsSolutionOf instance.now.arcs (claimed solution) }
     ensures { SolvesMin instance.now result }
 {
     match judge_min(alloc, instance, &solution, &potentials) {

@@ -4,6 +4,7 @@
 mod adjacency;
 mod climb;
 mod distance;
+mod entries;
 mod error;
 mod frontier;
 mod improve;

@@ -1,11 +1,15 @@
 //! Solving maximum flow.
 
-ghost use Rattle.std.specs.Prelude.{◌≡◌, ◌≤◌, length, IfOk};
+ghost use Rattle.std.specs.Prelude.{◌≡◌, ◌≤◌, length, IfOk, map};
+ghost use Rattle.dimacs_claims.specs.declared.solution.Entry.{Entry};
 ghost use Rattle.dimacs_claims.specs.SolutionTexts.{claimed};
 ghost use Rattle.dimacs_judge.specs.Claims.{Carries};
-ghost use Rattle.dimacs_solve.specs.SolveMax.{SolvesMax, IsSolutionFor, entries_from};
+ghost use Rattle.dimacs_judge.specs.Feasible.{value};
+ghost use Rattle.dimacs_solve.specs.Entries.{AreEntriesOf, IsSolutionOf};
+ghost use Rattle.dimacs_solve.specs.SolveMax.{SolvesMax};
 
 use crate::climb::{Ascent, climb};
+use crate::entries::entry_of;
 use crate::error::SolveError;
 use dimacs_claims::{Cut, Entry, Solution};
 use dimacs_instance::{MaxInstance, Network};
@@ -44,8 +48,9 @@ fn solution_for<N: Network>(
     flow: &Flow,
 ) -> Result<Solution, Memory>
     requires { length flow.now ≡ length instance.now.arcs }
-    ensures entries { IfOk result (λ solution. IsSolutionFor instance.now flow.now (claimed solution)) }
+    ensures entries { IfOk result (λ solution. IsSolutionOf instance.now.arcs (claimed solution)) }
     ensures carries { IfOk result (λ solution. Carries instance.now.arcs solution.entries.items flow.now) }
+    ensures value { IfOk result (λ solution. solution.value ≡ value instance.now flow.now) }
 {
     let value = value_of(instance, flow);
     let entries = entries_for(alloc, instance.network(), flow)?;
@@ -56,20 +61,17 @@ fn solution_for<N: Network>(
     })
 }
 
+/// An entry for every arc, in order, with its amount.
 fn entries_for<N: Network>(alloc: Global, network: &N, flow: &Flow) -> Result<Vec<Entry>, Memory>
     requires few_arcs { length (N.list network.now) ≤ 268435456 }
     requires one_each { length flow.now ≡ length (N.list network.now) }
-    ensures { IfOk result (λ entries. entries.items ≡ entries_from 2 (N.list network.now) flow.now) }
+    ensures all { IfOk result (λ entries. AreEntriesOf (N.list network.now) entries.items) }
+    ensures flows { IfOk result (λ entries. map (λ (e : Entry). e.flow) entries.items ≡ flow.now) }
 {
     let mut entries = Vec::with_capacity(alloc, network.arcs() as usize)?;
     for i in 0..network.arcs() {
         let arc = network.arc(i);
-        entries.push(Entry {
-            tail: arc.tail,
-            head: arc.head,
-            flow: flow.amount(i),
-            line: u64::from(i) + 2,
-        })?;
+        entries.push(entry_of(arc, i, flow.amount(i)))?;
     }
     Ok(entries)
 }

@@ -468,3 +468,27 @@ fn a_put_that_fails_leaves_the_later_sinks_empty(rt: HostRuntime) -> Result<(), 
     }
     Ok(())
 }
+
+#[test]
+fn a_pull_that_fails_leaves_all_sinks_empty(rt: HostRuntime) -> Result<(), Fail> {
+    let ones = Vec::from_elem(rt.alloc(), 1, 1000)?;
+    for pull in 1..=15 {
+        let fails = [pull];
+        let mut claim = FlakySink::new(rt.alloc(), &[], &[]);
+        let mut certificate = FlakySink::new(rt.alloc(), &[], &[]);
+        let mut report = FlakySink::new(rt.alloc(), &[], &[]);
+        let ended = run_solve(
+            rt.alloc(),
+            SolveJob::Paths,
+            &mut FlakySource::new(CYCLE.as_bytes(), &ones, &[]),
+            &mut FlakySource::new(SOURCE.as_bytes(), &ones, &fails),
+            &mut claim,
+            &mut certificate,
+            &mut report,
+        );
+        same(&rt, "the end", ended, Err(RunError::Device));
+        let bytes = claim.bytes().len() + certificate.bytes().len() + report.bytes().len();
+        holds_at(&rt, "the sinks", pull, bytes == 0);
+    }
+    Ok(())
+}

@@ -1,8 +1,10 @@
 //! What the method comes to, before it is judged.
 
 ghost use Rattle.std.specs.Prelude.{◌≡◌, IfOk};
-ghost use Rattle.dimacs_solve.specs.SolveMin.{AreEntriesOf, IsCandidate};
+ghost use Rattle.dimacs_solve.specs.Entries.{AreEntriesOf};
+ghost use Rattle.dimacs_solve.specs.SolveMin.{IsCandidate};
 
+use crate::entries::entry_of;
 use crate::least::balancing::{Ending, balance};
 use crate::least::pseudoflow::{Mark, Pseudoflow};
 use dimacs_claims::{Cut, Entry, Potentials, Solution};
@@ -74,12 +76,7 @@ fn entries<N: Network>(alloc: Global, network: &N, flow: &Pseudoflow) -> Result<
     let mut entries = Vec::with_capacity(alloc, network.arcs() as usize)?;
     for i in 0..network.arcs() {
         let arc = network.arc(i);
-        entries.push(Entry {
-            tail: arc.tail,
-            head: arc.head,
-            flow: flow.arcs.amount(i, arc),
-            line: u64::from(i) + 2,
-        })?;
+        entries.push(entry_of(arc, i, flow.arcs.amount(i, arc)))?;
     }
     Ok(entries)
 }

@@ -13,10 +13,10 @@ returns-in_ok-solution-in-Top g c =
     let i = c.args.instance.now in
     let x = c.in-Top.flow in
     let s = c.in_ok-solution-in-Top.ensures in (
-      (x, s.entries),
+      s.entries,
       (
         x,
-        record { carries = s.carries; feasible = told.0.feasible; value_is = sym s.entries.value_is; nodes_are = told.2; tight = told.1 },
+        record { carries = s.carries; feasible = told.0.feasible; value_is = sym s.value; nodes_are = told.2; tight = told.1 },
         told.0,
       ),
     )

@@ -3,7 +3,7 @@ use Rattle.std.proofs.lemmas.List.{length-append}
 use Rattle.std.proofs.lemmas.Option.{get_or_from_slice_get}
 use Rattle.dimacs_claims.specs.declared.solution.Entry.{Entry}
 use Rattle.dimacs_judge.specs.Rows.{arc_at, no_arc}
-use Rattle.dimacs_solve.proofs.EntryOrder.{entries_more}
+use Rattle.dimacs_solve.proofs.EntryLemmas.{entries_more}
 use Rattle.dimacs_solve.proofs.least.candidate.entries.Goals as goal
 
 pub loop-i-preserved : goal.loop-i-preserved

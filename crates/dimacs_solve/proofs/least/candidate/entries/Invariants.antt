@@ -1,7 +1,7 @@
 use Rattle.std.proofs.Common.{ℕ, ◌≡◌, ◌+◌, ◌<◌, length}
 use Rattle.dimacs_judge.specs.Claims.{entry_at}
 use Rattle.dimacs_judge.specs.Rows.{arc_at}
-use Rattle.dimacs_solve.specs.SolveMin.{IsEntryOf}
+use Rattle.dimacs_solve.specs.Entries.{IsEntryOf}
 use Rattle.dimacs_solve.proofs.least.candidate.entries.Given as goal
 
 abbrev pub invariant-loop-i : goal.invariant-loop-i

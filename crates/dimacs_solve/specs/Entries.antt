@@ -1,0 +1,23 @@
+-- Solutions with an entry for every arc.
+use Rattle.std.specs.Prelude.{ℕ, ◌≡◌, ◌+◌, ◌<◌, List, length}
+use Rattle.dimacs_claims.specs.declared.solution.Entry.{Entry}
+use Rattle.dimacs_claims.specs.SolutionTexts.{SolutionValue}
+use Rattle.dimacs_instance.specs.declared.network.ArcView.{ArcView}
+use Rattle.dimacs_judge.specs.Claims.{entry_at}
+use Rattle.dimacs_judge.specs.Rows.{arc_at}
+
+-- the entry is of this arc, and stands on this line
+pub record IsEntryOf (a : ArcView) (on_line : ℕ) (e : Entry) : Type 0 where
+  pub tail_is : e.tail ≡ a.tail
+  pub head_is : e.head ≡ a.head
+  pub line_is : e.line ≡ on_line
+
+-- an entry for every arc, in order, on one line after another from line 2 on
+pub record AreEntriesOf (arcs : List ArcView) (entries : List Entry) : Type 0 where
+  pub one_each : length entries ≡ length arcs
+  pub in_order : (k : ℕ) → k < length arcs → IsEntryOf (arc_at arcs k) (k + 2) (entry_at entries k)
+
+-- the value stands on line 1, and an entry for every arc after it
+pub record IsSolutionOf (arcs : List ArcView) (s : SolutionValue) : Type 0 where
+  pub value_first : s.value_line ≡ 1
+  pub all_arcs : AreEntriesOf arcs s.entries
