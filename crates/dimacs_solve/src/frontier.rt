@@ -39,7 +39,7 @@ impl<D: Distance> Model for Frontier<D> {
 
 impl<D: Distance> Frontier<D> {
     /// No ways.
-    pub fn new(alloc: Global) -> Frontier<D>
+    pub(crate) fn new(alloc: Global) -> Frontier<D>
         ensures { result ≡ [] }
     {
         Frontier {
@@ -48,7 +48,7 @@ impl<D: Distance> Frontier<D> {
     }
 
     #[inline]
-    pub fn push(&mut self, reach: Reach<D>) -> Result<(), Memory>
+    pub(crate) fn push(&mut self, reach: Reach<D>) -> Result<(), Memory>
         ensures { OnOk result (IsPermutation (way_of D.value reach ∷ self.old) self.new) }
     {
         self.heap.push(Reverse(reach))?;
@@ -57,7 +57,7 @@ impl<D: Distance> Frontier<D> {
 
     /// Takes the nearest.
     #[inline]
-    pub fn pop(&mut self) -> Option<Reach<D>>
+    pub(crate) fn pop(&mut self) -> Option<Reach<D>>
         ensures { MatchOption result ((self.old ≡ []) × (self.new ≡ [])) (λ reach. IsPermutation self.old (way_of D.value reach ∷ self.new) × IsNearest (way_of D.value reach) self.new) }
     {
         let Reverse(reach) = self.heap.pop()?;

@@ -28,7 +28,7 @@ impl<D: Distance> Marks<D> {
     ghost use Rattle.dimacs_solve.specs.Marks.{AreUnknown, IsSettled, IsWithin, Sets, known, reached, settled};
 
     /// Round 0, in which nothing is marked. Takes no memory.
-    pub fn new(alloc: Global) -> Marks<D>
+    pub(crate) fn new(alloc: Global) -> Marks<D>
         ensures { result.round ≡ 0 }
     {
         let unknown = Mark {
@@ -43,7 +43,7 @@ impl<D: Distance> Marks<D> {
     }
 
     /// Forgets all nodes.
-    pub fn next_round(&mut self)
+    pub(crate) fn next_round(&mut self)
         requires { self.old.round + 1 < 4294967296 }
         ensures round { self.new.round ≡ self.old.round + 1 }
         ensures unknown { AreUnknown (known D.value self.new) }
@@ -53,7 +53,7 @@ impl<D: Distance> Marks<D> {
 
     /// Whether a way to the node was marked that is no longer than this.
     #[inline]
-    pub fn is_within(&self, node: u32, dist: D) -> bool
+    pub(crate) fn is_within(&self, node: u32, dist: D) -> bool
         ensures { IsTrue result ↔ IsWithin (known D.value self.now node) (D.value dist) }
     {
         let mark = self.marks.get(node);
@@ -61,7 +61,7 @@ impl<D: Distance> Marks<D> {
     }
 
     #[inline]
-    pub fn is_settled(&self, node: u32) -> bool
+    pub(crate) fn is_settled(&self, node: u32) -> bool
         ensures { IsTrue result ↔ IsSettled (known D.value self.now node) }
     {
         let mark = self.marks.get(node);
@@ -70,7 +70,7 @@ impl<D: Distance> Marks<D> {
 
     /// Marks a way to a node.
     #[inline]
-    pub fn reach(&mut self, node: u32, dist: D) -> Result<(), Memory>
+    pub(crate) fn reach(&mut self, node: u32, dist: D) -> Result<(), Memory>
         ensures round { OnOk result (self.new.round ≡ self.old.round) }
         ensures reached { OnOk result (Sets (known D.value self.old) node (reached (D.value dist)) (known D.value self.new)) }
     {
@@ -86,7 +86,7 @@ impl<D: Distance> Marks<D> {
 
     /// Marks a node whose distance is this.
     #[inline]
-    pub fn settle(&mut self, node: u32, dist: D) -> Result<(), Memory>
+    pub(crate) fn settle(&mut self, node: u32, dist: D) -> Result<(), Memory>
         ensures round { OnOk result (self.new.round ≡ self.old.round) }
         ensures settled { OnOk result (Sets (known D.value self.old) node (settled (D.value dist)) (known D.value self.new)) }
     {

@@ -26,7 +26,7 @@ enum Step {
 }
 
 impl Augmenter {
-    pub fn new(alloc: Global, limit: u64) -> Augmenter {
+    pub(crate) fn new(alloc: Global, limit: u64) -> Augmenter {
         Augmenter {
             path: Vec::new(alloc),
             left: limit,
@@ -35,7 +35,7 @@ impl Augmenter {
 
     /// Moves what it can from each of the sources, over settled nodes. False where that takes more paths than may be
     /// used.
-    pub fn drain_all(
+    pub(crate) fn drain_all(
         &mut self,
         arcs: &mut ResidualArcs,
         nodes: &mut [Node],

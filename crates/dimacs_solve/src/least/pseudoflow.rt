@@ -53,7 +53,10 @@ pub(crate) struct Pseudoflow {
 
 impl Pseudoflow {
     /// Each arc carries its first amount, and all potentials are 0.
-    pub fn new<N: Network>(alloc: Global, instance: &MinInstance<N>) -> Result<Pseudoflow, Memory> {
+    pub(crate) fn new<N: Network>(
+        alloc: Global,
+        instance: &MinInstance<N>,
+    ) -> Result<Pseudoflow, Memory> {
         let network = instance.network();
         let numbers = NodeNumbers::new(alloc, instance)?;
         let arcs = ResidualArcs::new(alloc, network, &numbers)?;
@@ -68,7 +71,7 @@ impl Pseudoflow {
     }
 
     /// The nodes with excess.
-    pub fn sources(&self, alloc: Global) -> Result<Vec<u32>, Memory> {
+    pub(crate) fn sources(&self, alloc: Global) -> Result<Vec<u32>, Memory> {
         let mut sources = Vec::new(alloc);
         let mut number: u32 = 0;
         for node in &self.nodes {
@@ -80,7 +83,7 @@ impl Pseudoflow {
         Ok(sources)
     }
 
-    pub fn has_deficit(&self) -> bool {
+    pub(crate) fn has_deficit(&self) -> bool {
         for node in &self.nodes {
             if node.excess < 0 {
                 return true;

@@ -24,7 +24,7 @@ pub(crate) struct Search {
 }
 
 impl Search {
-    pub fn new(alloc: Global) -> Search {
+    pub(crate) fn new(alloc: Global) -> Search {
         Search {
             waiting: Waiting::new(alloc),
             reached: Vec::new(alloc),
@@ -35,12 +35,12 @@ impl Search {
     }
 
     /// Whether the nodes with excess reach no deficit.
-    pub fn is_stuck(&self) -> bool {
+    pub(crate) fn is_stuck(&self) -> bool {
         self.deficits == 0 && !self.leads_on
     }
 
     /// Settles nodes, the nearest first, until there are enough deficits among them or no node is left.
-    pub fn run(
+    pub(crate) fn run(
         &mut self,
         arcs: &ResidualArcs,
         nodes: &mut [Node],
@@ -63,7 +63,7 @@ impl Search {
 
     /// Raises the potential of each settled node by how much nearer it is than the last one. So no reduced cost becomes
     /// negative, and those on the shortest paths become 0.
-    pub fn raise_potentials(&self, nodes: &mut [Node]) {
+    pub(crate) fn raise_potentials(&self, nodes: &mut [Node]) {
         let farthest = if self.deficits == 0 {
             FAR
         } else {

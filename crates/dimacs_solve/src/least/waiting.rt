@@ -22,7 +22,7 @@ pub(crate) struct Waiting {
 }
 
 impl Waiting {
-    pub fn new(alloc: Global) -> Waiting {
+    pub(crate) fn new(alloc: Global) -> Waiting {
         Waiting {
             distance: 0,
             near: Vec::new(alloc),
@@ -31,14 +31,14 @@ impl Waiting {
     }
 
     /// Forgets all nodes. The next ones are at distance 0 or more.
-    pub fn clear(&mut self) {
+    pub(crate) fn clear(&mut self) {
         self.distance = 0;
         self.near.clear();
         self.far.clear();
     }
 
     #[inline(always)]
-    pub fn push(&mut self, reach: Reach) -> Result<(), Memory> {
+    pub(crate) fn push(&mut self, reach: Reach) -> Result<(), Memory> {
         if reach.distance == self.distance {
             self.near.push(reach.node)?;
         } else {
@@ -49,7 +49,7 @@ impl Waiting {
 
     /// Takes a nearest node.
     #[inline(always)]
-    pub fn pop(&mut self) -> Option<Reach> {
+    pub(crate) fn pop(&mut self) -> Option<Reach> {
         if let Some(node) = self.near.pop() {
             return Some(Reach {
                 distance: self.distance,

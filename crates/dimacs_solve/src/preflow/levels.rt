@@ -15,7 +15,7 @@ pub(crate) struct Levels {
 
 impl Levels {
     /// Takes 12 bytes for each node.
-    pub fn new(alloc: Global, nodes: u32) -> Result<Levels, Memory> {
+    pub(crate) fn new(alloc: Global, nodes: u32) -> Result<Levels, Memory> {
         let size = nodes as usize + 1;
         Ok(Levels {
             first: vec![in alloc; 0u32; size]?,
@@ -26,27 +26,27 @@ impl Levels {
     }
 
     /// Takes all nodes out.
-    pub fn clear(&mut self) {
+    pub(crate) fn clear(&mut self) {
         self.first.fill(0);
         self.highest = 0;
     }
 
     /// The greatest height at which a node was put in.
-    pub fn highest(&self) -> u32 {
+    pub(crate) fn highest(&self) -> u32 {
         self.highest
     }
 
     /// The first node of a height.
-    pub fn first(&self, height: u32) -> u32 {
+    pub(crate) fn first(&self, height: u32) -> u32 {
         member(&self.first, height)
     }
 
     /// The next node of the same height.
-    pub fn after(&self, node: u32) -> u32 {
+    pub(crate) fn after(&self, node: u32) -> u32 {
         member(&self.after, node)
     }
 
-    pub fn insert(&mut self, node: u32, height: u32) {
+    pub(crate) fn insert(&mut self, node: u32, height: u32) {
         let next = self.first(height);
         set_member(&mut self.after, node, next);
         set_member(&mut self.before, node, 0);
@@ -57,7 +57,7 @@ impl Levels {
         self.highest = self.highest.max(height);
     }
 
-    pub fn remove(&mut self, node: u32, height: u32) {
+    pub(crate) fn remove(&mut self, node: u32, height: u32) {
         let next = self.after(node);
         let earlier = member(&self.before, node);
         if next > 0 {
@@ -71,7 +71,7 @@ impl Levels {
     }
 
     /// Takes out all nodes above a height.
-    pub fn forget_above(&mut self, height: u32) {
+    pub(crate) fn forget_above(&mut self, height: u32) {
         for above in height..self.highest {
             set_member(&mut self.first, above.wrapping_add(1), 0);
         }

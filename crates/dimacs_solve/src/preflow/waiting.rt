@@ -14,7 +14,7 @@ pub(crate) struct Waiting {
 
 impl Waiting {
     /// Takes 8 bytes for each node.
-    pub fn new(alloc: Global, nodes: u32) -> Result<Waiting, Memory> {
+    pub(crate) fn new(alloc: Global, nodes: u32) -> Result<Waiting, Memory> {
         let size = nodes as usize + 1;
         Ok(Waiting {
             first: vec![in alloc; 0u32; size]?,
@@ -23,19 +23,19 @@ impl Waiting {
         })
     }
 
-    pub fn clear(&mut self) {
+    pub(crate) fn clear(&mut self) {
         self.first.fill(0);
         self.highest = 0;
     }
 
-    pub fn push(&mut self, node: u32, height: u32) {
+    pub(crate) fn push(&mut self, node: u32, height: u32) {
         set_member(&mut self.after, node, member(&self.first, height));
         set_member(&mut self.first, height, node);
         self.highest = self.highest.max(height);
     }
 
     /// Takes out a node of the greatest height.
-    pub fn pop(&mut self) -> Option<u32> {
+    pub(crate) fn pop(&mut self) -> Option<u32> {
         self.descend();
         let node = member(&self.first, self.highest);
         if node == 0 {
