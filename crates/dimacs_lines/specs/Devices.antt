@@ -25,6 +25,11 @@ abbrev pub CountsPut : {E : Type 0} → Result ℕ E → List ℕ → ℕ → �
 CountsPut (Ok count) bytes old new = new ≡ (if count == 0 && nat_lt 0 (length bytes) then one_more old else old)
 CountsPut (Err error) bytes old new = new ≡ one_more old
 
+-- a device over a file, or over another reader or writer, and its faults
+pub record OverFile (F : Type 0) : Type 0 where
+  pub file : F
+  pub faults : ℕ
+
 -- a device in memory: the bytes that it has to give or has accepted, and its faults
 pub record InMemory : Type 0 where
   pub bytes : List ℕ

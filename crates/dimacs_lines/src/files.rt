@@ -1,6 +1,9 @@
-//! Files and the standard output. They tell nothing of their bytes, since no contract can say what a file holds.
+//! Files and the standard output. They tell nothing of their bytes, since no contract can say what a file holds. What
+//! the clauses of `pull` and `put` say is of each reader and writer that does tell.
 
-ghost use Rattle.std.specs.Prelude.{◌≡◌, ◌≢◌, ◌≤◌, None, ℕ, length, IfOk};
+ghost use Rattle.std.specs.Prelude.{◌≡◌, ◌≢◌, ◌≤◌, ◌<◌, None, ℕ, Ok, length, IfOk, OnErr};
+ghost use Rattle.std.specs.Io.KnownBytes.{ReadConsumes, WriteAppends};
+ghost use Rattle.dimacs_lines.specs.Devices.{CountsFault, CountsPut};
 
 use crate::device::{DeviceFault, Sink, Source};
 use std::io;
@@ -15,14 +18,16 @@ pub struct FileSource<R> {
 }
 
 impl<R> Model for FileSource<R> {
-    ghost Value = { ℕ };
+    ghost use Rattle.dimacs_lines.specs.Devices.{OverFile};
 
-    ghost view = { λ s. s.faults };
+    ghost Value = { OverFile R };
+
+    ghost view = { λ s. record { file = s.reader; faults = s.faults } };
 }
 
 impl<R: Read> FileSource<R> {
     pub fn new(reader: R) -> FileSource<R>
-        ensures { result ≡ 0 }
+        ensures { result ≡ record { file = reader; faults = 0 } }
     {
         FileSource { reader, faults: 0 }
     }
@@ -31,9 +36,13 @@ impl<R: Read> FileSource<R> {
 impl<R: Read> Source for FileSource<R> {
     ghost coming = { λ s. None };
 
-    ghost faults = { λ s. s };
+    ghost faults = { λ s. s.faults };
 
-    fn pull(&mut self, into: &mut [u8]) -> Result<usize, DeviceFault> {
+    fn pull(&mut self, into: &mut [u8]) -> Result<usize, DeviceFault>
+        ensures room { IfOk result (λ count. count ≤ length into.old) }
+        ensures bytes { ReadConsumes (R.remaining self.old.file) (R.remaining self.new.file) result into.new }
+        ensures fault { CountsFault result self.old.faults self.new.faults }
+    {
         match read_some(&mut self.reader, into) {
             Ok(count) => Ok(count),
             Err(fault) => {
@@ -46,7 +55,8 @@ impl<R: Read> Source for FileSource<R> {
 
 /// Reads once, and again where a signal interrupts.
 fn read_some<R: Read>(reader: &mut R, into: &mut [u8]) -> Result<usize, DeviceFault>
-    ensures { IfOk result (λ count. count ≤ length into.old) }
+    ensures room { IfOk result (λ count. count ≤ length into.old) }
+    ensures bytes { ReadConsumes (R.remaining reader.old) (R.remaining reader.new) result into.new }
 {
     for _ in 0..u64::MAX {
         match reader.read(into) {
@@ -66,14 +76,16 @@ pub struct FileSink<W> {
 }
 
 impl<W> Model for FileSink<W> {
-    ghost Value = { ℕ };
+    ghost use Rattle.dimacs_lines.specs.Devices.{OverFile};
 
-    ghost view = { λ s. s.faults };
+    ghost Value = { OverFile W };
+
+    ghost view = { λ s. record { file = s.writer; faults = s.faults } };
 }
 
 impl<W: Write> FileSink<W> {
     pub fn new(writer: W) -> FileSink<W>
-        ensures { result ≡ 0 }
+        ensures { result ≡ record { file = writer; faults = 0 } }
     {
         FileSink { writer, faults: 0 }
     }
@@ -82,9 +94,13 @@ impl<W: Write> FileSink<W> {
 impl<W: Write> Sink for FileSink<W> {
     ghost accepted = { λ s. None };
 
-    ghost faults = { λ s. s };
+    ghost faults = { λ s. s.faults };
 
-    fn put(&mut self, bytes: &[u8]) -> Result<usize, DeviceFault> {
+    fn put(&mut self, bytes: &[u8]) -> Result<usize, DeviceFault>
+        ensures room { IfOk result (λ count. count ≤ length bytes.now) }
+        ensures bytes { WriteAppends (W.contents self.old.file) (W.contents self.new.file) result bytes.now }
+        ensures fault { CountsPut result bytes.now self.old.faults self.new.faults }
+    {
         match write_some(&mut self.writer, bytes) {
             Ok(count) => Ok(count),
             Err(fault) => {
@@ -99,6 +115,7 @@ impl<W: Write> Sink for FileSink<W> {
 fn write_some<W: Write>(writer: &mut W, bytes: &[u8]) -> Result<usize, DeviceFault>
     ensures room { IfOk result (λ count. count ≤ length bytes.now) }
     ensures some { IfOk result (λ count. count ≡ 0 → length bytes.now ≡ 0) }
+    ensures bytes { WriteAppends (W.contents writer.old) (W.contents writer.new) result bytes.now }
 {
     for _ in 0..u64::MAX {
         match writer.write(bytes) {
@@ -120,7 +137,7 @@ pub struct StdoutSink<'a, P> {
 impl<'a, P> Model for StdoutSink<'a, P> {
     ghost Value = { ℕ };
 
-    ghost view = { λ s. s.output };
+    ghost view = { λ s. s.output.faults };
 }
 
 impl<'a, P: Print> StdoutSink<'a, P> {
