@@ -10,7 +10,7 @@ use Rattle.std.proofs.lemmas.List.Sums.{prefix_len-le-length}
 use Rattle.dimacs_lines.specs.declared.reader.LinesError.{LinesError}
 use Rattle.dimacs_lines.specs.declared.reader.LinesError.TheVariants.{TooMany, TooLong, Device, Memory}
 use Rattle.dimacs_lines.specs.declared.reader.Progress.TheVariants.{Open}
-use Rattle.dimacs_lines.specs.declared.reader.TheConstants.{MAX_LINE}
+use Rattle.dimacs_lines.specs.Limits.{longest_line}
 use Rattle.dimacs_lines.specs.Devices.{before_piece}
 use Rattle.dimacs_lines.specs.Lines.{is_end, lines}
 use Rattle.dimacs_lines.specs.Reader.{State, NextLine, ComesAt}
@@ -59,11 +59,11 @@ not_empty : (xs ys : List ℕ) → xs ≢ [] → xs ++ ys ≢ []
 not_empty [] ys some h = some refl
 not_empty (x ∷ xs) ys some h = cc
 
-short_line : (held : List ℕ) → position_or_len is_end held ≤ MAX_LINE → length (before_first is_end held) ≤ MAX_LINE
+short_line : (held : List ℕ) → position_or_len is_end held ≤ longest_line → length (before_first is_end held) ≤ longest_line
 short_line held short = omega (arith, length-take (position_or_len is_end held) held, short)
 
 -- the first line of what is held is the first that is left
-first_left : (held more : List ℕ) (coming : Option (List ℕ)) → coming ≡ Some more → IsEnough held coming → held ≢ [] → position_or_len is_end held ≤ MAX_LINE → lines (held ++ more) ≡ before_first is_end held ∷ lines (after_first is_end held ++ more)
+first_left : (held more : List ℕ) (coming : Option (List ℕ)) → coming ≡ Some more → IsEnough held coming → held ≢ [] → position_or_len is_end held ≤ longest_line → lines (held ++ more) ≡ before_first is_end held ∷ lines (after_first is_end held ++ more)
 first_left held more coming is (inl whole) some short =
     lines_step (held ++ more) (not_empty held more some) ∙ ap (λ line. line ∷ lines (after_first is_end (held ++ more))) (before_first-whole held more whole)
     ∙ ap (λ rest. before_first is_end held ∷ lines rest) (after_first-whole held more whole)
@@ -88,7 +88,7 @@ comes_left (TooMany number) old mid coming left given is refused = (omega (arith
         absurd (cc)
 comes_left (TooLong number) old mid coming left given is refused = (omega (arith, refused.0, given), refused.1, long)
   where
-    long : (text : List ℕ) → left ≡ Some text → (line : List ℕ) × (rest : List (List ℕ)) × (lines text ≡ line ∷ rest) × (MAX_LINE < length line)
+    long : (text : List ℕ) → left ≡ Some text → (line : List ℕ) × (rest : List (List ℕ)) × (lines text ≡ line ∷ rest) × (longest_line < length line)
     long text e =
         let t = told mid.held coming left text is e in
         let behind : position_or_len is_end mid.held ≤ position_or_len is_end text = rw t.text_is (position_or_len-append-le mid.held t.more) in

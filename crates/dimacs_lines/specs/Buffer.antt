@@ -4,7 +4,7 @@ use Rattle.std.specs.List.{position_or_len, before_first, after_first}
 use Rattle.dimacs_lines.specs.declared.reader.LinesError.{LinesError}
 use Rattle.dimacs_lines.specs.declared.reader.LinesError.TheVariants.{TooMany, TooLong, Device, Memory}
 use Rattle.dimacs_lines.specs.declared.reader.Progress.TheVariants.{Ended, Failed}
-use Rattle.dimacs_lines.specs.declared.reader.TheConstants.{MAX_LINE, MAX_LINES, MAX_HELD}
+use Rattle.dimacs_lines.specs.Limits.{longest_line, most_lines, most_held}
 use Rattle.dimacs_lines.specs.Devices.{before_piece}
 use Rattle.dimacs_lines.specs.Lines.{is_end}
 use Rattle.dimacs_lines.specs.Reader.{State}
@@ -15,8 +15,8 @@ pub record IsLaidOut (line_start line_end next end given size : ℕ) : Type 0 wh
   pub line_within : line_end ≤ size
   pub held_ordered : next ≤ end
   pub held_within : end ≤ size
-  pub few : given ≤ MAX_LINES
-  pub bounded : size ≤ MAX_HELD
+  pub few : given ≤ most_lines
+  pub bounded : size ≤ most_held
 
 -- a piece of this size was pulled behind what was held
 pub record PullsMore (old new : State) (before after : Option (List ℕ)) (count : ℕ) : Type 0 where
@@ -27,7 +27,7 @@ pub record PullsMore (old new : State) (before after : Option (List ℕ)) (count
 
 -- what is held has its first line whole, or is all that is left, or its first line is too long already
 abbrev pub IsEnough : List ℕ → Option (List ℕ) → Type 0
-IsEnough held coming = (position_or_len is_end held < length held) ⊎ (((bytes : List ℕ) → coming ≡ Some bytes → bytes ≡ []) ⊎ (MAX_LINE < position_or_len is_end held))
+IsEnough held coming = (position_or_len is_end held < length held) ⊎ (((bytes : List ℕ) → coming ≡ Some bytes → bytes ≡ []) ⊎ (longest_line < position_or_len is_end held))
 
 -- an error that no text causes
 abbrev pub IsInterruption : LinesError → Type 0
@@ -41,16 +41,16 @@ pub record GivesFirst (old new : State) (number : ℕ) : Type 0 where
   pub next : number ≡ old.given + 1
   pub counted : new.given ≡ number
   pub same_progress : new.progress ≡ old.progress
-  pub few : number ≤ MAX_LINES
-  pub short : position_or_len is_end old.held ≤ MAX_LINE
+  pub few : number ≤ most_lines
+  pub short : position_or_len is_end old.held ≤ longest_line
   pub some : old.held ≢ []
   pub line : new.line ≡ before_first is_end old.held
   pub rest : new.held ≡ after_first is_end old.held
 
 -- when the first line of what is held is refused
 abbrev pub RefusesFirst : State → LinesError → Type 0
-RefusesFirst old (TooMany number) = (number ≡ old.given + 1) × (MAX_LINES < number) × (old.held ≢ [])
-RefusesFirst old (TooLong number) = (number ≡ old.given + 1) × (number ≤ MAX_LINES) × (MAX_LINE < position_or_len is_end old.held)
+RefusesFirst old (TooMany number) = (number ≡ old.given + 1) × (most_lines < number) × (old.held ≢ [])
+RefusesFirst old (TooLong number) = (number ≡ old.given + 1) × (number ≤ most_lines) × (longest_line < position_or_len is_end old.held)
 RefusesFirst old Device = ⊥
 RefusesFirst old Memory = ⊥
 

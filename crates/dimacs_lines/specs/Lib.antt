@@ -1,5 +1,6 @@
 pub mod Devices
 pub mod Puts
+pub mod Limits
 pub mod Lines
 pub mod Reader
 pub mod Buffer

@@ -4,7 +4,7 @@ use Rattle.dimacs_lines.specs.declared.reader.LinesError.{LinesError}
 use Rattle.dimacs_lines.specs.declared.reader.LinesError.TheVariants.{TooMany, TooLong, Device, Memory}
 use Rattle.dimacs_lines.specs.declared.reader.Progress.{Progress}
 use Rattle.dimacs_lines.specs.declared.reader.Progress.TheVariants.{Open, Ended, Failed}
-use Rattle.dimacs_lines.specs.declared.reader.TheConstants.{MAX_LINE, MAX_LINES}
+use Rattle.dimacs_lines.specs.Limits.{longest_line, most_lines}
 use Rattle.dimacs_lines.specs.Devices.{before_piece, one_more}
 use Rattle.dimacs_lines.specs.Lines.{lines}
 
@@ -26,8 +26,8 @@ pub record GivesLine (old new : State) (left later : Option (List ℕ)) (number 
   pub next : number ≡ old.given + 1
   pub counted : new.given ≡ number
   pub open_still : new.progress ≡ Open
-  pub few : number ≤ MAX_LINES
-  pub short : length new.line ≤ MAX_LINE
+  pub few : number ≤ most_lines
+  pub short : length new.line ≤ longest_line
   pub first : (text : List ℕ) → left ≡ Some text → (rest : List ℕ) × (later ≡ Some rest) × (lines text ≡ new.line ∷ lines rest)
 
 -- no line was left
@@ -38,8 +38,8 @@ pub record AtEnd (new : State) (left : Option (List ℕ)) : Type 0 where
 
 -- when an error comes first; too many lines are told before too long a one
 abbrev pub ComesAt : State → Option (List ℕ) → LinesError → Type 0
-ComesAt old left (TooMany number) = (number ≡ old.given + 1) × (MAX_LINES < number) × ((text : List ℕ) → left ≡ Some text → lines text ≢ [])
-ComesAt old left (TooLong number) = (number ≡ old.given + 1) × (number ≤ MAX_LINES) × ((text : List ℕ) → left ≡ Some text → (line : List ℕ) × (rest : List (List ℕ)) × (lines text ≡ line ∷ rest) × (MAX_LINE < length line))
+ComesAt old left (TooMany number) = (number ≡ old.given + 1) × (most_lines < number) × ((text : List ℕ) → left ≡ Some text → lines text ≢ [])
+ComesAt old left (TooLong number) = (number ≡ old.given + 1) × (number ≤ most_lines) × ((text : List ℕ) → left ≡ Some text → (line : List ℕ) × (rest : List (List ℕ)) × (lines text ≡ line ∷ rest) × (longest_line < length line))
 ComesAt old left Device = Unit {0}
 ComesAt old left Memory = Unit {0}
 

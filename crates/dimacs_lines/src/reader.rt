@@ -3,6 +3,7 @@
 ghost use Rattle.std.specs.Prelude.{◌≡◌, ◌≢◌, ◌↔◌, ◌≤◌, ◌<◌, ◌+◌, ◌++◌, ℕ, List, [], Some, None, Ok, Err, IfOk, IfErr, OnOk, OnErr, IfSome, length, take, drop, slice_range, ◌-◌};
 ghost use Rattle.std.specs.List.{position_or_len};
 ghost use Rattle.dimacs_lines.specs.Devices.{before_piece, CountsFault};
+ghost use Rattle.dimacs_lines.specs.Limits.{longest_line, most_lines, most_held, greatest_piece};
 ghost use Rattle.dimacs_lines.specs.Lines.{is_end};
 ghost use Rattle.dimacs_lines.specs.Reader.{text_left, NextLine, CountsDevice};
 ghost use Rattle.dimacs_lines.specs.Buffer.{PullsMore, IsEnough, IsInterruption, GivesHeld};
@@ -97,7 +98,7 @@ impl Lines {
     #[inline(always)]
     pub fn ahead(&self) -> &[u8]
         ensures held { result.now ≡ self.now.held }
-        ensures bounded { length result.now ≤ MAX_HELD }
+        ensures bounded { length result.now ≤ most_held }
     {
         &self.buffer[self.next..self.end]
     }
@@ -114,7 +115,7 @@ impl Lines {
     #[inline(always)]
     pub fn skip(&mut self, bytes: usize, lines: u64)
         requires within { bytes ≤ length self.old.held }
-        requires few { self.old.given + lines ≤ MAX_LINES }
+        requires few { self.old.given + lines ≤ most_lines }
         ensures { self.new ≡ record self.old { held = drop bytes self.old.held; given = self.old.given + lines; line = [] } }
     {
         self.line_start = 0;
@@ -126,7 +127,7 @@ impl Lines {
     /// How many bytes were pulled and not yet given out.
     pub fn held(&self) -> usize
         ensures value { result ≡ length self.now.held }
-        ensures bounded { result ≤ MAX_HELD }
+        ensures bounded { result ≤ most_held }
     {
         self.end - self.next
     }
@@ -187,10 +188,11 @@ impl Lines {
 
     /// Pulls a piece behind what is held, and answers its size.
     fn pull_more<S: Source>(&mut self, source: &mut S) -> Result<usize, LinesError>
-        requires { length self.old.held ≤ MAX_LINE }
+        requires { length self.old.held ≤ longest_line }
         ensures more { IfOk result (λ count. PullsMore self.old self.new (S.coming source.old) (S.coming source.new) count) }
         ensures end { result ≡ Ok 0 → IfSome (S.coming source.old) (λ bytes. bytes ≡ []) }
-        ensures bounded { OnOk result (length self.new.held ≤ MAX_HELD) }
+        ensures few { IfOk result (λ count. count ≤ greatest_piece) }
+        ensures bounded { OnOk result (length self.new.held ≤ most_held) }
         ensures given { self.new.given ≡ self.old.given }
         ensures progress { self.new.progress ≡ self.old.progress }
         ensures interruption { IfErr result IsInterruption }
@@ -277,13 +279,13 @@ fn move_to_front(buffer: &mut Vec<u8>, start: usize, end: usize)
 
 /// Makes room for a piece behind what is held.
 fn grow(buffer: &mut Vec<u8>, held: usize) -> Result<(), Memory>
-    requires short { held ≤ MAX_LINE }
+    requires short { held ≤ longest_line }
     requires held { held ≤ length buffer.old.items }
-    requires bounded { length buffer.old.items ≤ MAX_HELD }
+    requires bounded { length buffer.old.items ≤ most_held }
     ensures room { OnOk result (held < length buffer.new.items) }
     ensures kept { take held buffer.new.items ≡ take held buffer.old.items }
     ensures no_shorter { length buffer.old.items ≤ length buffer.new.items }
-    ensures bounded { length buffer.new.items ≤ MAX_HELD }
+    ensures bounded { length buffer.new.items ≤ most_held }
 {
     if held < buffer.len() {
         return Ok(());
@@ -300,6 +302,7 @@ fn pull_behind<S: Source>(
 ) -> Result<usize, DeviceFault>
     requires { held < length buffer.old }
     ensures within { IfOk result (λ count. held + count ≤ length buffer.new) }
+    ensures few { IfOk result (λ count. count ≤ greatest_piece) }
     ensures given { IfOk result (λ count. S.coming source.old ≡ before_piece (take count (drop held buffer.new)) (S.coming source.new)) }
     ensures end { result ≡ Ok 0 → IfSome (S.coming source.old) (λ bytes. bytes ≡ []) }
     ensures kept { take held buffer.new ≡ take held buffer.old }

@@ -1,0 +1,18 @@
+-- The limits of a text, and of what a reader of lines holds and pulls, in figures.
+use Rattle.std.specs.Prelude.{ℕ}
+
+-- the most bytes of a line, its end not counted
+abbrev pub longest_line : ℕ
+longest_line = 1048576
+
+-- the most lines of a text
+abbrev pub most_lines : ℕ
+most_lines = 1000000000000
+
+-- the most bytes that are held: a whole line and one piece
+abbrev pub most_held : ℕ
+most_held = 1114112
+
+-- the most bytes that are pulled at once
+abbrev pub greatest_piece : ℕ
+greatest_piece = 65536
