@@ -1,5 +1,6 @@
 -- What sources still have to give, what sinks have accepted, and how their faults are counted.
-use Rattle.std.specs.Prelude.{ℕ, ◌+◌, ◌%◌, ◌^◌, ◌++◌, ◌≡◌, ◌==◌, ◌&&◌, nat_lt, if◌then◌else◌, List, [], ◌∷◌, Option, None, Some, Result, Ok, Err, length, min, max}
+use Rattle.std.specs.Prelude.{ℕ, ◌+◌, ◌%◌, ◌^◌, ◌++◌, ◌≡◌, ◌-◌, ◌==◌, ◌&&◌, nat_lt, Bool, if◌then◌else◌, List, [], ◌∷◌, Option, None, Some, Result, Ok, Err, length, drop, min, max}
+use Rattle.std.specs.List.{list_any}
 
 -- The bytes to come before a piece was given, by those after it. A source that tells nothing goes on telling nothing.
 abbrev pub before_piece : List ℕ → Option (List ℕ) → Option (List ℕ)
@@ -52,3 +53,15 @@ pub record Flaky : Type 0 where
   pub sizes : List ℕ
   pub fails : List ℕ
   pub calls : ℕ
+
+-- the number of its next call: calls are counted from 1, up to the greatest number of 64 bits
+abbrev pub next_call : Flaky → ℕ
+next_call device = min (device.calls + 1) (2 ^ 64 - 1)
+
+-- its next call is listed to fail
+abbrev pub fails_next : Flaky → Bool
+fails_next device = list_any (λ call. call == next_call device) device.fails
+
+-- the sizes that are left after its next call: one that is listed to fail uses up none
+abbrev pub sizes_left : Flaky → List ℕ
+sizes_left device = if fails_next device then device.sizes else drop 1 device.sizes

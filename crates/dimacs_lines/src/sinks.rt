@@ -1,7 +1,7 @@
 //! Sinks over memory: one that keeps all that it accepts, and one for tests, which cuts what is put and fails.
 
-ghost use Rattle.std.specs.Prelude.{◌≡◌, [], List, ℕ, Some};
-ghost use Rattle.dimacs_lines.specs.Devices.{InMemory, Flaky};
+ghost use Rattle.std.specs.Prelude.{◌≡◌, ◌≤◌, [], List, ℕ, Some, IfOk, OnErr, IsErr, IsTrue, take, length};
+ghost use Rattle.dimacs_lines.specs.Devices.{InMemory, Flaky, after_piece, CountsPut, cut_by, next_call, fails_next, sizes_left};
 
 use crate::device::{DeviceFault, Sink};
 use crate::sources::next_piece;
@@ -44,7 +44,15 @@ impl Sink for MemorySink {
 
     ghost faults = { λ s. s.faults };
 
-    fn put(&mut self, bytes: &[u8]) -> Result<usize, DeviceFault> {
+    fn put(&mut self, bytes: &[u8]) -> Result<usize, DeviceFault>
+        ensures whole { IfOk result (λ count. count ≡ length bytes.now) }
+
+        // What every sink ensures.
+        ensures room { IfOk result (λ count. count ≤ length bytes.now) }
+        ensures taken { IfOk result (λ count. Some self.new.bytes ≡ after_piece (Some self.old.bytes) (take count bytes.now)) }
+        ensures unchanged { OnErr result (Some self.new.bytes ≡ Some self.old.bytes) }
+        ensures fault { CountsPut result bytes.now self.old.faults self.new.faults }
+    {
         match self.bytes.extend_from_slice(bytes) {
             Ok(()) => Ok(bytes.len()),
             Err(_) => {
@@ -97,7 +105,19 @@ impl<'a> Sink for FlakySink<'a> {
 
     ghost faults = { λ s. s.faults };
 
-    fn put(&mut self, bytes: &[u8]) -> Result<usize, DeviceFault> {
+    fn put(&mut self, bytes: &[u8]) -> Result<usize, DeviceFault>
+        ensures fails_as_listed { IsTrue (fails_next self.old) → IsErr result }
+        ensures piece { IfOk result (λ count. count ≡ cut_by self.old.sizes (length bytes.now)) }
+        ensures sizes { self.new.sizes ≡ sizes_left self.old }
+        ensures calls { self.new.calls ≡ next_call self.old }
+        ensures list_unchanged { self.new.fails ≡ self.old.fails }
+
+        // What every sink ensures.
+        ensures room { IfOk result (λ count. count ≤ length bytes.now) }
+        ensures taken { IfOk result (λ count. Some self.new.bytes ≡ after_piece (Some self.old.bytes) (take count bytes.now)) }
+        ensures unchanged { OnErr result (Some self.new.bytes ≡ Some self.old.bytes) }
+        ensures fault { CountsPut result bytes.now self.old.faults self.new.faults }
+    {
         self.puts = self.puts.saturating_add(1);
         if self.fails.contains(&self.puts) {
             self.kept.faults = self.kept.faults.wrapping_add(1);

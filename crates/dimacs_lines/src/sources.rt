@@ -1,7 +1,7 @@
 //! Sources over memory: one that gives all there is room for, and two for tests, which cut the text and fail.
 
-ghost use Rattle.std.specs.Prelude.{◌≡◌, List, ℕ, Some, drop};
-ghost use Rattle.dimacs_lines.specs.Devices.{InPieces, Flaky, cut_by};
+ghost use Rattle.std.specs.Prelude.{◌≡◌, ◌↔◌, ◌≤◌, ◌<◌, [], List, ℕ, Some, Ok, IfOk, OnErr, IsErr, IsTrue, drop, take, length, min};
+ghost use Rattle.dimacs_lines.specs.Devices.{InPieces, Flaky, before_piece, CountsFault, cut_by, next_call, fails_next, sizes_left};
 
 use crate::device::{DeviceFault, Source};
 use std::marker::Model;
@@ -31,7 +31,16 @@ impl<'a> Source for MemorySource<'a> {
 
     ghost faults = { λ s. 0 };
 
-    fn pull(&mut self, into: &mut [u8]) -> Result<usize, DeviceFault> {
+    fn pull(&mut self, into: &mut [u8]) -> Result<usize, DeviceFault>
+        ensures piece { result ≡ Ok (min (length into.old) (length self.old)) }
+
+        // What every source ensures.
+        ensures room { IfOk result (λ count. count ≤ length into.old) }
+        ensures given { IfOk result (λ count. Some self.old ≡ before_piece (take count into.new) (Some self.new)) }
+        ensures end { 0 < length into.old → result ≡ Ok 0 → self.old ≡ [] }
+        ensures unchanged { OnErr result (Some self.new ≡ Some self.old) }
+        ensures fault { CountsFault result 0 0 }
+    {
         let count = into.len().min(self.rest.len());
         let (front, back) = self.rest.split_at(count);
         into[..count].copy_from_slice(front);
@@ -68,7 +77,17 @@ impl<'a> Source for CutSource<'a> {
 
     ghost faults = { λ s. 0 };
 
-    fn pull(&mut self, into: &mut [u8]) -> Result<usize, DeviceFault> {
+    fn pull(&mut self, into: &mut [u8]) -> Result<usize, DeviceFault>
+        ensures piece { result ≡ Ok (min (cut_by self.old.sizes (length into.old)) (length self.old.bytes)) }
+        ensures sizes { self.new.sizes ≡ drop 1 self.old.sizes }
+
+        // What every source ensures.
+        ensures room { IfOk result (λ count. count ≤ length into.old) }
+        ensures given { IfOk result (λ count. Some self.old.bytes ≡ before_piece (take count into.new) (Some self.new.bytes)) }
+        ensures end { 0 < length into.old → result ≡ Ok 0 → self.old.bytes ≡ [] }
+        ensures unchanged { OnErr result (Some self.new.bytes ≡ Some self.old.bytes) }
+        ensures fault { CountsFault result 0 0 }
+    {
         let count = next_piece(&mut self.sizes, into.len());
         self.text.pull(&mut into[..count])
     }
@@ -122,7 +141,20 @@ impl<'a> Source for FlakySource<'a> {
 
     ghost faults = { λ s. s.faults };
 
-    fn pull(&mut self, into: &mut [u8]) -> Result<usize, DeviceFault> {
+    fn pull(&mut self, into: &mut [u8]) -> Result<usize, DeviceFault>
+        ensures fails_as_listed { IsErr result ↔ IsTrue (fails_next self.old) }
+        ensures piece { IfOk result (λ count. count ≡ min (cut_by self.old.sizes (length into.old)) (length self.old.bytes)) }
+        ensures sizes { self.new.sizes ≡ sizes_left self.old }
+        ensures calls { self.new.calls ≡ next_call self.old }
+        ensures list_unchanged { self.new.fails ≡ self.old.fails }
+
+        // What every source ensures.
+        ensures room { IfOk result (λ count. count ≤ length into.old) }
+        ensures given { IfOk result (λ count. Some self.old.bytes ≡ before_piece (take count into.new) (Some self.new.bytes)) }
+        ensures end { 0 < length into.old → result ≡ Ok 0 → self.old.bytes ≡ [] }
+        ensures unchanged { OnErr result (Some self.new.bytes ≡ Some self.old.bytes) }
+        ensures fault { CountsFault result self.old.faults self.new.faults }
+    {
         self.pulls = self.pulls.saturating_add(1);
         if self.fails.contains(&self.pulls) {
             self.faults = self.faults.wrapping_add(1);
