@@ -120,6 +120,7 @@ answers_left (Ok None) old mid new coming left given open_still is enough g = re
 }
 answers_left (Err error) old mid new coming left given open_still is enough g = record {
   comes = comes_left error old mid coming left given is g.0;
+  given = ap (λ (s : State). s.given) g.1 ∙ given;
   failed = ap (λ (s : State). s.progress) g.1;
   no_line = ap (λ (s : State). s.line) g.1;
 }

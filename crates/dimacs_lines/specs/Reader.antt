@@ -45,6 +45,7 @@ ComesAt old left Memory = Unit {0}
 
 pub record Stops (old new : State) (left : Option (List ℕ)) (error : LinesError) : Type 0 where
   pub comes : ComesAt old left error
+  pub given : new.given ≡ old.given
   pub failed : new.progress ≡ Failed error
   pub no_line : new.line ≡ []
 
