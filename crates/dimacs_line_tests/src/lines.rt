@@ -5,7 +5,8 @@ ghost use Rattle.std.specs.Prelude.{◌≡◌, None};
 use crate::checks::{holds_at, same, same_at};
 use crate::spelling::spell_lines;
 use dimacs_lines::{
-    CutSource, DeviceFault, FlakySource, Lines, MAX_HELD, MAX_LINE, MAX_LINES, MemorySource, Source,
+    CutSource, DeviceFault, FlakySource, Lines, LinesError, MAX_HELD, MAX_LINE, MAX_LINES,
+    MemorySource, Source,
 };
 use std::alloc::Global;
 use std::process::Abort;
@@ -246,5 +247,69 @@ impl Source for EndlessBlanks {
 fn refuses_a_line_without_end(rt: HostRuntime) -> Result<(), Fail> {
     let spelled = spell_lines(&rt, rt.alloc(), &mut EndlessBlanks)?;
     same(&rt, "what is spelled", spelled.as_str(), "TooLong(1)");
+    Ok(())
+}
+
+/// Another source, and how often it was pulled.
+#[derive(Drop)]
+struct Counted<S> {
+    source: S,
+    pulls: u64,
+}
+
+impl<S: Source> Source for Counted<S> {
+    ghost coming = { λ s. S.coming s.source };
+
+    ghost faults = { λ s. S.faults s.source };
+
+    fn pull(&mut self, into: &mut [u8]) -> Result<usize, DeviceFault> {
+        self.pulls = self.pulls.saturating_add(1);
+        self.source.pull(into)
+    }
+}
+
+/// A text, the pull that fails, what is told, and how many pulls there were after three calls more.
+static PULLS: [(&str, &str, u64, &str, u64); 4] = [
+    ("the end of the empty text", "", 9, "end", 1),
+    ("the end", "ab\ncd\n", 9, "1:ab|2:cd|end", 2),
+    ("a fault at once", "ab\n", 1, "Device", 1),
+    ("a fault in place of the end", "ab\n", 2, "1:ab|Device", 2),
+];
+
+#[test]
+fn pulls_nothing_after_the_end_or_a_fault(rt: HostRuntime) -> Result<(), Fail> {
+    for &(name, text, fail, wanted, pulls) in &PULLS {
+        let fails = [fail];
+        let source = FlakySource::new(text.as_bytes(), &[], &fails);
+        let mut counted = Counted { source, pulls: 0 };
+        let spelled = spell_lines(&rt, rt.alloc(), &mut counted)?;
+        same(&rt, name, spelled.as_str(), wanted);
+        same(&rt, name, counted.pulls, pulls);
+    }
+    Ok(())
+}
+
+#[test]
+fn pulls_nothing_after_a_line_that_is_too_long(rt: HostRuntime) -> Result<(), Fail> {
+    let text = Vec::from_elem(rt.alloc(), b'x', 2 * LONGEST)?;
+    let source = MemorySource::new(text.as_slice());
+    let mut counted = Counted { source, pulls: 0 };
+    let spelled = spell_lines(&rt, rt.alloc(), &mut counted)?;
+    same(&rt, "what is spelled", spelled.as_str(), "TooLong(1)");
+    same(&rt, "pulls of 65,536 bytes", counted.pulls, 17);
+    Ok(())
+}
+
+#[test]
+fn pulls_nothing_after_a_line_too_many(rt: HostRuntime) -> Result<(), Fail> {
+    let source = CutSource::new(b"ab\ncd\n", &[3]);
+    let mut counted = Counted { source, pulls: 0 };
+    let mut lines = Lines::new(rt.alloc())?;
+    lines.skip(0, MAX_LINES);
+    let wanted = Err(LinesError::TooMany(1_000_000_000_001));
+    for _ in 0..3 {
+        same(&rt, "the answer", lines.next_line(&mut counted), wanted);
+        same(&rt, "pulls", counted.pulls, 1);
+    }
     Ok(())
 }
