@@ -1,7 +1,7 @@
 //! Files and the standard output. They tell nothing of their bytes, since no contract can say what a file holds. What
 //! the clauses of `pull` and `put` say is of each reader and writer that does tell.
 
-ghost use Rattle.std.specs.Prelude.{◌≡◌, ◌≢◌, ◌≤◌, ◌<◌, None, ℕ, Ok, length, IfOk, OnErr};
+ghost use Rattle.std.specs.Prelude.{◌≡◌, ◌≢◌, ◌≤◌, None, ℕ, length, IfOk};
 ghost use Rattle.std.specs.Io.KnownBytes.{ReadConsumes, WriteAppends};
 ghost use Rattle.dimacs_lines.specs.Devices.{CountsFault, CountsPut};
 
