@@ -17,7 +17,7 @@ label_line l = LabelsNode l.id l.dist l.pred
 
 -- the line of the block, and then its labels
 abbrev pub block_lines : BlockValue → List Record
-block_lines b = LabelsBlock b.source (length b.labels) ∷ map label_line b.labels
+block_lines b = LabelsBlock b.source (length b.labels) b.radius ∷ map label_line b.labels
 
 -- the problem line, and then the blocks
 abbrev pub label_records : LabelsValue → List Record

@@ -1,14 +1,15 @@
 -- Labels: claimed distances from sources.
-use Rattle.std.specs.Prelude.{ℕ, ◌≡◌, ◌≢◌, ◌≤◌, ◌⊎◌, ◌==◌, if◌then◌else◌, List, [], ◌∷◌, ◌++◌, length, slice_get, Option, Some, None, ℤ, pos, Bool}
+use Rattle.std.specs.Prelude.{ℕ, ◌≡◌, ◌≢◌, ◌≤◌, ◌⊎◌, ◌==◌, if◌then◌else◌, List, [], ◌∷◌, ◌++◌, length, slice_get, Option, Some, None, IfSome, ℤ, ◌≤ℤ◌, pos, Bool}
 use Rattle.std.specs.List.{All, Contains, list_any}
 use Rattle.std.specs.Ordering.{nat_cmp}
 use Rattle.std.specs.FinSet as set
-use Rattle.dimacs_records.specs.Ranges.{IsNode, IsWide}
+use Rattle.dimacs_records.specs.Ranges.{IsNode, IsRadius, IsWide}
 use Rattle.dimacs_claims.specs.declared.block.Label.{Label}
 
--- the labels of the nodes that are claimed to be reached from the source
+-- the labels of the nodes that are claimed to be reached from the source, or of those up to a radius
 pub record BlockValue : Type 0 where
   pub source : ℕ
+  pub radius : Option ℤ
   pub labels : List Label
 
 pub record LabelsValue : Type 0 where
@@ -32,7 +33,7 @@ abbrev pub label_at : List BlockValue → ℕ → ℕ → Option ℤ
 label_at blocks k v = label_in (slice_get blocks k) v
 
 abbrev pub with_label : BlockValue → Label → BlockValue
-with_label b l = record { source = b.source; labels = b.labels ++ l ∷ [] }
+with_label b l = record { source = b.source; radius = b.radius; labels = b.labels ++ l ∷ [] }
 
 -- each element has this behind the ones before it
 abbrev pub EachBehind : {X : Type 0} → (List X → X → Type 0) → List X → Type 0
@@ -56,11 +57,17 @@ pub record IsLabel (nodes : ℕ) (l : Label) : Type 0 where
   pub dist : IsWide l.dist
   pub pred : IsNode nodes l.pred
 
--- numbers within their ranges, one label for a node, and each behind that of its predecessor
+-- no greater than a radius, where there is one
+abbrev pub IsNear : Option ℤ → ℤ → Type 0
+IsNear radius dist = IfSome radius (λ r. dist ≤ℤ r)
+
+-- numbers within their ranges, no label past the radius, one for a node, and each behind that of its predecessor
 pub record IsBlock (nodes : ℕ) (b : BlockValue) : Type 0 where
   pub source_within : IsNode nodes b.source
+  pub radius_within : IfSome b.radius IsRadius
   pub few : length b.labels ≤ 268435456
   pub within : All (IsLabel nodes) b.labels
+  pub near : All (λ (l : Label). IsNear b.radius l.dist) b.labels
   pub fresh : EachBehind (IsFresh b.source) b.labels
   pub preds : PredsAreEarlier b
 

@@ -1,5 +1,5 @@
 -- How far labels have been read.
-use Rattle.std.specs.Prelude.{ℕ, ◌≡◌, ◌≤◌, ◌+◌, List, [], ◌∷◌, ◌++◌, map, length, Option, None, Some, is_some, ◌==◌}
+use Rattle.std.specs.Prelude.{ℕ, ◌≡◌, ◌≤◌, ◌+◌, List, [], ◌∷◌, ◌++◌, map, length, Option, None, Some, is_some, ◌==◌, ℤ}
 use Rattle.std.specs.List.{All}
 use Rattle.dimacs_nodes.specs.declared.node_table.NodeTable.{NodeTable}
 use Rattle.dimacs_nodes.specs.Tables.{value_of}
@@ -17,7 +17,7 @@ pub record LabelsBegun : Type 0 where
 
 -- the lines of a block that lacks some of its labels
 abbrev pub lines_of_short : ℕ → BlockValue → List Record
-lines_of_short missing b = LabelsBlock b.source (length b.labels + missing) ∷ map label_line b.labels
+lines_of_short missing b = LabelsBlock b.source (length b.labels + missing) b.radius ∷ map label_line b.labels
 
 -- what a block lacks where the last of those from it on lacks this
 abbrev pub lacking : ℕ → List BlockValue → ℕ
@@ -52,12 +52,12 @@ pub record AreLabelsBegun (begun : LabelsBegun) : Type 0 where
   pub sources : EachBehind IsNewSource begun.blocks
 
 -- one block more, which lacks all of its labels
-abbrev pub with_opened : LabelsBegun → ℕ → ℕ → LabelsBegun
-with_opened begun source count = record {
+abbrev pub with_opened : LabelsBegun → ℕ → ℕ → Option ℤ → LabelsBegun
+with_opened begun source count radius = record {
   nodes = begun.nodes;
   declared = begun.declared;
   missing = count;
-  blocks = begun.blocks ++ record { source = source; labels = [] } ∷ [];
+  blocks = begun.blocks ++ record { source = source; radius = radius; labels = [] } ∷ [];
 }
 
 -- the table has, by node, the number of the last block that has a label of it, from 1

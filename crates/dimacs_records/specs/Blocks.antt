@@ -1,5 +1,5 @@
 -- The blocks of labels among the earlier records of a text.
-use Rattle.std.specs.Prelude.{ℕ, ◌==◌, Bool, false, List, [], ◌∷◌, ◌++◌, Option, Some, None, length, nat_lt, nat_le}
+use Rattle.std.specs.Prelude.{ℕ, ◌==◌, Bool, false, List, [], ◌∷◌, ◌++◌, Option, Some, None, length, nat_lt, nat_le, ℤ, int_lt}
 use Rattle.std.specs.List.{fold, list_any}
 use Rattle.dimacs_records.specs.declared.records.Record.{Record}
 use Rattle.dimacs_records.specs.declared.records.Record.TheVariants.{LabelsBlock, LabelsNode}
@@ -8,6 +8,7 @@ use Rattle.dimacs_records.specs.declared.records.Record.TheVariants.{LabelsBlock
 pub record Block : Type 0 where
   pub source : ℕ
   pub count : ℕ
+  pub radius : Option ℤ
   pub ids : List ℕ
 
 abbrev pub with_label : Option Block → ℕ → Option Block
@@ -16,7 +17,7 @@ with_label (Some block) id = Some (record block { ids = block.ids ++ id ∷ [] }
 
 -- the last block, after one more record
 abbrev pub block_after : Option Block → Record → Option Block
-block_after block (LabelsBlock source count) = Some (record { source = source; count = count; ids = [] })
+block_after block (LabelsBlock source count radius) = Some (record { source = source; count = count; radius = radius; ids = [] })
 block_after block (LabelsNode id dist pred) = with_label block id
 block_after block r = block
 
@@ -38,3 +39,13 @@ is_full_block (Some block) = nat_le block.count (length block.ids)
 abbrev pub is_short_block : Option Block → Bool
 is_short_block None = false
 is_short_block (Some block) = nat_lt (length block.ids) block.count
+
+-- greater than a radius, where there is one
+abbrev pub is_past : Option ℤ → ℤ → Bool
+is_past None dist = false
+is_past (Some radius) dist = int_lt radius dist
+
+-- greater than the block's RADIUS
+abbrev pub is_past_block : Option Block → ℤ → Bool
+is_past_block None dist = false
+is_past_block (Some block) dist = is_past block.radius dist

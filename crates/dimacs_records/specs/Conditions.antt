@@ -8,10 +8,10 @@ use Rattle.dimacs_records.specs.declared.records.QueryKind.TheVariants.{Sources,
 use Rattle.dimacs_records.specs.declared.records.Record.{Record}
 use Rattle.dimacs_records.specs.declared.records.Record.TheVariants.{MaxNode, MaxArc, MinNode, MinArc, GraphArc, SourceQuery, PairQuery, SolutionValue, CutNode, PotentialsNode, LabelsBlock, LabelsNode}
 use Rattle.dimacs_records.specs.declared.reasons.Reason.{Reason}
-use Rattle.dimacs_records.specs.declared.reasons.Reason.TheVariants.{LineTooLong, ProblemMissing, ProblemTwice, RecordOrder, NodeRange, NodeTwice, EndTwice, EndMissing, BoundOrder, TooMany, TooFew, SolutionMissing, SolutionTwice, PredUnknown, LineLimit}
+use Rattle.dimacs_records.specs.declared.reasons.Reason.TheVariants.{LineTooLong, ProblemMissing, ProblemTwice, RecordOrder, NodeRange, NodeTwice, EndTwice, EndMissing, BoundOrder, TooMany, TooFew, SolutionMissing, SolutionTwice, PredUnknown, LineLimit, PastRadius}
 use Rattle.dimacs_records.specs.Spelling.{kind_of}
 use Rattle.dimacs_records.specs.Earlier.{Problem, problem_in, is_problem, is_above, is_full, is_short, is_counted, counted_in, asks_for, names, is_max_node, is_end, is_flow_arc, is_value}
-use Rattle.dimacs_records.specs.Blocks.{block_in, is_labelled, is_full_block, is_short_block}
+use Rattle.dimacs_records.specs.Blocks.{block_in, is_labelled, is_full_block, is_short_block, is_past_block}
 
 -- at field f of a line with this number the condition of a limit holds
 abbrev pub limit_condition : ℕ → List ℕ → ℕ → Reason → Bool
@@ -48,7 +48,7 @@ bounded_ids (MinArc tail head low cap cost) = (2, tail) ∷ (3, head) ∷ []
 bounded_ids (GraphArc tail head weight) = (2, tail) ∷ (3, head) ∷ []
 bounded_ids (CutNode id) = (2, id) ∷ []
 bounded_ids (PotentialsNode id value) = (2, id) ∷ []
-bounded_ids (LabelsBlock source count) = (2, source) ∷ []
+bounded_ids (LabelsBlock source count radius) = (2, source) ∷ []
 bounded_ids (LabelsNode id dist pred) = (2, id) ∷ (4, pred) ∷ []
 bounded_ids r = []
 
@@ -62,7 +62,7 @@ is_named_twice earlier (MaxNode id end) = list_any (names id) earlier
 is_named_twice earlier (MinNode id supply) = list_any (names id) earlier
 is_named_twice earlier (CutNode id) = list_any (names id) earlier
 is_named_twice earlier (PotentialsNode id value) = list_any (names id) earlier
-is_named_twice earlier (LabelsBlock source count) = list_any (names source) earlier
+is_named_twice earlier (LabelsBlock source count radius) = list_any (names source) earlier
 is_named_twice earlier (LabelsNode id dist pred) = is_labelled (block_in earlier) id
 is_named_twice earlier r = false
 
@@ -91,7 +91,7 @@ is_too_many earlier r = is_counted r && is_full (problem_in earlier) (counted_in
 
 -- a block behind one that is short of labels
 abbrev pub is_too_few : List Record → Record → Bool
-is_too_few earlier (LabelsBlock source count) = is_short_block (block_in earlier)
+is_too_few earlier (LabelsBlock source count radius) = is_short_block (block_in earlier)
 is_too_few earlier r = false
 
 abbrev pub is_value_twice : List Record → Record → Bool
@@ -101,6 +101,10 @@ is_value_twice earlier r = false
 abbrev pub is_pred_unknown : List Record → Record → Bool
 is_pred_unknown earlier (LabelsNode id dist pred) = not (is_labelled (block_in earlier) pred)
 is_pred_unknown earlier r = false
+
+abbrev pub is_past_radius : List Record → Record → Bool
+is_past_radius earlier (LabelsNode id dist pred) = is_past_block (block_in earlier) dist
+is_past_radius earlier r = false
 
 -- at field f of record r, behind the earlier records, the condition of a reason holds
 abbrev pub condition : List Record → Record → ℕ → Reason → Bool
@@ -116,6 +120,7 @@ condition earlier r f TooMany = (f == 0) && is_too_many earlier r
 condition earlier r f TooFew = (f == 0) && is_too_few earlier r
 condition earlier r f SolutionTwice = (f == 0) && is_value_twice earlier r
 condition earlier r f PredUnknown = (f == 0) && is_pred_unknown earlier r
+condition earlier r f PastRadius = (f == 3) && is_past_radius earlier r
 condition earlier r f reason = false
 
 abbrev pub needs_ends : TextKind → Bool

@@ -66,7 +66,7 @@ is_counted (SourceQuery id) = true
 is_counted (PairQuery from to) = true
 is_counted (CutNode id) = true
 is_counted (PotentialsNode id value) = true
-is_counted (LabelsBlock source count) = true
+is_counted (LabelsBlock source count radius) = true
 is_counted r = false
 
 abbrev pub counted_in : List Record → ℕ
@@ -84,7 +84,7 @@ names id (MaxNode other end) = other == id
 names id (MinNode other supply) = other == id
 names id (CutNode other) = other == id
 names id (PotentialsNode other value) = other == id
-names id (LabelsBlock source count) = source == id
+names id (LabelsBlock source count radius) = source == id
 names id r = false
 
 abbrev pub is_max_node : Record → Bool

@@ -12,9 +12,9 @@ use Rattle.dimacs_records.specs.declared.typed.Choice.{Choice}
 use Rattle.dimacs_records.specs.declared.typed.Choice.TheVariants.{Former, Latter}
 use Rattle.dimacs_records.specs.declared.typed.FieldReader.{FieldReader}
 use Rattle.dimacs_records.specs.Earlier.{or_else}
-use Rattle.dimacs_records.specs.Forms.{FieldType, Number}
+use Rattle.dimacs_records.specs.Forms.{FieldType, Number, Radius, forms}
 use Rattle.dimacs_records.specs.Spelling.{Part, Amount, Says, SayAll, kind_of, letter_of, parts_of}
-use Rattle.dimacs_records.specs.Shapes.{field_condition}
+use Rattle.dimacs_records.specs.Shapes.{field_condition, types_in}
 
 abbrev pub fault_at : ℕ → Reason → LineFault
 fault_at field reason = record { field = field; reason = reason }
@@ -43,6 +43,12 @@ TakesNext f type (run ∷ runs) old part new = (new.scan ≡ runs) × (new.missi
 
 abbrev pub Takes : ℕ → FieldType → FieldReader → Part → FieldReader → Type 0
 Takes f type old part new = TakesNext f type old.scan old part new
+
+-- the last field, which may be left out, was taken: none is left, or the next one is field f of this type
+abbrev pub TakesLast : ℕ → List Run → FieldReader → Option ℤ → FieldReader → Type 0
+TakesLast f [] old None new = new ≡ old
+TakesLast f (run ∷ runs) old (Some radius) new = TakesNext f Radius (run ∷ runs) old (Amount radius) new
+TakesLast f runs old radius new = ⊥
 
 abbrev pub is_none_left : List Run → Bool
 is_none_left [] = true
@@ -87,7 +93,11 @@ texts_left fields = map (λ (run : Run). run.text) fields.scan
 abbrev pub text_of_run : Run → List ℕ
 text_of_run run = run.text
 
--- what the line of a letter gives that begins so: nothing of a letter that the kind does not know
-abbrev pub ReadsLetter : TextKind → List ℕ → Option (List FieldType) → List (List ℕ) → Result (Option Record) LineFault → Type 0
-ReadsLetter kind letter None behind result = result ≡ Err (fault_at 1 UnknownLine)
-ReadsLetter kind letter (Some types) behind result = ReadsForm kind letter types behind result
+-- what the fields behind a letter give, where they have these types: nothing of a letter that the kind does not know
+abbrev pub ReadsTypes : TextKind → List ℕ → Option (List FieldType) → List (List ℕ) → Result (Option Record) LineFault → Type 0
+ReadsTypes kind letter None behind result = result ≡ Err (fault_at 1 UnknownLine)
+ReadsTypes kind letter (Some types) behind result = ReadsForm kind letter types behind result
+
+-- what the line of a letter gives
+abbrev pub ReadsLetter : TextKind → List ℕ → List (List ℕ) → Result (Option Record) LineFault → Type 0
+ReadsLetter kind letter behind result = ReadsTypes kind letter (types_in (forms kind) letter (length behind)) behind result

@@ -24,7 +24,10 @@ Whole = Number (neg_ℤ (pos (2 ^ 63))) (pos (2 ^ 63 - 1))
 abbrev pub Wide : FieldType
 Wide = Number (neg_ℤ (pos (10 ^ 30))) (pos (10 ^ 30))
 
--- a line's letter, and the types of the fields behind it
+abbrev pub Radius : FieldType
+Radius = Number (pos 0) (pos (10 ^ 30))
+
+-- a line's letter, and the types of the fields after it; the forms of one letter differ in how many these are
 pub record Form : Type 0 where
   pub letter : List ℕ
   pub types : List FieldType
@@ -53,4 +56,5 @@ forms Potentials = form (codes "p") (Word (codes "pot") ∷ Nodes ∷ Count ∷ 
     ∷ form (codes "y") (Id ∷ Wide ∷ []) ∷ []
 forms Labels = form (codes "p") (Word (codes "dist") ∷ Nodes ∷ Count ∷ [])
     ∷ form (codes "t") (Id ∷ Count ∷ [])
+    ∷ form (codes "t") (Id ∷ Count ∷ Radius ∷ [])
     ∷ form (codes "d") (Id ∷ Wide ∷ Id ∷ []) ∷ []

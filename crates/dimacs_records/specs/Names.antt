@@ -1,7 +1,7 @@
 -- The names of the reasons.
 use Rattle.std.specs.Prelude.{ℕ, List, codes}
 use Rattle.dimacs_records.specs.declared.reasons.Reason.{Reason}
-use Rattle.dimacs_records.specs.declared.reasons.Reason.TheVariants.{LineTooLong, UnknownLine, FieldCount, BadNumber, NumberRange, BadWord, ProblemMissing, ProblemTwice, RecordOrder, NodeRange, NodeTwice, EndTwice, EndMissing, BoundOrder, ParallelArc, TooMany, TooFew, SolutionMissing, SolutionTwice, PredUnknown, LineLimit, UnknownArc, ArcTwice, BelowLow, AboveCap, Balance, CostRange, ValueDiffers, NodesDiffer, SourceOutside, SinkInside, NotSaturated, BackFlow, NotTight, NotViolated, QueryNode, BlockMissing, NoTightArc, Escapes, NotShortest, NegativeWeight}
+use Rattle.dimacs_records.specs.declared.reasons.Reason.TheVariants.{LineTooLong, UnknownLine, FieldCount, BadNumber, NumberRange, BadWord, ProblemMissing, ProblemTwice, RecordOrder, NodeRange, NodeTwice, EndTwice, EndMissing, BoundOrder, ParallelArc, TooMany, TooFew, SolutionMissing, SolutionTwice, PredUnknown, LineLimit, PastRadius, UnknownArc, ArcTwice, BelowLow, AboveCap, Balance, CostRange, ValueDiffers, NodesDiffer, SourceOutside, SinkInside, NotSaturated, BackFlow, NotTight, NotViolated, QueryNode, BlockMissing, NoTightArc, Escapes, NotShortest, NegativeWeight}
 
 abbrev pub name_of : Reason → List ℕ
 name_of LineTooLong = codes "LineTooLong"
@@ -25,6 +25,7 @@ name_of SolutionMissing = codes "SolutionMissing"
 name_of SolutionTwice = codes "SolutionTwice"
 name_of PredUnknown = codes "PredUnknown"
 name_of LineLimit = codes "LineLimit"
+name_of PastRadius = codes "PastRadius"
 name_of UnknownArc = codes "UnknownArc"
 name_of ArcTwice = codes "ArcTwice"
 name_of BelowLow = codes "BelowLow"

@@ -17,3 +17,7 @@ IsWhole n = IsWithin (neg_ℤ (pos (2 ^ 63))) (pos (2 ^ 63 - 1)) n
 -- a value, a cost, a potential or a distance
 abbrev pub IsWide : ℤ → Type 0
 IsWide n = IsWithin (neg_ℤ (pos (10 ^ 30))) (pos (10 ^ 30)) n
+
+-- up to which distance a block of labels goes
+abbrev pub IsRadius : ℤ → Type 0
+IsRadius n = IsWithin (pos 0) (pos (10 ^ 30)) n

@@ -26,10 +26,15 @@ abbrev pub fields_condition : ℕ → List FieldType → List (List ℕ) → ℕ
 fields_condition n (type ∷ types) (text ∷ texts) f reason = if f == n then field_condition type text reason else fields_condition (suc n) types texts f reason
 fields_condition n types texts f reason = false
 
--- the types of the fields behind a letter
-abbrev pub types_in : List Form → List ℕ → Option (List FieldType)
-types_in [] letter = None
-types_in (form ∷ more) letter = if bytes_eq form.letter letter then Some form.types else types_in more letter
+-- these types, where there are so many or no others
+abbrev pub types_or : ℕ → List FieldType → Option (List FieldType) → List FieldType
+types_or count types None = types
+types_or count types (Some others) = if length types == count then types else others
+
+-- the types of so many fields behind a letter: those of the letter's form that has so many, else of its last form
+abbrev pub types_in : List Form → List ℕ → ℕ → Option (List FieldType)
+types_in [] letter count = None
+types_in (form ∷ more) letter count = if bytes_eq form.letter letter then Some (types_or count form.types (types_in more letter count)) else types_in more letter count
 
 -- at field f of a line that begins with this letter the condition of a reason holds
 abbrev pub letter_condition : Option (List FieldType) → List (List ℕ) → ℕ → Reason → Bool
@@ -40,4 +45,4 @@ letter_condition (Some types) behind f reason = fields_condition 2 types behind 
 
 abbrev pub shape_condition : TextKind → List (List ℕ) → ℕ → Reason → Bool
 shape_condition kind [] f reason = false
-shape_condition kind (letter ∷ behind) f reason = letter_condition (types_in (forms kind) letter) behind f reason
+shape_condition kind (letter ∷ behind) f reason = letter_condition (types_in (forms kind) letter (length behind)) behind f reason

@@ -1,5 +1,5 @@
 -- Which line spells which record.
-use Rattle.std.specs.Prelude.{ℕ, ◌≡◌, ◌==◌, ◌⊎◌, Bool, true, false, List, [], ◌∷◌, map, ℤ, pos, codes}
+use Rattle.std.specs.Prelude.{ℕ, ◌≡◌, ◌==◌, ◌⊎◌, Bool, true, false, List, [], ◌∷◌, map, Option, Some, None, ℤ, pos, codes}
 use Rattle.std.specs.List.{Contains}
 use Rattle.dimacs_lines.specs.Fields.{Run, fields_of}
 use Rattle.dimacs_lines.specs.Number.{Spells, IsWithin}
@@ -45,7 +45,7 @@ kind_of (CutNode id) = Cut
 kind_of (PotentialsProblem nodes count) = Potentials
 kind_of (PotentialsNode id value) = Potentials
 kind_of (LabelsProblem nodes blocks) = Labels
-kind_of (LabelsBlock source count) = Labels
+kind_of (LabelsBlock source count radius) = Labels
 kind_of (LabelsNode id dist pred) = Labels
 
 abbrev pub letter_of : Record → List ℕ
@@ -67,8 +67,13 @@ letter_of (CutNode id) = codes "u"
 letter_of (PotentialsProblem nodes count) = codes "p"
 letter_of (PotentialsNode id value) = codes "y"
 letter_of (LabelsProblem nodes blocks) = codes "p"
-letter_of (LabelsBlock source count) = codes "t"
+letter_of (LabelsBlock source count radius) = codes "t"
 letter_of (LabelsNode id dist pred) = codes "d"
+
+-- the RADIUS of a block, which may be left out
+abbrev pub radius_parts : Option ℤ → List Part
+radius_parts None = []
+radius_parts (Some radius) = Amount radius ∷ []
 
 -- the fields behind the letter
 abbrev pub parts_of : Record → List Part
@@ -90,7 +95,7 @@ parts_of (CutNode id) = Amount (pos id) ∷ []
 parts_of (PotentialsProblem nodes count) = Text (codes "pot") ∷ Amount (pos nodes) ∷ Amount (pos count) ∷ []
 parts_of (PotentialsNode id value) = Amount (pos id) ∷ Amount value ∷ []
 parts_of (LabelsProblem nodes blocks) = Text (codes "dist") ∷ Amount (pos nodes) ∷ Amount (pos blocks) ∷ []
-parts_of (LabelsBlock source count) = Amount (pos source) ∷ Amount (pos count) ∷ []
+parts_of (LabelsBlock source count radius) = Amount (pos source) ∷ Amount (pos count) ∷ radius_parts radius
 parts_of (LabelsNode id dist pred) = Amount (pos id) ∷ Amount dist ∷ Amount (pos pred) ∷ []
 
 -- a field of this type says this

@@ -2,9 +2,7 @@
 
 ghost use Rattle.std.specs.Prelude.{◌≡◌};
 ghost use Rattle.dimacs_records.specs.declared.reasons.Reason.TheVariants.{UnknownLine};
-ghost use Rattle.dimacs_records.specs.Forms.{forms};
 ghost use Rattle.dimacs_records.specs.Spelling.{texts_in, is_comment};
-ghost use Rattle.dimacs_records.specs.Shapes.{types_in};
 ghost use Rattle.dimacs_records.specs.LineReader.{ReadsLine};
 ghost use Rattle.dimacs_records.specs.FieldReader.{IsFresh, ReadsLetter, texts_left, fault_at};
 
@@ -55,7 +53,7 @@ fn letter_record(
     fields: FieldReader,
 ) -> Result<Option<Record>, LineFault>
     requires { IsFresh fields }
-    ensures { ReadsLetter kind letter.now (types_in (forms kind) letter.now) (texts_left fields.entry) result }
+    ensures { ReadsLetter kind letter.now (texts_left fields.entry) result }
 {
     match kind {
         TextKind::Max => max::record(letter, fields),

@@ -99,10 +99,11 @@ pub enum Record {
         nodes: u32,
         blocks: u32,
     },
-    /// `t SOURCE K`
+    /// `t SOURCE K` or `t SOURCE K RADIUS`
     LabelsBlock {
         source: u32,
         count: u32,
+        radius: Option<i128>,
     },
     /// `d ID DIST PRED`
     LabelsNode {

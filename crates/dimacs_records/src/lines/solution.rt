@@ -2,8 +2,7 @@
 
 ghost use Rattle.std.specs.Prelude.{◌∷◌, [], codes};
 ghost use Rattle.dimacs_records.specs.declared.kinds.TextKind.TheVariants.{Solution};
-ghost use Rattle.dimacs_records.specs.Forms.{forms, Id, Whole, Wide};
-ghost use Rattle.dimacs_records.specs.Shapes.{types_in};
+ghost use Rattle.dimacs_records.specs.Forms.{Id, Whole, Wide};
 ghost use Rattle.dimacs_records.specs.FieldReader.{IsFresh, ReadsForm, ReadsLetter, texts_left};
 
 use super::unknown_line;
@@ -15,7 +14,7 @@ use crate::typed::FieldReader;
 #[inline(always)]
 pub(super) fn record(letter: &[u8], fields: FieldReader) -> Result<Option<Record>, LineFault>
     requires { IsFresh fields }
-    ensures { ReadsLetter Solution letter.now (types_in (forms Solution) letter.now) (texts_left fields.entry) result }
+    ensures { ReadsLetter Solution letter.now (texts_left fields.entry) result }
 {
     match letter {
         b"s" => value(fields),
