@@ -91,7 +91,7 @@ letter_condition-limit (Some types) behind = (fields_condition-whole 2 types beh
 no_shape : (kind : TextKind) (texts : List (List ℕ)) → All (λ p. ¬ Holds (shape_condition kind texts) p) limit_places
 no_shape kind [] = none_is (test_at (shape_condition kind [])) limit_places refl
 no_shape kind (letter ∷ behind) =
-    let none = letter_condition-limit (types_in (forms kind) letter) behind in
+    let none = letter_condition-limit (types_in (forms kind) letter (length behind)) behind in
     none_is (test_at (shape_condition kind (letter ∷ behind))) limit_places (rw (none.0, none.1) refl)
 
 -- a record has no condition at the places of the limits and of the shape

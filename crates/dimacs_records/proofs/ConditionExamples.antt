@@ -7,7 +7,7 @@ use Rattle.dimacs_records.specs.declared.records.End.TheVariants.{Source, Sink}
 use Rattle.dimacs_records.specs.declared.records.QueryKind.TheVariants.{Sources, Pairs}
 use Rattle.dimacs_records.specs.declared.records.Record.{Record}
 use Rattle.dimacs_records.specs.declared.records.Record.TheVariants.{MaxProblem, MaxNode, MaxArc, MinProblem, MinNode, MinArc, GraphProblem, GraphArc, QueriesProblem, SourceQuery, PairQuery, SolutionValue, SolutionEntry, CutProblem, CutNode, PotentialsProblem, PotentialsNode, LabelsProblem, LabelsBlock, LabelsNode}
-use Rattle.dimacs_records.specs.declared.reasons.Reason.TheVariants.{UnknownLine, FieldCount, NumberRange, BadWord, ProblemMissing, RecordOrder, NodeRange, NodeTwice, EndTwice, EndMissing, BoundOrder, TooMany, TooFew, SolutionMissing, SolutionTwice, PredUnknown}
+use Rattle.dimacs_records.specs.declared.reasons.Reason.TheVariants.{UnknownLine, FieldCount, NumberRange, BadWord, ProblemMissing, RecordOrder, NodeRange, NodeTwice, EndTwice, EndMissing, BoundOrder, TooMany, TooFew, SolutionMissing, SolutionTwice, PredUnknown, PastRadius}
 use Rattle.dimacs_records.specs.Order.{Place, at, shape_places}
 use Rattle.dimacs_records.specs.Shapes.{shape_condition}
 use Rattle.dimacs_records.proofs.FirstLemmas.{first_by}
@@ -179,7 +179,7 @@ same_node_past_count = refl
 
 -- labels
 abbrev from_1 : List Record
-from_1 = LabelsProblem 4 2 ∷ LabelsBlock 1 2 ∷ LabelsNode 2 (pos 5) 1 ∷ []
+from_1 = LabelsProblem 4 2 ∷ LabelsBlock 1 2 None ∷ LabelsNode 2 (pos 5) 1 ∷ []
 
 label_outside_blocks : first_place (LabelsProblem 3 1 ∷ []) (LabelsNode 2 (pos 5) 1) ≡ Some (at 0 RecordOrder)
 label_outside_blocks = refl
@@ -202,29 +202,69 @@ own_pred = refl
 pred_above_nodes : first_place from_1 (LabelsNode 2 (pos 0) 5) ≡ Some (at 4 NodeRange)
 pred_above_nodes = refl
 
-label_past_count : first_place (LabelsProblem 4 1 ∷ LabelsBlock 1 0 ∷ []) (LabelsNode 2 (pos 5) 3) ≡ Some (at 0 TooMany)
+label_past_count : first_place (LabelsProblem 4 1 ∷ LabelsBlock 1 0 None ∷ []) (LabelsNode 2 (pos 5) 3) ≡ Some (at 0 TooMany)
 label_past_count = refl
 
-block_behind_short_block : first_place from_1 (LabelsBlock 2 0) ≡ Some (at 0 TooFew)
+block_behind_short_block : first_place from_1 (LabelsBlock 2 0 None) ≡ Some (at 0 TooFew)
 block_behind_short_block = refl
 
-block_of_same_source : first_place from_1 (LabelsBlock 1 0) ≡ Some (at 2 NodeTwice)
+block_of_same_source : first_place from_1 (LabelsBlock 1 0 None) ≡ Some (at 2 NodeTwice)
 block_of_same_source = refl
 
-one_block_too_many : first_place (LabelsProblem 3 1 ∷ LabelsBlock 1 1 ∷ []) (LabelsBlock 2 0) ≡ Some (at 0 TooMany)
+one_block_too_many : first_place (LabelsProblem 3 1 ∷ LabelsBlock 1 1 None ∷ []) (LabelsBlock 2 0 None) ≡ Some (at 0 TooMany)
 one_block_too_many = refl
 
-same_label_in_two_blocks : first_place (LabelsProblem 3 2 ∷ LabelsBlock 1 1 ∷ LabelsNode 2 (pos 5) 1 ∷ LabelsBlock 3 1 ∷ []) (LabelsNode 2 (pos 4) 3) ≡ None
+same_label_in_two_blocks : first_place (LabelsProblem 3 2 ∷ LabelsBlock 1 1 None ∷ LabelsNode 2 (pos 5) 1 ∷ LabelsBlock 3 1 None ∷ []) (LabelsNode 2 (pos 4) 3) ≡ None
 same_label_in_two_blocks = refl
 
-pred_in_other_block : first_place (LabelsProblem 3 2 ∷ LabelsBlock 1 1 ∷ LabelsNode 2 (pos 5) 1 ∷ LabelsBlock 3 1 ∷ []) (LabelsNode 1 (pos 4) 2) ≡ Some (at 0 PredUnknown)
+pred_in_other_block : first_place (LabelsProblem 3 2 ∷ LabelsBlock 1 1 None ∷ LabelsNode 2 (pos 5) 1 ∷ LabelsBlock 3 1 None ∷ []) (LabelsNode 1 (pos 4) 2) ≡ Some (at 0 PredUnknown)
 pred_in_other_block = refl
 
-short_last_block : first_reason_at_end Labels (LabelsProblem 3 1 ∷ LabelsBlock 1 2 ∷ LabelsNode 2 (pos 5) 1 ∷ []) ≡ Some TooFew
+short_last_block : first_reason_at_end Labels (LabelsProblem 3 1 ∷ LabelsBlock 1 2 None ∷ LabelsNode 2 (pos 5) 1 ∷ []) ≡ Some TooFew
 short_last_block = refl
 
-too_few_blocks : first_reason_at_end Labels (LabelsProblem 4 2 ∷ LabelsBlock 1 1 ∷ LabelsNode 2 (pos 5) 1 ∷ []) ≡ Some TooFew
+too_few_blocks : first_reason_at_end Labels (LabelsProblem 4 2 ∷ LabelsBlock 1 1 None ∷ LabelsNode 2 (pos 5) 1 ∷ []) ≡ Some TooFew
 too_few_blocks = refl
 
-all_blocks : first_reason_at_end Labels (LabelsProblem 4 1 ∷ LabelsBlock 1 1 ∷ LabelsNode 2 (pos 5) 1 ∷ []) ≡ None
+all_blocks : first_reason_at_end Labels (LabelsProblem 4 1 ∷ LabelsBlock 1 1 None ∷ LabelsNode 2 (pos 5) 1 ∷ []) ≡ None
 all_blocks = refl
+
+-- labels up to a radius
+abbrev up_to_8 : List Record
+up_to_8 = LabelsProblem 4 1 ∷ LabelsBlock 1 2 (Some (pos 8)) ∷ LabelsNode 2 (pos 5) 1 ∷ []
+
+label_at_radius : first_place up_to_8 (LabelsNode 3 (pos 8) 2) ≡ None
+label_at_radius = refl
+
+label_past_radius : first_place up_to_8 (LabelsNode 3 (pos 9) 2) ≡ Some (at 3 PastRadius)
+label_past_radius = refl
+
+pred_before_radius : first_place up_to_8 (LabelsNode 3 (pos 9) 4) ≡ Some (at 0 PredUnknown)
+pred_before_radius = refl
+
+negative_label : first_place up_to_8 (LabelsNode 3 (negsuc 0) 2) ≡ None
+negative_label = refl
+
+radius_of_other_block : first_place (LabelsProblem 4 2 ∷ LabelsBlock 1 0 (Some (pos 0)) ∷ LabelsBlock 2 1 None ∷ []) (LabelsNode 3 (pos 9) 2) ≡ None
+radius_of_other_block = refl
+
+two_fields : first_shape Labels (codes "t" ∷ codes "1" ∷ codes "1" ∷ []) ≡ None
+two_fields = refl
+
+three_fields : first_shape Labels (codes "t" ∷ codes "1" ∷ codes "1" ∷ codes "+08" ∷ []) ≡ None
+three_fields = refl
+
+four_fields : first_shape Labels (codes "t" ∷ codes "1" ∷ codes "1" ∷ codes "8" ∷ codes "9" ∷ []) ≡ Some (at 0 FieldCount)
+four_fields = refl
+
+one_field : first_shape Labels (codes "t" ∷ codes "1" ∷ []) ≡ Some (at 0 FieldCount)
+one_field = refl
+
+negative_radius : first_shape Labels (codes "t" ∷ codes "1" ∷ codes "1" ∷ codes "-1" ∷ []) ≡ Some (at 4 NumberRange)
+negative_radius = refl
+
+greatest_radius : first_shape Labels (codes "t" ∷ codes "1" ∷ codes "1" ∷ codes "1000000000000000000000000000000" ∷ []) ≡ None
+greatest_radius = refl
+
+radius_too_great : first_shape Labels (codes "t" ∷ codes "1" ∷ codes "1" ∷ codes "1000000000000000000000000000001" ∷ []) ≡ Some (at 4 NumberRange)
+radius_too_great = refl

@@ -7,7 +7,7 @@ use Rattle.dimacs_records.specs.declared.kinds.TextKind.{TextKind}
 use Rattle.dimacs_records.specs.declared.records.Record.{Record}
 use Rattle.dimacs_records.specs.declared.records.Record.TheVariants.{MaxNode, MaxArc, MinNode, MinArc, GraphArc, CutNode, PotentialsNode, LabelsBlock, LabelsNode}
 use Rattle.dimacs_records.specs.declared.reasons.Reason.{Reason}
-use Rattle.dimacs_records.specs.declared.reasons.Reason.TheVariants.{ProblemMissing, ProblemTwice, RecordOrder, NodeRange, NodeTwice, EndTwice, EndMissing, BoundOrder, TooMany, TooFew, SolutionMissing, SolutionTwice, PredUnknown}
+use Rattle.dimacs_records.specs.declared.reasons.Reason.TheVariants.{ProblemMissing, ProblemTwice, RecordOrder, NodeRange, NodeTwice, EndTwice, EndMissing, BoundOrder, TooMany, TooFew, SolutionMissing, SolutionTwice, PredUnknown, PastRadius}
 use Rattle.dimacs_records.specs.declared.faults.LineFault.{LineFault}
 use Rattle.dimacs_records.specs.Earlier.{Problem, problem_in}
 use Rattle.dimacs_records.specs.Conditions.{condition, end_condition, is_above_at, bounded_ids, is_bound_wrong}
@@ -51,7 +51,7 @@ above_fields f p (MinArc tail head low cap cost) h = elim (above_two f 2 tail 3 
 above_fields f p (GraphArc tail head weight) h = elim (above_two f 2 tail 3 head p h) [ inl e ↦ inl e | inr e ↦ inr (inl e) ]
 above_fields f p (CutNode id) h = inl (above_one f 2 id p h)
 above_fields f p (PotentialsNode id value) h = inl (above_one f 2 id p h)
-above_fields f p (LabelsBlock source count) h = inl (above_one f 2 source p h)
+above_fields f p (LabelsBlock source count radius) h = inl (above_one f 2 source p h)
 above_fields f p (LabelsNode id dist pred) h = elim (above_two f 2 id 4 pred p h) [ inl e ↦ inl e | inr e ↦ inr (inr e) ]
 above_fields f p r h = absurd (cc)
 
@@ -81,6 +81,7 @@ listed earlier r f TooMany h = (11, omega arith, ap (λ g. at g TooMany) (sym (a
 listed earlier r f TooFew h = (12, omega arith, ap (λ g. at g TooFew) (sym (at_place f 0 _ h)))
 listed earlier r f SolutionTwice h = (13, omega arith, ap (λ g. at g SolutionTwice) (sym (at_place f 0 _ h)))
 listed earlier r f PredUnknown h = (14, omega arith, ap (λ g. at g PredUnknown) (sym (at_place f 0 _ h)))
+listed earlier r f PastRadius h = (15, omega arith, ap (λ g. at g PastRadius) (sym (at_place f 3 _ h)))
 listed earlier r f reason h = absurd (cc)
 
 listed_at_end : (kind : TextKind) (all : List Record) (reason : Reason) → IsTrue (end_condition kind all reason) → Contains end_reasons reason

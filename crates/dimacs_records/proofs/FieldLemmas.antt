@@ -91,6 +91,11 @@ pub refused_within : (low high : ℤ) (text : List ℕ) (fault : NumberFault) �
 refused_within low high text number_faults.BadNumber f g h = h
 refused_within low high text number_faults.NumberRange f g h = (h.0, λ within. h.1 (omega (arith, ints, within.0, f.sfits), omega (arith, ints, within.1, g.sfits)))
 
+-- what is no wide number is no RADIUS
+pub refused_radius : (text : List ℕ) (fault : NumberFault) → ReadsNumber (neg_ℤ (pos (10 ^ 30))) (pos (10 ^ 30)) text (Err fault) → ReadsNumber (pos 0) (pos (10 ^ 30)) text (Err fault)
+refused_radius text number_faults.BadNumber h = h
+refused_radius text number_faults.NumberRange h = (h.0, λ within. h.1 (omega (arith, ints, within.0), within.1))
+
 pub or_else-none : {X : Type 0} → (o : Option X) → or_else o None ≡ o
 or_else-none None = refl
 or_else-none (Some x) = refl

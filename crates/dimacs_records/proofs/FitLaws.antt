@@ -1,5 +1,5 @@
 -- What a spelled record's fields satisfy.
-use Rattle.std.proofs.Common.{◌≡◌, ℕ, ◌∷◌, [], List, Some}
+use Rattle.std.proofs.Common.{◌≡◌, ℕ, ◌∷◌, [], List, Some, length}
 use Rattle.dimacs_records.specs.declared.kinds.TextKind.{TextKind}
 use Rattle.dimacs_records.specs.declared.records.Record.{Record}
 use Rattle.dimacs_records.specs.Forms.{FieldType, Word, Either, Number, forms}
@@ -7,7 +7,7 @@ use Rattle.dimacs_records.specs.Spelling.{Part, Text, Amount, Says, SayAll, lett
 use Rattle.dimacs_records.specs.Shapes.{types_in}
 use Rattle.dimacs_records.specs.Canonical.{Fits, FitAll}
 use Rattle.dimacs_records.specs.Readings.{IsOfKind}
-use Rattle.dimacs_records.proofs.SpellLaws.{form_types}
+use Rattle.dimacs_records.proofs.SpellLaws.{as_many, form_types}
 
 fits_said : (type : FieldType) (text : List ℕ) (part : Part) → Says type text part → Fits type part
 fits_said (Word w) text (Text said) h = h.1
@@ -20,10 +20,10 @@ fit_all_said [] [] [] h = tt
 fit_all_said (type ∷ types) (text ∷ texts) (part ∷ parts) h = (fits_said type text part h.0, fit_all_said types texts parts h.1)
 fit_all_said types texts parts h = absurd h
 
--- the fields of a record of the kind fit the types that the kind has behind its letter
-pub fits_of : (kind : TextKind) (r : Record) (types : List FieldType) → IsOfKind kind r → types_in (forms kind) (letter_of r) ≡ Some types → FitAll types (parts_of r)
+-- the fields of a record of the kind fit the types that the kind has for so many behind its letter
+pub fits_of : (kind : TextKind) (r : Record) (types : List FieldType) → IsOfKind kind r → types_in (forms kind) (letter_of r) (length (parts_of r)) ≡ Some types → FitAll types (parts_of r)
 fits_of kind r types h found =
     let s = h.spelled in
-    let known : types_in (forms kind) (letter_of r) ≡ Some s.form.types = rw s.letter (form_types kind s.form s.of_kind) in
+    let known : types_in (forms kind) (letter_of r) (length (parts_of r)) ≡ Some s.form.types = rw (s.letter, (as_many s.form.types s.behind (parts_of r) s.says).1) (form_types kind s.form s.of_kind) in
     let same : types ≡ s.form.types = cc in
     rw same (fit_all_said s.form.types s.behind (parts_of r) s.says)

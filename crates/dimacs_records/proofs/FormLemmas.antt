@@ -27,7 +27,7 @@ or_else-assoc : {X : Type 0} → (a b c : Option X) → or_else (or_else a b) c 
 or_else-assoc None b c = refl
 or_else-assoc (Some x) b c = refl
 
-missing_next : (f : ℕ) (type : FieldType) (runs : List Run) (old : FieldReader) (part : Part) (new : FieldReader) → old.missing ≡ true → TakesNext f type runs old part new → new.missing ≡ true
+pub missing_next : (f : ℕ) (type : FieldType) (runs : List Run) (old : FieldReader) (part : Part) (new : FieldReader) → old.missing ≡ true → TakesNext f type runs old part new → new.missing ≡ true
 missing_next f type [] old part new h taken = taken
 missing_next f type (run ∷ runs) old part new h taken = taken.1 ∙ h
 
@@ -45,7 +45,7 @@ outcome f types fault runs r = if length types == length runs then without_fault
 one_more : (a b : ℕ) → (a == b) ≡ (suc a == suc b)
 one_more a b = grind (arith, nat_tests)
 
-at_missing : (new : FieldReader) (r : Record) → new.missing ≡ true → finished new r ≡ Err (fault_at 0 FieldCount)
+pub at_missing : (new : FieldReader) (r : Record) → new.missing ≡ true → finished new r ≡ Err (fault_at 0 FieldCount)
 at_missing new r h = rw h refl
 
 at_end : (s : FieldReader) (runs : List Run) (r : Record) (f : ℕ) → s.scan ≡ runs → s.missing ≡ false → finished s r ≡ outcome f [] s.fault runs r

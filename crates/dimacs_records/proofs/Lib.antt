@@ -1,5 +1,6 @@
 mod FieldLemmas
 mod FormLemmas
+mod BlockForm
 pub mod FirstLemmas
 mod PlaceLemmas
 mod LineLemmas

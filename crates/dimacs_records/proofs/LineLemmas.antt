@@ -1,6 +1,6 @@
 -- What a line that begins with a letter gives.
 use Rattle.std.proofs.Common.{◌≡◌, ℕ, suc, ◌≤◌, ◌∷◌, [], List, Bool, true, false, Option, Some, None, Result, Ok, Err, length, refl, ap, sym, ◌∙◌, subst, arith}
-use Rattle.std.specs.Prelude.{IsTrue, nat_le}
+use Rattle.std.specs.Prelude.{IsTrue, ◌==◌, nat_le}
 use Rattle.std.specs.List.{Contains, list_all}
 use Rattle.std.specs.Str.{bytes_eq}
 use Rattle.dimacs_records.specs.declared.kinds.TextKind.{TextKind}
@@ -12,7 +12,7 @@ use Rattle.dimacs_records.specs.Forms.{FieldType, Form, forms}
 use Rattle.dimacs_records.specs.Spelling.{is_skip}
 use Rattle.dimacs_records.specs.Shapes.{types_in, letter_condition, shape_condition}
 use Rattle.dimacs_records.specs.Order.{Place, at, shape_places, First}
-use Rattle.dimacs_records.specs.FieldReader.{form_fault, ReadsForm, ReadsLetter}
+use Rattle.dimacs_records.specs.FieldReader.{form_fault, ReadsForm, ReadsLetter, ReadsTypes}
 use Rattle.dimacs_records.specs.LineReader.{ReadsLine}
 use Rattle.dimacs_records.proofs.FirstLemmas.{first_by, is_first}
 use Rattle.dimacs_records.proofs.PlaceLemmas.{first_of_shape, place_of, place_in, test_at}
@@ -27,18 +27,30 @@ record FormOf (all : List Form) (letter : List ℕ) (types : List FieldType) : T
   letter_is : form.letter ≡ letter
   types_are : form.types ≡ types
 
-form_of : (all : List Form) (letter : List ℕ) (types : List FieldType) → types_in all letter ≡ Some types → FormOf all letter types
-form_of [] letter types h = absurd (cc)
-form_of (form ∷ more) letter types h = by_test (bytes_eq form.letter letter) refl (form_of more letter types)
-  where
-    by_test : (t : Bool) → bytes_eq form.letter letter ≡ t → (types_in more letter ≡ Some types → FormOf more letter types) → FormOf (form ∷ more) letter types
-    by_test true e rest =
-        let found : types_in (form ∷ more) letter ≡ Some form.types = rw e refl in
-        record { form = form; contained = (0, omega arith, refl); letter_is = (bytes_eq-Decides form.letter letter).0 e; types_are = cc }
-    by_test false e rest =
-        let past : types_in (form ∷ more) letter ≡ types_in more letter = rw e refl in
-        let f = rest (sym past ∙ h) in
-        record { form = f.form; contained = (suc f.contained.0, omega (arith, f.contained.1), f.contained.2); letter_is = f.letter_is; types_are = f.types_are }
+module _ (form : Form) (more : List Form) (letter : List ℕ) (count : ℕ) (types : List FieldType) (h : types_in (form ∷ more) letter count ≡ Some types) (rest : types_in more letter count ≡ Some types → FormOf more letter types) where
+  here : bytes_eq form.letter letter ≡ true → types_in (form ∷ more) letter count ≡ Some form.types → FormOf (form ∷ more) letter types
+  here e found = record { form = form; contained = (0, omega arith, refl); letter_is = (bytes_eq-Decides form.letter letter).0 e; types_are = cc }
+
+  later : types_in (form ∷ more) letter count ≡ types_in more letter count → FormOf (form ∷ more) letter types
+  later past =
+      let f = rest (sym past ∙ h) in
+      record { form = f.form; contained = (suc f.contained.0, omega (arith, f.contained.1), f.contained.2); letter_is = f.letter_is; types_are = f.types_are }
+
+  by_count : (t : Bool) (others : List FieldType) → bytes_eq form.letter letter ≡ true → types_in more letter count ≡ Some others → (length form.types == count) ≡ t → FormOf (form ∷ more) letter types
+  by_count true others e o c = here e (rw (e, o, c) refl)
+  by_count false others e o c = later (rw (e, o, c) refl)
+
+  by_others : (others : Option (List FieldType)) → bytes_eq form.letter letter ≡ true → types_in more letter count ≡ others → FormOf (form ∷ more) letter types
+  by_others None e o = here e (rw (e, o) refl)
+  by_others (Some others) e o = by_count (length form.types == count) others e o refl
+
+  by_letter : (t : Bool) → bytes_eq form.letter letter ≡ t → FormOf (form ∷ more) letter types
+  by_letter true e = by_others (types_in more letter count) e refl
+  by_letter false e = later (rw e refl)
+
+form_of : (all : List Form) (letter : List ℕ) (count : ℕ) (types : List FieldType) → types_in all letter count ≡ Some types → FormOf all letter types
+form_of [] letter count types h = absurd (cc)
+form_of (form ∷ more) letter count types h = by_letter form more letter count types h (form_of more letter count types) (bytes_eq form.letter letter) refl
 
 short_forms : (kind : TextKind) → list_all (λ (form : Form). nat_le (length form.types) 5) (forms kind) ≡ true
 short_forms Max = refl
@@ -56,30 +68,30 @@ short_types kind letter types f =
     let c = f.contained in
     rw (← f.types_are, ← c.2) (leb-true _ 5 (all c.0 f.form c.1))
 
-to_place : (kind : TextKind) (letter : List ℕ) (types : List FieldType) (behind : List (List ℕ)) (fault : LineFault) → types_in (forms kind) letter ≡ Some types → form_fault types behind ≡ Some fault
+to_place : (kind : TextKind) (letter : List ℕ) (types : List FieldType) (behind : List (List ℕ)) (fault : LineFault) → types_in (forms kind) letter (length behind) ≡ Some types → form_fault types behind ≡ Some fault
     → First (λ (p : Place). IsTrue (shape_condition kind (letter ∷ behind) p.field p.reason)) shape_places (place_of fault)
 to_place kind letter types behind fault known h =
-    let short = short_types kind letter types (form_of (forms kind) letter types known) in
+    let short = short_types kind letter types (form_of (forms kind) letter (length behind) types known) in
     let found : first_by (test_at (letter_condition (Some types) behind)) shape_places ≡ Some (place_of fault) = first_of_shape types behind short ∙ ap place_in h in
     is_first (test_at (shape_condition kind (letter ∷ behind))) shape_places (place_of fault) (rw known found)
 
 -- the line of a letter that the kind knows
 form_line : (kind : TextKind) (letter : List ℕ) (types : List FieldType) (behind : List (List ℕ)) (result : Result (Option Record) LineFault) → is_skip (letter ∷ behind) ≡ false
-    → types_in (forms kind) letter ≡ Some types → ReadsForm kind letter types behind result → ReadsLine kind (letter ∷ behind) result
+    → types_in (forms kind) letter (length behind) ≡ Some types → ReadsForm kind letter types behind result → ReadsLine kind (letter ∷ behind) result
 form_line kind letter types behind (Ok None) solid known h = absurd h
 form_line kind letter types behind (Ok (Some r)) solid known h =
-    let f = form_of (forms kind) letter types known in
+    let f = form_of (forms kind) letter (length behind) types known in
     (solid, record { form = f.form; behind = behind; of_kind = f.contained; for_kind = h.0; letter = h.1 ∙ sym f.letter_is; begins = ap (λ x. x ∷ behind) (sym f.letter_is); says = rw f.types_are h.3 })
 form_line kind letter types behind (Err fault) solid known h = (solid, to_place kind letter types behind fault known h)
 
-letter_line : (kind : TextKind) (letter : List ℕ) (found : Option (List FieldType)) (behind : List (List ℕ)) (result : Result (Option Record) LineFault) → is_skip (letter ∷ behind) ≡ false
-    → types_in (forms kind) letter ≡ found → ReadsLetter kind letter found behind result → ReadsLine kind (letter ∷ behind) result
-letter_line kind letter None behind result solid unknown h =
+types_line : (kind : TextKind) (letter : List ℕ) (found : Option (List FieldType)) (behind : List (List ℕ)) (result : Result (Option Record) LineFault) → is_skip (letter ∷ behind) ≡ false
+    → types_in (forms kind) letter (length behind) ≡ found → ReadsTypes kind letter found behind result → ReadsLine kind (letter ∷ behind) result
+types_line kind letter None behind result solid unknown h =
     let first : First (λ (p : Place). IsTrue (shape_condition kind (letter ∷ behind) p.field p.reason)) shape_places (at 1 UnknownLine) = is_first (test_at (shape_condition kind (letter ∷ behind))) shape_places (at 1 UnknownLine) (rw unknown refl) in
     subst (ReadsLine kind (letter ∷ behind)) (sym h) (solid, first)
-letter_line kind letter (Some types) behind result solid known h = form_line kind letter types behind result solid known h
+types_line kind letter (Some types) behind result solid known h = form_line kind letter types behind result solid known h
 
 -- a line of these fields, the first being no comment's
 pub reads_line : (kind : TextKind) (letter : List ℕ) (behind : List (List ℕ)) (result : Result (Option Record) LineFault) → is_skip (letter ∷ behind) ≡ false
-    → ReadsLetter kind letter (types_in (forms kind) letter) behind result → ReadsLine kind (letter ∷ behind) result
-reads_line kind letter behind result solid h = letter_line kind letter (types_in (forms kind) letter) behind result solid refl h
+    → ReadsLetter kind letter behind result → ReadsLine kind (letter ∷ behind) result
+reads_line kind letter behind result solid h = types_line kind letter (types_in (forms kind) letter (length behind)) behind result solid refl h

@@ -11,7 +11,7 @@ use Rattle.dimacs_records.specs.Spelling.{Part, SayAll, SpellsRecord, parts_of}
 use Rattle.dimacs_records.specs.Shapes.{field_condition, fields_condition, letter_condition, shape_condition}
 use Rattle.dimacs_records.specs.FieldReader.{field_reason}
 use Rattle.dimacs_records.proofs.FieldLemmas.{field_reason-said}
-use Rattle.dimacs_records.proofs.SpellLaws.{form_types}
+use Rattle.dimacs_records.proofs.SpellLaws.{spelled_types}
 
 if_none : {X : Type 0} (t : Bool) (x : X) (o : Option X) → (if t then Some x else o) ≡ None → (t ≡ false) × (o ≡ None)
 if_none true x o h = absurd (cc)
@@ -57,4 +57,4 @@ letter_condition-said types behind parts f reason h = fields_condition-said 2 ty
 
 pub spelled_shape : (kind : TextKind) (texts : List (List ℕ)) (r : Record) → SpellsRecord kind texts r → (f : ℕ) (reason : Reason) → ¬ IsTrue (shape_condition kind texts f reason)
 spelled_shape kind texts r h f reason =
-    both_ways (shape_condition kind texts f reason) (rw (h.begins, form_types kind h.form h.of_kind) (letter_condition-said h.form.types h.behind (parts_of r) f reason h.says))
+    both_ways (shape_condition kind texts f reason) (rw (h.begins, spelled_types kind texts r h) (letter_condition-said h.form.types h.behind (parts_of r) f reason h.says))

@@ -1,9 +1,9 @@
 -- A line spells at most one record.
 use Rattle.std.proofs.Common.{◌≡◌, ℕ, zero, suc, ◌<◌, ◌∷◌, [], List, Bool, true, false, Option, Some, None, length, get_or, refl, ap, sym, ◌∙◌, subst, arith}
-use Rattle.std.specs.Prelude.{◌&&◌, not, nat_abs, codes, if◌then◌else◌}
+use Rattle.std.specs.Prelude.{◌&&◌, ◌==◌, not, nat_abs, codes, if◌then◌else◌}
 use Rattle.std.specs.List.{Contains, list_all}
 use Rattle.std.specs.Str.{bytes_eq}
-use Rattle.std.proofs.lemmas.Bool.{and_parts, not-true}
+use Rattle.std.proofs.lemmas.Bool.{and_parts, not-true, eq-eqb}
 use Rattle.std.proofs.lemmas.List.Sums.{AllPass-from_list_all}
 use Rattle.dimacs_lines.specs.Number.{number_in}
 use Rattle.dimacs_records.specs.declared.kinds.TextKind.{TextKind}
@@ -15,14 +15,17 @@ use Rattle.dimacs_records.specs.declared.records.QueryKind.TheVariants.{Sources,
 use Rattle.dimacs_records.specs.declared.records.Record.{Record}
 use Rattle.dimacs_records.specs.declared.records.Record.TheVariants.{MaxProblem, MaxNode, MaxArc, MinProblem, MinNode, MinArc, GraphProblem, GraphArc, QueriesProblem, SourceQuery, PairQuery, SolutionValue, SolutionEntry, CutProblem, CutNode, PotentialsProblem, PotentialsNode, LabelsProblem, LabelsBlock, LabelsNode}
 use Rattle.dimacs_records.specs.Forms.{FieldType, Word, Either, Number, Form, forms}
-use Rattle.dimacs_records.specs.Spelling.{Part, Text, Amount, kind_of, parts_of, Says, SayAll, SpellsRecord}
-use Rattle.dimacs_records.specs.Shapes.{types_in}
+use Rattle.dimacs_records.specs.Spelling.{Part, Text, Amount, kind_of, letter_of, parts_of, Says, SayAll, SpellsRecord}
+use Rattle.dimacs_records.specs.Shapes.{types_in, types_or}
 use Rattle.dimacs_records.proofs.FieldLemmas.{same_bytes}
 
--- no two of these forms have the same letter
+-- these forms have other letters or not as many fields
+abbrev differs : Form → Form → Bool
+differs form other = not (bytes_eq form.letter other.letter && (length form.types == length other.types))
+
 abbrev are_apart : List Form → Bool
 are_apart [] = true
-are_apart (form ∷ more) = list_all (λ (other : Form). not (bytes_eq form.letter other.letter)) more && are_apart more
+are_apart (form ∷ more) = list_all (differs form) more && are_apart more
 
 forms_apart : (kind : TextKind) → are_apart (forms kind) ≡ true
 forms_apart Max = refl
@@ -34,19 +37,30 @@ forms_apart Cut = refl
 forms_apart Potentials = refl
 forms_apart Labels = refl
 
-types_at : (all : List Form) (k : ℕ) (d : Form) → are_apart all ≡ true → k < length all → types_in all (get_or all k d).letter ≡ Some (get_or all k d).types
-types_at [] k d apart below = absurd (omega (arith, below))
-types_at (form ∷ more) zero d apart below = rw (same_bytes form.letter) refl
-types_at (form ∷ more) (suc k) d apart below =
-    let differs = λ (other : Form). not (bytes_eq form.letter other.letter) in
-    let parts = and_parts (list_all differs more) (are_apart more) apart in
-    let inside : k < length more = omega (arith, below) in
-    let past : bytes_eq form.letter (get_or more k d).letter ≡ false = not-true _ (AllPass-from_list_all differs more parts.0 k d inside) in
-    rw past (types_at more k d parts.1 inside)
+types_or-first : (types : List FieldType) (others : Option (List FieldType)) → types_or (length types) types others ≡ types
+types_or-first types None = refl
+types_or-first types (Some others) = rw (eq-eqb (length types) (length types) refl) refl
 
--- a form's letter tells the types behind it
-pub form_types : (kind : TextKind) (form : Form) → Contains (forms kind) form → types_in (forms kind) form.letter ≡ Some form.types
-form_types kind form c = subst (λ (f : Form). types_in (forms kind) f.letter ≡ Some f.types) c.2 (types_at (forms kind) c.0 form (forms_apart kind) c.1)
+types_at : (all : List Form) (k : ℕ) (d : Form) → are_apart all ≡ true → k < length all → types_in all (get_or all k d).letter (length (get_or all k d).types) ≡ Some (get_or all k d).types
+types_at [] k d apart below = absurd (omega (arith, below))
+types_at (form ∷ more) zero d apart below = rw (same_bytes form.letter) (ap Some (types_or-first form.types (types_in more form.letter (length form.types))))
+types_at (form ∷ more) (suc k) d apart below =
+    let parts = and_parts (list_all (differs form) more) (are_apart more) apart in
+    let inside : k < length more = omega (arith, below) in
+    let other = get_or more k d in
+    let found : types_in more other.letter (length other.types) ≡ Some other.types = types_at more k d parts.1 inside in
+    let apart_here : (bytes_eq form.letter other.letter && (length form.types == length other.types)) ≡ false = not-true _ (AllPass-from_list_all (differs form) more parts.0 k d inside) in
+    rw found (by_tests (bytes_eq form.letter other.letter) (length form.types == length other.types) form.types other.types apart_here)
+  where
+    by_tests : (same_letter same_count : Bool) (types others : List FieldType) → (same_letter && same_count) ≡ false
+        → (if same_letter then Some (if same_count then types else others) else Some others) ≡ Some others
+    by_tests true true types others h = absurd (cc)
+    by_tests true false types others h = refl
+    by_tests false same_count types others h = refl
+
+-- a form's letter and the number of its fields tell their types
+pub form_types : (kind : TextKind) (form : Form) → Contains (forms kind) form → types_in (forms kind) form.letter (length form.types) ≡ Some form.types
+form_types kind form c = subst (λ (f : Form). types_in (forms kind) f.letter (length f.types) ≡ Some f.types) c.2 (types_at (forms kind) c.0 form (forms_apart kind) c.1)
 
 -- what a field of this type says, if it says anything
 abbrev said_by : FieldType → List ℕ → Part
@@ -69,37 +83,43 @@ parts_said [] [] [] h = refl
 parts_said (type ∷ types) (text ∷ texts) (part ∷ parts) h = rw (part_said type text part h.0, parts_said types texts parts h.1) refl
 parts_said types texts parts h = absurd h
 
+-- as many fields as types
+pub as_many : (types : List FieldType) (texts : List (List ℕ)) (parts : List Part) → SayAll types texts parts → (length texts ≡ length types) × (length parts ≡ length types)
+as_many [] [] [] h = (refl, refl)
+as_many (type ∷ types) (text ∷ texts) (part ∷ parts) h = let rest = as_many types texts parts h.1 in (ap suc rest.0, ap suc rest.1)
+as_many types texts parts h = absurd h
+
 abbrev end_of : List ℕ → End
 end_of word = if bytes_eq word (codes "s") then Source else Sink
 
 abbrev query_kind_of : List ℕ → QueryKind
 query_kind_of word = if bytes_eq word (codes "ss") then Sources else Pairs
 
--- the record of this kind with these parts, which tell its letter too
-abbrev record_of : TextKind → List Part → Option Record
-record_of Max (Text word ∷ Amount nodes ∷ Amount arcs ∷ []) = Some (MaxProblem (nat_abs nodes) (nat_abs arcs))
-record_of Max (Amount id ∷ Text end ∷ []) = Some (MaxNode (nat_abs id) (end_of end))
-record_of Max (Amount tail ∷ Amount head ∷ Amount cap ∷ []) = Some (MaxArc (nat_abs tail) (nat_abs head) cap)
-record_of Min (Text word ∷ Amount nodes ∷ Amount arcs ∷ []) = Some (MinProblem (nat_abs nodes) (nat_abs arcs))
-record_of Min (Amount id ∷ Amount supply ∷ []) = Some (MinNode (nat_abs id) supply)
-record_of Min (Amount tail ∷ Amount head ∷ Amount low ∷ Amount cap ∷ Amount cost ∷ []) = Some (MinArc (nat_abs tail) (nat_abs head) low cap cost)
-record_of Graph (Text word ∷ Amount nodes ∷ Amount arcs ∷ []) = Some (GraphProblem (nat_abs nodes) (nat_abs arcs))
-record_of Graph (Amount tail ∷ Amount head ∷ Amount weight ∷ []) = Some (GraphArc (nat_abs tail) (nat_abs head) weight)
-record_of Queries (Text word ∷ Text other ∷ Text asks ∷ Amount count ∷ []) = Some (QueriesProblem (query_kind_of asks) (nat_abs count))
-record_of Queries (Amount id ∷ []) = Some (SourceQuery (nat_abs id))
-record_of Queries (Amount from ∷ Amount to ∷ []) = Some (PairQuery (nat_abs from) (nat_abs to))
-record_of Solution (Amount value ∷ []) = Some (SolutionValue value)
-record_of Solution (Amount tail ∷ Amount head ∷ Amount flow ∷ []) = Some (SolutionEntry (nat_abs tail) (nat_abs head) flow)
-record_of Cut (Text word ∷ Amount nodes ∷ Amount count ∷ []) = Some (CutProblem (nat_abs nodes) (nat_abs count))
-record_of Cut (Amount id ∷ []) = Some (CutNode (nat_abs id))
-record_of Potentials (Text word ∷ Amount nodes ∷ Amount count ∷ []) = Some (PotentialsProblem (nat_abs nodes) (nat_abs count))
-record_of Potentials (Amount id ∷ Amount value ∷ []) = Some (PotentialsNode (nat_abs id) value)
-record_of Labels (Text word ∷ Amount nodes ∷ Amount blocks ∷ []) = Some (LabelsProblem (nat_abs nodes) (nat_abs blocks))
-record_of Labels (Amount source ∷ Amount count ∷ []) = Some (LabelsBlock (nat_abs source) (nat_abs count))
-record_of Labels (Amount id ∷ Amount dist ∷ Amount pred ∷ []) = Some (LabelsNode (nat_abs id) dist (nat_abs pred))
-record_of kind parts = None
+-- the record of this kind with this letter and these parts; but for blocks and labels the parts tell the letter
+abbrev record_of : TextKind → List ℕ → List Part → Option Record
+record_of Max letter (Text word ∷ Amount nodes ∷ Amount arcs ∷ []) = Some (MaxProblem (nat_abs nodes) (nat_abs arcs))
+record_of Max letter (Amount id ∷ Text end ∷ []) = Some (MaxNode (nat_abs id) (end_of end))
+record_of Max letter (Amount tail ∷ Amount head ∷ Amount cap ∷ []) = Some (MaxArc (nat_abs tail) (nat_abs head) cap)
+record_of Min letter (Text word ∷ Amount nodes ∷ Amount arcs ∷ []) = Some (MinProblem (nat_abs nodes) (nat_abs arcs))
+record_of Min letter (Amount id ∷ Amount supply ∷ []) = Some (MinNode (nat_abs id) supply)
+record_of Min letter (Amount tail ∷ Amount head ∷ Amount low ∷ Amount cap ∷ Amount cost ∷ []) = Some (MinArc (nat_abs tail) (nat_abs head) low cap cost)
+record_of Graph letter (Text word ∷ Amount nodes ∷ Amount arcs ∷ []) = Some (GraphProblem (nat_abs nodes) (nat_abs arcs))
+record_of Graph letter (Amount tail ∷ Amount head ∷ Amount weight ∷ []) = Some (GraphArc (nat_abs tail) (nat_abs head) weight)
+record_of Queries letter (Text word ∷ Text other ∷ Text asks ∷ Amount count ∷ []) = Some (QueriesProblem (query_kind_of asks) (nat_abs count))
+record_of Queries letter (Amount id ∷ []) = Some (SourceQuery (nat_abs id))
+record_of Queries letter (Amount from ∷ Amount to ∷ []) = Some (PairQuery (nat_abs from) (nat_abs to))
+record_of Solution letter (Amount value ∷ []) = Some (SolutionValue value)
+record_of Solution letter (Amount tail ∷ Amount head ∷ Amount flow ∷ []) = Some (SolutionEntry (nat_abs tail) (nat_abs head) flow)
+record_of Cut letter (Text word ∷ Amount nodes ∷ Amount count ∷ []) = Some (CutProblem (nat_abs nodes) (nat_abs count))
+record_of Cut letter (Amount id ∷ []) = Some (CutNode (nat_abs id))
+record_of Potentials letter (Text word ∷ Amount nodes ∷ Amount count ∷ []) = Some (PotentialsProblem (nat_abs nodes) (nat_abs count))
+record_of Potentials letter (Amount id ∷ Amount value ∷ []) = Some (PotentialsNode (nat_abs id) value)
+record_of Labels letter (Text word ∷ Amount nodes ∷ Amount blocks ∷ []) = Some (LabelsProblem (nat_abs nodes) (nat_abs blocks))
+record_of Labels letter (Amount source ∷ Amount count ∷ []) = Some (LabelsBlock (nat_abs source) (nat_abs count) None)
+record_of Labels letter (Amount id ∷ Amount dist ∷ Amount pred ∷ []) = if bytes_eq letter (codes "t") then Some (LabelsBlock (nat_abs id) (nat_abs dist) (Some pred)) else Some (LabelsNode (nat_abs id) dist (nat_abs pred))
+record_of kind letter parts = None
 
-record_of-parts_of : (r : Record) → record_of (kind_of r) (parts_of r) ≡ Some r
+record_of-parts_of : (r : Record) → record_of (kind_of r) (letter_of r) (parts_of r) ≡ Some r
 record_of-parts_of (MaxProblem nodes arcs) = refl
 record_of-parts_of (MaxNode id Source) = refl
 record_of-parts_of (MaxNode id Sink) = refl
@@ -120,20 +140,25 @@ record_of-parts_of (CutNode id) = refl
 record_of-parts_of (PotentialsProblem nodes count) = refl
 record_of-parts_of (PotentialsNode id value) = refl
 record_of-parts_of (LabelsProblem nodes blocks) = refl
-record_of-parts_of (LabelsBlock source count) = refl
+record_of-parts_of (LabelsBlock source count None) = refl
+record_of-parts_of (LabelsBlock source count (Some radius)) = refl
 record_of-parts_of (LabelsNode id dist pred) = refl
 
 -- the record that fields of these types spell, if they spell one
-abbrev typed_record : TextKind → Option (List FieldType) → List (List ℕ) → Option Record
-typed_record kind None behind = None
-typed_record kind (Some types) behind = record_of kind (all_said_by types behind)
+abbrev typed_record : TextKind → List ℕ → Option (List FieldType) → List (List ℕ) → Option Record
+typed_record kind letter None behind = None
+typed_record kind letter (Some types) behind = record_of kind letter (all_said_by types behind)
 
 abbrev spelled_record : TextKind → List (List ℕ) → Option Record
 spelled_record kind [] = None
-spelled_record kind (letter ∷ behind) = typed_record kind (types_in (forms kind) letter) behind
+spelled_record kind (letter ∷ behind) = typed_record kind letter (types_in (forms kind) letter (length behind)) behind
+
+-- a spelled line's fields have the types of its form
+pub spelled_types : (kind : TextKind) (texts : List (List ℕ)) (r : Record) (h : SpellsRecord kind texts r) → types_in (forms kind) h.form.letter (length h.behind) ≡ Some h.form.types
+spelled_types kind texts r h = rw ((as_many h.form.types h.behind (parts_of r) h.says).0) (form_types kind h.form h.of_kind)
 
 spelled_record-spelled : (kind : TextKind) (texts : List (List ℕ)) (r : Record) → SpellsRecord kind texts r → spelled_record kind texts ≡ Some r
-spelled_record-spelled kind texts r h = rw (h.begins, form_types kind h.form h.of_kind, ← parts_said h.form.types h.behind (parts_of r) h.says, ← h.for_kind) (record_of-parts_of r)
+spelled_record-spelled kind texts r h = rw (h.begins, spelled_types kind texts r h, ← parts_said h.form.types h.behind (parts_of r) h.says, ← h.for_kind, ← h.letter) (record_of-parts_of r)
 
 pub spells_one : (kind : TextKind) (texts : List (List ℕ)) (r s : Record) → SpellsRecord kind texts r → SpellsRecord kind texts s → r ≡ s
 spells_one kind texts r s a b = let same = sym (spelled_record-spelled kind texts r a) ∙ spelled_record-spelled kind texts s b in cc

@@ -77,9 +77,21 @@ pub fn write_record<S: Sink>(page: &mut Page, sink: &mut S, said: &Record)
         Record::LabelsProblem { nodes, blocks } => {
             write_problem(page, sink, b"dist", nodes, blocks)
         }
-        Record::LabelsBlock { source, count } => {
-            page.line(sink, b"t", &[i64::from(source), i64::from(count)]);
-        }
+        Record::LabelsBlock {
+            source,
+            count,
+            radius: None,
+        } => page.line(sink, b"t", &[i64::from(source), i64::from(count)]),
+        Record::LabelsBlock {
+            source,
+            count,
+            radius: Some(radius),
+        } => write_line(
+            page,
+            sink,
+            b"t",
+            &[unsigned(source), unsigned(count), Part::Wide(radius)],
+        ),
         Record::LabelsNode { id, dist, pred } => write_line(
             page,
             sink,

@@ -7,7 +7,7 @@ ghost use Rattle.dimacs_lines.specs.Number.{IsWithin};
 ghost use Rattle.dimacs_records.specs.Earlier.{or_else};
 ghost use Rattle.dimacs_records.specs.Forms.{Nodes, Count, Id, Whole, Wide, Word, Either, Number};
 ghost use Rattle.dimacs_records.specs.Spelling.{Text, Amount, end_word, query_word};
-ghost use Rattle.dimacs_records.specs.FieldReader.{Takes, ReadsAmount, IsFresh, finished, fault_at, number_reason, word_of};
+ghost use Rattle.dimacs_records.specs.FieldReader.{Takes, TakesLast, ReadsAmount, IsFresh, finished, fault_at, number_reason, word_of};
 
 use crate::faults::LineFault;
 use crate::reasons::Reason;
@@ -123,6 +123,20 @@ impl<'a> FieldReader<'a> {
         }
     }
 
+    /// A RADIUS, which may be left out: the last field of its line.
+    pub(crate) fn radius(&mut self, field: u32) -> Option<i128>
+        ensures { TakesLast field self.old.scan self.old result self.new }
+    {
+        let token = self.scan.next_token()?;
+        match radius_amount(&token) {
+            Ok(n) => Some(n),
+            Err(reason) => {
+                self.refuse(field, reason);
+                Some(0)
+            }
+        }
+    }
+
     /// The record, where each field was there and has no fault, and no other one is left.
     #[inline(always)]
     pub(crate) fn finish(mut self, spelled: Record) -> Result<Option<Record>, LineFault>
@@ -209,6 +223,17 @@ fn wide_amount(token: &Token<'_>) -> Result<i128, Reason>
     ensures { ReadsAmount (neg_ℤ (pos (10 ^ 30))) (pos (10 ^ 30)) token.now.field.text.now result }
 {
     match token.wide() {
+        Ok(n) => Ok(n),
+        Err(fault) => Err(number_reason(fault)),
+    }
+}
+
+/// The RADIUS that a field spells.
+fn radius_amount(token: &Token<'_>) -> Result<i128, Reason>
+    ensures { ReadsAmount (pos 0) (pos (10 ^ 30)) token.now.field.text.now result }
+{
+    match token.wide() {
+        Ok(n) if n < 0 => Err(Reason::NumberRange),
         Ok(n) => Ok(n),
         Err(fault) => Err(number_reason(fault)),
     }

@@ -36,11 +36,16 @@ fn problem(mut fields: FieldReader) -> Result<Option<Record>, LineFault>
 
 fn block(mut fields: FieldReader) -> Result<Option<Record>, LineFault>
     requires { IsFresh fields }
-    ensures { ReadsForm Labels (codes "t") (Id ∷ Count ∷ []) (texts_left fields.entry) result }
+    ensures { ReadsLetter Labels (codes "t") (texts_left fields.entry) result }
 {
     let source = fields.id(2);
     let count = fields.count(3);
-    fields.finish(Record::LabelsBlock { source, count })
+    let radius = fields.radius(4);
+    fields.finish(Record::LabelsBlock {
+        source,
+        count,
+        radius,
+    })
 }
 
 #[inline(always)]

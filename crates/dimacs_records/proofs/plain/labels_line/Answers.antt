@@ -17,5 +17,5 @@ returns c =
     let dist_fits : SFits w64 dist.dist = search rules in
     let wide_fits : SFits w128 wide = search rules in
     rw (to_z-of_z w128 wide wide_fits, c.from.ensures, to_z-of_z w64 dist.dist dist_fits)
-    (plain_says Labels (form (codes "d") (Id ∷ Wide ∷ Id ∷ [])) c.args.bytes.now 100 pred.size (LabelsNode id.id dist.dist pred.pred) (2, lit< tt, refl) refl refl refl refl
+    (plain_says Labels (form (codes "d") (Id ∷ Wide ∷ Id ∷ [])) c.args.bytes.now 100 pred.size (LabelsNode id.id dist.dist pred.pred) (3, lit< tt, refl) refl refl refl refl
     (label_stands c.args.bytes.now id.id pred.pred id.after_id dist.after_dist pred.size dist.dist (c.if-not-begins_with.ensures refl) id.ensures.stands id.ensures.range dist.ensures.stands dist_fits pred.ensures.stands pred.ensures.range))

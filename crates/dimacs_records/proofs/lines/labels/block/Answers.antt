@@ -1,13 +1,6 @@
-use Rattle.std.proofs.Common.{refl, [], ◌∷◌}
-use Rattle.std.specs.Prelude.{codes}
-use Rattle.dimacs_records.specs.declared.kinds.TextKind.TheVariants.{Labels}
-use Rattle.dimacs_records.specs.declared.records.Record.TheVariants.{LabelsBlock}
-use Rattle.dimacs_records.specs.Forms.{Count, Id}
-use Rattle.dimacs_records.proofs.FormLemmas.{reads_form}
+use Rattle.dimacs_records.proofs.BlockForm.{reads_block}
 use Rattle.dimacs_records.proofs.lines.labels.block.Goals as goal
 
 pub returns : goal.returns
 returns c =
-    let r = LabelsBlock c.id-source.result c.count-count.result in
-    reads_form Labels (codes "t") (Id ∷ Count ∷ []) c.args.fields c.count-count.new.self r c.finish.result refl refl c.requires
-    (c.id-source.new.self, c.id-source.ensures, (c.count-count.new.self, c.count-count.ensures, refl)) c.finish.ensures
+    reads_block c.args.fields c.id-source.new.self c.count-count.new.self c.radius-radius.new.self c.id-source.result c.count-count.result c.radius-radius.result c.finish.result c.requires c.id-source.ensures c.count-count.ensures c.radius-radius.ensures c.finish.ensures
