@@ -14,8 +14,8 @@ use Rattle.dimacs_nodes.specs.declared.node_table.NodeTable.{NodeTable}
 use Rattle.dimacs_nodes.specs.Tables.{value_of}
 use Rattle.dimacs_records.specs.declared.kinds.TextKind.TheVariants.{Labels}
 use Rattle.dimacs_records.specs.declared.records.Record.TheVariants.{LabelsProblem, LabelsBlock}
-use Rattle.dimacs_records.specs.declared.reasons.Reason.TheVariants.{ProblemTwice, RecordOrder, NodeRange, NodeTwice, TooMany, TooFew, PredUnknown}
-use Rattle.dimacs_records.specs.Blocks.{is_full_block}
+use Rattle.dimacs_records.specs.declared.reasons.Reason.TheVariants.{ProblemTwice, RecordOrder, NodeRange, NodeTwice, TooMany, TooFew, PredUnknown, PastRadius}
+use Rattle.dimacs_records.specs.Blocks.{is_full_block, is_past}
 use Rattle.dimacs_records.specs.Faults.{FirstAtEnd}
 use Rattle.dimacs_records.specs.FieldReader.{fault_at}
 use Rattle.dimacs_records.specs.Readings.{IsAllowed, IsFirstCondition, IsComplete}
@@ -23,37 +23,37 @@ use Rattle.dimacs_claims.specs.declared.block.Label.{Label}
 use Rattle.dimacs_claims.specs.Labels.{AreSources, BlockValue, AreLabels, EachBehind, IsBlock, IsLabel, IsNewSource, distance_in, label, with_label, has_source}
 use Rattle.dimacs_claims.specs.LabelTexts.{label_line, label_records}
 use Rattle.dimacs_claims.specs.LabelsReading.{LabelsBegun, AreLabelled, AreLabelsBegun, lines_of_blocks, labels_begun_records, label_records_so_far, with_opened}
-use Rattle.dimacs_claims.proofs.BlockLemmas.{label_id, is_some-label, is_some-push, some_if, block_push, each_behind_nil, each_behind_push}
-use Rattle.dimacs_claims.proofs.LabelStates.{Say, second_problem, source_above, source_twice, too_many_blocks, block_before_short, block_allowed, label_outside, id_above, pred_above, label_twice, too_many_labels, pred_unknown, label_allowed, too_few_blocks, too_few_labels, all_there}
+use Rattle.dimacs_claims.proofs.BlockLemmas.{label_id, near_radius, is_some-label, is_some-push, some_if, block_push, each_behind_nil, each_behind_push}
+use Rattle.dimacs_claims.proofs.LabelStates.{Say, second_problem, source_above, source_twice, too_many_blocks, block_before_short, block_allowed, label_outside, id_above, pred_above, label_twice, too_many_labels, pred_unknown, past_radius, label_allowed, too_few_blocks, too_few_labels, all_there}
 use Rattle.dimacs_claims.proofs.LabelRecords.{source_of, opened_with, last_after, last_is, say_taken, not_short, is_short, list_any-has_source, lines_of_blocks-push_block, lines_of_blocks-push_label, lines_of_blocks-zero, push_same}
 
 -- behind what was taken
-module _ (begun : LabelsBegun) (source count : ℕ) where
+module _ (begun : LabelsBegun) (source count : ℕ) (radius : Option ℤ) where
   abbrev sources : List ℕ
   sources = map source_of begun.blocks
 
-  pub begun_source_above : begun.nodes < source → IsFirstCondition (labels_begun_records begun) (LabelsBlock source count) (fault_at 2 NodeRange)
-  begun_source_above = source_above (labels_begun_records begun) begun.nodes begun.declared sources (last_after begun.missing None begun.blocks) (say_taken begun) source count
+  pub begun_source_above : begun.nodes < source → IsFirstCondition (labels_begun_records begun) (LabelsBlock source count radius) (fault_at 2 NodeRange)
+  begun_source_above = source_above (labels_begun_records begun) begun.nodes begun.declared sources (last_after begun.missing None begun.blocks) (say_taken begun) source count radius
 
-  pub begun_source_twice : source ≤ begun.nodes → list_any (has_source source) begun.blocks ≡ true → IsFirstCondition (labels_begun_records begun) (LabelsBlock source count) (fault_at 2 NodeTwice)
-  begun_source_twice within twice = source_twice (labels_begun_records begun) begun.nodes begun.declared sources (last_after begun.missing None begun.blocks) (say_taken begun) source count within (sym (list_any-has_source source begun.blocks) ∙ twice)
+  pub begun_source_twice : source ≤ begun.nodes → list_any (has_source source) begun.blocks ≡ true → IsFirstCondition (labels_begun_records begun) (LabelsBlock source count radius) (fault_at 2 NodeTwice)
+  begun_source_twice within twice = source_twice (labels_begun_records begun) begun.nodes begun.declared sources (last_after begun.missing None begun.blocks) (say_taken begun) source count radius within (sym (list_any-has_source source begun.blocks) ∙ twice)
 
   -- a source within its range that no block has
   module _ (within : source ≤ begun.nodes) (fresh : list_any (has_source source) begun.blocks ≡ false) where
     new_here : list_any (λ (s : ℕ). s == source) sources ≡ false
     new_here = sym (list_any-has_source source begun.blocks) ∙ fresh
 
-    pub begun_too_many : begun.declared ≤ length begun.blocks → IsFirstCondition (labels_begun_records begun) (LabelsBlock source count) (fault_at 0 TooMany)
-    begun_too_many full = too_many_blocks (labels_begun_records begun) begun.nodes begun.declared sources (last_after begun.missing None begun.blocks) (say_taken begun) source count within new_here (omega (arith, full, length-map begun.blocks source_of))
+    pub begun_too_many : begun.declared ≤ length begun.blocks → IsFirstCondition (labels_begun_records begun) (LabelsBlock source count radius) (fault_at 0 TooMany)
+    begun_too_many full = too_many_blocks (labels_begun_records begun) begun.nodes begun.declared sources (last_after begun.missing None begun.blocks) (say_taken begun) source count radius within new_here (omega (arith, full, length-map begun.blocks source_of))
 
-    pub begun_too_few : length begun.blocks < begun.declared → 0 < begun.missing → (begun.blocks ≡ [] → begun.missing ≡ 0) → IsFirstCondition (labels_begun_records begun) (LabelsBlock source count) (fault_at 0 TooFew)
-    begun_too_few room lacks only = block_before_short (labels_begun_records begun) begun.nodes begun.declared sources (last_after begun.missing None begun.blocks) (say_taken begun) source count within new_here (omega (arith, room, length-map begun.blocks source_of)) (is_short begun.blocks begun.missing lacks only)
+    pub begun_too_few : length begun.blocks < begun.declared → 0 < begun.missing → (begun.blocks ≡ [] → begun.missing ≡ 0) → IsFirstCondition (labels_begun_records begun) (LabelsBlock source count radius) (fault_at 0 TooFew)
+    begun_too_few room lacks only = block_before_short (labels_begun_records begun) begun.nodes begun.declared sources (last_after begun.missing None begun.blocks) (say_taken begun) source count radius within new_here (omega (arith, room, length-map begun.blocks source_of)) (is_short begun.blocks begun.missing lacks only)
 
-    pub begun_block_allowed : length begun.blocks < begun.declared → begun.missing ≡ 0 → IsAllowed (labels_begun_records begun) (LabelsBlock source count)
-    begun_block_allowed room none = block_allowed (labels_begun_records begun) begun.nodes begun.declared sources (last_after begun.missing None begun.blocks) (say_taken begun) source count within new_here (omega (arith, room, length-map begun.blocks source_of)) (not_short begun.blocks begun.missing none)
+    pub begun_block_allowed : length begun.blocks < begun.declared → begun.missing ≡ 0 → IsAllowed (labels_begun_records begun) (LabelsBlock source count radius)
+    begun_block_allowed room none = block_allowed (labels_begun_records begun) begun.nodes begun.declared sources (last_after begun.missing None begun.blocks) (say_taken begun) source count radius within new_here (omega (arith, room, length-map begun.blocks source_of)) (not_short begun.blocks begun.missing none)
 
-  pub pushed_block : begun.missing ≡ 0 → labels_begun_records (with_opened begun source count) ≡ labels_begun_records begun ++ LabelsBlock source count ∷ []
-  pushed_block none = ap (λ rs. LabelsProblem begun.nodes begun.declared ∷ rs) (lines_of_blocks-push_block begun.blocks source count ∙ ap (λ m. lines_of_blocks m begun.blocks ++ LabelsBlock source count ∷ []) (sym none))
+  pub pushed_block : begun.missing ≡ 0 → labels_begun_records (with_opened begun source count radius) ≡ labels_begun_records begun ++ LabelsBlock source count radius ∷ []
+  pushed_block none = ap (λ rs. LabelsProblem begun.nodes begun.declared ∷ rs) (lines_of_blocks-push_block begun.blocks source count radius ∙ ap (λ m. lines_of_blocks m begun.blocks ++ LabelsBlock source count radius ∷ []) (sym none))
 
 pub labels_begun_twice : (begun : Option LabelsBegun) (nodes blocks : ℕ) → is_some begun ≡ true → IsFirstCondition (label_records_so_far begun) (LabelsProblem nodes blocks) (fault_at 0 ProblemTwice)
 labels_begun_twice (Some begun) nodes blocks h = second_problem (labels_begun_records begun) begun.nodes begun.declared (map source_of begun.blocks) (last_after begun.missing None begun.blocks) (say_taken begun) nodes blocks
@@ -111,8 +111,11 @@ module _ (begun : LabelsBegun) (front : List BlockValue) (b : BlockValue) (is : 
     pub begun_pred_unknown : is_some (label b l.id) ≡ false → 0 < begun.missing → is_some (label b l.pred) ≡ false → IsFirstCondition (labels_begun_records begun) (label_line l) (fault_at 0 PredUnknown)
     begun_pred_unknown fresh lacks unknown = pred_unknown (labels_begun_records begun) begun.nodes begun.declared (map source_of begun.blocks) (Some (opened_with begun.missing b)) say_in l.id l.dist l.pred refl id_within pred_within (sym (is_some-label b l.id) ∙ fresh) (has_room lacks) (sym (is_some-label b l.pred) ∙ unknown)
 
-    pub begun_label_allowed : is_some (label b l.id) ≡ false → 0 < begun.missing → is_some (label b l.pred) ≡ true → IsAllowed (labels_begun_records begun) (label_line l)
-    begun_label_allowed fresh lacks known = label_allowed (labels_begun_records begun) begun.nodes begun.declared (map source_of begun.blocks) (Some (opened_with begun.missing b)) say_in l.id l.dist l.pred refl id_within pred_within (sym (is_some-label b l.id) ∙ fresh) (has_room lacks) (sym (is_some-label b l.pred) ∙ known)
+    pub begun_past_radius : is_some (label b l.id) ≡ false → 0 < begun.missing → is_some (label b l.pred) ≡ true → is_past b.radius l.dist ≡ true → IsFirstCondition (labels_begun_records begun) (label_line l) (fault_at 3 PastRadius)
+    begun_past_radius fresh lacks known past = past_radius (labels_begun_records begun) begun.nodes begun.declared (map source_of begun.blocks) (Some (opened_with begun.missing b)) say_in l.id l.dist l.pred refl id_within pred_within (sym (is_some-label b l.id) ∙ fresh) (has_room lacks) (sym (is_some-label b l.pred) ∙ known) past
+
+    pub begun_label_allowed : is_some (label b l.id) ≡ false → 0 < begun.missing → is_some (label b l.pred) ≡ true → is_past b.radius l.dist ≡ false → IsAllowed (labels_begun_records begun) (label_line l)
+    begun_label_allowed fresh lacks known near = label_allowed (labels_begun_records begun) begun.nodes begun.declared (map source_of begun.blocks) (Some (opened_with begun.missing b)) say_in l.id l.dist l.pred refl id_within pred_within (sym (is_some-label b l.id) ∙ fresh) (has_room lacks) (sym (is_some-label b l.pred) ∙ known) near
 
   -- with the label
   abbrev pub more : LabelsBegun
@@ -121,13 +124,13 @@ module _ (begun : LabelsBegun) (front : List BlockValue) (b : BlockValue) (is : 
   pub pushed_label : 0 < begun.missing → labels_begun_records more ≡ labels_begun_records begun ++ label_line l ∷ []
   pushed_label lacks =
       let same : suc (begun.missing - 1) ≡ begun.missing = omega (arith, lacks) in
-      ap (λ rs. LabelsProblem begun.nodes begun.declared ∷ rs) (lines_of_blocks-push_label front b.source b.labels l (begun.missing - 1) ∙ ap₂ (λ m bs. lines_of_blocks m bs ++ label_line l ∷ []) same (sym is))
+      ap (λ rs. LabelsProblem begun.nodes begun.declared ∷ rs) (lines_of_blocks-push_label front b.source b.radius b.labels l (begun.missing - 1) ∙ ap₂ (λ m bs. lines_of_blocks m bs ++ label_line l ∷ []) same (sym is))
 
   pub sources_stay : (seen : set.FinSet nat_cmp) → AreSources seen begun.blocks → AreSources seen (front ++ with_label b l ∷ [])
   sources_stay seen are id = are id ∙ (ap (list_any (has_source id)) is ∙ (list_any-append (has_source id) front (b ∷ []) ∙ sym (list_any-append (has_source id) front (with_label b l ∷ []))))
 
-  pub begun_label : AreLabelsBegun begun → IsLabel begun.nodes l → is_some (label b l.id) ≡ false → is_some (label b l.pred) ≡ true → 0 < begun.missing → AreLabelsBegun more
-  begun_label are label_is fresh known lacks =
+  pub begun_label : AreLabelsBegun begun → IsLabel begun.nodes l → is_some (label b l.id) ≡ false → is_some (label b l.pred) ≡ true → is_past b.radius l.dist ≡ false → 0 < begun.missing → AreLabelsBegun more
+  begun_label are label_is fresh known near lacks =
       let blocks = All-pop (IsBlock begun.nodes) (front ++ b ∷ []) front (Some b) refl (subst (All (IsBlock begun.nodes)) is are.blocks) in
       let sources = subst (EachBehind IsNewSource) is are.sources in
       let few = are.last_few front b is in
@@ -137,7 +140,7 @@ module _ (begun : LabelsBegun) (front : List BlockValue) (b : BlockValue) (is : 
         no_more = omega (arith, are.no_more, ap length is, length-append front (b ∷ []), length-append front (with_label b l ∷ []));
         last_few = λ f last e. omega (arith, few, lacks, length-append b.labels (l ∷ []), ap (λ (x : BlockValue). length x.labels) (push_same front f (with_label b l) last e));
         none_lack = λ e. absurd (omega (arith, ap length e, length-append front (with_label b l ∷ [])));
-        blocks = All-push (IsBlock begun.nodes) front (with_label b l) blocks.0 (block_push begun.nodes b l blocks.1 label_is (omega (arith, few, lacks)) fresh known);
+        blocks = All-push (IsBlock begun.nodes) front (with_label b l) blocks.0 (block_push begun.nodes b l blocks.1 label_is (omega (arith, few, lacks)) fresh known (near_radius b.radius l.dist near));
         sources = each_behind_push IsNewSource front (with_label b l) (before_last IsNewSource front b sources) (sources front [] b refl);
       }
     where
@@ -194,9 +197,9 @@ labelled_none labelled none = record {
   last = λ front b is. absurd (omega (arith, ap length is, length-append front (b ∷ [])));
 }
 
-pub labelled_opened : (labelled : NodeTable ℕ) (blocks : List BlockValue) (source : ℕ) → AreLabelled labelled blocks → AreLabelled labelled (blocks ++ record { source = source; labels = [] } ∷ [])
-labelled_opened labelled blocks source are =
-    let opened : BlockValue = record { source = source; labels = [] } in
+pub labelled_opened : (labelled : NodeTable ℕ) (blocks : List BlockValue) (source : ℕ) (radius : Option ℤ) → AreLabelled labelled blocks → AreLabelled labelled (blocks ++ record { source = source; radius = radius; labels = [] } ∷ [])
+labelled_opened labelled blocks source radius are =
+    let opened : BlockValue = record { source = source; radius = radius; labels = [] } in
     let size : length (blocks ++ opened ∷ []) ≡ length blocks + 1 = omega (arith, length-append blocks (opened ∷ [])) in
     record {
       few = λ id. omega (arith, size, are.few id);

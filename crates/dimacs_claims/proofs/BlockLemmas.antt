@@ -1,16 +1,17 @@
 -- One label more in a block.
 use Rattle.std.proofs.Common.{◌≡◌, ℕ, zero, suc, ◌<◌, ◌∷◌, ◌++◌, [], List, Bool, true, false, cond, Option, Some, None, length, slice_index_or, refl, ap, sym, ◌∙◌, subst, arith, inl, inr, ◌⊎◌}
-use Rattle.std.specs.Prelude.{ℤ, pos, IfSome, is_some, if◌then◌else◌, ◌==◌, ◌||◌, map}
+use Rattle.std.specs.Prelude.{ℤ, pos, int_lt, IfSome, is_some, if◌then◌else◌, ◌==◌, ◌||◌, map}
 use Rattle.std.specs.List.{All, Contains, list_any}
 use Rattle.std.proofs.lemmas.Bool.{eqb-true, eq-eqb, false_from_ne_true}
 use Rattle.std.proofs.lemmas.List.{length-append}
 use Rattle.std.proofs.lemmas.Int.{ints}
 use Rattle.std.proofs.lemmas.List.Elements.{All-head, All-nil, All-push, All-tail}
+use Rattle.dimacs_records.specs.Blocks.{is_past}
 use Rattle.dimacs_records.specs.Earlier.{or_else}
 use Rattle.dimacs_records.proofs.SplitLemmas.{two_places, same, sooner, later}
 use Rattle.dimacs_claims.specs.declared.block.Label.{Label}
-use Rattle.dimacs_claims.specs.Labels.{BlockValue, label, label_at, distance_in, with_label, EachBehind, IsFresh, HasPred, IsLabel, IsBlock, IsNewSource, AreLabels}
-use Rattle.dimacs_records.specs.Ranges.{IsNode, IsWide}
+use Rattle.dimacs_claims.specs.Labels.{BlockValue, label, label_at, distance_in, with_label, EachBehind, IsFresh, HasPred, IsLabel, IsBlock, IsNear, IsNewSource, AreLabels}
+use Rattle.dimacs_records.specs.Ranges.{IsNode, IsRadius, IsWide}
 
 -- a test before a choice
 test_first : (b : Bool) (d : ℤ) (rest other : Option ℤ) → (if b then Some d else or_else rest other) ≡ or_else (if b then Some d else rest) other
@@ -132,24 +133,37 @@ fresh_has_none b l h = false_from_ne_true _ (λ t. by_test (b.source == l.id) re
     by_test false e t = let m = label_found b.labels l.id t in h.1 m.0 m.1 m.2
 
 -- a block with one label more
-pub block_push : (nodes : ℕ) (b : BlockValue) (l : Label) → IsBlock nodes b → IsLabel nodes l → length b.labels < 268435456 → is_some (label b l.id) ≡ false → is_some (label b l.pred) ≡ true → IsBlock nodes (with_label b l)
-block_push nodes b l is label_is room fresh pred = record {
+pub block_push : (nodes : ℕ) (b : BlockValue) (l : Label) → IsBlock nodes b → IsLabel nodes l → length b.labels < 268435456 → is_some (label b l.id) ≡ false → is_some (label b l.pred) ≡ true → IsNear b.radius l.dist → IsBlock nodes (with_label b l)
+block_push nodes b l is label_is room fresh pred near = record {
   source_within = is.source_within;
+  radius_within = is.radius_within;
   few = omega (arith, room, length-append b.labels (l ∷ []));
   within = All-push (IsLabel nodes) b.labels l is.within label_is;
+  near = All-push (λ (m : Label). IsNear b.radius m.dist) b.labels l is.near near;
   fresh = each_behind_push (IsFresh b.source) b.labels l is.fresh (is_fresh b l fresh);
   preds = each_behind_push (HasPred b.source) b.labels l is.preds (has_pred b l pred);
 }
 
 -- a block without labels
-pub block_empty : (nodes source : ℕ) → IsNode nodes source → IsBlock nodes (record { source = source; labels = [] })
-block_empty nodes source within = record {
+pub block_empty : (nodes source : ℕ) (radius : Option ℤ) → IsNode nodes source → IfSome radius IsRadius → IsBlock nodes (record { source = source; radius = radius; labels = [] })
+block_empty nodes source radius within radius_within = record {
   source_within = within;
+  radius_within = radius_within;
   few = omega arith;
   within = All-nil (IsLabel nodes);
+  near = All-nil (λ (m : Label). IsNear radius m.dist);
   fresh = each_behind_nil (IsFresh source);
   preds = each_behind_nil (HasPred source);
 }
+
+-- a distance that is not past a radius
+pub near_radius : (radius : Option ℤ) (dist : ℤ) → is_past radius dist ≡ false → IsNear radius dist
+near_radius None dist h = tt
+near_radius (Some r) dist h = omega (arith, ints, h)
+
+pub not_past : (radius : Option ℤ) (dist : ℤ) → IsNear radius dist → is_past radius dist ≡ false
+not_past None dist near = refl
+not_past (Some r) dist near = false_from_ne_true (int_lt r dist) (λ past. omega (arith, ints, past, near))
 
 -- ---- labels, with a block more
 pub labels_push : (nodes : ℕ) (blocks : List BlockValue) (b : BlockValue) → AreLabels (record { nodes = nodes; blocks = blocks }) → IsBlock nodes b → IsNewSource blocks b → length blocks < 268435456 → AreLabels (record { nodes = nodes; blocks = blocks ++ b ∷ [] })

@@ -1,6 +1,6 @@
 -- The records of labels have no fault, are those of no others, and can be spelled.
 use Rattle.std.proofs.Common.{◌≡◌, ℕ, suc, ◌<◌, ◌≤◌, ◌+◌, ◌∷◌, ◌++◌, [], List, false, Option, Some, None, length, map, refl, ap, sym, ◌∙◌, subst, arith, append_assoc}
-use Rattle.std.specs.Prelude.{codes, nat_le}
+use Rattle.std.specs.Prelude.{ℤ, IfSome, codes, nat_le}
 use Rattle.std.specs.List.{All, list_any, flat_map}
 use Rattle.std.proofs.lemmas.Bool.{le-ltb, ne_eqb}
 use Rattle.std.proofs.lemmas.Bool.Decides.{nat_tests}
@@ -11,15 +11,16 @@ use Rattle.dimacs_records.specs.declared.kinds.TextKind.TheVariants.{Labels}
 use Rattle.dimacs_records.specs.declared.records.Record.{Record}
 use Rattle.dimacs_records.specs.declared.records.Record.TheVariants.{LabelsProblem, LabelsBlock, LabelsNode}
 use Rattle.dimacs_records.specs.Blocks.{Block, is_short_block}
-use Rattle.dimacs_records.specs.Forms.{form, Word, Nodes, Count, Id, Wide}
+use Rattle.dimacs_records.specs.Forms.{form, Word, Nodes, Count, Id, Wide, Radius}
 use Rattle.dimacs_records.specs.Canonical.{CanBeSpelled}
+use Rattle.dimacs_records.specs.Ranges.{IsRadius}
 use Rattle.dimacs_records.specs.Readings.{LineRecord, records_of, IsAllowed, IsComplete}
 use Rattle.dimacs_records.specs.Texts.{AreFaultless}
 use Rattle.dimacs_records.proofs.CanonicalLaws.{canonical_spelled, numbered_all}
 use Rattle.dimacs_claims.specs.declared.block.Label.{Label}
-use Rattle.dimacs_claims.specs.Labels.{BlockValue, LabelsValue, AreLabels, EachBehind, IsBlock, IsLabel, IsFresh, HasPred, IsNewSource}
+use Rattle.dimacs_claims.specs.Labels.{BlockValue, LabelsValue, AreLabels, EachBehind, IsBlock, IsLabel, IsFresh, HasPred, IsNear, IsNewSource}
 use Rattle.dimacs_claims.specs.LabelTexts.{label_line, block_lines, label_records, GivesLabels, SpellsLabels, canonical_labels, FitText}
-use Rattle.dimacs_claims.proofs.BlockLemmas.{label_id, is_some-label, fresh_has_none, pred_has_label}
+use Rattle.dimacs_claims.proofs.BlockLemmas.{label_id, is_some-label, fresh_has_none, not_past, pred_has_label}
 use Rattle.dimacs_claims.proofs.LabelStates.{Say, opened, is_source, say_problem, say_block, say_label, first_problem, block_allowed, label_allowed, all_there}
 use Rattle.dimacs_claims.proofs.LabelRecords.{source_of, say_labels}
 
@@ -48,26 +49,26 @@ each_here P done more x each = each done more x refl
 each_next : {X : Type 0} (P : List X → X → Type 0) (done more : List X) (x : X) → EachBehind P (done ++ x ∷ more) → EachBehind P ((done ++ x ∷ []) ++ more)
 each_next P done more x each = subst (EachBehind P) (sym (append_assoc done (x ∷ []) more)) each
 
-abbrev with_labels : ℕ → List Label → BlockValue
-with_labels source ls = record { source = source; labels = ls }
+abbrev with_labels : ℕ → Option ℤ → List Label → BlockValue
+with_labels source radius ls = record { source = source; radius = radius; labels = ls }
 
 pub not_full : (count n : ℕ) → n < count → nat_le count n ≡ false
 not_full count n room = grind (arith, nat_tests, room)
 
 -- labels of a block that is begun are allowed
-labels_allowed : (ls done : List Label) (earlier : List Record) (nodes declared : ℕ) (sources : List ℕ) (source count : ℕ) → Say earlier nodes declared sources (Some (opened source count (map label_id done)))
-    → length done + length ls ≡ count → All (IsLabel nodes) ls → EachBehind (IsFresh source) (done ++ ls) → EachBehind (HasPred source) (done ++ ls) → AllAllowed earlier (map label_line ls)
+labels_allowed : (ls done : List Label) (earlier : List Record) (nodes declared : ℕ) (sources : List ℕ) (source count : ℕ) (radius : Option ℤ) → Say earlier nodes declared sources (Some (opened source count radius (map label_id done)))
+    → length done + length ls ≡ count → All (IsLabel nodes) ls → All (λ (l : Label). IsNear radius l.dist) ls → EachBehind (IsFresh source) (done ++ ls) → EachBehind (HasPred source) (done ++ ls) → AllAllowed earlier (map label_line ls)
 unfolding AllAllowed
-labels_allowed [] done earlier nodes declared sources source count say all within fresh preds = tt
-labels_allowed (l ∷ ls) done earlier nodes declared sources source count say all within fresh preds =
+labels_allowed [] done earlier nodes declared sources source count radius say all within near fresh preds = tt
+labels_allowed (l ∷ ls) done earlier nodes declared sources source count radius say all within near fresh preds =
     let is = All-head (IsLabel nodes) l ls within in
-    let b = with_labels source done in
+    let b = with_labels source radius done in
     let new = sym (is_some-label b l.id) ∙ fresh_has_none b l (each_here (IsFresh source) done ls l fresh) in
     let known = sym (is_some-label b l.pred) ∙ pred_has_label b l (each_here (HasPred source) done ls l preds) in
     let room : nat_le count (length (map label_id done)) ≡ false = rw (length-map done label_id) (not_full count (length done) (omega (arith, all))) in
-    let next = subst (λ ids. Say (earlier ++ label_line l ∷ []) nodes declared sources (Some (opened source count ids))) (sym (map-append label_id done (l ∷ []))) (say_label earlier nodes declared sources source count (map label_id done) say l.id l.dist l.pred) in (
-      label_allowed earlier nodes declared sources (Some (opened source count (map label_id done))) say l.id l.dist l.pred refl is.id.1 is.pred.1 new room known,
-      labels_allowed ls (done ++ l ∷ []) (earlier ++ label_line l ∷ []) nodes declared sources source count next (omega (arith, all, length-append done (l ∷ []))) (All-tail (IsLabel nodes) l ls within)
+    let next = subst (λ ids. Say (earlier ++ label_line l ∷ []) nodes declared sources (Some (opened source count radius ids))) (sym (map-append label_id done (l ∷ []))) (say_label earlier nodes declared sources source count radius (map label_id done) say l.id l.dist l.pred) in (
+      label_allowed earlier nodes declared sources (Some (opened source count radius (map label_id done))) say l.id l.dist l.pred refl is.id.1 is.pred.1 new room known (not_past radius l.dist (All-head (λ (m : Label). IsNear radius m.dist) l ls near)),
+      labels_allowed ls (done ++ l ∷ []) (earlier ++ label_line l ∷ []) nodes declared sources source count radius next (omega (arith, all, length-append done (l ∷ []))) (All-tail (IsLabel nodes) l ls within) (All-tail (λ (m : Label). IsNear radius m.dist) l ls near)
           (each_next (IsFresh source) done ls l fresh) (each_next (HasPred source) done ls l preds),
     )
 
@@ -77,8 +78,8 @@ other_sources [] b new = refl
 other_sources (d ∷ done) b new =
     rw (ne_eqb d.source b.source (new d (0, omega arith, refl))) (other_sources done b (λ o among. new o (suc among.0, omega (arith, among.1), among.2)))
 
-full_is_not_short : (source count : ℕ) (ids : List ℕ) → length ids ≡ count → is_short_block (Some (opened source count ids)) ≡ false
-full_is_not_short source count ids full = le-ltb (length ids) count (omega (arith, full))
+full_is_not_short : (source count : ℕ) (radius : Option ℤ) (ids : List ℕ) → length ids ≡ count → is_short_block (Some (opened source count radius ids)) ≡ false
+full_is_not_short source count radius ids full = le-ltb (length ids) count (omega (arith, full))
 
 -- behind other blocks, blocks are allowed, and with them the text is complete
 record BlocksFit (earlier : List Record) (rs : List Record) : Type 0 where
@@ -96,16 +97,16 @@ blocks_fit (b ∷ bs) done earlier nodes declared last say full all are sources 
     let is = All-head (IsBlock nodes) b bs are in
     let count = length b.labels in
     let new = other_sources done b (each_here IsNewSource done bs b sources) in
-    let opens = block_allowed earlier nodes declared (map source_of done) last say b.source count is.source_within.1 new (omega (arith, all, length-map done source_of)) full in
-    let begun = earlier ++ LabelsBlock b.source count ∷ [] in
-    let said = say_block earlier nodes declared (map source_of done) last say b.source count in
-    let labels = labels_allowed b.labels [] begun nodes declared (map source_of done ++ b.source ∷ []) b.source count said (omega arith) is.within is.fresh is.preds in
-    let behind = say_labels b.labels begun nodes declared (map source_of done ++ b.source ∷ []) b.source count [] said in
+    let opens = block_allowed earlier nodes declared (map source_of done) last say b.source count b.radius is.source_within.1 new (omega (arith, all, length-map done source_of)) full in
+    let begun = earlier ++ LabelsBlock b.source count b.radius ∷ [] in
+    let said = say_block earlier nodes declared (map source_of done) last say b.source count b.radius in
+    let labels = labels_allowed b.labels [] begun nodes declared (map source_of done ++ b.source ∷ []) b.source count b.radius said (omega arith) is.within is.near is.fresh is.preds in
+    let behind = say_labels b.labels begun nodes declared (map source_of done ++ b.source ∷ []) b.source count b.radius [] said in
     let here : AllAllowed earlier (block_lines b) = (opens, labels) in
-    let next = subst (λ xs. Say (begun ++ map label_line b.labels) nodes declared xs (Some (opened b.source count (map label_id b.labels)))) (sym (map-append source_of done (b ∷ []))) behind in
-    let same : begun ++ map label_line b.labels ≡ earlier ++ block_lines b = append_assoc earlier (LabelsBlock b.source count ∷ []) (map label_line b.labels) in
-    let rest = blocks_fit bs (done ++ b ∷ []) (earlier ++ block_lines b) nodes declared (Some (opened b.source count (map label_id b.labels))) (subst (λ e. Say e nodes declared (map source_of (done ++ b ∷ [])) (Some (opened b.source count (map label_id b.labels)))) same next)
-    (full_is_not_short b.source count (map label_id b.labels) (length-map b.labels label_id)) (omega (arith, all, length-append done (b ∷ []))) (All-tail (IsBlock nodes) b bs are) (each_next IsNewSource done bs b sources) in
+    let next = subst (λ xs. Say (begun ++ map label_line b.labels) nodes declared xs (Some (opened b.source count b.radius (map label_id b.labels)))) (sym (map-append source_of done (b ∷ []))) behind in
+    let same : begun ++ map label_line b.labels ≡ earlier ++ block_lines b = append_assoc earlier (LabelsBlock b.source count b.radius ∷ []) (map label_line b.labels) in
+    let rest = blocks_fit bs (done ++ b ∷ []) (earlier ++ block_lines b) nodes declared (Some (opened b.source count b.radius (map label_id b.labels))) (subst (λ e. Say e nodes declared (map source_of (done ++ b ∷ [])) (Some (opened b.source count b.radius (map label_id b.labels)))) same next)
+    (full_is_not_short b.source count b.radius (map label_id b.labels) (length-map b.labels label_id)) (omega (arith, all, length-append done (b ∷ []))) (All-tail (IsBlock nodes) b bs are) (each_next IsNewSource done bs b sources) in
     record {
       allowed = all_allowed-append (block_lines b) (flat_map block_lines bs) earlier here rest.allowed;
       complete = subst (IsComplete Labels) (append_assoc earlier (block_lines b) (flat_map block_lines bs)) rest.complete;
@@ -131,7 +132,7 @@ Parts = List Label × List BlockValue
 
 with_record : Record → Parts → Parts
 with_record (LabelsNode id dist pred) parts = (record { dist = dist; id = id; pred = pred } ∷ parts.0, parts.1)
-with_record (LabelsBlock source count) parts = ([], record { source = source; labels = parts.0 } ∷ parts.1)
+with_record (LabelsBlock source count radius) parts = ([], record { source = source; radius = radius; labels = parts.0 } ∷ parts.1)
 with_record r parts = parts
 
 parts_of : List Record → Parts
@@ -153,7 +154,7 @@ parts_of-blocks [] = refl
 parts_of-blocks (b ∷ bs) =
     let rest = flat_map block_lines bs in
     let labels : parts_of (map label_line b.labels ++ rest) ≡ (b.labels, bs) = parts_of-labels b.labels rest ∙ (ap (λ (p : Parts). (b.labels ++ p.0, p.1)) (parts_of-blocks bs) ∙ ap (λ ls. (ls, bs)) (append-nil b.labels)) in
-    ap (with_record (LabelsBlock b.source (length b.labels))) labels
+    ap (with_record (LabelsBlock b.source (length b.labels) b.radius)) labels
 
 labels_of-label_records : (labels : LabelsValue) → labels_of (label_records labels) ≡ labels
 unfolding labels_of
@@ -172,19 +173,26 @@ problem_fits labels are = record {
   fit = (refl, ((omega (arith, ints), omega (arith, ints, are.nodes_few)), ((omega (arith, ints), omega (arith, ints, are.blocks_few)), tt)));
 }
 
-block_fits : (nodes : ℕ) (b : BlockValue) → nodes ≤ 134217728 → IsBlock nodes b → CanBeSpelled Labels (LabelsBlock b.source (length b.labels))
-block_fits nodes b few is = record {
+block_fits : (nodes : ℕ) (b : BlockValue) (radius : Option ℤ) → nodes ≤ 134217728 → IsBlock nodes b → IfSome radius IsRadius → CanBeSpelled Labels (LabelsBlock b.source (length b.labels) radius)
+block_fits nodes b None few is within = record {
   form = form (codes "t") (Id ∷ Count ∷ []);
   of_kind = (1, omega arith, refl);
   for_kind = refl;
   letter = refl;
   fit = ((omega (arith, ints, is.source_within.0), omega (arith, ints, is.source_within.1, few)), ((omega (arith, ints), omega (arith, ints, is.few)), tt));
 }
+block_fits nodes b (Some radius) few is within = record {
+  form = form (codes "t") (Id ∷ Count ∷ Radius ∷ []);
+  of_kind = (2, omega arith, refl);
+  for_kind = refl;
+  letter = refl;
+  fit = ((omega (arith, ints, is.source_within.0), omega (arith, ints, is.source_within.1, few)), ((omega (arith, ints), omega (arith, ints, is.few)), (within, tt)));
+}
 
 label_fits : (nodes : ℕ) (l : Label) → nodes ≤ 134217728 → IsLabel nodes l → CanBeSpelled Labels (label_line l)
 label_fits nodes l few is = record {
   form = form (codes "d") (Id ∷ Wide ∷ Id ∷ []);
-  of_kind = (2, omega arith, refl);
+  of_kind = (3, omega arith, refl);
   for_kind = refl;
   letter = refl;
   fit = ((omega (arith, ints, is.id.0), omega (arith, ints, is.id.1, few)), (is.dist, ((omega (arith, ints, is.pred.0), omega (arith, ints, is.pred.1, few)), tt)));
@@ -198,7 +206,7 @@ blocks_spelled : (nodes : ℕ) (bs : List BlockValue) → nodes ≤ 134217728 �
 blocks_spelled nodes [] few are = All-nil (CanBeSpelled Labels)
 blocks_spelled nodes (b ∷ bs) few are =
     let is = All-head (IsBlock nodes) b bs are in
-    All-append (CanBeSpelled Labels) (block_lines b) (flat_map block_lines bs) (All-cons (CanBeSpelled Labels) (LabelsBlock b.source (length b.labels)) (map label_line b.labels) (block_fits nodes b few is) (labels_fit nodes b.labels few is.within))
+    All-append (CanBeSpelled Labels) (block_lines b) (flat_map block_lines bs) (All-cons (CanBeSpelled Labels) (LabelsBlock b.source (length b.labels) b.radius) (map label_line b.labels) (block_fits nodes b b.radius few is is.radius_within) (labels_fit nodes b.labels few is.within))
     (blocks_spelled nodes bs few (All-tail (IsBlock nodes) b bs are))
 
 -- the canonical text of labels spells them

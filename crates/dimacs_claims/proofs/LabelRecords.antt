@@ -1,6 +1,6 @@
 -- The records of labels.
 use Rattle.std.proofs.Common.{◌≡◌, ℕ, suc, ◌<◌, ◌≤◌, ◌+◌, ◌∷◌, ◌++◌, [], List, Bool, true, false, Option, Some, None, length, map, refl, ap, ap₂, sym, ◌∙◌, arith, append_assoc, inl, inr, ◌⊎◌, zero}
-use Rattle.std.specs.Prelude.{◌==◌, ◌||◌}
+use Rattle.std.specs.Prelude.{ℤ, IfSome, ◌==◌, ◌||◌}
 use Rattle.std.specs.List.{list_any, flat_map}
 use Rattle.std.specs.Ordering.{nat_cmp, eq_by_cmp}
 use Rattle.std.specs.Cmp.{nat_cmp_total, nat_eq_equiv, unsigned_tied}
@@ -14,7 +14,7 @@ use Rattle.dimacs_records.specs.declared.records.Record.TheVariants.{LabelsProbl
 use Rattle.dimacs_records.specs.Blocks.{Block, is_short_block}
 use Rattle.dimacs_claims.specs.declared.block.Label.{Label}
 use Rattle.dimacs_claims.specs.Labels.{AreSources, BlockValue, IsBlock, IsNewSource, has_source}
-use Rattle.dimacs_records.specs.Ranges.{IsNode}
+use Rattle.dimacs_records.specs.Ranges.{IsNode, IsRadius}
 use Rattle.dimacs_claims.specs.LabelTexts.{label_line, block_lines}
 use Rattle.dimacs_claims.specs.LabelsReading.{LabelsBegun, AreLabelsBegun, lines_of_short, lacking, lines_of_blocks, labels_begun_records, with_opened}
 use Rattle.dimacs_claims.proofs.BlockLemmas.{label_id, block_empty, each_behind_push}
@@ -24,23 +24,23 @@ abbrev pub source_of : BlockValue → ℕ
 source_of b = b.source
 
 -- what a text says behind these labels
-pub say_labels : (ls : List Label) (earlier : List Record) (nodes declared : ℕ) (sources : List ℕ) (source count : ℕ) (ids : List ℕ) → Say earlier nodes declared sources (Some (opened source count ids))
-    → Say (earlier ++ map label_line ls) nodes declared sources (Some (opened source count (ids ++ map label_id ls)))
-say_labels [] earlier nodes declared sources source count ids say = rw (append-nil earlier, append-nil ids) say
-say_labels (l ∷ ls) earlier nodes declared sources source count ids say =
+pub say_labels : (ls : List Label) (earlier : List Record) (nodes declared : ℕ) (sources : List ℕ) (source count : ℕ) (radius : Option ℤ) (ids : List ℕ) → Say earlier nodes declared sources (Some (opened source count radius ids))
+    → Say (earlier ++ map label_line ls) nodes declared sources (Some (opened source count radius (ids ++ map label_id ls)))
+say_labels [] earlier nodes declared sources source count radius ids say = rw (append-nil earlier, append-nil ids) say
+say_labels (l ∷ ls) earlier nodes declared sources source count radius ids say =
     rw (← append_assoc earlier (label_line l ∷ []) (map label_line ls), ← append_assoc ids (l.id ∷ []) (map label_id ls))
-    (say_labels ls (earlier ++ label_line l ∷ []) nodes declared sources source count (ids ++ l.id ∷ []) (say_label earlier nodes declared sources source count ids say l.id l.dist l.pred))
+    (say_labels ls (earlier ++ label_line l ∷ []) nodes declared sources source count radius (ids ++ l.id ∷ []) (say_label earlier nodes declared sources source count radius ids say l.id l.dist l.pred))
 
 -- a block that lacks this many labels, as its records say
 abbrev pub opened_with : ℕ → BlockValue → Block
-opened_with missing b = opened b.source (length b.labels + missing) (map label_id b.labels)
+opened_with missing b = opened b.source (length b.labels + missing) b.radius (map label_id b.labels)
 
 pub say_short : (missing : ℕ) (b : BlockValue) (earlier : List Record) (nodes declared : ℕ) (sources : List ℕ) (last : Option Block) → Say earlier nodes declared sources last
     → Say (earlier ++ lines_of_short missing b) nodes declared (sources ++ b.source ∷ []) (Some (opened_with missing b))
 say_short missing b earlier nodes declared sources last say =
     let count = length b.labels + missing in
-    rw (← append_assoc earlier (LabelsBlock b.source count ∷ []) (map label_line b.labels))
-    (say_labels b.labels (earlier ++ LabelsBlock b.source count ∷ []) nodes declared (sources ++ b.source ∷ []) b.source count [] (say_block earlier nodes declared sources last say b.source count))
+    rw (← append_assoc earlier (LabelsBlock b.source count b.radius ∷ []) (map label_line b.labels))
+    (say_labels b.labels (earlier ++ LabelsBlock b.source count b.radius ∷ []) nodes declared (sources ++ b.source ∷ []) b.source count b.radius [] (say_block earlier nodes declared sources last say b.source count b.radius))
 
 abbrev pub last_after : ℕ → Option Block → List BlockValue → Option Block
 last_after missing last [] = last
@@ -64,31 +64,31 @@ lacking-zero [] = refl
 lacking-zero (b ∷ more) = refl
 
 lines_of_short-zero : (b : BlockValue) (missing : ℕ) → missing ≡ 0 → lines_of_short missing b ≡ block_lines b
-lines_of_short-zero b missing none = ap (λ n. LabelsBlock b.source n ∷ map label_line b.labels) (omega (arith, none))
+lines_of_short-zero b missing none = ap (λ n. LabelsBlock b.source n b.radius ∷ map label_line b.labels) (omega (arith, none))
 
 pub lines_of_blocks-zero : (blocks : List BlockValue) → lines_of_blocks 0 blocks ≡ flat_map block_lines blocks
 lines_of_blocks-zero [] = refl
 lines_of_blocks-zero (b ∷ more) = ap₂ (λ xs ys. xs ++ ys) (lines_of_short-zero b (lacking 0 more) (lacking-zero more)) (lines_of_blocks-zero more)
 
 -- one label more in the last block
-pub lines_of_blocks-push_label : (front : List BlockValue) (source : ℕ) (ls : List Label) (l : Label) (missing : ℕ)
-    → lines_of_blocks missing (front ++ record { source = source; labels = ls ++ l ∷ [] } ∷ []) ≡ lines_of_blocks (suc missing) (front ++ record { source = source; labels = ls } ∷ []) ++ label_line l ∷ []
-lines_of_blocks-push_label [] source ls l missing =
+pub lines_of_blocks-push_label : (front : List BlockValue) (source : ℕ) (radius : Option ℤ) (ls : List Label) (l : Label) (missing : ℕ)
+    → lines_of_blocks missing (front ++ record { source = source; radius = radius; labels = ls ++ l ∷ [] } ∷ []) ≡ lines_of_blocks (suc missing) (front ++ record { source = source; radius = radius; labels = ls } ∷ []) ++ label_line l ∷ []
+lines_of_blocks-push_label [] source radius ls l missing =
     let count : length (ls ++ l ∷ []) + missing ≡ length ls + suc missing = omega (arith, length-append ls (l ∷ [])) in
-    ap (λ rs. rs ++ []) (ap₂ (λ n rs. LabelsBlock source n ∷ rs) count (map-append label_line ls (l ∷ []))) ∙ (append-nil _ ∙ ap (λ rs. rs ++ label_line l ∷ []) (sym (append-nil (lines_of_short (suc missing) (record { source = source; labels = ls })))))
-lines_of_blocks-push_label (f ∷ front) source ls l missing =
-    ap₂ (λ n rs. lines_of_short n f ++ rs) (lacking-push front _ _ missing (suc missing)) (lines_of_blocks-push_label front source ls l missing) ∙ sym (append_assoc (lines_of_short (lacking (suc missing) (front ++ record { source = source; labels = ls } ∷ [])) f) _ (label_line l ∷ []))
+    ap (λ rs. rs ++ []) (ap₂ (λ n rs. LabelsBlock source n radius ∷ rs) count (map-append label_line ls (l ∷ []))) ∙ (append-nil _ ∙ ap (λ rs. rs ++ label_line l ∷ []) (sym (append-nil (lines_of_short (suc missing) (record { source = source; radius = radius; labels = ls })))))
+lines_of_blocks-push_label (f ∷ front) source radius ls l missing =
+    ap₂ (λ n rs. lines_of_short n f ++ rs) (lacking-push front _ _ missing (suc missing)) (lines_of_blocks-push_label front source radius ls l missing) ∙ sym (append_assoc (lines_of_short (lacking (suc missing) (front ++ record { source = source; radius = radius; labels = ls } ∷ [])) f) _ (label_line l ∷ []))
   where
     lacking-push : (bs : List BlockValue) (b c : BlockValue) (m n : ℕ) → lacking m (bs ++ b ∷ []) ≡ lacking n (bs ++ c ∷ [])
     lacking-push [] b c m n = refl
     lacking-push (a ∷ bs) b c m n = refl
 
 -- one block more behind those that lack nothing
-pub lines_of_blocks-push_block : (blocks : List BlockValue) (source count : ℕ)
-    → lines_of_blocks count (blocks ++ record { source = source; labels = [] } ∷ []) ≡ lines_of_blocks 0 blocks ++ LabelsBlock source count ∷ []
-lines_of_blocks-push_block [] source count = let same : 0 + count ≡ count = omega arith in ap (λ n. LabelsBlock source n ∷ []) same
-lines_of_blocks-push_block (f ∷ blocks) source count =
-    ap₂ (λ n rs. lines_of_short n f ++ rs) (lacking-both blocks _ count) (lines_of_blocks-push_block blocks source count) ∙ sym (append_assoc (lines_of_short (lacking 0 blocks) f) _ (LabelsBlock source count ∷ []))
+pub lines_of_blocks-push_block : (blocks : List BlockValue) (source count : ℕ) (radius : Option ℤ)
+    → lines_of_blocks count (blocks ++ record { source = source; radius = radius; labels = [] } ∷ []) ≡ lines_of_blocks 0 blocks ++ LabelsBlock source count radius ∷ []
+lines_of_blocks-push_block [] source count radius = let same : 0 + count ≡ count = omega arith in ap (λ n. LabelsBlock source n radius ∷ []) same
+lines_of_blocks-push_block (f ∷ blocks) source count radius =
+    ap₂ (λ n rs. lines_of_short n f ++ rs) (lacking-both blocks _ count) (lines_of_blocks-push_block blocks source count radius) ∙ sym (append_assoc (lines_of_short (lacking 0 blocks) f) _ (LabelsBlock source count radius ∷ []))
   where
     lacking-both : (bs : List BlockValue) (b : BlockValue) (n : ℕ) → lacking n (bs ++ b ∷ []) ≡ lacking 0 bs
     lacking-both [] b n = refl
@@ -160,15 +160,15 @@ push_same (d ∷ xs) [] x y e = absurd (omega (arith, ap length e, length-append
 push_same (c ∷ xs) (d ∷ ys) x y e = push_same xs ys x y (cc)
 
 -- a beginning with one block more
-pub begun_block : (begun : LabelsBegun) (source count : ℕ) → AreLabelsBegun begun → IsNode begun.nodes source → count ≤ 268435456 → list_any (has_source source) begun.blocks ≡ false → length begun.blocks < begun.declared → AreLabelsBegun (with_opened begun source count)
-begun_block begun source count are within few fresh room =
-    let b : BlockValue = record { source = source; labels = [] } in
+pub begun_block : (begun : LabelsBegun) (source count : ℕ) (radius : Option ℤ) → AreLabelsBegun begun → IsNode begun.nodes source → IfSome radius IsRadius → count ≤ 268435456 → list_any (has_source source) begun.blocks ≡ false → length begun.blocks < begun.declared → AreLabelsBegun (with_opened begun source count radius)
+begun_block begun source count radius are within radius_within few fresh room =
+    let b : BlockValue = record { source = source; radius = radius; labels = [] } in
     record {
       nodes_few = are.nodes_few;
       blocks_few = are.blocks_few;
       no_more = omega (arith, room, length-append begun.blocks (b ∷ []));
       last_few = λ front last e. omega (arith, few, ap (λ (x : BlockValue). length x.labels) (push_same begun.blocks front b last e));
       none_lack = λ e. absurd (omega (arith, ap length e, length-append begun.blocks (b ∷ [])));
-      blocks = All-append (IsBlock begun.nodes) begun.blocks (b ∷ []) are.blocks (All-cons (IsBlock begun.nodes) b [] (block_empty begun.nodes source within) (All-nil (IsBlock begun.nodes)));
+      blocks = All-append (IsBlock begun.nodes) begun.blocks (b ∷ []) are.blocks (All-cons (IsBlock begun.nodes) b [] (block_empty begun.nodes source radius within radius_within) (All-nil (IsBlock begun.nodes)));
       sources = each_behind_push IsNewSource begun.blocks b are.sources (new_source begun.blocks b fresh);
     }

@@ -11,8 +11,8 @@ use Rattle.std.proofs.lemmas.List.Sums.{fold-append}
 use Rattle.dimacs_records.specs.declared.kinds.TextKind.TheVariants.{Labels}
 use Rattle.dimacs_records.specs.declared.records.Record.{Record}
 use Rattle.dimacs_records.specs.declared.records.Record.TheVariants.{LabelsProblem, LabelsBlock, LabelsNode}
-use Rattle.dimacs_records.specs.declared.reasons.Reason.TheVariants.{ProblemMissing, ProblemTwice, RecordOrder, NodeRange, NodeTwice, TooMany, TooFew, PredUnknown}
-use Rattle.dimacs_records.specs.Blocks.{Block, block_in, block_after, is_labelled, is_full_block, is_short_block}
+use Rattle.dimacs_records.specs.declared.reasons.Reason.TheVariants.{ProblemMissing, ProblemTwice, RecordOrder, NodeRange, NodeTwice, TooMany, TooFew, PredUnknown, PastRadius}
+use Rattle.dimacs_records.specs.Blocks.{Block, block_in, block_after, is_labelled, is_full_block, is_past_block, is_short_block}
 use Rattle.dimacs_records.specs.Earlier.{Problem, declares, problem_in, problem_of, or_else, counted_in, is_counted, names}
 use Rattle.dimacs_records.specs.Faults.{FirstAtEnd}
 use Rattle.dimacs_records.specs.FieldReader.{fault_at}
@@ -29,8 +29,8 @@ pub record Say (earlier : List Record) (nodes declared : ℕ) (sources : List �
   pub named : (id : ℕ) → list_any (names id) earlier ≡ list_any (is_source id) sources
   pub block : block_in earlier ≡ last
 
-abbrev pub opened : ℕ → ℕ → List ℕ → Block
-opened source count ids = record { source = source; count = count; ids = ids }
+abbrev pub opened : ℕ → ℕ → Option ℤ → List ℕ → Block
+opened source count radius ids = record { source = source; count = count; radius = radius; ids = ids }
 
 problem_in-append : (rs more : List Record) (p : Problem) → problem_in rs ≡ Some p → problem_in (rs ++ more) ≡ Some p
 problem_in-append [] more p h = absurd (cc)
@@ -52,35 +52,35 @@ say_problem nodes declared = record { problem = refl; counted = refl; named = λ
 
 -- what is said about earlier records
 module _ (earlier : List Record) (nodes declared : ℕ) (sources : List ℕ) (last : Option Block) (say : Say earlier nodes declared sources last) where
-  pub say_block : (source count : ℕ) → Say (earlier ++ LabelsBlock source count ∷ []) nodes declared (sources ++ source ∷ []) (Some (opened source count []))
-  say_block source count = record {
-    problem = problem_in-append earlier (LabelsBlock source count ∷ []) _ say.problem;
-    counted = counted_in-append earlier (LabelsBlock source count ∷ []) ∙ (ap (λ n. n + 1) say.counted ∙ sym (length-append sources (source ∷ [])));
-    named = λ id. list_any-append (names id) earlier (LabelsBlock source count ∷ []) ∙ (ap (λ b. b || list_any (is_source id) (source ∷ [])) (say.named id) ∙ sym (list_any-append (is_source id) sources (source ∷ [])));
-    block = block_in-push earlier (LabelsBlock source count);
+  pub say_block : (source count : ℕ) (radius : Option ℤ) → Say (earlier ++ LabelsBlock source count radius ∷ []) nodes declared (sources ++ source ∷ []) (Some (opened source count radius []))
+  say_block source count radius = record {
+    problem = problem_in-append earlier (LabelsBlock source count radius ∷ []) _ say.problem;
+    counted = counted_in-append earlier (LabelsBlock source count radius ∷ []) ∙ (ap (λ n. n + 1) say.counted ∙ sym (length-append sources (source ∷ [])));
+    named = λ id. list_any-append (names id) earlier (LabelsBlock source count radius ∷ []) ∙ (ap (λ b. b || list_any (is_source id) (source ∷ [])) (say.named id) ∙ sym (list_any-append (is_source id) sources (source ∷ [])));
+    block = block_in-push earlier (LabelsBlock source count radius);
   }
 
   pub second_problem : (n m : ℕ) → IsFirstCondition earlier (LabelsProblem n m) (fault_at 0 ProblemTwice)
   second_problem n m = is_first_condition earlier (LabelsProblem n m) (fault_at 0 ProblemTwice) (rw say.problem refl)
 
-  pub source_above : (source count : ℕ) → nodes < source → IsFirstCondition earlier (LabelsBlock source count) (fault_at 2 NodeRange)
-  source_above source count above = is_first_condition earlier (LabelsBlock source count) (fault_at 2 NodeRange) (rw (say.problem, lt-ltb nodes source above) refl)
+  pub source_above : (source count : ℕ) (radius : Option ℤ) → nodes < source → IsFirstCondition earlier (LabelsBlock source count radius) (fault_at 2 NodeRange)
+  source_above source count radius above = is_first_condition earlier (LabelsBlock source count radius) (fault_at 2 NodeRange) (rw (say.problem, lt-ltb nodes source above) refl)
 
-  pub source_twice : (source count : ℕ) → source ≤ nodes → list_any (is_source source) sources ≡ true → IsFirstCondition earlier (LabelsBlock source count) (fault_at 2 NodeTwice)
-  source_twice source count within twice = is_first_condition earlier (LabelsBlock source count) (fault_at 2 NodeTwice) (rw (say.problem, le-ltb nodes source within, say.named source, twice) refl)
+  pub source_twice : (source count : ℕ) (radius : Option ℤ) → source ≤ nodes → list_any (is_source source) sources ≡ true → IsFirstCondition earlier (LabelsBlock source count radius) (fault_at 2 NodeTwice)
+  source_twice source count radius within twice = is_first_condition earlier (LabelsBlock source count radius) (fault_at 2 NodeTwice) (rw (say.problem, le-ltb nodes source within, say.named source, twice) refl)
 
-  pub too_many_blocks : (source count : ℕ) → source ≤ nodes → list_any (is_source source) sources ≡ false → declared ≤ length sources → IsFirstCondition earlier (LabelsBlock source count) (fault_at 0 TooMany)
-  too_many_blocks source count within fresh full = is_first_condition earlier (LabelsBlock source count) (fault_at 0 TooMany) (rw (say.problem, say.counted, le-ltb nodes source within, say.named source, fresh, le-leb declared (length sources) full) refl)
+  pub too_many_blocks : (source count : ℕ) (radius : Option ℤ) → source ≤ nodes → list_any (is_source source) sources ≡ false → declared ≤ length sources → IsFirstCondition earlier (LabelsBlock source count radius) (fault_at 0 TooMany)
+  too_many_blocks source count radius within fresh full = is_first_condition earlier (LabelsBlock source count radius) (fault_at 0 TooMany) (rw (say.problem, say.counted, le-ltb nodes source within, say.named source, fresh, le-leb declared (length sources) full) refl)
 
-  pub block_before_short : (source count : ℕ) → source ≤ nodes → list_any (is_source source) sources ≡ false → length sources < declared → is_short_block last ≡ true → IsFirstCondition earlier (LabelsBlock source count) (fault_at 0 TooFew)
-  block_before_short source count within fresh room short =
+  pub block_before_short : (source count : ℕ) (radius : Option ℤ) → source ≤ nodes → list_any (is_source source) sources ≡ false → length sources < declared → is_short_block last ≡ true → IsFirstCondition earlier (LabelsBlock source count radius) (fault_at 0 TooFew)
+  block_before_short source count radius within fresh room short =
       let counted : nat_le declared (length sources) ≡ false = grind (arith, nat_tests, room) in
-      is_first_condition earlier (LabelsBlock source count) (fault_at 0 TooFew) (rw (say.problem, say.counted, say.block, le-ltb nodes source within, say.named source, fresh, counted, short) refl)
+      is_first_condition earlier (LabelsBlock source count radius) (fault_at 0 TooFew) (rw (say.problem, say.counted, say.block, le-ltb nodes source within, say.named source, fresh, counted, short) refl)
 
-  pub block_allowed : (source count : ℕ) → source ≤ nodes → list_any (is_source source) sources ≡ false → length sources < declared → is_short_block last ≡ false → IsAllowed earlier (LabelsBlock source count)
-  block_allowed source count within fresh room short =
+  pub block_allowed : (source count : ℕ) (radius : Option ℤ) → source ≤ nodes → list_any (is_source source) sources ≡ false → length sources < declared → is_short_block last ≡ false → IsAllowed earlier (LabelsBlock source count radius)
+  block_allowed source count radius within fresh room short =
       let counted : nat_le declared (length sources) ≡ false = grind (arith, nat_tests, room) in
-      is_allowed earlier (LabelsBlock source count) (rw (say.problem, say.counted, say.block, le-ltb nodes source within, say.named source, fresh, counted, short) refl)
+      is_allowed earlier (LabelsBlock source count radius) (rw (say.problem, say.counted, say.block, le-ltb nodes source within, say.named source, fresh, counted, short) refl)
 
   pub label_outside : (id : ℕ) (dist : ℤ) (pred : ℕ) → is_none last ≡ true → IsFirstCondition earlier (LabelsNode id dist pred) (fault_at 0 RecordOrder)
   label_outside id dist pred outside = is_first_condition earlier (LabelsNode id dist pred) (fault_at 0 RecordOrder) (rw (say.problem, say.block, outside) refl)
@@ -102,8 +102,11 @@ module _ (earlier : List Record) (nodes declared : ℕ) (sources : List ℕ) (la
     pub pred_unknown : is_labelled last id ≡ false → is_full_block last ≡ false → is_labelled last pred ≡ false → IsFirstCondition earlier (LabelsNode id dist pred) (fault_at 0 PredUnknown)
     pred_unknown fresh room unknown = is_first_condition earlier (LabelsNode id dist pred) (fault_at 0 PredUnknown) (rw (say.problem, say.block, inside, le-ltb nodes id id_within, le-ltb nodes pred pred_within, fresh, room, unknown) refl)
 
-    pub label_allowed : is_labelled last id ≡ false → is_full_block last ≡ false → is_labelled last pred ≡ true → IsAllowed earlier (LabelsNode id dist pred)
-    label_allowed fresh room known = is_allowed earlier (LabelsNode id dist pred) (rw (say.problem, say.block, inside, le-ltb nodes id id_within, le-ltb nodes pred pred_within, fresh, room, known) refl)
+    pub past_radius : is_labelled last id ≡ false → is_full_block last ≡ false → is_labelled last pred ≡ true → is_past_block last dist ≡ true → IsFirstCondition earlier (LabelsNode id dist pred) (fault_at 3 PastRadius)
+    past_radius fresh room known past = is_first_condition earlier (LabelsNode id dist pred) (fault_at 3 PastRadius) (rw (say.problem, say.block, inside, le-ltb nodes id id_within, le-ltb nodes pred pred_within, fresh, room, known, past) refl)
+
+    pub label_allowed : is_labelled last id ≡ false → is_full_block last ≡ false → is_labelled last pred ≡ true → is_past_block last dist ≡ false → IsAllowed earlier (LabelsNode id dist pred)
+    label_allowed fresh room known near = is_allowed earlier (LabelsNode id dist pred) (rw (say.problem, say.block, inside, le-ltb nodes id id_within, le-ltb nodes pred pred_within, fresh, room, known, near) refl)
 
   pub too_few_blocks : length sources < declared → FirstAtEnd Labels earlier TooFew
   too_few_blocks room = is_first_at_end Labels earlier TooFew (rw (say.problem, say.counted, lt-ltb (length sources) declared room) refl)
@@ -115,9 +118,9 @@ module _ (earlier : List Record) (nodes declared : ℕ) (sources : List ℕ) (la
   all_there full short = is_complete Labels earlier (rw (say.problem, say.counted, say.block, le-ltb (length sources) declared full, short) refl)
 
 -- one label more
-pub say_label : (earlier : List Record) (nodes declared : ℕ) (sources : List ℕ) (source count : ℕ) (ids : List ℕ) → Say earlier nodes declared sources (Some (opened source count ids))
-    → (id : ℕ) (dist : ℤ) (pred : ℕ) → Say (earlier ++ LabelsNode id dist pred ∷ []) nodes declared sources (Some (opened source count (ids ++ id ∷ [])))
-say_label earlier nodes declared sources source count ids say id dist pred = record {
+pub say_label : (earlier : List Record) (nodes declared : ℕ) (sources : List ℕ) (source count : ℕ) (radius : Option ℤ) (ids : List ℕ) → Say earlier nodes declared sources (Some (opened source count radius ids))
+    → (id : ℕ) (dist : ℤ) (pred : ℕ) → Say (earlier ++ LabelsNode id dist pred ∷ []) nodes declared sources (Some (opened source count radius (ids ++ id ∷ [])))
+say_label earlier nodes declared sources source count radius ids say id dist pred = record {
   problem = problem_in-append earlier (LabelsNode id dist pred ∷ []) _ say.problem;
   counted = counted_in-append earlier (LabelsNode id dist pred ∷ []) ∙ omega (arith, say.counted);
   named = λ v. list_any-append (names v) earlier (LabelsNode id dist pred ∷ []) ∙ (or_false _ ∙ say.named v);
@@ -129,8 +132,8 @@ say_label earlier nodes declared sources source count ids say id dist pred = rec
     or_false false = refl
 
 -- behind nothing
-pub block_without_problem : (source count : ℕ) → IsFirstCondition [] (LabelsBlock source count) (fault_at 0 ProblemMissing)
-block_without_problem source count = is_first_condition [] (LabelsBlock source count) (fault_at 0 ProblemMissing) refl
+pub block_without_problem : (source count : ℕ) (radius : Option ℤ) → IsFirstCondition [] (LabelsBlock source count radius) (fault_at 0 ProblemMissing)
+block_without_problem source count radius = is_first_condition [] (LabelsBlock source count radius) (fault_at 0 ProblemMissing) refl
 
 pub label_without_problem : (id : ℕ) (dist : ℤ) (pred : ℕ) → IsFirstCondition [] (LabelsNode id dist pred) (fault_at 0 ProblemMissing)
 label_without_problem id dist pred = is_first_condition [] (LabelsNode id dist pred) (fault_at 0 ProblemMissing) refl

@@ -1,8 +1,9 @@
 //! The labels of one source.
 
 ghost use Rattle.std.specs.Prelude.{◌≡◌, ◌==◌, ◌<◌, if◌then◌else◌, ℕ, [], length, OnOk, OnErr, IsSome, Option, Some, None};
+ghost use Rattle.dimacs_records.specs.Blocks.{is_past};
 ghost use Rattle.dimacs_records.specs.Ranges.{IsNode};
-ghost use Rattle.dimacs_claims.specs.Labels.{BlockValue, IsBlock, IsLabel, with_label};
+ghost use Rattle.dimacs_claims.specs.Labels.{BlockValue, IsBlock, IsLabel, IsNear, with_label};
 ghost use Rattle.dimacs_claims.specs.Labels as claims;
 
 use dimacs_lines::Memory;
@@ -17,10 +18,11 @@ pub struct Label {
     pub pred: u32,
 }
 
-/// The labels of the nodes that are claimed to be reached from a source.
+/// The labels of the nodes that are claimed to be reached from a source; where there is a radius, of those up to it.
 #[derive(Drop)]
 pub struct Block {
     source: u32,
+    radius: Option<i128>,
     labels: Vec<Label>,
 }
 
@@ -29,17 +31,25 @@ impl Model for Block {
 
     ghost Value = { BlockValue };
 
-    ghost view = { λ b. record { source = b.source; labels = b.labels.items } };
+    ghost view = { λ b. record { source = b.source; radius = b.radius; labels = b.labels.items } };
 }
 
 impl Block {
-    /// The block of a source, without labels. Takes no memory.
+    /// The block of a source, without labels and without a radius. Takes no memory.
     pub fn new(alloc: Global, source: u32) -> Block
-        ensures made { result ≡ record { source = source; labels = [] } }
+        ensures made { result ≡ record { source = source; radius = None; labels = [] } }
         ensures lawful { (nodes : ℕ) → IsNode nodes source → IsBlock nodes result }
+    {
+        Block::within(alloc, source, None)
+    }
+
+    /// The block of a source up to a radius, or without one.
+    pub(crate) fn within(alloc: Global, source: u32, radius: Option<i128>) -> Block
+        ensures { result ≡ record { source = source; radius = radius; labels = [] } }
     {
         Block {
             source,
+            radius,
             labels: Vec::new(alloc),
         }
     }
@@ -49,7 +59,7 @@ impl Block {
         requires { claims.label self.old label.id ≡ None }
         ensures added { OnOk result (self.new ≡ with_label self.old label) }
         ensures labels { OnOk result ((id : ℕ) → claims.label self.new id ≡ (if label.id == id then Some label.dist else claims.label self.old id)) }
-        ensures lawful { OnOk result ((nodes : ℕ) → IsBlock nodes self.old → IsLabel nodes label → length self.old.labels < 268435456 → IsSome (claims.label self.old label.pred) → IsBlock nodes self.new) }
+        ensures lawful { OnOk result ((nodes : ℕ) → IsBlock nodes self.old → IsLabel nodes label → length self.old.labels < 268435456 → IsSome (claims.label self.old label.pred) → IsNear self.old.radius label.dist → IsBlock nodes self.new) }
         ensures unchanged { OnErr result (self.new ≡ self.old) }
     {
         self.labels.push(label)?;
@@ -60,6 +70,24 @@ impl Block {
         ensures { result ≡ self.now.source }
     {
         self.source
+    }
+
+    /// Up to which distance the block goes; past it nothing is claimed.
+    pub fn radius(&self) -> Option<i128>
+        ensures { result ≡ self.now.radius }
+    {
+        self.radius
+    }
+
+    /// Whether a distance is greater than the radius.
+    #[inline(always)]
+    pub(crate) fn is_past(&self, dist: i128) -> bool
+        ensures { result ≡ is_past self.now.radius dist }
+    {
+        match self.radius {
+            None => false,
+            Some(radius) => radius < dist,
+        }
     }
 
     /// In the order of the text.

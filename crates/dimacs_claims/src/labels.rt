@@ -17,7 +17,7 @@ ghost use Rattle.dimacs_claims.specs.Labels.{AreLabels, AreSources, BlockValue, 
 ghost use Rattle.std.specs.FinSet as set;
 ghost use Rattle.std.specs.List.{All};
 ghost use Rattle.std.specs.Ordering.{nat_cmp};
-ghost use Rattle.dimacs_records.specs.Ranges.{IsWide};
+ghost use Rattle.dimacs_records.specs.Ranges.{IsRadius, IsWide};
 ghost use Rattle.dimacs_claims.specs.LabelTexts.{FitText, GivesLabels, SpellsLabels, block_lines, canonical_labels, label_line};
 ghost use Rattle.dimacs_claims.specs.LabelsReading.{AreLabelsBegun, labels_begun_records, with_opened};
 
@@ -182,10 +182,16 @@ impl Model for BegunLabels {
 }
 
 impl BegunLabels {
-    fn start_block(&mut self, source: u32, count: u32) -> Result<(), TakeError>
+    fn start_block(
+        &mut self,
+        source: u32,
+        count: u32,
+        radius: Option<i128>,
+    ) -> Result<(), TakeError>
         requires source { 1 ≤ source }
         requires count { count ≤ 268435456 }
-        ensures { TakesRecord (labels_begun_records self.old) (LabelsBlock source count) result (labels_begun_records self.new) }
+        requires radius { IfSome radius IsRadius }
+        ensures { TakesRecord (labels_begun_records self.old) (LabelsBlock source count radius) result (labels_begun_records self.new) }
     {
         if source > self.nodes {
             return Err(TakeError::refused(2, Reason::NodeRange));
@@ -199,17 +205,17 @@ impl BegunLabels {
         if self.missing > 0 {
             return Err(TakeError::refused(0, Reason::TooFew));
         }
-        self.open(source, count)?;
+        self.open(source, count, radius)?;
         Ok(())
     }
 
     /// Opens a block behind the others.
-    fn open(&mut self, source: u32, count: u32) -> Result<(), Memory>
-        requires { AreLabelsBegun (with_opened self.old source count) }
-        ensures opened { OnOk result (self.new ≡ with_opened self.old source count) }
+    fn open(&mut self, source: u32, count: u32, radius: Option<i128>) -> Result<(), Memory>
+        requires { AreLabelsBegun (with_opened self.old source count radius) }
+        ensures opened { OnOk result (self.new ≡ with_opened self.old source count radius) }
         ensures unchanged { OnErr result (self.new ≡ self.old) }
     {
-        let block = Block::new(*self.blocks.allocator(), source);
+        let block = Block::within(*self.blocks.allocator(), source, radius);
         self.blocks.push(block)?;
         let Ok(()) = self.sources.insert(source) else {
             self.blocks.pop();
@@ -243,6 +249,9 @@ impl BegunLabels {
         }
         if !self.has_label(source, label.pred) {
             return Err(TakeError::refused(0, Reason::PredUnknown));
+        }
+        if block.is_past(label.dist) {
+            return Err(TakeError::refused(3, Reason::PastRadius));
         }
         let number = self.blocks.len() as u32;
         self.labelled.reserve(label.id)?;
@@ -296,15 +305,21 @@ impl LabelsReading {
         Ok(())
     }
 
-    fn start_block(&mut self, source: u32, count: u32) -> Result<(), TakeError>
+    fn start_block(
+        &mut self,
+        source: u32,
+        count: u32,
+        radius: Option<i128>,
+    ) -> Result<(), TakeError>
         requires source { 1 ≤ source }
         requires count { count ≤ 268435456 }
-        ensures { TakesRecord self.old (LabelsBlock source count) result self.new }
+        requires radius { IfSome radius IsRadius }
+        ensures { TakesRecord self.old (LabelsBlock source count radius) result self.new }
     {
         let Some(begun) = &mut self.begun else {
             return Err(TakeError::refused(0, Reason::ProblemMissing));
         };
-        begun.start_block(source, count)
+        begun.start_block(source, count, radius)
     }
 
     #[inline(always)]
@@ -334,7 +349,11 @@ impl Reading for LabelsReading {
     fn take(&mut self, _line: u64, said: Record) -> Result<(), TakeError> {
         match said {
             Record::LabelsProblem { nodes, blocks } => self.start(nodes, blocks),
-            Record::LabelsBlock { source, count } => self.start_block(source, count),
+            Record::LabelsBlock {
+                source,
+                count,
+                radius,
+            } => self.start_block(source, count, radius),
             Record::LabelsNode { id, dist, pred } => self.add_label(Label { dist, id, pred }),
             _ => unreachable!(),
         }
@@ -397,7 +416,16 @@ fn write_block<S: Sink>(page: &mut Page, sink: &mut S, block: &Block)
     let labels = block.labels();
     let source = block.source();
     let count = labels.len() as u32;
-    write_record(page, sink, &Record::LabelsBlock { source, count });
+    let radius = block.radius();
+    write_record(
+        page,
+        sink,
+        &Record::LabelsBlock {
+            source,
+            count,
+            radius,
+        },
+    );
     for label in labels {
         write_record(page, sink, &label_record(*label));
     }

@@ -11,7 +11,7 @@ use Rattle.dimacs_claims.proofs.labels.write_block.Goals as goal
 
 pub loop-label-init : goal.loop-label-init
 loop-label-init g c = record {
-  written = λ start text h. line_behind start _ _ text (LabelsBlock c.source-source.result (length c.labels-labels.result.now)) (c.write_record.ensures.written start text h);
+  written = λ start text h. line_behind start _ _ text (LabelsBlock c.source-source.result (length c.labels-labels.result.now) c.args.block.now.radius) (rw c.radius-radius.ensures at (c.write_record.ensures.written start text h));
   faults = c.write_record.ensures.faults;
 }
 
@@ -20,7 +20,7 @@ loop-label-preserved g c =
     let labels = c.labels-labels.result.now in
     let i = c.loop-label.label-index in
     let r = c.label_record.result in
-    let first = LabelsBlock c.source-source.result (length labels) in
+    let first = LabelsBlock c.source-source.result (length labels) c.args.block.now.radius in
     let none : Label = record { dist = pos 0; id = 0; pred = 0 } in
     let before = first ∷ map label_line (take i labels) in
     let next : first ∷ map label_line (take (i + 1) labels) ≡ before ++ r ∷ [] = next_label first labels i none c.loop-label-test.true ∙ ap (λ x. before ++ x ∷ []) (sym c.label_record.ensures) in
@@ -33,7 +33,7 @@ loop-label-preserved g c =
 pub returns-clause-written : goal.returns-clause-written
 returns-clause-written g c = λ start text h.
     let labels = c.labels-labels.result.now in
-    let all : LabelsBlock c.source-source.result (length labels) ∷ map label_line (take c.loop-label.label-index labels) ≡ block_lines c.args.block.now = rw (take_all c.loop-label.label-index labels c.loop-label-test.false, c.source-source.ensures, c.labels-labels.ensures) refl in
+    let all : LabelsBlock c.source-source.result (length labels) c.args.block.now.radius ∷ map label_line (take c.loop-label.label-index labels) ≡ block_lines c.args.block.now = rw (take_all c.loop-label.label-index labels c.loop-label-test.false, c.source-source.ensures, c.labels-labels.ensures) refl in
     subst (λ rs. IsWritten start (text ++ canonical_text rs) (g.S.Sink.accepted c.loop-label.sink) c.loop-label.page) all (c.loop-label.invariant.written start text h)
 
 pub returns-clause-faults : goal.returns-clause-faults

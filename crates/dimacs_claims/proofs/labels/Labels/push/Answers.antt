@@ -1,4 +1,4 @@
-use Rattle.std.proofs.Common.{◌≡◌, ◌<◌, ◌+◌, ◌++◌, ◌∷◌, [], ◌∙◌, ap, length, subst, sym, arith}
+use Rattle.std.proofs.Common.{◌≡◌, ◌<◌, ◌+◌, ◌++◌, ◌∷◌, [], None, ◌∙◌, ap, length, subst, sym, arith}
 use Rattle.std.proofs.Math.Seq.{get_or-append_seam}
 use Rattle.std.proofs.lemmas.List.{length-append}
 use Rattle.dimacs_claims.specs.ById.{IsById, labels_at}
@@ -26,7 +26,7 @@ invariant_of-self-in-Ok c =
     let size : length (blocks ++ b ∷ []) ≡ length blocks + 1 = omega (arith, length-append blocks (b ∷ [])) in
     let count = c.self.invariant.2 in
     let here : b.labels ≡ labels_at (blocks ++ b ∷ []) (length indices) =
-    sym (ap (labels_at (blocks ++ b ∷ [])) count ∙ ap (λ (d : BlockValue). d.labels) (get_or-append_seam blocks b [] (record { source = 0; labels = [] }))) in
+    sym (ap (labels_at (blocks ++ b ∷ [])) count ∙ ap (λ (d : BlockValue). d.labels) (get_or-append_seam blocks b [] (record { source = 0; radius = None; labels = [] }))) in
     let by_id : IsById (labels_at (blocks ++ b ∷ []) (length indices)) index = subst (λ labels. IsById labels index) (c.labels.ensures ∙ here) c.in_ok-index.ensures in
     rw (more_blocks, more_indices) (
       labels_push inside.nodes blocks b c.self.invariant.0 lawful new few,
