@@ -52,7 +52,7 @@ module _ {X : Type 0} (p : X → Bool) where
 -- ---- whether a source has a block
 pub has_block : (blocks : List BlockValue) (source i : ℕ) → position (has_source source) blocks ≡ Some i → HasBlock blocks source
 has_block blocks source i is =
-    let d : BlockValue = record { source = 0; labels = [] } in
+    let d : BlockValue = record { source = 0; radius = None; labels = [] } in
     let found = position-Some (has_source source) blocks i d is in
     (i, get_or blocks i d, found.0, get_or_default blocks i _ _ found.0, eqb-true _ _ found.1)
 
@@ -101,7 +101,7 @@ block_found blocks source has = by_number (position (has_source source) blocks) 
     by_number : (number : Option ℕ) → position (has_source source) blocks ≡ number → (i : ℕ) × (b : BlockValue) × (i < length blocks) × (get_or blocks i b ≡ b) × (block_of blocks source ≡ Some b) × (b.source ≡ source)
     by_number None is = absurd (no_block blocks source is has)
     by_number (Some i) is =
-        let d : BlockValue = record { source = 0; labels = [] } in
+        let d : BlockValue = record { source = 0; radius = None; labels = [] } in
         let found = position-Some (has_source source) blocks i d is in
         let first : block_of blocks source ≡ slice_get blocks i = find-position (has_source source) blocks ∙ ap (option_and_then (slice_get blocks)) is in
         (i, get_or blocks i d, found.0, get_or_default blocks i _ _ found.0, first ∙ slice_get-get_or blocks i d found.0, eqb-true _ _ found.1)

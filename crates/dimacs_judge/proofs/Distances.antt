@@ -30,7 +30,7 @@ weight_more (b ∷ walk) a = omega (arith, ints, weight_more walk a)
 
 -- the block with these labels alone
 abbrev with_labels : ℕ → List Label → BlockValue
-with_labels s labels = record { source = s; labels = labels }
+with_labels s labels = record { source = s; radius = None; labels = labels }
 
 under : (b : Bool) (x y z : Option ℤ) (d : ℤ) → (y ≡ Some d → z ≡ Some d) → cond b x y ≡ Some d → cond b x z ≡ Some d
 under true x y z d f e = e

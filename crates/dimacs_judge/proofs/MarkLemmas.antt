@@ -68,7 +68,7 @@ label_wide nodes b v is = label_at_wide nodes (b ∷ []) 0 v (All-cons (IsBlock 
 
 -- ---- marking
 abbrev pub first_labels : BlockValue → ℕ → BlockValue
-first_labels b n = record { source = b.source; labels = take n b.labels }
+first_labels b n = record { source = b.source; radius = b.radius; labels = take n b.labels }
 
 -- the source and the first n labels are marked
 pub record AreMarkedFirst (number : ℕ) (b : BlockValue) (n : ℕ) (marks : NodeTable Mark) : Type 0 where
@@ -120,7 +120,7 @@ marked_more number nodes b n old new m is inside are blank here others dist pred
           | inr off ↦ omega (arith, ap (λ (k : Mark). k.block) (others v off), are.early.all v)
         ];
       };
-      labels = λ v. subst (λ labels. marked_dist number (value_of new v) ≡ label (record { source = b.source; labels = labels }) v) (sym more) (elim (cases_eq v l.id) [
+      labels = λ v. subst (λ labels. marked_dist number (value_of new v) ≡ label (record { source = b.source; radius = b.radius; labels = labels }) v) (sym more) (elim (cases_eq v l.id) [
         | inl same ↦
             ap (λ w. marked_dist number (value_of new w)) same
             ∙ (ap (marked_dist number) here ∙ (marked_here number m by ∙ (ap (λ d. Some d) dist
@@ -144,7 +144,7 @@ all_marked number nodes b n marks is all are =
     let whole : take n b.labels ≡ b.labels = take_all n b.labels all in (
       record {
         early = are.early;
-        labels = λ v. are.labels v ∙ ap (λ labels. label (record { source = b.source; labels = labels }) v) whole;
+        labels = λ v. are.labels v ∙ ap (λ labels. label (record { source = b.source; radius = b.radius; labels = labels }) v) whole;
         named = label_named nodes b is;
         preds = λ l has. are.preds l (subst (λ labels. Contains labels l) (sym whole) has);
       },

@@ -15,10 +15,10 @@ pub loop-label-preserved : goal.loop-label-preserved
 loop-label-preserved g c =
     let block = block_at c.args.labels.now.blocks c.args.block in
     let labels_are = c.labels_in-label-items.ensures in
-    support_clear_more _ _ c.loop-label.label-index c.loop-label.invariant (rw (c.label.ensures.label, label_at-block _ _ _ c.requires, labels_are) at (c.if-not-is_supported.ensures.0 refl))
+    support_clear_more (g.N.Network.list c.args.network.now) block c.loop-label.label-index c.loop-label.invariant (rw (c.label.ensures.label, label_at-block _ _ _ c.requires, labels_are) at (c.if-not-is_supported.ensures.0 refl))
 
 pub returns : goal.returns
 returns g c =
     let block = block_at c.args.labels.now.blocks c.args.block in
     let labels_are = c.labels_in-label-items.ensures in
-    support_clear_end _ _ c.loop-label.label-index (rw labels_are at c.loop-label-test.false) c.loop-label.invariant
+    support_clear_end (g.N.Network.list c.args.network.now) block c.loop-label.label-index (rw labels_are at c.loop-label-test.false) c.loop-label.invariant
