@@ -1,5 +1,5 @@
 -- The blocks of all sources, and that they pass the judge's tests.
-use Rattle.std.proofs.Common.{◌≡◌, ℕ, ◌+◌, ◌<◌, ◌≤◌, true, false, cond, List, [], ◌∷◌, ◌++◌, All, length, refl, sym, ap, subst, ◌∙◌, arith, Some, ℤ, pos}
+use Rattle.std.proofs.Common.{◌≡◌, ℕ, ◌+◌, ◌<◌, ◌≤◌, true, false, cond, List, [], ◌∷◌, ◌++◌, All, length, refl, sym, ap, subst, ◌∙◌, arith, Some, None, ℤ, pos}
 use Rattle.std.specs.Prelude.{◌==◌, ◌||◌, ◌+ℤ◌, map}
 use Rattle.std.specs.List.{list_any, flat_map}
 use Rattle.std.proofs.Math.IntN.{pos-+ℤ-pos}
@@ -134,5 +134,6 @@ produced g q a labels passing_shows by within is =
     record {
       shows = passing_shows g q labels is.lawful passes;
       nearest_first = All-weaker T (λ (b : BlockValue). IsNearestFirst b.labels) (λ b tree. tree.nearest_first) labels.blocks is.trees;
+      unbounded = All-weaker T (λ (b : BlockValue). b.radius ≡ None) (λ b tree. tree.unbounded) labels.blocks is.trees;
       sources = is.sources_are;
     }

@@ -371,6 +371,7 @@ module _ (a : Adjacency) (b : BlockValue) (marks : ℕ → Known) (e : Reach ℕ
     };
     labelled = is.labelled;
     counted = is.counted;
+    unbounded = is.unbounded;
     lawful = is.lawful;
     made = is.made;
     low = is.low;
@@ -530,6 +531,7 @@ module _ (a : Adjacency) (b : BlockValue) (marks : ℕ → Known) (e : Reach ℕ
             waits = r.waits;
             labelled = labelled_after;
             counted = omega (arith, count_after marks' front' r, is.counted, length-append b.labels (added ∷ []));
+            unbounded = is.unbounded;
             lawful = lawful;
             made = All-push (IsMade a (with_label b added)) b.labels added (All-weaker (IsMade a b) (IsMade a (with_label b added)) (made_stays b added has_none adds a) b.labels is.made) added_made;
             low = All-push (λ (l : Label). l.dist ≤ℤ pos e.dist) b.labels added nearer_before (omega (arith, ints));
@@ -578,7 +580,7 @@ module _ (a : Adjacency) (source : ℕ) (marks started : ℕ → Known) (is : Ar
   }
 
   abbrev bare : BlockValue
-  bare = record { source = source; labels = [] }
+  bare = record { source = source; radius = None; labels = [] }
 
   module _ (lawful : IsBlock a.nodes bare) (marks' : ℕ → Known) (front' : List (Reach ℕ)) (r : Relaxes a source 0 started [] marks' front') where
     abbrev fallen : Lowers started marks'
@@ -596,6 +598,7 @@ module _ (a : Adjacency) (source : ℕ) (marks started : ℕ → Known) (is : Ar
       waits = r.waits;
       labelled = start_labelled;
       counted = omega (arith, lowers_count started marks' a.nodes fallen, start_count);
+      unbounded = refl;
       lawful = lawful;
       made = All-nil (IsMade a bare);
       low = All-nil (λ (l : Label). l.dist ≤ℤ pos 0);
@@ -632,4 +635,4 @@ module _ (a : Adjacency) (b : BlockValue) (marks : ℕ → Known) (is : IsSearch
   ]
 
   pub over_tree : (source : ℕ) → b.source ≡ source → IsTree a source b
-  over_tree source from = record { from = from; lawful = is.lawful; made = is.made; nearest_first = is.nearest_first; positive = over_positive; closed = over_closed }
+  over_tree source from = record { from = from; unbounded = is.unbounded; lawful = is.lawful; made = is.made; nearest_first = is.nearest_first; positive = over_positive; closed = over_closed }

@@ -1,5 +1,5 @@
 -- What the producer of labels answers.
-use Rattle.std.specs.Prelude.{ℕ, ◌≡◌, ◌<◌, ◌+◌, ◌++◌, ◌==◌, List, [], ◌∷◌, All, map, length, slice_index_or, cond, Result, Ok, Err, pos, ◌<ℤ◌, ◌≤ℤ◌}
+use Rattle.std.specs.Prelude.{ℕ, ◌≡◌, ◌<◌, ◌+◌, ◌++◌, ◌==◌, List, [], ◌∷◌, All, map, length, slice_index_or, cond, None, Result, Ok, Err, pos, ◌<ℤ◌, ◌≤ℤ◌}
 use Rattle.std.specs.List.{list_any}
 use Rattle.dimacs_instance.specs.declared.network.ArcView.{ArcView}
 use Rattle.dimacs_instance.specs.Arcs.{NetworkValue}
@@ -40,10 +40,11 @@ IsNearestFirst labels = (k : ℕ) (d : Label) → k + 1 < length labels → (sli
 abbrev pub block_source : BlockValue → ℕ
 block_source b = b.source
 
--- the labels pass the judge's tests and are distances, the nearest first, and there is a block for each source that is asked for, in the order of first use, and no other
+-- the labels pass the judge's tests and are distances, the nearest first, and there is a block without a radius for each source that is asked for, in the order of first use, and no other
 pub record AreProduced (g : NetworkValue) (q : QueriesValue) (l : LabelsValue) : Type 0 where
   pub shows : ShowsDistances g q l
   pub nearest_first : All (λ b. IsNearestFirst b.labels) l.blocks
+  pub unbounded : All (λ b. b.radius ≡ None) l.blocks
   pub sources : map block_source l.blocks ≡ distinct_after [] (sources_asked q)
 
 -- labels, where each query names nodes and no weight is negative; else the first node that is none; else the first arc with a negative weight

@@ -94,6 +94,7 @@ pub record IsSearch (a : Adjacency) (b : BlockValue) (marks : ℕ → Known) (fr
   pub waits : IsFront a floor marks front
   pub labelled : (v : ℕ) → label b v ≡ settled_label (marks v)
   pub counted : settled_count marks a.nodes ≡ length b.labels + 1
+  pub unbounded : b.radius ≡ None
   pub lawful : IsBlock a.nodes b
   pub made : All (IsMade a b) b.labels
   pub low : All (λ (l : Label). l.dist ≤ℤ pos floor) b.labels
@@ -118,6 +119,7 @@ IsClosed a b = (u d : ℕ) → label b u ≡ Some (pos d) → All (λ hop. (e : 
 -- the labels of a search that is over
 pub record IsTree (a : Adjacency) (source : ℕ) (b : BlockValue) : Type 0 where
   pub from : b.source ≡ source
+  pub unbounded : b.radius ≡ None
   pub lawful : IsBlock a.nodes b
   pub made : All (IsMade a b) b.labels
   pub nearest_first : IsNearestFirst b.labels

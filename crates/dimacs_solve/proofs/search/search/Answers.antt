@@ -1,4 +1,4 @@
-use Rattle.std.proofs.Common.{◌∙◌, [], ap, arith}
+use Rattle.std.proofs.Common.{◌∙◌, [], None, ap, arith}
 use Rattle.std.proofs.lemmas.List.Sorted.{IsPermutation-sym, length_permutation}
 use Rattle.dimacs_claims.specs.Labels.{BlockValue, IsBlock}
 use Rattle.dimacs_solve.specs.Marks.{Sets, known, settled}
@@ -24,7 +24,7 @@ loop-reach-init g c =
     let marks' = known value c.relax.new.marks in
     let sets : Sets marks source (settled 0) started = rw c.zero.ensures at c.in_ok-settle.ensures.settled in
     let made = c.new-block.ensures.made in
-    let lawful : IsBlock a.nodes (record { source = source; labels = [] }) = rw made at (c.new-block.ensures.lawful a.nodes c.requires.source) in
+    let lawful : IsBlock a.nodes (record { source = source; radius = None; labels = [] }) = rw made at (c.new-block.ensures.lawful a.nodes c.requires.source) in
     let relaxes : Relaxes a source 0 started [] marks' c.relax.new.frontier = rw (c.zero-2.ensures, c.requires.empty) at c.in_ok-relax.ensures.relaxes in
     record {
       search = rw made (start_search a source marks started c.requires.adjacent c.requires.source c.next_round.ensures.unknown sets lawful marks' c.relax.new.frontier relaxes);
