@@ -1,6 +1,6 @@
 -- Sets of nodes, and records behind those of a set that was begun.
 use Rattle.std.proofs.Common.{◌≡◌, ℕ, suc, ◌<◌, ◌≤◌, ◌∷◌, ◌++◌, [], List, Bool, true, false, Option, Some, None, length, map, ◌+◌, ◌-◌, ◌==◌, ◌||◌, refl, ap, ap₂, sym, ◌∙◌, subst, arith}
-use Rattle.std.specs.Prelude.{codes, is_some, nat_lt, nat_le, count_by}
+use Rattle.std.specs.Prelude.{codes, nat_lt, nat_le, count_by}
 use Rattle.std.specs.List.{All, filter, list_any, range_with_len}
 use Rattle.std.specs.Ordering.{nat_cmp}
 use Rattle.std.specs.Cmp.{nat_cmp_total}
@@ -8,27 +8,25 @@ use Rattle.std.specs.FinSet.{FinSet, contains, from_list, from_list_push, same_s
 use Rattle.std.specs.FinSet as set
 use Rattle.std.proofs.lemmas.List.{map-append, length-append, length-map}
 use Rattle.std.proofs.lemmas.List.Elements.{All-nil, All-cons, All-head, All-tail, All-push}
-use Rattle.std.proofs.lemmas.Bool.{lt-ltb, le-ltb, le-leb, eqb-true}
+use Rattle.std.proofs.lemmas.Bool.{le-ltb, eqb-true}
 use Rattle.std.proofs.lemmas.Bool.Decides.{nat_tests}
 use Rattle.std.proofs.lemmas.Int.{ints}
 use Rattle.dimacs_nodes.proofs.Nodes.{contains-insert, contains-empty}
 use Rattle.dimacs_records.specs.declared.kinds.TextKind.TheVariants as kinds
 use Rattle.dimacs_records.specs.declared.records.Record.{Record}
 use Rattle.dimacs_records.specs.declared.records.Record.TheVariants.{CutProblem, CutNode}
-use Rattle.dimacs_records.specs.declared.reasons.Reason.TheVariants.{ProblemMissing, ProblemTwice, NodeRange, NodeTwice, TooMany, TooFew}
-use Rattle.dimacs_records.specs.Earlier.{names, counted_in}
+use Rattle.dimacs_records.specs.Earlier.{names, counted_in, is_short}
 use Rattle.dimacs_records.specs.Canonical.{CanBeSpelled}
 use Rattle.dimacs_records.specs.Forms.{form, Word, Nodes, Count, Id}
-use Rattle.dimacs_records.specs.Readings.{LineRecord, records_of, IsAllowed, IsFirstCondition, IsComplete}
+use Rattle.dimacs_records.specs.Readings.{LineRecord, records_of, IsAllowed, IsComplete}
 use Rattle.dimacs_records.specs.Texts.{AreFaultless}
-use Rattle.dimacs_records.specs.Faults.{FirstAtEnd}
-use Rattle.dimacs_records.specs.FieldReader.{fault_at}
 use Rattle.dimacs_records.proofs.CanonicalLaws.{canonical_spelled, numbered_all}
-use Rattle.dimacs_records.proofs.ConditionLemmas.{is_first_condition, is_allowed, is_first_at_end, is_complete, allowed_at}
+use Rattle.dimacs_records.proofs.ConditionLemmas.{is_allowed, is_complete, allowed_at}
 use Rattle.dimacs_records.proofs.SplitLemmas.{image_at, All-at}
 use Rattle.dimacs_claims.specs.Cuts.{CutValue, IsCut, AreNamed, GivesCut, SpellsCut, canonical_cut, cut_records, empty_cut, ids_in, is_id, with_node}
 use Rattle.dimacs_records.specs.Ranges.{IsNode}
-use Rattle.dimacs_claims.specs.CutReading.{CutBegun, IsCutBegun, IsCutBegunBy, with_line}
+use Rattle.dimacs_records.specs.Tests.{Counts, Passes, PassesEnd, Tells, TellsEnd}
+use Rattle.dimacs_claims.specs.CutReading.{CutBegun, IsCutBegunBy, declared_by, earlier_lines, is_named, lines_of}
 use Rattle.dimacs_records.specs.Takings.{StandsFor}
 use Rattle.dimacs_claims.proofs.NodeLists.{passing, passing_once, passing_few, none_passing, All-passing, passing_below, passing_listed, passing_more}
 use Rattle.dimacs_records.proofs.CountLemmas.{once_before, once_more}
@@ -46,45 +44,19 @@ module _ (nodes declared : ℕ) (named : List ℕ) where
   abbrev earlier : List Record
   earlier = cut_records nodes declared named
 
-  second_problem : (n k : ℕ) → IsFirstCondition earlier (CutProblem n k) (fault_at 0 ProblemTwice)
-  second_problem n k = is_first_condition earlier (CutProblem n k) (fault_at 0 ProblemTwice) refl
-
   module _ (id : ℕ) where
-    node_above : nodes < id → IsFirstCondition earlier (CutNode id) (fault_at 2 NodeRange)
-    node_above above = is_first_condition earlier (CutNode id) (fault_at 2 NodeRange) (rw (lt-ltb nodes id above) refl)
-
-    node_again : id ≤ nodes → list_any (is_id id) named ≡ true → IsFirstCondition earlier (CutNode id) (fault_at 2 NodeTwice)
-    node_again within again = is_first_condition earlier (CutNode id) (fault_at 2 NodeTwice) (rw (le-ltb nodes id within, any_names id named, again) refl)
-
-    one_too_many : id ≤ nodes → list_any (is_id id) named ≡ false → length named ≡ declared → IsFirstCondition earlier (CutNode id) (fault_at 0 TooMany)
-    one_too_many within new full =
-        let all : nat_le declared (counted_in earlier) ≡ true = rw (counted named) (le-leb declared (length named) (omega (arith, full))) in
-        is_first_condition earlier (CutNode id) (fault_at 0 TooMany) (rw (le-ltb nodes id within, any_names id named, new, all) refl)
-
     one_more : id ≤ nodes → list_any (is_id id) named ≡ false → length named < declared → IsAllowed earlier (CutNode id)
     one_more within new room =
         let all : nat_le declared (counted_in earlier) ≡ false = rw (counted named) (grind (arith, nat_tests, room)) in
         is_allowed earlier (CutNode id) (rw (le-ltb nodes id within, any_names id named, new, all) refl)
-
-  too_few : length named < declared → FirstAtEnd kinds.Cut earlier TooFew
-  too_few room =
-      let few : nat_lt (counted_in earlier) declared ≡ true = rw (counted named) (lt-ltb (length named) declared room) in
-      is_first_at_end kinds.Cut earlier TooFew (rw few refl)
 
   all_lines : declared ≤ length named → IsComplete kinds.Cut earlier
   all_lines full =
       let few : nat_lt (counted_in earlier) declared ≡ false = rw (counted named) (le-ltb (length named) declared full) in
       is_complete kinds.Cut earlier (rw few refl)
 
--- behind nothing
-pub refuses_first : (id : ℕ) → IsFirstCondition [] (CutNode id) (fault_at 0 ProblemMissing)
-refuses_first id = is_first_condition [] (CutNode id) (fault_at 0 ProblemMissing) refl
-
 allows_problem : (n k : ℕ) → IsAllowed [] (CutProblem n k)
 allows_problem n k = is_allowed [] (CutProblem n k) refl
-
-nothing_read : FirstAtEnd kinds.Cut [] ProblemMissing
-nothing_read = is_first_at_end kinds.Cut [] ProblemMissing refl
 
 -- one line more that names a new node
 pub named_more : (nodes : ℕ) (named : List ℕ) (id : ℕ) → AreNamed nodes named → IsNode nodes id → list_any (is_id id) named ≡ false → AreNamed nodes (named ++ id ∷ [])
@@ -103,49 +75,7 @@ one_node_more c id new node = passing_more (contains c.ids) (contains (set.inser
 pub no_nodes : (nodes : ℕ) → length (ids_in (empty_cut nodes)) ≡ 0
 no_nodes nodes = ap length (none_passing (contains set.empty) (range_with_len 1 nodes) contains-empty)
 
--- a fact of these records is one of the records that were taken
-of_taken : (P : List Record → Type 0) (b : CutBegun) (rs : List Record) (h : IsCutBegunBy b rs) → P (cut_records b.cut.nodes b.declared h.named) → P rs
-of_taken P b rs h p = subst P (sym h.records) p
-
-module _ (b : CutBegun) (rs : List Record) (h : IsCutBegunBy b rs) where
-  refuses_problem : (n k : ℕ) → IsFirstCondition rs (CutProblem n k) (fault_at 0 ProblemTwice)
-  refuses_problem n k = of_taken (λ (rs : List Record). IsFirstCondition rs (CutProblem n k) (fault_at 0 ProblemTwice)) b rs h (second_problem b.cut.nodes b.declared h.named n k)
-
-  module _ (id : ℕ) where
-    is_named : contains b.cut.ids id ≡ list_any (is_id id) h.named
-    is_named = contains_named b.cut.ids h.named id h.ids
-
-    pub refuses_above : b.cut.nodes < id → IsFirstCondition rs (CutNode id) (fault_at 2 NodeRange)
-    refuses_above above = of_taken (λ (rs : List Record). IsFirstCondition rs (CutNode id) (fault_at 2 NodeRange)) b rs h (node_above b.cut.nodes b.declared h.named id above)
-
-    module _ (within : id ≤ b.cut.nodes) where
-      pub refuses_again : contains b.cut.ids id ≡ true → IsFirstCondition rs (CutNode id) (fault_at 2 NodeTwice)
-      refuses_again again = of_taken (λ (rs : List Record). IsFirstCondition rs (CutNode id) (fault_at 2 NodeTwice)) b rs h (node_again b.cut.nodes b.declared h.named id within (sym is_named ∙ again))
-
-      module _ (new : contains b.cut.ids id ≡ false) where
-        pub refuses_more : length (ids_in b.cut) ≡ b.declared → IsFirstCondition rs (CutNode id) (fault_at 0 TooMany)
-        refuses_more full =
-            of_taken (λ (rs : List Record). IsFirstCondition rs (CutNode id) (fault_at 0 TooMany)) b rs h (one_too_many b.cut.nodes b.declared h.named id within (sym is_named ∙ new) (sym h.count ∙ full))
-
-        pub takes_node : 1 ≤ id → length (ids_in b.cut) < b.declared → IsAllowed rs (CutNode id) × IsCutBegunBy (with_line b id) (rs ++ CutNode id ∷ [])
-        takes_node least room = (
-          of_taken (λ (rs : List Record). IsAllowed rs (CutNode id)) b rs h (one_more b.cut.nodes b.declared h.named id within (sym is_named ∙ new) (omega (arith, h.count, room))),
-          record {
-            named = h.named ++ id ∷ [];
-            are_named = named_more b.cut.nodes h.named id h.are_named (least, within) (sym is_named ∙ new);
-            ids = ap (λ s. set.insert s id) h.ids ∙ sym (from_list_push nat_cmp_total nat_cmp-IsAntisymmetric h.named id);
-            count = omega (arith, one_node_more b.cut id new (least, within), h.count, length-append h.named (id ∷ []));
-            records = ap (λ rs. rs ++ CutNode id ∷ []) h.records ∙ ap (λ rs. CutProblem b.cut.nodes b.declared ∷ rs) (sym (map-append CutNode h.named (id ∷ [])));
-          },
-        )
-
-  pub refuses_end : length (ids_in b.cut) < b.declared → FirstAtEnd kinds.Cut rs TooFew
-  refuses_end room = of_taken (λ (rs : List Record). FirstAtEnd kinds.Cut rs TooFew) b rs h (too_few b.cut.nodes b.declared h.named (omega (arith, h.count, room)))
-
-  pub completes : b.declared ≤ length (ids_in b.cut) → IsComplete kinds.Cut rs
-  completes full = of_taken (λ (rs : List Record). IsComplete kinds.Cut rs) b rs h (all_lines b.cut.nodes b.declared h.named (omega (arith, h.count, full)))
-
--- the laws of what was begun
+-- the laws of sets
 pub empty_law : (nodes : ℕ) → nodes ≤ 134217728 → IsCut (empty_cut nodes)
 empty_law nodes few = record { nodes_few = few; within = λ id e. absurd (cc (contains-empty id, e)) }
 
@@ -156,47 +86,66 @@ law_with_node c id law node = record { nodes_few = law.nodes_few; within = λ ot
     by_test other true same e = let is : other ≡ id = eqb-true other id same in rw is node
     by_test other false apart e = law.within other (sym (ap (λ b. b || contains c.ids other) apart) ∙ e)
 
-pub begun_law : (nodes declared : ℕ) → nodes ≤ 134217728 → declared ≤ 268435456 → IsCutBegun (record { declared = declared; cut = empty_cut nodes })
-begun_law nodes declared nodes_few few = record { few = few; no_more = omega (arith, no_nodes nodes); is_cut = empty_law nodes nodes_few }
+-- what is told of the records is so
+counts : (o : Option CutBegun) (rs : List Record) → StandsFor IsCutBegunBy o rs → Counts (declared_by o) (lines_of o) rs
+counts None rs h = rw h (record { problem_is = refl; counted_is = refl })
+counts (Some b) rs h = rw h.records (record { problem_is = refl; counted_is = counted h.named ∙ sym h.count })
 
-pub law_with_line : (b : CutBegun) (id : ℕ) → IsCutBegun b → IsNode b.cut.nodes id → contains b.cut.ids id ≡ false → length (ids_in b.cut) < b.declared → IsCutBegun (with_line b id)
-law_with_line b id law node new room = record { few = law.few; no_more = omega (arith, one_node_more b.cut id new node, room); is_cut = law_with_node b.cut id law.is_cut node }
+named_told : (o : Option CutBegun) (rs : List Record) (id : ℕ) → StandsFor IsCutBegunBy o rs → list_any (names id) rs ≡ is_named o id
+named_told None rs id h = rw h refl
+named_told (Some b) rs id h = rw h.records (any_names id h.named ∙ sym (contains_named b.cut.ids h.named id h.ids))
 
-takes_problem : (nodes declared : ℕ) (rs : List Record) → rs ≡ []
-    → IsAllowed rs (CutProblem nodes declared) × IsCutBegunBy (record { declared = declared; cut = empty_cut nodes }) (rs ++ CutProblem nodes declared ∷ [])
-takes_problem nodes declared rs none = (
-  subst (λ (rs : List Record). IsAllowed rs (CutProblem nodes declared)) (sym none) (allows_problem nodes declared),
-  record {
-    named = [];
-    are_named = record { within = All-nil (IsNode nodes); once = λ id. omega arith };
-    ids = refl;
-    count = no_nodes nodes;
-    records = ap (λ rs. rs ++ CutProblem nodes declared ∷ []) none;
-  },
-)
+pub problem_tells : (o : Option CutBegun) (n k : ℕ) (rs : List Record) → StandsFor IsCutBegunBy o rs → Tells (earlier_lines o) rs (CutProblem n k)
+problem_tells o n k rs h = record { counts = counts o rs h; misplaced = refl; named = refl; end_named = refl; lacks_end = refl; block_full = refl; block_short = refl; valued = refl; pred_unknown = refl; past_radius = refl }
 
-pub refuses_second : (begun : Option CutBegun) (rs : List Record) (n k : ℕ) → is_some begun ≡ true → StandsFor IsCutBegunBy begun rs → IsFirstCondition rs (CutProblem n k) (fault_at 0 ProblemTwice)
-refuses_second (Some b) rs n k e h = refuses_problem b rs h n k
-refuses_second None rs n k e h = absurd (cc)
+pub node_tells : (o : Option CutBegun) (id : ℕ) (rs : List Record) → StandsFor IsCutBegunBy o rs → Tells (record (earlier_lines o) { named = is_named o id }) rs (CutNode id)
+node_tells o id rs h = record { counts = counts o rs h; misplaced = refl; named = named_told o rs id h; end_named = refl; lacks_end = refl; block_full = refl; block_short = refl; valued = refl; pred_unknown = refl; past_radius = refl }
 
-pub takes_first : (begun : Option CutBegun) (rs : List Record) (n k : ℕ) → is_some begun ≡ false → StandsFor IsCutBegunBy begun rs
-    → IsAllowed rs (CutProblem n k) × IsCutBegunBy (record { declared = k; cut = empty_cut n }) (rs ++ CutProblem n k ∷ [])
-takes_first None rs n k e h = takes_problem n k rs h
-takes_first (Some b) rs n k e h = absurd (cc)
+pub end_tells : (o : Option CutBegun) (rs : List Record) → StandsFor IsCutBegunBy o rs → TellsEnd kinds.Cut (earlier_lines o) rs
+end_tells o rs h = record { counts = counts o rs h; lacks_end = refl; unfinished = ap₂ is_short (counts o rs h).problem_is (counts o rs h).counted_is; valued = refl }
 
-pub refuses_nothing : (o : Option CutBegun) (rs : List Record) → o ≡ None → StandsFor IsCutBegunBy o rs → FirstAtEnd kinds.Cut rs ProblemMissing
-refuses_nothing None rs e h = subst (λ (rs : List Record). FirstAtEnd kinds.Cut rs ProblemMissing) (sym h) nothing_read
-refuses_nothing (Some b) rs e h = absurd (cc)
+-- a problem line begins a set
+pub begins : (o : Option CutBegun) (n k : ℕ) → n ≤ 134217728 → Passes (earlier_lines o) (CutProblem n k) → (rs : List Record) → StandsFor IsCutBegunBy o rs
+    → IsCutBegunBy (record { declared = k; cut = empty_cut n }) (rs ++ CutProblem n k ∷ [])
+begins None n k few p rs h = record {
+  named = [];
+  are_named = record { within = All-nil (IsNode n); once = λ id. omega arith };
+  ids = refl;
+  count = no_nodes n;
+  no_more = omega arith;
+  is_cut = empty_law n few;
+  records = ap (λ rs. rs ++ CutProblem n k ∷ []) h;
+}
+begins (Some b) n k few p rs h = absurd (cc (p.one_problem))
+
+-- a node that passes the tests is one more
+more : (b : CutBegun) (id : ℕ) → 1 ≤ id → Passes (record (earlier_lines (Some b)) { named = is_named (Some b) id }) (CutNode id) → (rs : List Record) → IsCutBegunBy b rs
+    → IsCutBegunBy (record b { cut = with_node b.cut id }) (rs ++ CutNode id ∷ [])
+more b id least p rs h =
+    let node : IsNode b.cut.nodes id = (least, grind (arith, nat_tests, p.second_within)) in
+    let room : length (ids_in b.cut) < b.declared = grind (arith, nat_tests, p.room) in
+    let size : length (h.named ++ id ∷ []) ≡ length h.named + 1 = length-append h.named (id ∷ []) in
+    record {
+      named = h.named ++ id ∷ [];
+      are_named = named_more b.cut.nodes h.named id h.are_named node (sym (contains_named b.cut.ids h.named id h.ids) ∙ p.new_node);
+      ids = ap (λ s. set.insert s id) h.ids ∙ sym (from_list_push nat_cmp_total nat_cmp-IsAntisymmetric h.named id);
+      count = omega (arith, one_node_more b.cut id p.new_node node, h.count, size);
+      no_more = omega (arith, room, h.count, size);
+      is_cut = law_with_node b.cut id h.is_cut node;
+      records = ap (λ rs. rs ++ CutNode id ∷ []) h.records ∙ ap (λ rs. CutProblem b.cut.nodes b.declared ∷ rs) (sym (map-append CutNode h.named (id ∷ [])));
+    }
+
+pub adds : (o : Option CutBegun) (b : CutBegun) (id : ℕ) → o ≡ Some b → 1 ≤ id → Passes (record (earlier_lines o) { named = is_named o id }) (CutNode id) → (rs : List Record) → StandsFor IsCutBegunBy o rs
+    → IsCutBegunBy (record b { cut = with_node b.cut id }) (rs ++ CutNode id ∷ [])
+adds o b id is least p rs h = more b id least (rw is at p) rs (rw is at h)
 
 -- what was begun and is whole gives its set
-pub gives_cut : (b : CutBegun) (rs : List LineRecord) → IsCutBegunBy b (records_of rs) → b.declared ≡ length (ids_in b.cut) → IsCut b.cut → GivesCut rs b.cut
-gives_cut b rs h full law = record {
-  named = h.named;
-  are_named = h.are_named;
-  ids = h.ids;
-  records = h.records ∙ ap (λ k. cut_records b.cut.nodes k h.named) (full ∙ h.count);
-  is_cut = law;
-}
+pub gives_cut : (o : Option CutBegun) (b : CutBegun) → o ≡ Some b → PassesEnd kinds.Cut (earlier_lines o) → (rs : List LineRecord) → StandsFor IsCutBegunBy o (records_of rs) → GivesCut rs b.cut
+gives_cut o b is passes rs stands =
+    let p : PassesEnd kinds.Cut (earlier_lines (Some b)) = rw is at passes in
+    let h : IsCutBegunBy b (records_of rs) = rw is at stands in
+    let full : b.declared ≡ length h.named = grind (arith, nat_tests, p.finished, h.count, h.no_more) in
+    record { named = h.named; are_named = h.are_named; ids = h.ids; records = h.records ∙ ap (λ k. cut_records b.cut.nodes k h.named) full; is_cut = h.is_cut }
 
 -- the lines of a set are refused for nothing
 lines_allowed : (nodes : ℕ) (named : List ℕ) → AreNamed nodes named → (before after : List Record) (r : Record) → cut_records nodes (length named) named ≡ before ++ r ∷ after → IsAllowed before r

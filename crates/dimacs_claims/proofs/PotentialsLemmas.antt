@@ -1,6 +1,6 @@
 -- Potentials, and records behind those of potentials that were begun.
 use Rattle.std.proofs.Common.{◌≡◌, ◌≢◌, ℕ, suc, ◌<◌, ◌≤◌, ◌∷◌, ◌++◌, [], List, Bool, true, false, Option, Some, None, length, map, cond, ◌+◌, ◌-◌, ◌==◌, ◌||◌, refl, ap, ap₂, sym, ◌∙◌, subst, arith}
-use Rattle.std.specs.Prelude.{ℤ, pos, codes, is_some, nat_lt, nat_le, not, count_by, unwrap_or, if◌then◌else◌}
+use Rattle.std.specs.Prelude.{ℤ, pos, codes, nat_lt, nat_le, not, count_by, unwrap_or, if◌then◌else◌}
 use Rattle.std.specs.List.{All, filter, list_any, range_with_len}
 use Rattle.std.specs.Ordering.{nat_cmp, int_eq}
 use Rattle.std.specs.Cmp.{nat_cmp_total, unsigned_tied}
@@ -10,32 +10,30 @@ use Rattle.std.specs.FinSet.{contains}
 use Rattle.std.specs.FinSet as set
 use Rattle.std.proofs.lemmas.List.{map-append, length-append, length-map, append-nil}
 use Rattle.std.proofs.lemmas.List.Elements.{All-nil, All-cons, All-head, All-tail}
-use Rattle.std.proofs.lemmas.Bool.{lt-ltb, le-ltb, le-leb, eqb-true}
+use Rattle.std.proofs.lemmas.Bool.{le-ltb, eqb-true}
 use Rattle.std.proofs.lemmas.Bool.Decides.{nat_tests}
 use Rattle.std.proofs.lemmas.Int.{ints}
 use Rattle.dimacs_nodes.proofs.Nodes.{contains-insert, contains-empty, get-insert}
 use Rattle.dimacs_records.specs.declared.kinds.TextKind.TheVariants as kinds
 use Rattle.dimacs_records.specs.declared.records.Record.{Record}
 use Rattle.dimacs_records.specs.declared.records.Record.TheVariants.{PotentialsProblem, PotentialsNode}
-use Rattle.dimacs_records.specs.declared.reasons.Reason.TheVariants.{ProblemMissing, ProblemTwice, NodeRange, NodeTwice, TooMany, TooFew}
-use Rattle.dimacs_records.specs.Earlier.{names, counted_in}
+use Rattle.dimacs_records.specs.Earlier.{names, counted_in, is_short}
 use Rattle.dimacs_records.specs.Canonical.{CanBeSpelled}
 use Rattle.dimacs_records.specs.Forms.{form, Word, Nodes, Count, Id, Wide}
-use Rattle.dimacs_records.specs.Readings.{LineRecord, records_of, IsAllowed, IsFirstCondition, IsComplete}
+use Rattle.dimacs_records.specs.Readings.{LineRecord, records_of, IsAllowed, IsComplete}
 use Rattle.dimacs_records.specs.Texts.{AreFaultless}
-use Rattle.dimacs_records.specs.Faults.{FirstAtEnd}
-use Rattle.dimacs_records.specs.FieldReader.{fault_at}
 use Rattle.dimacs_records.proofs.CanonicalLaws.{canonical_spelled, numbered_all}
-use Rattle.dimacs_records.proofs.ConditionLemmas.{is_first_condition, is_allowed, is_first_at_end, is_complete, allowed_at}
+use Rattle.dimacs_records.proofs.ConditionLemmas.{is_allowed, is_complete, allowed_at}
 use Rattle.dimacs_records.proofs.SplitLemmas.{image_at, All-at}
 use Rattle.dimacs_claims.specs.Cuts.{is_id}
 use Rattle.dimacs_records.specs.Ranges.{IsNode, IsWide}
 use Rattle.dimacs_claims.specs.Potentials.{PotentialsValue, ArePotentials, GivesPotentials, SpellsPotentials, canonical_potentials, node_line, nonzero_ids, potential_of, potentials_records, with_values, zero_potentials}
 use Rattle.dimacs_records.specs.NodeValues.{NameNodes, has_value, is_nonzero, is_of}
-use Rattle.dimacs_claims.specs.PotentialsReading.{PotentialsBegun, AreBegun, AreBegunBy, is_named, with_line, with_value, with_zero}
+use Rattle.dimacs_claims.specs.PotentialsReading.{PotentialsBegun, AreBegunBy, declared_by, earlier_lines, has_line, is_named, lines_of, with_line, with_value, with_zero}
+use Rattle.dimacs_records.specs.Tests.{Counts, Passes, PassesEnd, Tells, TellsEnd}
 use Rattle.dimacs_records.specs.Takings.{StandsFor}
 use Rattle.dimacs_claims.proofs.NodeLists.{All-passing, count_map, passing, passing_below, passing_few, passing_listed, passing_once}
-use Rattle.dimacs_claims.proofs.ValueLemmas.{not_zero, zero_law}
+use Rattle.dimacs_claims.proofs.ValueLemmas.{law_with_potential, not_zero, zero_law}
 use Rattle.dimacs_records.proofs.CountLemmas.{once_before, same_test}
 use Rattle.dimacs_records.proofs.NameLemmas.{named_more, any_more, valued_more, zero_more}
 
@@ -52,45 +50,19 @@ module _ (nodes declared : ℕ) (named : List (ℕ × ℤ)) where
   abbrev earlier : List Record
   earlier = potentials_records nodes declared named
 
-  second_problem : (n k : ℕ) → IsFirstCondition earlier (PotentialsProblem n k) (fault_at 0 ProblemTwice)
-  second_problem n k = is_first_condition earlier (PotentialsProblem n k) (fault_at 0 ProblemTwice) refl
-
   module _ (id : ℕ) (v : ℤ) where
-    node_above : nodes < id → IsFirstCondition earlier (PotentialsNode id v) (fault_at 2 NodeRange)
-    node_above above = is_first_condition earlier (PotentialsNode id v) (fault_at 2 NodeRange) (rw (lt-ltb nodes id above) refl)
-
-    node_again : id ≤ nodes → list_any (is_of id) named ≡ true → IsFirstCondition earlier (PotentialsNode id v) (fault_at 2 NodeTwice)
-    node_again within again = is_first_condition earlier (PotentialsNode id v) (fault_at 2 NodeTwice) (rw (le-ltb nodes id within, any_names id named, again) refl)
-
-    one_too_many : id ≤ nodes → list_any (is_of id) named ≡ false → length named ≡ declared → IsFirstCondition earlier (PotentialsNode id v) (fault_at 0 TooMany)
-    one_too_many within new full =
-        let all : nat_le declared (counted_in earlier) ≡ true = rw (counted named) (le-leb declared (length named) (omega (arith, full))) in
-        is_first_condition earlier (PotentialsNode id v) (fault_at 0 TooMany) (rw (le-ltb nodes id within, any_names id named, new, all) refl)
-
     one_more : id ≤ nodes → list_any (is_of id) named ≡ false → length named < declared → IsAllowed earlier (PotentialsNode id v)
     one_more within new room =
         let all : nat_le declared (counted_in earlier) ≡ false = rw (counted named) (grind (arith, nat_tests, room)) in
         is_allowed earlier (PotentialsNode id v) (rw (le-ltb nodes id within, any_names id named, new, all) refl)
-
-  too_few : length named < declared → FirstAtEnd kinds.Potentials earlier TooFew
-  too_few room =
-      let few : nat_lt (counted_in earlier) declared ≡ true = rw (counted named) (lt-ltb (length named) declared room) in
-      is_first_at_end kinds.Potentials earlier TooFew (rw few refl)
 
   all_lines : declared ≤ length named → IsComplete kinds.Potentials earlier
   all_lines full =
       let few : nat_lt (counted_in earlier) declared ≡ false = rw (counted named) (le-ltb (length named) declared full) in
       is_complete kinds.Potentials earlier (rw few refl)
 
--- behind nothing
-pub refuses_first : (id : ℕ) (v : ℤ) → IsFirstCondition [] (PotentialsNode id v) (fault_at 0 ProblemMissing)
-refuses_first id v = is_first_condition [] (PotentialsNode id v) (fault_at 0 ProblemMissing) refl
-
 allows_problem : (n k : ℕ) → IsAllowed [] (PotentialsProblem n k)
 allows_problem n k = is_allowed [] (PotentialsProblem n k) refl
-
-nothing_read : FirstAtEnd kinds.Potentials [] ProblemMissing
-nothing_read = is_first_at_end kinds.Potentials [] ProblemMissing refl
 
 value_more : (b g z e : Bool) → b ≡ (e || g) → (b || z) ≡ ((g || z) || (e || false))
 value_more b g z true is = ap (λ x. x || z) is ∙ or_true (g || z)
@@ -120,116 +92,100 @@ potential_at : (e : Bool) (v : ℤ) (found : Option ℤ) → int_eq v (pos 0) �
 potential_at true v found some = ap not some
 potential_at false v found some = refl
 
--- a fact of these records is one of the records that were taken
-of_taken : (P : List Record → Type 0) (b : PotentialsBegun) (rs : List Record) (h : AreBegunBy b rs) → P (potentials_records b.potentials.nodes b.declared h.named) → P rs
-of_taken P b rs h p = subst P (sym h.records) p
+-- what is told of the records is so
+counts : (o : Option PotentialsBegun) (rs : List Record) → StandsFor AreBegunBy o rs → Counts (declared_by o) (lines_of o) rs
+counts None rs h = rw h (record { problem_is = refl; counted_is = refl })
+counts (Some b) rs h = rw h.records (record { problem_is = refl; counted_is = counted h.named ∙ sym h.count })
 
-module _ (b : PotentialsBegun) (rs : List Record) (h : AreBegunBy b rs) where
-  refuses_problem : (n k : ℕ) → IsFirstCondition rs (PotentialsProblem n k) (fault_at 0 ProblemTwice)
-  refuses_problem n k = of_taken (λ (rs : List Record). IsFirstCondition rs (PotentialsProblem n k) (fault_at 0 ProblemTwice)) b rs h (second_problem b.potentials.nodes b.declared h.named n k)
+named_told : (o : Option PotentialsBegun) (rs : List Record) (id : ℕ) → StandsFor AreBegunBy o rs → list_any (names id) rs ≡ is_named o id
+named_told None rs id h = rw h refl
+named_told (Some b) rs id h = rw h.records (any_names id h.named ∙ sym (h.nodes_named id))
 
-  module _ (id : ℕ) (v : ℤ) where
-    pub refuses_above : b.potentials.nodes < id → IsFirstCondition rs (PotentialsNode id v) (fault_at 2 NodeRange)
-    refuses_above above = of_taken (λ (rs : List Record). IsFirstCondition rs (PotentialsNode id v) (fault_at 2 NodeRange)) b rs h (node_above b.potentials.nodes b.declared h.named id v above)
+pub problem_tells : (o : Option PotentialsBegun) (n k : ℕ) (rs : List Record) → StandsFor AreBegunBy o rs → Tells (earlier_lines o) rs (PotentialsProblem n k)
+problem_tells o n k rs h = record { counts = counts o rs h; misplaced = refl; named = refl; end_named = refl; lacks_end = refl; block_full = refl; block_short = refl; valued = refl; pred_unknown = refl; past_radius = refl }
 
-    module _ (within : id ≤ b.potentials.nodes) where
-      pub refuses_again : is_named b id ≡ true → IsFirstCondition rs (PotentialsNode id v) (fault_at 2 NodeTwice)
-      refuses_again again = of_taken (λ (rs : List Record). IsFirstCondition rs (PotentialsNode id v) (fault_at 2 NodeTwice)) b rs h (node_again b.potentials.nodes b.declared h.named id v within (sym (h.nodes_named id) ∙ again))
+pub node_tells : (o : Option PotentialsBegun) (id : ℕ) (v : ℤ) (rs : List Record) → StandsFor AreBegunBy o rs → Tells (record (earlier_lines o) { named = is_named o id }) rs (PotentialsNode id v)
+node_tells o id v rs h = record { counts = counts o rs h; misplaced = refl; named = named_told o rs id h; end_named = refl; lacks_end = refl; block_full = refl; block_short = refl; valued = refl; pred_unknown = refl; past_radius = refl }
 
-      module _ (new : is_named b id ≡ false) where
-        none_before : list_any (is_of id) h.named ≡ false
-        none_before = sym (h.nodes_named id) ∙ new
+pub end_tells : (o : Option PotentialsBegun) (rs : List Record) → StandsFor AreBegunBy o rs → TellsEnd kinds.Potentials (earlier_lines o) rs
+end_tells o rs h = record { counts = counts o rs h; lacks_end = refl; unfinished = ap₂ is_short (counts o rs h).problem_is (counts o rs h).counted_is; valued = refl }
 
-        pub refuses_more : b.taken ≡ b.declared → IsFirstCondition rs (PotentialsNode id v) (fault_at 0 TooMany)
-        refuses_more full = of_taken (λ (rs : List Record). IsFirstCondition rs (PotentialsNode id v) (fault_at 0 TooMany)) b rs h (one_too_many b.potentials.nodes b.declared h.named id v within none_before (sym h.count ∙ full))
-
-        abbrev more : List (ℕ × ℤ)
-        more = h.named ++ (id, v) ∷ []
-
-        records_more : rs ++ PotentialsNode id v ∷ [] ≡ potentials_records b.potentials.nodes b.declared more
-        records_more = ap (λ rs. rs ++ PotentialsNode id v ∷ []) h.records ∙ ap (λ rs. PotentialsProblem b.potentials.nodes b.declared ∷ rs) (sym (map-append node_line h.named ((id, v) ∷ [])))
-
-        count_more : b.taken + 1 ≡ length more
-        count_more = omega (arith, h.count, length-append h.named ((id, v) ∷ []))
-
-        module _ (least : 1 ≤ id) (law : ArePotentials b.potentials) where
-          not_found : find nat_cmp id (filter has_value h.named) ≡ None
-          not_found =
-              sym (get-from_entries nat_cmp_total (filter has_value h.named) id) ∙ ap (λ m. get m id) (sym h.values)
-              ∙ no_entry b.potentials id law (no_value (is_nonzero (potential_of b.potentials id)) (contains b.zeros id) new)
-
-          begun_with : (t : Bool) → int_eq v (pos 0) ≡ t → AreBegunBy (if t then with_zero b id else with_value b id v) (rs ++ PotentialsNode id v ∷ [])
-          begun_with true e = record {
-            named = more;
-            name_nodes = named_more h.named id v b.potentials.nodes h.name_nodes (least, within) none_before;
-            values = h.values ∙ ap from_entries (sym (valued_more h.named id v true e ∙ append-nil (filter has_value h.named)));
-            nodes_named = λ other. ap (λ z. is_nonzero (potential_of b.potentials other) || z) (contains-insert b.zeros id other) ∙ zero_more (is_nonzero (potential_of b.potentials other)) (contains b.zeros other) (other == id) ∙ any_more h.named id v (is_named b other) other (h.nodes_named other);
-            count = count_more;
-            records = records_more;
-          }
-          begun_with false e = record {
-            named = more;
-            name_nodes = named_more h.named id v b.potentials.nodes h.name_nodes (least, within) none_before;
-            values = ap (λ m. insert m id v) h.values
-                ∙ sym (ap from_entries (valued_more h.named id v false e) ∙ from_entries_push nat_cmp_total nat_cmp-IsAntisymmetric (filter has_value h.named) id v not_found);
-            nodes_named = λ other. value_more (is_nonzero (unwrap_or (get (insert b.potentials.values id v) other) (pos 0))) (is_nonzero (potential_of b.potentials other)) (contains b.zeros other) (other == id) (ap (λ o. is_nonzero (unwrap_or o (pos 0))) (get-insert b.potentials.values id other v) ∙ potential_at (other == id) v (get b.potentials.values other) e)
-                ∙ any_more h.named id v (is_named b other) other (h.nodes_named other);
-            count = count_more;
-            records = records_more;
-          }
-
-          pub takes_node : b.taken < b.declared → IsAllowed rs (PotentialsNode id v) × AreBegunBy (with_line b id v) (rs ++ PotentialsNode id v ∷ [])
-          takes_node room = (
-            of_taken (λ (rs : List Record). IsAllowed rs (PotentialsNode id v)) b rs h (one_more b.potentials.nodes b.declared h.named id v within none_before (omega (arith, h.count, room))),
-            begun_with (int_eq v (pos 0)) refl,
-          )
-
-  pub refuses_end : b.taken < b.declared → FirstAtEnd kinds.Potentials rs TooFew
-  refuses_end room = of_taken (λ (rs : List Record). FirstAtEnd kinds.Potentials rs TooFew) b rs h (too_few b.potentials.nodes b.declared h.named (omega (arith, h.count, room)))
-
-  pub completes : b.declared ≤ b.taken → IsComplete kinds.Potentials rs
-  completes full = of_taken (λ (rs : List Record). IsComplete kinds.Potentials rs) b rs h (all_lines b.potentials.nodes b.declared h.named (omega (arith, h.count, full)))
-
--- the laws of what was begun
-pub begun_law : (nodes declared : ℕ) → nodes ≤ 134217728 → declared ≤ 268435456 → AreBegun (record { declared = declared; taken = 0; potentials = zero_potentials nodes; zeros = set.empty })
-begun_law nodes declared nodes_few few = record { few = few; no_more = omega arith; are_potentials = zero_law nodes nodes_few }
-
-takes_problem : (nodes declared : ℕ) (rs : List Record) → rs ≡ []
-    → IsAllowed rs (PotentialsProblem nodes declared) × AreBegunBy (record { declared = declared; taken = 0; potentials = zero_potentials nodes; zeros = set.empty }) (rs ++ PotentialsProblem nodes declared ∷ [])
-takes_problem nodes declared rs none = (
-  subst (λ (rs : List Record). IsAllowed rs (PotentialsProblem nodes declared)) (sym none) (allows_problem nodes declared),
-  record {
-    named = [];
-    name_nodes = record { within = All-nil (λ (n : ℕ × ℤ). IsNode nodes n.0); once = λ id. omega arith };
-    values = refl;
-    nodes_named = λ id. ap₂ (λ o z. is_nonzero (unwrap_or o (pos 0)) || z) (get-empty nat_cmp id) (contains-empty id);
-    count = refl;
-    records = ap (λ rs. rs ++ PotentialsProblem nodes declared ∷ []) none;
-  },
-)
-
-pub refuses_second : (begun : Option PotentialsBegun) (rs : List Record) (n k : ℕ) → is_some begun ≡ true → StandsFor AreBegunBy begun rs → IsFirstCondition rs (PotentialsProblem n k) (fault_at 0 ProblemTwice)
-refuses_second (Some b) rs n k e h = refuses_problem b rs h n k
-refuses_second None rs n k e h = absurd (cc)
-
-pub takes_first : (begun : Option PotentialsBegun) (rs : List Record) (n k : ℕ) → is_some begun ≡ false → StandsFor AreBegunBy begun rs
-    → IsAllowed rs (PotentialsProblem n k) × AreBegunBy (record { declared = k; taken = 0; potentials = zero_potentials n; zeros = set.empty }) (rs ++ PotentialsProblem n k ∷ [])
-takes_first None rs n k e h = takes_problem n k rs h
-takes_first (Some b) rs n k e h = absurd (cc)
-
-pub refuses_nothing : (o : Option PotentialsBegun) (rs : List Record) → o ≡ None → StandsFor AreBegunBy o rs → FirstAtEnd kinds.Potentials rs ProblemMissing
-refuses_nothing None rs e h = subst (λ (rs : List Record). FirstAtEnd kinds.Potentials rs ProblemMissing) (sym h) nothing_read
-refuses_nothing (Some b) rs e h = absurd (cc)
-
--- what was begun and is whole gives its potentials
-pub gives_potentials : (b : PotentialsBegun) (rs : List LineRecord) → AreBegunBy b (records_of rs) → b.declared ≡ b.taken → ArePotentials b.potentials → GivesPotentials rs b.potentials
-gives_potentials b rs h full law = record {
-  named = h.named;
-  name_nodes = h.name_nodes;
-  values = h.values;
-  records = h.records ∙ ap (λ k. potentials_records b.potentials.nodes k h.named) (full ∙ h.count);
-  are_potentials = law;
+-- a problem line begins potentials
+pub begins : (o : Option PotentialsBegun) (n k : ℕ) → n ≤ 134217728 → Passes (earlier_lines o) (PotentialsProblem n k) → (rs : List Record) → StandsFor AreBegunBy o rs
+    → AreBegunBy (record { declared = k; taken = 0; potentials = zero_potentials n; zeros = set.empty }) (rs ++ PotentialsProblem n k ∷ [])
+begins None n k few p rs h = record {
+  named = [];
+  name_nodes = record { within = All-nil (λ (m : ℕ × ℤ). IsNode n m.0); once = λ id. omega arith };
+  values = refl;
+  nodes_named = λ id. ap₂ (λ o z. is_nonzero (unwrap_or o (pos 0)) || z) (get-empty nat_cmp id) (contains-empty id);
+  count = refl;
+  no_more = omega arith;
+  are_potentials = zero_law n few;
+  records = ap (λ rs. rs ++ PotentialsProblem n k ∷ []) h;
 }
+begins (Some b) n k few p rs h = absurd (cc (p.one_problem))
+
+-- a node that passes the tests is one more
+module _ (b : PotentialsBegun) (id : ℕ) (v : ℤ) (least : 1 ≤ id) (wide : IsWide v) (p : Passes (record (earlier_lines (Some b)) { named = is_named (Some b) id }) (PotentialsNode id v)) where
+  node : IsNode b.potentials.nodes id
+  node = (least, grind (arith, nat_tests, p.second_within))
+
+  pub room : b.taken < b.declared
+  room = grind (arith, nat_tests, p.room)
+
+  module _ (rs : List Record) (h : AreBegunBy b rs) where
+    abbrev more : List (ℕ × ℤ)
+    more = h.named ++ (id, v) ∷ []
+
+    name_more : NameNodes b.potentials.nodes more
+    name_more = named_more h.named id v b.potentials.nodes h.name_nodes node (sym (h.nodes_named id) ∙ p.new_node)
+
+    records_more : rs ++ PotentialsNode id v ∷ [] ≡ potentials_records b.potentials.nodes b.declared more
+    records_more = ap (λ rs. rs ++ PotentialsNode id v ∷ []) h.records ∙ ap (λ rs. PotentialsProblem b.potentials.nodes b.declared ∷ rs) (sym (map-append node_line h.named ((id, v) ∷ [])))
+
+    count_more : b.taken + 1 ≡ length more
+    count_more = omega (arith, h.count, length-append h.named ((id, v) ∷ []))
+
+    not_found : find nat_cmp id (filter has_value h.named) ≡ None
+    not_found =
+        sym (get-from_entries nat_cmp_total (filter has_value h.named) id) ∙ ap (λ m. get m id) (sym h.values)
+        ∙ no_entry b.potentials id h.are_potentials (no_value (is_nonzero (potential_of b.potentials id)) (contains b.zeros id) p.new_node)
+
+    begun_with : (t : Bool) → int_eq v (pos 0) ≡ t → AreBegunBy (if t then with_zero b id else with_value b id v) (rs ++ PotentialsNode id v ∷ [])
+    begun_with true e = record {
+      named = more;
+      name_nodes = name_more;
+      values = h.values ∙ ap from_entries (sym (valued_more h.named id v true e ∙ append-nil (filter has_value h.named)));
+      nodes_named = λ other. ap (λ z. is_nonzero (potential_of b.potentials other) || z) (contains-insert b.zeros id other) ∙ zero_more (is_nonzero (potential_of b.potentials other)) (contains b.zeros other) (other == id) ∙ any_more h.named id v (has_line b other) other (h.nodes_named other);
+      count = count_more;
+      no_more = omega (arith, room);
+      are_potentials = h.are_potentials;
+      records = records_more;
+    }
+    begun_with false e = record {
+      named = more;
+      name_nodes = name_more;
+      values = ap (λ m. insert m id v) h.values
+          ∙ sym (ap from_entries (valued_more h.named id v false e) ∙ from_entries_push nat_cmp_total nat_cmp-IsAntisymmetric (filter has_value h.named) id v not_found);
+      nodes_named = λ other. value_more (is_nonzero (unwrap_or (get (insert b.potentials.values id v) other) (pos 0))) (is_nonzero (potential_of b.potentials other)) (contains b.zeros other) (other == id) (ap (λ o. is_nonzero (unwrap_or o (pos 0))) (get-insert b.potentials.values id other v) ∙ potential_at (other == id) v (get b.potentials.values other) e)
+          ∙ any_more h.named id v (has_line b other) other (h.nodes_named other);
+      count = count_more;
+      no_more = omega (arith, room);
+      are_potentials = rw e at (law_with_potential b.potentials id v h.are_potentials node wide);
+      records = records_more;
+    }
+
+pub adds : (o : Option PotentialsBegun) (b : PotentialsBegun) (id : ℕ) (v : ℤ) → o ≡ Some b → 1 ≤ id → IsWide v → Passes (record (earlier_lines o) { named = is_named o id }) (PotentialsNode id v) → (rs : List Record)
+    → StandsFor AreBegunBy o rs → AreBegunBy (with_line b id v) (rs ++ PotentialsNode id v ∷ [])
+adds o b id v is least wide p rs h = begun_with b id v least wide (rw is at p) rs (rw is at h) (int_eq v (pos 0)) refl
+
+-- potentials that were begun and are whole are given
+pub gives_potentials : (o : Option PotentialsBegun) (b : PotentialsBegun) → o ≡ Some b → PassesEnd kinds.Potentials (earlier_lines o) → (rs : List LineRecord) → StandsFor AreBegunBy o (records_of rs) → GivesPotentials rs b.potentials
+gives_potentials o b is passes rs stands =
+    let p : PassesEnd kinds.Potentials (earlier_lines (Some b)) = rw is at passes in
+    let h : AreBegunBy b (records_of rs) = rw is at stands in
+    let full : b.declared ≡ length h.named = grind (arith, nat_tests, p.finished, h.count, h.no_more) in
+    record { named = h.named; name_nodes = h.name_nodes; values = h.values; records = h.records ∙ ap (λ k. potentials_records b.potentials.nodes k h.named) full; are_potentials = h.are_potentials }
 
 -- the lines of potentials are refused for nothing
 lines_allowed : (nodes : ℕ) (named : List (ℕ × ℤ)) → NameNodes nodes named → (before after : List Record) (r : Record) → potentials_records nodes (length named) named ≡ before ++ r ∷ after → IsAllowed before r

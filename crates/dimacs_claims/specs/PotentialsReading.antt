@@ -1,5 +1,5 @@
 -- How far potentials have been read, and how such values are stored.
-use Rattle.std.specs.Prelude.{ℕ, ℤ, ◌≡◌, ◌≤◌, ◌+◌, ◌||◌, Bool, List, length, refl, pos, if◌then◌else◌, unwrap_or}
+use Rattle.std.specs.Prelude.{ℕ, ℤ, ◌≡◌, ◌≤◌, ◌+◌, ◌||◌, Bool, false, List, Option, None, Some, length, refl, pos, if◌then◌else◌, unwrap_or}
 use Rattle.std.specs.Coded.{Coded, code_by, coded×, coded_ℕ, coded_ℤ}
 use Rattle.std.specs.List.{filter, list_any}
 use Rattle.std.specs.Ordering.{nat_cmp, int_eq}
@@ -8,6 +8,9 @@ use Rattle.std.specs.FinMap as map
 use Rattle.std.specs.FinSet.{FinSet}
 use Rattle.std.specs.FinSet as set
 use Rattle.dimacs_records.specs.declared.records.Record.{Record}
+use Rattle.dimacs_records.specs.declared.order.Declared.{Declared}
+use Rattle.dimacs_records.specs.declared.order.Earlier.{Earlier}
+use Rattle.dimacs_records.specs.Tests.{earlier_of}
 use Rattle.dimacs_claims.specs.Potentials.{PotentialsValue, ArePotentials, potential_of, potentials_records}
 use Rattle.dimacs_records.specs.NodeValues.{NameNodes, has_value, is_nonzero, is_of}
 
@@ -22,22 +25,18 @@ pub record PotentialsBegun : Type 0 where
   pub potentials : PotentialsValue
   pub zeros : FinSet nat_cmp
 
--- a beginning of potentials
-pub record AreBegun (begun : PotentialsBegun) : Type 0 where
-  pub few : begun.declared ≤ 268435456
-  pub no_more : begun.taken ≤ begun.declared
-  pub are_potentials : ArePotentials begun.potentials
-
-abbrev pub is_named : PotentialsBegun → ℕ → Bool
-is_named begun id = is_nonzero (potential_of begun.potentials id) || set.contains begun.zeros id
+abbrev pub has_line : PotentialsBegun → ℕ → Bool
+has_line begun id = is_nonzero (potential_of begun.potentials id) || set.contains begun.zeros id
 
 -- these records may have been taken
 pub record AreBegunBy (begun : PotentialsBegun) (rs : List Record) : Type 0 where
   pub named : List (ℕ × ℤ)
   pub name_nodes : NameNodes begun.potentials.nodes named
   pub values : begun.potentials.values ≡ from_entries (filter has_value named)
-  pub nodes_named : (id : ℕ) → is_named begun id ≡ list_any (is_of id) named
+  pub nodes_named : (id : ℕ) → has_line begun id ≡ list_any (is_of id) named
   pub count : begun.taken ≡ length named
+  pub no_more : begun.taken ≤ begun.declared
+  pub are_potentials : ArePotentials begun.potentials
   pub records : rs ≡ potentials_records begun.potentials.nodes begun.declared named
 
 abbrev pub with_zero : PotentialsBegun → ℕ → PotentialsBegun
@@ -49,6 +48,22 @@ with_value begun id value = record { declared = begun.declared; taken = begun.ta
 -- with one line more
 abbrev pub with_line : PotentialsBegun → ℕ → ℤ → PotentialsBegun
 with_line begun id value = if int_eq value (pos 0) then with_zero begun id else with_value begun id value
+
+abbrev pub declared_by : Option PotentialsBegun → Option Declared
+declared_by None = None
+declared_by (Some begun) = Some (record { nodes = Some begun.potentials.nodes; count = begun.declared })
+
+abbrev pub lines_of : Option PotentialsBegun → ℕ
+lines_of None = 0
+lines_of (Some begun) = begun.taken
+
+-- what the records taken say of one that names no node
+abbrev pub earlier_lines : Option PotentialsBegun → Earlier
+earlier_lines begun = earlier_of (declared_by begun) (lines_of begun)
+
+abbrev pub is_named : Option PotentialsBegun → ℕ → Bool
+is_named None id = false
+is_named (Some begun) id = has_line begun id
 
 abbrev pub potentials_code : Coded PotentialsValue
 potentials_code = code_by (ℕ × FinMap nat_cmp ℤ) (coded× coded_ℕ (map.code coded_ℕ coded_ℤ)) (λ p. (p.nodes, p.values)) (λ p. record { nodes = p.0; values = p.1 }) (λ _. refl)

@@ -16,12 +16,13 @@ ghost use Rattle.dimacs_records.specs.Texts.{Reads};
 ghost use Rattle.dimacs_records.specs.Takings.{StandsFor, Takes};
 ghost use Rattle.dimacs_claims.specs.Cuts.{CutValue, IsCut, GivesCut, SpellsCut, canonical_cut, empty_cut, ids_in, with_node};
 ghost use Rattle.dimacs_records.specs.Ranges.{IsNode};
-ghost use Rattle.dimacs_claims.specs.CutReading.{IsCutBegunBy};
+ghost use Rattle.dimacs_claims.specs.CutReading.{IsCutBegunBy, earlier_lines, is_named};
 
 use dimacs_lines::{DeviceFault, Memory, Page, Sink, Source};
 use dimacs_nodes::NodeSet;
 use dimacs_records::{
-    ReadError, Reading, Reason, Record, TakeError, TextKind, read_text, write_record,
+    Declared, Earlier, ReadError, Reading, Record, TakeError, TextKind, read_text, test_end,
+    test_record, write_record,
 };
 use std::alloc::Global;
 use std::marker::Model;
@@ -127,34 +128,13 @@ pub(crate) struct BegunCut {
 }
 
 impl Model for BegunCut {
-    ghost use Rattle.dimacs_claims.specs.CutReading.{CutBegun, IsCutBegun, begun_code};
+    ghost use Rattle.dimacs_claims.specs.CutReading.{CutBegun, begun_code};
 
     ghost Value = { CutBegun };
 
     ghost coded = { begun_code };
 
     ghost view = { λ b. record { declared = b.declared; cut = b.cut } };
-
-    ghost invariant = { λ b. IsCutBegun (record { declared = b.declared; cut = b.cut }) };
-}
-
-impl BegunCut {
-    fn add(&mut self, id: u32) -> Result<(), TakeError>
-        requires { 1 ≤ id }
-        ensures { Takes IsCutBegunBy (Some self.old) (CutNode id) result (Some self.new) }
-    {
-        if id > self.cut.nodes() {
-            return Err(TakeError::refused(2, Reason::NodeRange));
-        }
-        if self.cut.contains(id) {
-            return Err(TakeError::refused(2, Reason::NodeTwice));
-        }
-        if self.cut.len() == self.declared {
-            return Err(TakeError::refused(0, Reason::TooMany));
-        }
-        self.cut.add(id)?;
-        Ok(())
-    }
 }
 
 impl CutReading {
@@ -164,16 +144,39 @@ impl CutReading {
         CutReading { alloc, begun: None }
     }
 
-    fn start(&mut self, nodes: u32, declared: u32) -> Result<(), TakeError>
-        requires nodes { nodes ≤ 134217728 }
-        requires declared { declared ≤ 268435456 }
-        ensures { Takes IsCutBegunBy self.old (CutProblem nodes declared) result self.new }
+    /// What the earlier records say of one that names no node.
+    #[inline(always)]
+    fn earlier(&self) -> Earlier
+        ensures { result ≡ earlier_lines self.now }
     {
-        if self.begun.is_some() {
-            return Err(TakeError::refused(0, Reason::ProblemTwice));
+        match &self.begun {
+            Some(begun) => {
+                let nodes = Some(begun.cut.nodes());
+                let count = begun.declared;
+                Earlier::of(Some(Declared { nodes, count }), begun.cut.len())
+            }
+            None => Earlier::of(None, 0),
         }
+    }
+
+    /// Whether a line named this node.
+    #[inline(always)]
+    fn names(&self, id: u32) -> bool
+        ensures { result ≡ is_named self.now id }
+    {
+        match &self.begun {
+            Some(begun) => begun.cut.contains(id),
+            None => false,
+        }
+    }
+
+    fn start(&mut self, nodes: u32, count: u32) -> Result<(), TakeError>
+        requires { nodes ≤ 134217728 }
+        ensures { Takes IsCutBegunBy self.old (CutProblem nodes count) result self.new }
+    {
+        test_record(self.earlier(), Record::CutProblem { nodes, count })?;
         self.begun = Some(BegunCut {
-            declared,
+            declared: count,
             cut: Cut::new(self.alloc, nodes),
         });
         Ok(())
@@ -184,10 +187,17 @@ impl CutReading {
         requires { 1 ≤ id }
         ensures { Takes IsCutBegunBy self.old (CutNode id) result self.new }
     {
-        let Some(begun) = &mut self.begun else {
-            return Err(TakeError::refused(0, Reason::ProblemMissing));
+        let named = self.names(id);
+        let earlier = Earlier {
+            named,
+            ..self.earlier()
         };
-        begun.add(id)
+        test_record(earlier, Record::CutNode { id })?;
+        let Some(begun) = &mut self.begun else {
+            unreachable!()
+        };
+        begun.cut.add(id)?;
+        Ok(())
     }
 }
 
@@ -210,12 +220,10 @@ impl Reading for CutReading {
     }
 
     fn finish(self) -> Result<Cut, TakeError> {
+        test_end(TextKind::Cut, self.earlier())?;
         let Some(begun) = self.begun else {
-            return Err(TakeError::refused(0, Reason::ProblemMissing));
+            unreachable!()
         };
-        if begun.cut.len() < begun.declared {
-            return Err(TakeError::refused(0, Reason::TooFew));
-        }
         Ok(begun.cut)
     }
 }

@@ -16,12 +16,13 @@ ghost use Rattle.dimacs_records.specs.Takings.{StandsFor, Takes};
 ghost use Rattle.dimacs_records.specs.Ranges.{IsNode, IsWide};
 ghost use Rattle.dimacs_claims.specs.Potentials.{PotentialsValue, ArePotentials, GivesPotentials, SpellsPotentials, canonical_potentials, node_line, nonzero_ids, potential_of, with_potential, with_values, zero_potentials};
 ghost use Rattle.dimacs_records.specs.NodeValues.{is_nonzero};
-ghost use Rattle.dimacs_claims.specs.PotentialsReading.{AreBegunBy, is_named, with_line};
+ghost use Rattle.dimacs_claims.specs.PotentialsReading.{AreBegunBy, earlier_lines, is_named, with_line};
 
 use dimacs_lines::{DeviceFault, Memory, Page, Sink, Source};
 use dimacs_nodes::{NodeMap, NodeSet};
 use dimacs_records::{
-    ReadError, Reading, Reason, Record, TakeError, TextKind, read_text, write_record,
+    Declared, Earlier, ReadError, Reading, Record, TakeError, TextKind, read_text, test_end,
+    test_record, write_record,
 };
 use std::alloc::Global;
 use std::marker::Model;
@@ -131,44 +132,16 @@ pub(crate) struct BegunPotentials {
 }
 
 impl Model for BegunPotentials {
-    ghost use Rattle.dimacs_claims.specs.PotentialsReading.{PotentialsBegun, AreBegun, begun_code};
+    ghost use Rattle.dimacs_claims.specs.PotentialsReading.{PotentialsBegun, begun_code};
 
     ghost Value = { PotentialsBegun };
 
     ghost coded = { begun_code };
 
     ghost view = { λ b. record { declared = b.declared; taken = b.taken; potentials = b.potentials; zeros = b.zeros } };
-
-    ghost invariant = { λ b. AreBegun (record { declared = b.declared; taken = b.taken; potentials = b.potentials; zeros = b.zeros }) };
 }
 
 impl BegunPotentials {
-    /// Whether a line was taken for this node.
-    #[inline]
-    fn is_named(&self, id: u32) -> bool
-        ensures { result ≡ is_named self.now id }
-    {
-        self.potentials.of(id) != 0 || self.zeros.contains(id)
-    }
-
-    fn add(&mut self, id: u32, value: i128) -> Result<(), TakeError>
-        requires least { 1 ≤ id }
-        requires wide { IsWide value }
-        ensures { Takes AreBegunBy (Some self.old) (PotentialsNode id value) result (Some self.new) }
-    {
-        if id > self.potentials.nodes() {
-            return Err(TakeError::refused(2, Reason::NodeRange));
-        }
-        if self.is_named(id) {
-            return Err(TakeError::refused(2, Reason::NodeTwice));
-        }
-        if self.taken == self.declared {
-            return Err(TakeError::refused(0, Reason::TooMany));
-        }
-        self.keep(id, value)?;
-        Ok(())
-    }
-
     fn keep(&mut self, id: u32, value: i128) -> Result<(), Memory>
         requires room { self.old.taken < self.old.declared }
         requires node { IsNode self.old.potentials.nodes id }
@@ -176,6 +149,8 @@ impl BegunPotentials {
         ensures kept { OnOk result (self.new ≡ with_line self.old id value) }
         ensures unchanged { OnErr result (self.new ≡ self.old) }
     {
+        let has_room = self.taken < self.declared;
+        prove!(has_room);
         if value == 0 {
             self.zeros.insert(id)?;
         } else {
@@ -193,16 +168,39 @@ impl PotentialsReading {
         PotentialsReading { alloc, begun: None }
     }
 
-    fn start(&mut self, nodes: u32, declared: u32) -> Result<(), TakeError>
-        requires nodes { nodes ≤ 134217728 }
-        requires declared { declared ≤ 268435456 }
-        ensures { Takes AreBegunBy self.old (PotentialsProblem nodes declared) result self.new }
+    /// What the earlier records say of one that names no node.
+    #[inline(always)]
+    fn earlier(&self) -> Earlier
+        ensures { result ≡ earlier_lines self.now }
     {
-        if self.begun.is_some() {
-            return Err(TakeError::refused(0, Reason::ProblemTwice));
+        match &self.begun {
+            Some(begun) => {
+                let nodes = Some(begun.potentials.nodes());
+                let count = begun.declared;
+                Earlier::of(Some(Declared { nodes, count }), begun.taken)
+            }
+            None => Earlier::of(None, 0),
         }
+    }
+
+    /// Whether a line named this node.
+    #[inline(always)]
+    fn names(&self, id: u32) -> bool
+        ensures { result ≡ is_named self.now id }
+    {
+        match &self.begun {
+            Some(begun) => begun.potentials.of(id) != 0 || begun.zeros.contains(id),
+            None => false,
+        }
+    }
+
+    fn start(&mut self, nodes: u32, count: u32) -> Result<(), TakeError>
+        requires { nodes ≤ 134217728 }
+        ensures { Takes AreBegunBy self.old (PotentialsProblem nodes count) result self.new }
+    {
+        test_record(self.earlier(), Record::PotentialsProblem { nodes, count })?;
         self.begun = Some(BegunPotentials {
-            declared,
+            declared: count,
             taken: 0,
             potentials: Potentials::new(self.alloc, nodes),
             zeros: NodeSet::new(self.alloc),
@@ -216,10 +214,17 @@ impl PotentialsReading {
         requires wide { IsWide value }
         ensures { Takes AreBegunBy self.old (PotentialsNode id value) result self.new }
     {
-        let Some(begun) = &mut self.begun else {
-            return Err(TakeError::refused(0, Reason::ProblemMissing));
+        let named = self.names(id);
+        let earlier = Earlier {
+            named,
+            ..self.earlier()
         };
-        begun.add(id, value)
+        test_record(earlier, Record::PotentialsNode { id, value })?;
+        let Some(begun) = &mut self.begun else {
+            unreachable!()
+        };
+        begun.keep(id, value)?;
+        Ok(())
     }
 }
 
@@ -242,12 +247,10 @@ impl Reading for PotentialsReading {
     }
 
     fn finish(self) -> Result<Potentials, TakeError> {
+        test_end(TextKind::Potentials, self.earlier())?;
         let Some(begun) = self.begun else {
-            return Err(TakeError::refused(0, Reason::ProblemMissing));
+            unreachable!()
         };
-        if begun.taken < begun.declared {
-            return Err(TakeError::refused(0, Reason::TooFew));
-        }
         Ok(begun.potentials)
     }
 }

@@ -25,3 +25,4 @@ pub mod WrittenLemmas
 pub mod CountLemmas
 pub mod NameLemmas
 pub mod TakingLemmas
+pub mod OrderLemmas

@@ -20,3 +20,4 @@ pub mod Takings
 pub mod Shapes
 pub mod Spelling
 pub mod Texts
+pub mod Tests

@@ -1,12 +1,15 @@
-use Rattle.std.proofs.Common.{refl, sym}
-use Rattle.dimacs_claims.proofs.CutLemmas.{refuses_second, takes_first, begun_law}
+use Rattle.std.proofs.lemmas.Result.{err_from_is_err_and}
+use Rattle.dimacs_records.proofs.OrderLemmas.{refused_told, taken_told}
+use Rattle.dimacs_claims.specs.CutReading.{IsCutBegunBy}
+use Rattle.dimacs_claims.proofs.CutLemmas.{begins, problem_tells}
 use Rattle.dimacs_claims.proofs.cut.CutReading.start.Goals as goal
 
-pub returns-then-is_some : goal.returns-then-is_some
-returns-then-is_some c = rw (← c.self.view_is, c.refused.ensures) (λ rs h. refuses_second c.self.inside.begun rs c.args.nodes c.args.declared (sym c.if-is_some.ensures) h, refl)
-
-pub invariant_of-t-11 : goal.invariant_of-t-11
-invariant_of-t-11 c = rw (c.new.ensures) (begun_law c.args.nodes c.args.declared c.requires.nodes c.requires.declared)
+pub returns-in_err-test_record : goal.returns-in_err-test_record
+returns-in_err-test_record c =
+    let p = err_from_is_err_and c.from_residual.result c.from_residual.ensures.1 in
+    rw (p.1, p.2) (refused_told IsCutBegunBy c.args.self.now _ _ (problem_tells c.args.self.now c.args.nodes c.args.count) _ (rw c.earlier.ensures at c.in_err-test_record.ensures.refused))
 
 pub returns : goal.returns
-returns c = rw (← c.self.view_is, c.new.ensures) (λ rs h. takes_first c.self.inside.begun rs c.args.nodes c.args.declared (sym c.if-is_some.ensures) h)
+returns c =
+    let passes = rw c.earlier.ensures at c.in_ok-test_record.ensures.passes in
+    rw c.new.ensures (taken_told IsCutBegunBy c.args.self.now _ _ (problem_tells c.args.self.now c.args.nodes c.args.count) _ passes (begins c.args.self.now c.args.nodes c.args.count c.requires passes))

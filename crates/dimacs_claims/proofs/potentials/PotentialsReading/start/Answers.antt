@@ -1,9 +1,15 @@
-use Rattle.std.proofs.Common.{refl, sym}
-use Rattle.dimacs_claims.proofs.PotentialsLemmas.{refuses_second, takes_first}
+use Rattle.std.proofs.lemmas.Result.{err_from_is_err_and}
+use Rattle.dimacs_records.proofs.OrderLemmas.{refused_told, taken_told}
+use Rattle.dimacs_claims.specs.PotentialsReading.{AreBegunBy}
+use Rattle.dimacs_claims.proofs.PotentialsLemmas.{begins, problem_tells}
 use Rattle.dimacs_claims.proofs.potentials.PotentialsReading.start.Goals as goal
 
-pub returns-then-is_some : goal.returns-then-is_some
-returns-then-is_some c = rw (← c.self.view_is, c.refused.ensures) (λ rs h. refuses_second c.self.inside.begun rs c.args.nodes c.args.declared (sym c.if-is_some.ensures) h, refl)
+pub returns-in_err-test_record : goal.returns-in_err-test_record
+returns-in_err-test_record c =
+    let p = err_from_is_err_and c.from_residual.result c.from_residual.ensures.1 in
+    rw (p.1, p.2) (refused_told AreBegunBy c.args.self.now _ _ (problem_tells c.args.self.now c.args.nodes c.args.count) _ (rw c.earlier.ensures at c.in_err-test_record.ensures.refused))
 
 pub returns : goal.returns
-returns c = rw (← c.self.view_is, c.new.ensures, c.new-2.ensures) (λ rs h. takes_first c.self.inside.begun rs c.args.nodes c.args.declared (sym c.if-is_some.ensures) h)
+returns c =
+    let passes = rw c.earlier.ensures at c.in_ok-test_record.ensures.passes in
+    rw (c.new.ensures, c.new-2.ensures) (taken_told AreBegunBy c.args.self.now _ _ (problem_tells c.args.self.now c.args.nodes c.args.count) _ passes (begins c.args.self.now c.args.nodes c.args.count c.requires passes))

@@ -1,0 +1,356 @@
+//! Which fault comes first: the tests of one more record, and those of the end of a text, in their order.
+
+ghost use Rattle.std.specs.Prelude.{◌≡◌, ◌&&◌, ◌||◌, not, false, true, List, Option, None, is_some, is_none, OnOk, OnErr, IfErr};
+ghost use Rattle.dimacs_records.specs.declared.faults.TakeError.TheVariants.{Refused};
+ghost use Rattle.dimacs_records.specs.declared.kinds.TextKind.{TextKind};
+ghost use Rattle.dimacs_records.specs.declared.records.Record.{Record};
+ghost use Rattle.dimacs_records.specs.Conditions.{is_above_at, bounded_ids, is_bound_wrong, needs_problem, needs_value};
+ghost use Rattle.dimacs_records.specs.Earlier.{Problem, is_above, is_counted, is_full, is_problem, is_short};
+ghost use Rattle.dimacs_records.specs.Readings.{RefusesRecord, RefusesEnd};
+ghost use Rattle.dimacs_records.specs.Spelling.{kind_of};
+ghost use Rattle.dimacs_records.specs.Tests.{Passes, PassesEnd, Tells, TellsEnd, earlier_of, is_above_found, is_too_many_told, problem_told};
+
+use crate::faults::TakeError;
+use crate::kinds::TextKind;
+use crate::reasons::Reason;
+use crate::records::Record;
+
+/// What a problem line declares; that of queries has no NODES.
+#[derive(Clone, Copy)]
+pub struct Declared {
+    pub nodes: Option<u32>,
+    pub count: u32,
+}
+
+/// What the earlier records of a text say, as far as the tests of one more record ask for it, or those of the end.
+#[derive(Clone, Copy)]
+pub struct Earlier {
+    pub problem: Option<Declared>,
+    /// How many lines came that the problem line counts.
+    pub counted: u32,
+    /// The record comes too late, or isn't what the text asks for, or belongs to no block.
+    pub misplaced: bool,
+    /// The node that the record names was named.
+    pub named: bool,
+    /// The end that the record names was named.
+    pub end_named: bool,
+    /// An end was not named.
+    pub lacks_end: bool,
+    /// The block has as many labels as it declares.
+    pub block_full: bool,
+    /// The block has fewer labels than it declares.
+    pub block_short: bool,
+    /// The value of a solution came.
+    pub valued: bool,
+    /// The predecessor of a label has none in the block.
+    pub pred_unknown: bool,
+    /// The distance of a label is greater than the block's RADIUS.
+    pub past_radius: bool,
+}
+
+impl Earlier {
+    /// After a problem line and so many lines that it counts, or after none.
+    #[inline(always)]
+    pub fn of(problem: Option<Declared>, counted: u32) -> Earlier
+        ensures { result ≡ earlier_of problem counted }
+    {
+        Earlier {
+            problem,
+            counted,
+            misplaced: false,
+            named: false,
+            end_named: false,
+            lacks_end: false,
+            block_full: false,
+            block_short: false,
+            valued: false,
+            pred_unknown: false,
+            past_radius: false,
+        }
+    }
+
+    /// No problem line came before this record, which has to come after one.
+    #[inline(always)]
+    fn is_without_problem(self, said: Record) -> bool
+        ensures { result ≡ ((needs_problem (kind_of said) && not (is_problem said)) && is_none (problem_told self.problem)) }
+    {
+        match self.problem {
+            Some(_) => false,
+            None => wants_problem(said),
+        }
+    }
+
+    /// A problem line came before this one.
+    #[inline(always)]
+    fn is_second_problem(self, said: Record) -> bool
+        ensures { result ≡ (is_problem said && is_some (problem_told self.problem)) }
+    {
+        match self.problem {
+            Some(_) => declares(said),
+            None => false,
+        }
+    }
+
+    /// As many lines came as are declared, or as many labels in the block.
+    #[inline(always)]
+    fn is_full_for(self, said: Record) -> bool
+        ensures { result ≡ is_too_many_told self said }
+    {
+        match said {
+            Record::LabelsNode { .. } => self.block_full,
+            _ => counts(said) && self.is_full(),
+        }
+    }
+
+    /// No problem line came, and the kind needs one.
+    #[inline(always)]
+    fn is_without_any(self, kind: TextKind) -> bool
+        ensures { result ≡ (needs_problem kind && is_none (problem_told self.problem)) }
+    {
+        match self.problem {
+            Some(_) => false,
+            None => needs_problem(kind),
+        }
+    }
+
+    /// Fewer lines came than are declared, or fewer labels in the last block.
+    #[inline(always)]
+    fn is_unfinished(self) -> bool
+        ensures { result ≡ (self.block_short || is_short (problem_told self.problem) self.counted) }
+    {
+        self.block_short || self.is_short()
+    }
+
+    /// No value came, and the kind needs one.
+    #[inline(always)]
+    fn is_without_value(self, kind: TextKind) -> bool
+        ensures { result ≡ (needs_value kind && not self.valued) }
+    {
+        match kind {
+            TextKind::Solution => !self.valued,
+            _ => false,
+        }
+    }
+
+    /// An ID is above NODES.
+    #[inline(always)]
+    fn is_above(self, id: u32) -> bool
+        ensures { result ≡ is_above (problem_told self.problem) id }
+    {
+        match self.problem {
+            Some(
+                Declared {
+                    nodes: Some(nodes),
+                    ..
+                },
+            ) => nodes < id,
+            _ => false,
+        }
+    }
+
+    /// There is such an ID, and it is above NODES.
+    #[inline(always)]
+    fn has_above(self, id: Option<u32>) -> bool
+        ensures { result ≡ is_above_found (problem_told self.problem) id }
+    {
+        match id {
+            Some(id) => self.is_above(id),
+            None => false,
+        }
+    }
+
+    /// As many lines came as are declared.
+    #[inline(always)]
+    fn is_full(self) -> bool
+        ensures { result ≡ is_full (problem_told self.problem) self.counted }
+    {
+        match self.problem {
+            Some(problem) => problem.count <= self.counted,
+            None => false,
+        }
+    }
+
+    /// Fewer lines came than are declared.
+    #[inline(always)]
+    fn is_short(self) -> bool
+        ensures { result ≡ is_short (problem_told self.problem) self.counted }
+    {
+        match self.problem {
+            Some(problem) => self.counted < problem.count,
+            None => false,
+        }
+    }
+}
+
+/// Tests one more record, in the order in which its faults are named.
+#[inline(always)]
+pub fn test_record(earlier: Earlier, said: Record) -> Result<(), TakeError>
+    ensures passes { OnOk result (Passes earlier said) }
+    ensures refused { IfErr result (λ error. (rs : List Record) → Tells earlier rs said → RefusesRecord rs said error) }
+{
+    refuse_if(earlier.is_without_problem(said), 0, Reason::ProblemMissing)?;
+    refuse_if(earlier.is_second_problem(said), 0, Reason::ProblemTwice)?;
+    refuse_if(earlier.misplaced, 0, Reason::RecordOrder)?;
+    refuse_if(earlier.has_above(second_id(said)), 2, Reason::NodeRange)?;
+    refuse_if(earlier.has_above(third_id(said)), 3, Reason::NodeRange)?;
+    refuse_if(earlier.has_above(fourth_id(said)), 4, Reason::NodeRange)?;
+    refuse_if(earlier.named, 2, Reason::NodeTwice)?;
+    refuse_if(earlier.end_named, 3, Reason::EndTwice)?;
+    refuse_if(earlier.lacks_end, 0, Reason::EndMissing)?;
+    refuse_if(has_wrong_low(said), 4, Reason::BoundOrder)?;
+    refuse_if(has_wrong_cap(said), 5, Reason::BoundOrder)?;
+    refuse_if(earlier.is_full_for(said), 0, Reason::TooMany)?;
+    refuse_if(earlier.block_short, 0, Reason::TooFew)?;
+    refuse_if(earlier.valued, 0, Reason::SolutionTwice)?;
+    refuse_if(earlier.pred_unknown, 0, Reason::PredUnknown)?;
+    refuse_if(earlier.past_radius, 3, Reason::PastRadius)?;
+    Ok(())
+}
+
+/// Tests the end of a text, in the order in which its faults are named. A solution's value is missing where `valued` is false.
+#[inline(always)]
+pub fn test_end(kind: TextKind, earlier: Earlier) -> Result<(), TakeError>
+    ensures passes { OnOk result (PassesEnd kind earlier) }
+    ensures refused { IfErr result (λ error. (all : List Record) → TellsEnd kind earlier all → RefusesEnd kind all error) }
+{
+    refuse_if(earlier.is_without_any(kind), 0, Reason::ProblemMissing)?;
+    refuse_if(earlier.lacks_end, 0, Reason::EndMissing)?;
+    refuse_if(earlier.is_unfinished(), 0, Reason::TooFew)?;
+    refuse_if(earlier.is_without_value(kind), 0, Reason::SolutionMissing)?;
+    Ok(())
+}
+
+/// A fault, where there is one.
+#[inline(always)]
+fn refuse_if(wrong: bool, field: u32, reason: Reason) -> Result<(), TakeError>
+    ensures right { OnOk result (wrong ≡ false) }
+    ensures wrong { OnErr result (wrong ≡ true) }
+    ensures refused { IfErr result (λ error. error ≡ Refused (record { field = field; reason = reason })) }
+{
+    if wrong {
+        Err(TakeError::refused(field, reason))
+    } else {
+        Ok(())
+    }
+}
+
+/// A text of the kind begins with a problem line; a solution has its value instead.
+#[inline(always)]
+fn needs_problem(kind: TextKind) -> bool
+    ensures { result ≡ needs_problem kind }
+{
+    match kind {
+        TextKind::Solution => false,
+        _ => true,
+    }
+}
+
+/// A record that has to come after a problem line.
+#[inline(always)]
+fn wants_problem(said: Record) -> bool
+    ensures { result ≡ (needs_problem (kind_of said) && not (is_problem said)) }
+{
+    match said {
+        Record::SolutionValue { .. } | Record::SolutionEntry { .. } => false,
+        _ => !declares(said),
+    }
+}
+
+/// A problem line.
+#[inline(always)]
+fn declares(said: Record) -> bool
+    ensures { result ≡ is_problem said }
+{
+    match said {
+        Record::MaxProblem { .. }
+        | Record::MinProblem { .. }
+        | Record::GraphProblem { .. }
+        | Record::QueriesProblem { .. }
+        | Record::CutProblem { .. }
+        | Record::PotentialsProblem { .. }
+        | Record::LabelsProblem { .. } => true,
+        _ => false,
+    }
+}
+
+/// The ID in field 2, where NODES bounds it.
+#[inline(always)]
+fn second_id(said: Record) -> Option<u32>
+    ensures { (p : Option Problem) → is_above_at 2 p (bounded_ids said) ≡ is_above_found p result }
+{
+    match said {
+        Record::MaxNode { id, .. }
+        | Record::MinNode { id, .. }
+        | Record::CutNode { id }
+        | Record::PotentialsNode { id, .. }
+        | Record::LabelsNode { id, .. } => Some(id),
+        Record::MaxArc { tail, .. } | Record::MinArc { tail, .. } | Record::GraphArc { tail, .. } =>
+            Some(tail),
+        Record::LabelsBlock { source, .. } => Some(source),
+        _ => None,
+    }
+}
+
+/// The ID in field 3, where NODES bounds it.
+#[inline(always)]
+fn third_id(said: Record) -> Option<u32>
+    ensures { (p : Option Problem) → is_above_at 3 p (bounded_ids said) ≡ is_above_found p result }
+{
+    match said {
+        Record::MaxArc { head, .. } | Record::MinArc { head, .. } | Record::GraphArc { head, .. } =>
+            Some(head),
+        _ => None,
+    }
+}
+
+/// The ID in field 4, where NODES bounds it.
+#[inline(always)]
+fn fourth_id(said: Record) -> Option<u32>
+    ensures { (p : Option Problem) → is_above_at 4 p (bounded_ids said) ≡ is_above_found p result }
+{
+    match said {
+        Record::LabelsNode { pred, .. } => Some(pred),
+        _ => None,
+    }
+}
+
+/// A bound in field 4 is negative.
+#[inline(always)]
+fn has_wrong_low(said: Record) -> bool
+    ensures { result ≡ is_bound_wrong 4 said }
+{
+    match said {
+        Record::MaxArc { cap, .. } => cap < 0,
+        Record::MinArc { low, .. } => low < 0,
+        _ => false,
+    }
+}
+
+/// CAP is below LOW.
+#[inline(always)]
+fn has_wrong_cap(said: Record) -> bool
+    ensures { result ≡ is_bound_wrong 5 said }
+{
+    match said {
+        Record::MinArc { low, cap, .. } => cap < low,
+        _ => false,
+    }
+}
+
+/// A line that the problem line counts.
+#[inline(always)]
+fn counts(said: Record) -> bool
+    ensures { result ≡ is_counted said }
+{
+    match said {
+        Record::MaxArc { .. }
+        | Record::MinArc { .. }
+        | Record::GraphArc { .. }
+        | Record::SourceQuery { .. }
+        | Record::PairQuery { .. }
+        | Record::CutNode { .. }
+        | Record::PotentialsNode { .. }
+        | Record::LabelsBlock { .. } => true,
+        _ => false,
+    }
+}
