@@ -1,9 +1,9 @@
 -- Records behind those of a graph that was begun.
-use Rattle.std.proofs.Common.{◌≡◌, ℕ, suc, ◌<◌, ◌≤◌, ◌∷◌, ◌++◌, [], List, true, false, Option, Some, None, length, map, take, ◌+◌, refl, ap, ap₂, sym, ◌∙◌, arith}
+use Rattle.std.proofs.Common.{◌≡◌, ℕ, suc, ◌<◌, ◌≤◌, ◌∷◌, ◌++◌, [], List, true, false, Option, Some, None, length, map, take, ◌+◌, refl, ap, ap₂, sym, ◌∙◌, subst, arith}
 use Rattle.std.specs.Prelude.{ℤ, pos, codes, slice_get, is_some, nat_lt, nat_le}
 use Rattle.std.specs.List.{All}
 use Rattle.std.proofs.lemmas.List.{map-append}
-use Rattle.std.proofs.lemmas.Bool.{lt-ltb, le-ltb, le-leb}
+use Rattle.std.proofs.lemmas.Bool.{le-ltb}
 use Rattle.std.proofs.lemmas.Int.{ints}
 use Rattle.std.proofs.lemmas.List.{length-append, length-map}
 use Rattle.std.proofs.lemmas.List.Elements.{All-nil, All-cons, All-head, All-tail}
@@ -11,12 +11,12 @@ use Rattle.std.proofs.lemmas.Bool.Decides.{nat_tests}
 use Rattle.dimacs_records.specs.declared.kinds.TextKind.TheVariants.{Graph}
 use Rattle.dimacs_records.specs.declared.records.Record.{Record}
 use Rattle.dimacs_records.specs.declared.records.Record.TheVariants.{GraphProblem, GraphArc}
-use Rattle.dimacs_records.specs.declared.reasons.Reason.TheVariants.{ProblemMissing, ProblemTwice, NodeRange, TooMany, TooFew}
-use Rattle.dimacs_records.specs.Earlier.{counted_in}
-use Rattle.dimacs_records.specs.Readings.{IsAllowed, IsFirstCondition, IsComplete}
-use Rattle.dimacs_records.specs.Faults.{FirstAtEnd}
-use Rattle.dimacs_records.specs.FieldReader.{fault_at}
-use Rattle.dimacs_records.proofs.ConditionLemmas.{is_first_condition, is_allowed, is_first_at_end, is_complete}
+use Rattle.dimacs_records.specs.Earlier.{counted_in, is_full, is_short, problem_in}
+use Rattle.dimacs_records.specs.declared.order.Declared.{Declared}
+use Rattle.dimacs_records.specs.declared.order.Earlier.{Earlier}
+use Rattle.dimacs_records.specs.Tests.{Counts, Passes, PassesEnd, Tells, TellsEnd, earlier_of, problem_told}
+use Rattle.dimacs_records.specs.Readings.{IsAllowed, IsComplete}
+use Rattle.dimacs_records.proofs.ConditionLemmas.{is_allowed, is_complete}
 use Rattle.dimacs_instance.specs.declared.network.ArcView.{ArcView}
 use Rattle.dimacs_instance.specs.Plain.{weight_arc}
 use Rattle.dimacs_records.specs.Forms.{form, Word, Nodes, Count, Id, Whole}
@@ -27,7 +27,7 @@ use Rattle.dimacs_records.proofs.SplitLemmas.{image_at, All-at}
 use Rattle.dimacs_records.proofs.CanonicalLaws.{canonical_spelled, numbered_all}
 use Rattle.dimacs_instance.specs.Arcs.{JoinsNodes, NetworkValue}
 use Rattle.dimacs_instance.specs.Graph.{IsGraph, HasWeightAlone, GivesGraph, SpellsGraph, canonical_graph, graph_records, graph_arc}
-use Rattle.dimacs_instance.specs.GraphReading.{GraphBegun, graph_records_so_far}
+use Rattle.dimacs_instance.specs.GraphReading.{GraphBegun, IsBegun, arcs_by, begun_records, declared_by, graph_records_so_far}
 use Rattle.dimacs_instance.proofs.ArcLemmas.{take_next}
 
 counted_in-arcs : (arcs : List ArcView) → counted_in (map graph_arc arcs) ≡ length arcs
@@ -39,29 +39,10 @@ module _ (nodes declared : ℕ) (arcs : List ArcView) where
   abbrev earlier : List Record
   earlier = GraphProblem nodes declared ∷ map graph_arc arcs
 
-  pub second_problem : (n m : ℕ) → IsFirstCondition earlier (GraphProblem n m) (fault_at 0 ProblemTwice)
-  second_problem n m = is_first_condition earlier (GraphProblem n m) (fault_at 0 ProblemTwice) refl
-
-  pub tail_above : (t h : ℕ) (w : ℤ) → nodes < t → IsFirstCondition earlier (GraphArc t h w) (fault_at 2 NodeRange)
-  tail_above t h w above = is_first_condition earlier (GraphArc t h w) (fault_at 2 NodeRange) (rw (lt-ltb nodes t above) refl)
-
-  pub head_above : (t h : ℕ) (w : ℤ) → t ≤ nodes → nodes < h → IsFirstCondition earlier (GraphArc t h w) (fault_at 3 NodeRange)
-  head_above t h w within above = is_first_condition earlier (GraphArc t h w) (fault_at 3 NodeRange) (rw (le-ltb nodes t within, lt-ltb nodes h above) refl)
-
-  pub one_too_many : (t h : ℕ) (w : ℤ) → t ≤ nodes → h ≤ nodes → length arcs ≡ declared → IsFirstCondition earlier (GraphArc t h w) (fault_at 0 TooMany)
-  one_too_many t h w tail head full =
-      let counted : nat_le declared (counted_in earlier) ≡ true = rw (counted_in-arcs arcs) (le-leb declared (length arcs) (omega (arith, full))) in
-      is_first_condition earlier (GraphArc t h w) (fault_at 0 TooMany) (rw (le-ltb nodes t tail, le-ltb nodes h head, counted) refl)
-
   pub one_more_arc : (t h : ℕ) (w : ℤ) → t ≤ nodes → h ≤ nodes → length arcs < declared → IsAllowed earlier (GraphArc t h w)
   one_more_arc t h w tail head room =
       let counted : nat_le declared (counted_in earlier) ≡ false = rw (counted_in-arcs arcs) (grind (arith, nat_tests, room)) in
       is_allowed earlier (GraphArc t h w) (rw (le-ltb nodes t tail, le-ltb nodes h head, counted) refl)
-
-  pub too_few_arcs : length arcs < declared → FirstAtEnd Graph earlier TooFew
-  too_few_arcs room =
-      let counted : nat_lt (counted_in earlier) declared ≡ true = rw (counted_in-arcs arcs) (lt-ltb (length arcs) declared room) in
-      is_first_at_end Graph earlier TooFew (rw counted refl)
 
   pub all_arcs : declared ≤ length arcs → IsComplete Graph earlier
   all_arcs full =
@@ -72,18 +53,47 @@ pub pushed_records : (nodes declared : ℕ) (arcs : List ArcView) (t h : ℕ) (w
     → GraphProblem nodes declared ∷ map graph_arc (arcs ++ weight_arc t h w ∷ []) ≡ (GraphProblem nodes declared ∷ map graph_arc arcs) ++ GraphArc t h w ∷ []
 pushed_records nodes declared arcs t h w = ap (λ rs. GraphProblem nodes declared ∷ rs) (map-append graph_arc arcs (weight_arc t h w ∷ []))
 
-pub no_problem : (t h : ℕ) (w : ℤ) → IsFirstCondition [] (GraphArc t h w) (fault_at 0 ProblemMissing)
-no_problem t h w = is_first_condition [] (GraphArc t h w) (fault_at 0 ProblemMissing) refl
-
 pub first_problem : (n m : ℕ) → IsAllowed [] (GraphProblem n m)
 first_problem n m = is_allowed [] (GraphProblem n m) refl
 
-pub nothing_read : FirstAtEnd Graph [] ProblemMissing
-nothing_read = is_first_at_end Graph [] ProblemMissing refl
+-- what is told of the records is so
+pub counts : (begun : Option GraphBegun) → Counts (declared_by begun) (arcs_by begun) (graph_records_so_far begun)
+counts None = record { problem_is = refl; counted_is = refl }
+counts (Some b) = record { problem_is = refl; counted_is = counted_in-arcs b.arcs }
 
-pub begun_twice : (begun : Option GraphBegun) (n m : ℕ) → is_some begun ≡ true → IsFirstCondition (graph_records_so_far begun) (GraphProblem n m) (fault_at 0 ProblemTwice)
-begun_twice (Some begun) n m h = second_problem begun.nodes begun.declared begun.arcs n m
-begun_twice None n m h = absurd (cc)
+pub problem_tells : (p : Option Declared) (k : ℕ) (rs : List Record) (n m : ℕ) → Counts p k rs → Tells (earlier_of p k) rs (GraphProblem n m)
+problem_tells p k rs n m h = record { counts = h; misplaced = refl; named = refl; end_named = refl; lacks_end = refl; block_full = refl; block_short = refl; valued = refl; pred_unknown = refl; past_radius = refl }
+
+pub arc_tells : (p : Option Declared) (k : ℕ) (rs : List Record) (t h : ℕ) (w : ℤ) → Counts p k rs → Tells (earlier_of p k) rs (GraphArc t h w)
+arc_tells p k rs t h w so = record { counts = so; misplaced = refl; named = refl; end_named = refl; lacks_end = refl; block_full = refl; block_short = refl; valued = refl; pred_unknown = refl; past_radius = refl }
+
+pub end_tells : (p : Option Declared) (k : ℕ) (rs : List Record) → Counts p k rs → TellsEnd Graph (earlier_of p k) rs
+end_tells p k rs h = record { counts = h; lacks_end = refl; unfinished = ap₂ is_short h.problem_is h.counted_is; valued = refl }
+
+-- a problem line that passes the tests is the first
+pub starts : (begun : Option GraphBegun) (e : Earlier) (now : List Record) (n m : ℕ) → now ≡ graph_records_so_far begun → Counts e.problem e.counted now → Passes e (GraphProblem n m) → GraphProblem n m ∷ [] ≡ now ++ GraphProblem n m ∷ []
+starts None e now n m is so p = ap (λ rs. rs ++ GraphProblem n m ∷ []) (sym is)
+starts (Some b) e now n m is so p =
+    let some : true ≡ is_some (problem_told e.problem) = ap (λ rs. is_some (problem_in rs)) (sym is) ∙ ap is_some so.problem_is in
+    absurd (cc (some, p.one_problem))
+
+-- an arc that passes the tests finds room
+pub room_told : (b : GraphBegun) (e : Earlier) (rs : List Record) (t h : ℕ) (w : ℤ) → rs ≡ begun_records b → Counts e.problem e.counted rs → Passes e (GraphArc t h w) → length b.arcs < b.declared
+room_told b e rs t h w is so p =
+    let room = subst (λ (rs : List Record). is_full (problem_in rs) (counted_in rs) ≡ false) is (ap₂ is_full so.problem_is so.counted_is ∙ p.room) in
+    let all : nat_le b.declared (length b.arcs) ≡ false = rw (counted_in-arcs b.arcs) at room in
+    grind (arith, nat_tests, all)
+
+-- what was begun and is whole gives its graph
+pub gives_graph : (b : GraphBegun) (p : Option Declared) (k : ℕ) (now : List Record) → now ≡ begun_records b → Counts p k now → PassesEnd Graph (earlier_of p k) → IsBegun b
+    → (rs : List LineRecord) → records_of rs ≡ now → GivesGraph rs (record { nodes = b.nodes; arcs = b.arcs })
+gives_graph b p k now is so passes law rs same =
+    let short = subst (λ (rs : List Record). is_short (problem_in rs) (counted_in rs) ≡ false) is (ap₂ is_short so.problem_is so.counted_is ∙ passes.finished) in
+    let few : nat_lt (length b.arcs) b.declared ≡ false = rw (counted_in-arcs b.arcs) at short in
+    let full : b.declared ≡ length b.arcs = grind (arith, nat_tests, few, law.no_more) in (
+      same ∙ is ∙ ap (λ n. GraphProblem b.nodes n ∷ map graph_arc b.arcs) full,
+      record { nodes_few = law.nodes_few; arcs_few = omega (arith, law.no_more, law.arcs_few); joined = law.joined; weights = law.weights },
+    )
 
 arc_allowed : (nodes declared : ℕ) (arcs : List ArcView) (a : ArcView) (before : List Record) (r : Record) → before ≡ GraphProblem nodes declared ∷ map graph_arc arcs → r ≡ graph_arc a
     → JoinsNodes nodes a → length arcs < declared → IsAllowed before r

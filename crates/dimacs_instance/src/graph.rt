@@ -1,12 +1,14 @@
 //! Graphs for shortest paths.
 
-ghost use Rattle.std.specs.Prelude.{◌≡◌, ◌≤◌, ◌<◌, [], ℕ, List, Option, length, IfOk, Some};
+ghost use Rattle.std.specs.Prelude.{◌≡◌, ◌≤◌, ◌<◌, ◌++◌, ◌∷◌, [], ℕ, List, Option, length, IfOk, OnOk, OnErr, Some};
 ghost use Rattle.dimacs_lines.specs.Devices.{CountsFault};
 ghost use Rattle.dimacs_lines.specs.Puts.{Puts};
 ghost use Rattle.dimacs_records.specs.declared.kinds.TextKind.TheVariants as kinds;
 ghost use Rattle.dimacs_records.specs.declared.records.Record.TheVariants.{GraphProblem, GraphArc};
 ghost use Rattle.dimacs_records.specs.Readings.{CountsRead, TakesRecord, records_of};
 ghost use Rattle.dimacs_records.specs.Faults.{Fault};
+ghost use Rattle.dimacs_records.specs.Ranges.{IsNode};
+ghost use Rattle.dimacs_records.specs.Tests.{Counts, earlier_of};
 ghost use Rattle.dimacs_records.specs.Texts.{Reads};
 ghost use Rattle.dimacs_lines.specs.Lines.{lines};
 ghost use Rattle.dimacs_instance.specs.Graph.{IsGraph, GivesGraph, SpellsGraph, canonical_graph, graph_arc};
@@ -18,7 +20,8 @@ use crate::plain::{KeptArc, PlainArcs, WeightArc};
 use crate::star::ForwardStar;
 use dimacs_lines::{DeviceFault, Memory, Page, Sink, Source};
 use dimacs_records::{
-    ReadError, Reading, Reason, Record, TakeError, TextKind, read_text, write_record,
+    Declared, Earlier, ReadError, Reading, Record, TakeError, TextKind, read_text, test_end,
+    test_record, write_record,
 };
 use std::alloc::Global;
 use std::marker::Model;
@@ -108,22 +111,15 @@ impl Model for BegunGraph {
 }
 
 impl BegunGraph {
-    fn add(&mut self, tail: u32, head: u32, weight: i64) -> Result<(), TakeError>
-        requires tail { 1 ≤ tail }
-        requires head { 1 ≤ head }
-        ensures { TakesRecord (begun_records self.old) (GraphArc tail head weight) result (begun_records self.new) }
+    #[inline(always)]
+    fn add(&mut self, tail: u32, head: u32, weight: i64) -> Result<(), Memory>
+        requires tail { IsNode self.old.nodes tail }
+        requires head { IsNode self.old.nodes head }
+        requires room { length self.old.arcs < self.old.declared }
+        ensures added { OnOk result (begun_records self.new ≡ begun_records self.old ++ GraphArc tail head weight ∷ []) }
+        ensures unchanged { OnErr result (self.new ≡ self.old) }
     {
-        if tail > self.network.nodes() {
-            return Err(TakeError::refused(2, Reason::NodeRange));
-        }
-        if head > self.network.nodes() {
-            return Err(TakeError::refused(3, Reason::NodeRange));
-        }
-        if self.network.arcs() == self.declared {
-            return Err(TakeError::refused(0, Reason::TooMany));
-        }
-        self.network.push(WeightArc { tail, head, weight })?;
-        Ok(())
+        self.network.push(WeightArc { tail, head, weight })
     }
 }
 
@@ -134,16 +130,30 @@ impl PlainGraphReading {
         PlainGraphReading { alloc, begun: None }
     }
 
-    fn start(&mut self, nodes: u32, declared: u32) -> Result<(), TakeError>
-        requires nodes { nodes ≤ 134217728 }
-        requires declared { declared ≤ 268435456 }
-        ensures { TakesRecord self.old (GraphProblem nodes declared) result self.new }
+    /// What the earlier records say of one more.
+    #[inline(always)]
+    fn earlier(&self) -> Earlier
+        ensures counts { Counts result.problem result.counted self.now }
+        ensures others { result ≡ earlier_of result.problem result.counted }
     {
-        if self.begun.is_some() {
-            return Err(TakeError::refused(0, Reason::ProblemTwice));
+        match &self.begun {
+            Some(begun) => {
+                let nodes = Some(begun.network.nodes());
+                let count = begun.declared;
+                Earlier::of(Some(Declared { nodes, count }), begun.network.arcs())
+            }
+            None => Earlier::of(None, 0),
         }
+    }
+
+    fn start(&mut self, nodes: u32, arcs: u32) -> Result<(), TakeError>
+        requires nodes { nodes ≤ 134217728 }
+        requires arcs { arcs ≤ 268435456 }
+        ensures { TakesRecord self.old (GraphProblem nodes arcs) result self.new }
+    {
+        test_record(self.earlier(), Record::GraphProblem { nodes, arcs })?;
         self.begun = Some(BegunGraph {
-            declared,
+            declared: arcs,
             network: PlainArcs::new(self.alloc, nodes),
         });
         Ok(())
@@ -155,10 +165,12 @@ impl PlainGraphReading {
         requires head { 1 ≤ head }
         ensures { TakesRecord self.old (GraphArc tail head weight) result self.new }
     {
+        test_record(self.earlier(), Record::GraphArc { tail, head, weight })?;
         let Some(begun) = &mut self.begun else {
-            return Err(TakeError::refused(0, Reason::ProblemMissing));
+            unreachable!()
         };
-        begun.add(tail, head, weight)
+        begun.add(tail, head, weight)?;
+        Ok(())
     }
 }
 
@@ -181,12 +193,10 @@ impl Reading for PlainGraphReading {
     }
 
     fn finish(self) -> Result<Graph<PlainArcs<WeightArc>>, TakeError> {
+        test_end(TextKind::Graph, self.earlier())?;
         let Some(begun) = self.begun else {
-            return Err(TakeError::refused(0, Reason::ProblemMissing));
+            unreachable!()
         };
-        if begun.network.arcs() < begun.declared {
-            return Err(TakeError::refused(0, Reason::TooFew));
-        }
         Ok(Graph {
             network: begun.network,
         })

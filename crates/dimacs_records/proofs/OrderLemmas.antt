@@ -13,7 +13,7 @@ use Rattle.dimacs_records.specs.Earlier.{is_counted, is_full, is_problem, is_sho
 use Rattle.dimacs_records.specs.Faults.{FirstAtEnd}
 use Rattle.dimacs_records.specs.Order.{Place, at}
 use Rattle.dimacs_records.specs.declared.faults.TakeError.{TakeError}
-use Rattle.dimacs_records.specs.Readings.{IsAllowed, IsComplete, IsFirstCondition, RefusesRecord}
+use Rattle.dimacs_records.specs.Readings.{IsAllowed, IsComplete, IsFirstCondition, RefusesRecord, TakesRecord}
 use Rattle.dimacs_records.specs.Takings.{StandsFor, Takes}
 use Rattle.dimacs_records.specs.Spelling.{kind_of}
 use Rattle.dimacs_records.specs.Tests.{Passes, PassesEnd, Tells, TellsEnd, is_too_many_told, problem_told}
@@ -76,3 +76,10 @@ module _ {B : Type 0} (by : B → List Record → Type 0) (old : Option B) (r : 
 
   pub taken_told : (new : B) → Passes e r → ((rs : List Record) → StandsFor by old rs → by new (rs ++ r ∷ [])) → Takes by old r (Ok tt) (Some new)
   taken_told new p stands = λ rs h. (allowed_told e rs r p (tells rs h), stands rs h)
+
+-- what a reading answers that keeps all records, by the tests
+pub refused_record : (e : Earlier) (before : List Record) (r : Record) (error : TakeError) → Tells e before r → ((rs : List Record) → Tells e rs r → RefusesRecord rs r error) → TakesRecord before r (Err error) before
+refused_record e before r error t refuses = (refuses before t, refl)
+
+pub taken_record : (e : Earlier) (before after : List Record) (r : Record) → Tells e before r → Passes e r → after ≡ before ++ r ∷ [] → TakesRecord before r (Ok tt) after
+taken_record e before after r t p same = (allowed_told e before r p t, same)
