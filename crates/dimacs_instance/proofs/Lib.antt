@@ -1,6 +1,7 @@
 pub mod ArcLemmas
 mod CountLemmas
 mod GraphLemmas
+mod LinkLemmas
 mod MaxLemmas
 mod MaxTextLemmas
 pub mod MinLemmas

@@ -2,6 +2,7 @@ pub mod Arcs
 pub mod MaxFlows
 pub mod Graph
 pub mod GraphReading
+pub mod Links
 pub mod MaxReading
 pub mod MaxTexts
 pub mod MinCodes

@@ -7,6 +7,7 @@
 mod gather;
 mod graph;
 mod indexed;
+mod links;
 mod max;
 mod min;
 mod network;
@@ -18,6 +19,7 @@ mod star_starts;
 
 pub use graph::{Graph, PlainGraphReading, read_plain_graph, write_graph};
 pub use indexed::{GraphReading, MaxReading, MinReading, read_graph, read_max, read_min};
+pub use links::{Links, Side};
 pub use max::{MaxInstance, PlainMaxReading, read_plain_max, write_max};
 pub use min::{MinInstance, PlainMinReading, SupplySums, read_plain_min, write_min};
 pub use network::{ArcView, Network};

@@ -24,3 +24,4 @@ pub mod PathsPassing
 pub mod MaxJudge
 pub mod MinJudge
 mod MarkLemmas
+mod LeavingLemmas

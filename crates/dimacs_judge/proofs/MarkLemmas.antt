@@ -3,9 +3,9 @@ use Rattle.std.proofs.Common.{◌≡◌, ◌≢◌, ◌⊎◌, ◌↔◌, inl, i
 use Rattle.std.specs.Prelude.{◌==◌, if◌then◌else◌}
 use Rattle.std.proofs.Math.Seq.{drop-cons}
 use Rattle.std.proofs.lemmas.Int.{ints}
-use Rattle.std.proofs.lemmas.Bool.{cases_eq, cases_lt, eq-eqb}
+use Rattle.std.proofs.lemmas.Bool.{cases_eq, eq-eqb}
 use Rattle.std.proofs.lemmas.Bool.Decides.{eqb_tells}
-use Rattle.std.proofs.lemmas.Option.{get_or_from_slice_get}
+use Rattle.std.proofs.lemmas.Option.{get_or_from_slice_get, slice_get_within}
 use Rattle.std.proofs.lemmas.List.{get_or_default, take-append-drop, take_all, take_more}
 use Rattle.std.proofs.lemmas.List.Elements.{All-cons, All-nil, Contains-append_cases, Contains-get_or}
 use Rattle.dimacs_nodes.specs.declared.node_table.NodeTable.{NodeTable}
@@ -15,16 +15,17 @@ use Rattle.dimacs_records.specs.declared.reasons.Reason.TheVariants.{NotShortest
 use Rattle.dimacs_records.specs.Ranges.{IsWide}
 use Rattle.dimacs_instance.specs.declared.network.ArcView.{ArcView}
 use Rattle.dimacs_claims.specs.declared.block.Label.{Label}
-use Rattle.dimacs_claims.specs.Labels.{BlockValue, EachBehind, IsBlock, IsFresh, distance_in, label}
+use Rattle.dimacs_claims.specs.Labels.{BlockValue, IsBlock, IsFresh, distance_in, label}
 use Rattle.dimacs_claims.specs.ById as by_id
 use Rattle.dimacs_claims.proofs.BegunLemmas.{unlabelled}
 use Rattle.dimacs_claims.proofs.BlockLemmas.{fresh_has_none, label-with_label, label_at_wide}
 use Rattle.dimacs_claims.proofs.ByIdLemmas.{distance_in-at, fresh_apart, label_elsewhere}
 use Rattle.dimacs_judge.specs.declared.marks.Mark.{Mark}
 use Rattle.dimacs_judge.specs.declared.verdict.Where.{Where}
+use Rattle.dimacs_judge.specs.declared.verdict.Where.TheVariants.{Arc}
 use Rattle.dimacs_judge.specs.CertificateTests.{no_label, RelaxFails, relax_row}
 use Rattle.dimacs_judge.specs.Labels.{HasTightArc}
-use Rattle.dimacs_judge.specs.Marks.{AreEarlier, AreMade, AreMadeBelow, AreUnmade, AreWide, IsMadeBelow, IsMarked, IsTight, Makes, MarksArc, SaysSame, TellsBelow, first_told, marked_dist}
+use Rattle.dimacs_judge.specs.Marks.{AreEarlier, AreMade, AreMadeAmong, AreMadeBelow, AreUnmade, AreWide, IsMadeAmong, IsMarked, IsTight, Makes, MarksArc, SaysSame, TellsBelow, first_told, marked_dist}
 use Rattle.dimacs_judge.specs.Rows.{arc_at, no_arc}
 use Rattle.dimacs_judge.specs.Tests.{ClearBelow, TellsReason, TellsRow}
 use Rattle.dimacs_judge.proofs.RowLemmas.{arc_clear_end, relax_clear_more, relax_first}
@@ -81,7 +82,7 @@ the_only : {A : Type 0} (x y : A) → Contains (x ∷ []) y → x ≡ y
 the_only x y (zero, inside, is) = is
 the_only x y (suc k, inside, is) = absurd (omega (arith, inside))
 
-no_contains : {A : Type 0} {x : A} → Contains [] x → ⊥
+pub no_contains : {A : Type 0} {x : A} → Contains [] x → ⊥
 no_contains has = omega (arith, has.1)
 
 pub marked_source : (number : ℕ) (b : BlockValue) (old new : NodeTable Mark) (m : Mark) → AreEarlier number old → blank_of new ≡ blank_of old → value_of new b.source ≡ m → ((v : ℕ) → v ≢ b.source → value_of new v ≡ value_of old v) → m.dist ≡ pos 0 → m.block ≡ number → AreMarkedFirst number b 0 new
@@ -207,6 +208,13 @@ tail_unmarked number a marks tail is none (d, at, there, pred) = let e : None �
 pub head_unmarked : (number : ℕ) (a : ArcView) (marks : NodeTable Mark) (head : Mark) → head ≡ value_of marks a.head → None ≡ marked_dist number head → ¬ IsTight number a marks
 head_unmarked number a marks head is none (d, at, there, pred) = let e : None ≡ Some (d +ℤ a.cost) = none ∙ (ap (marked_dist number) is ∙ there) in cc
 
+-- ---- the same arcs, said in another way
+pub made_alike : (these those : ℕ → Type 0) (arcs : List ArcView) (b : BlockValue) (marks : NodeTable Mark) → ((k : ℕ) → these k → those k) → ((k : ℕ) → those k → these k) → AreMadeAmong these arcs b marks → AreMadeAmong those arcs b marks
+made_alike these those arcs b marks to from made l has = (
+  λ m. (let (k, among, makes) = (made l has).0 m in (k, to k among, makes)),
+  λ some. (made l has).1 (some.0, from some.0 some.1, some.2),
+)
+
 -- ---- one arc
 module _ (number : ℕ) (a : ArcView) (old : NodeTable Mark) where
   pub passes_same : (¬ IsTight number a old) → MarksArc number a old old
@@ -277,37 +285,49 @@ module _ (number : ℕ) (a : ArcView) (old : NodeTable Mark) where
       )
 
       -- one arc more makes what the arc makes
-      made_before : (l : Label) → IsMadeBelow arcs b i l → IsMadeBelow arcs b (i + 1) l
-      made_before l (k, below, makes) = (k, omega (arith, below), makes)
+      made_before : (these : ℕ → Type 0) (l : Label) → IsMadeAmong these arcs b l → IsMadeAmong (λ k. these k ⊎ (k ≡ i)) arcs b l
+      made_before these l (k, among, makes) = (k, inl among, makes)
 
-      made_split : (l : Label) → IsMadeBelow arcs b (i + 1) l → IsMadeBelow arcs b i l ⊎ Makes b a l
-      made_split l (k, below, makes) = elim (cases_eq k i) [
-        | inl same ↦ inr (subst (λ (c : ArcView). Makes b c l) (ap (arc_at arcs) same ∙ this_arc) makes)
-        | inr off ↦ inl (k, omega (arith, below, off), makes)
+      made_split : (these : ℕ → Type 0) (l : Label) → IsMadeAmong (λ k. these k ⊎ (k ≡ i)) arcs b l → IsMadeAmong these arcs b l ⊎ Makes b a l
+      made_split these l (k, among, makes) = elim among [
+        | inl before ↦ inl (k, before, makes)
+        | inr same ↦ inr (subst (λ (c : ArcView). Makes b c l) (ap (arc_at arcs) same ∙ this_arc) makes)
       ]
 
-      pub made_after : AreMadeBelow arcs b i old → AreMadeBelow arcs b (i + 1) new
-      made_after made l has = elim (cases_eq l.id a.head) [
+      pub made_with : (these : ℕ → Type 0) → AreMadeAmong these arcs b old → AreMadeAmong (λ k. these k ⊎ (k ≡ i)) arcs b new
+      made_with these made l has = elim (cases_eq l.id a.head) [
         | inl same ↦ (
           λ m. elim (passes.made.0 (ap (λ v. (value_of new v).made) (sym same) ∙ m)) [
-            | inl before ↦ made_before l ((made l has).0 (ap (λ v. (value_of old v).made) same ∙ before))
-            | inr tight ↦ (i, omega arith, subst (λ (c : ArcView). Makes b c l) (sym this_arc) (tight_makes l has same tight))
+            | inl before ↦ made_before these l ((made l has).0 (ap (λ v. (value_of old v).made) same ∙ before))
+            | inr tight ↦ (i, inr refl, subst (λ (c : ArcView). Makes b c l) (sym this_arc) (tight_makes l has same tight))
           ],
-          λ some. ap (λ v. (value_of new v).made) same ∙ passes.made.1 (elim (made_split l some) [
+          λ some. ap (λ v. (value_of new v).made) same ∙ passes.made.1 (elim (made_split these l some) [
             | inl before ↦ inl (ap (λ v. (value_of old v).made) (sym same) ∙ (made l has).1 before)
             | inr makes ↦ inr (makes_tight l has makes)
           ]),
         )
         | inr off ↦ (
             let e = ap (λ (m : Mark). m.made) (passes.others l.id off) in (
-              λ m. made_before l ((made l has).0 (sym e ∙ m)),
-              λ some. e ∙ elim (made_split l some) [
+              λ m. made_before these l ((made l has).0 (sym e ∙ m)),
+              λ some. e ∙ elim (made_split these l some) [
                 | inl before ↦ (made l has).1 before
                 | inr makes ↦ absurd (off (sym makes.to))
               ],
             )
             )
       ]
+
+      pub made_after : AreMadeBelow arcs b i old → AreMadeBelow arcs b (i + 1) new
+      made_after made = made_alike _ (λ k. k < i + 1) arcs b new
+          (λ k among. elim among [ inl less ↦ omega (arith, less) | inr same ↦ omega (arith, same) ])
+          (λ k less. elim (cases_eq k i) [ inl same ↦ inr same | inr off ↦ inl (omega (arith, less, off)) ])
+          (made_with (λ k. k < i) made)
+
+      pub arc_passes : ((reason : Reason) → ¬ RelaxFails (marked_dist number (value_of old a.tail)) (marked_dist number (value_of old a.head)) a.cost reason) → (place : Where) (reason : Reason) → ¬ relax_row arcs b i place reason
+      arc_passes passing place reason f = passing reason (rw (this_arc, ← are.labels a.tail, ← are.labels a.head) at f.2)
+
+      pub arc_fails : (reason : Reason) → RelaxFails (marked_dist number (value_of old a.tail)) (marked_dist number (value_of old a.head)) a.cost reason → relax_row arcs b i (Arc (i + 1)) reason
+      arc_fails reason fails = (slice_get_within arcs i a here, refl, rw (this_arc, ← are.labels a.tail, ← are.labels a.head) fails)
 
       pub told_after : (told : Result Unit (Where × Reason)) (fault : Option Reason) → TellsBelow (relax_row arcs b) i told → TellsReason (RelaxFails (marked_dist number (value_of old a.tail)) (marked_dist number (value_of old a.head)) a.cost) fault → TellsBelow (relax_row arcs b) (i + 1) (first_told told i fault)
       told_after (Err refusal) fault first reason = first

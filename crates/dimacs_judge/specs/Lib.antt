@@ -20,5 +20,6 @@ pub mod QueryTests
 pub mod Answers
 pub mod PathsJudge
 pub mod Marks
+pub mod Leaving
 pub mod MaxJudge
 pub mod MinJudge

@@ -1,5 +1,5 @@
 -- Marks of the nodes that a block labels.
-use Rattle.std.specs.Prelude.{ℕ, ◌≡◌, ◌≢◌, ◌<◌, ◌≤◌, ◌+◌, ◌⊎◌, ◌↔◌, ◌==◌, true, false, if◌then◌else◌, List, Contains, Option, Some, None, Result, Ok, Err, IfSome, ℤ, ◌+ℤ◌}
+use Rattle.std.specs.Prelude.{ℕ, ◌≡◌, ◌≢◌, ◌<◌, ◌+◌, ◌⊎◌, ◌↔◌, ◌==◌, true, false, if◌then◌else◌, List, Contains, Option, Some, None, Result, Ok, Err, IfSome, ℤ, ◌+ℤ◌}
 use Rattle.dimacs_nodes.specs.declared.node_table.NodeTable.{NodeTable}
 use Rattle.dimacs_nodes.specs.Tables.{blank_of, value_of}
 use Rattle.dimacs_records.specs.declared.reasons.Reason.{Reason}
@@ -46,13 +46,17 @@ pub record Makes (b : BlockValue) (a : ArcView) (l : Label) : Type 0 where
   pub to : a.head ≡ l.id
   pub adds : (base +ℤ a.cost) ≡ l.dist
 
--- one of the first n arcs makes the label
-abbrev pub IsMadeBelow : List ArcView → BlockValue → ℕ → Label → Type 0
-IsMadeBelow arcs b n l = (k : ℕ) × (k < n) × Makes b (arc_at arcs k) l
+-- one of these arcs makes the label
+abbrev pub IsMadeAmong : (ℕ → Type 0) → List ArcView → BlockValue → Label → Type 0
+IsMadeAmong these arcs b l = (k : ℕ) × these k × Makes b (arc_at arcs k) l
+
+-- the labels that one of these arcs makes are marked so, and no others
+abbrev pub AreMadeAmong : (ℕ → Type 0) → List ArcView → BlockValue → NodeTable Mark → Type 0
+AreMadeAmong these arcs b marks = (l : Label) → Contains b.labels l → ((value_of marks l.id).made ≡ true) ↔ IsMadeAmong these arcs b l
 
 -- the labels that one of the first n arcs makes are marked so, and no others
 abbrev pub AreMadeBelow : List ArcView → BlockValue → ℕ → NodeTable Mark → Type 0
-AreMadeBelow arcs b n marks = (l : Label) → Contains b.labels l → ((value_of marks l.id).made ≡ true) ↔ IsMadeBelow arcs b n l
+AreMadeBelow arcs b n marks = AreMadeAmong (λ k. k < n) arcs b marks
 
 -- the labels that an arc makes are marked so, and no others
 abbrev pub AreMade : List ArcView → BlockValue → NodeTable Mark → Type 0

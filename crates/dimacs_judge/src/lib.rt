@@ -17,6 +17,7 @@ mod infeasible;
 mod labels;
 mod laws;
 mod least;
+mod leaving;
 mod marks;
 mod maximum;
 mod paths;

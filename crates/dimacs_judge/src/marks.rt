@@ -1,7 +1,10 @@
-//! Whether the labels of blocks are distances, by one pass over the arcs for each block.
+//! Whether the labels of blocks are distances, by one pass over the arcs for each block, or over those that leave its
+//! nodes.
 
-ghost use Rattle.std.specs.Prelude.{◌≡◌, ◌<◌, ◌≤◌, ◌+◌, ◌↔◌, ◌+ℤ◌, ℕ, List, OnOk, IsTrue};
+ghost use Rattle.std.specs.Prelude.{◌≡◌, ◌<◌, ◌≤◌, ◌+◌, ◌↔◌, ◌+ℤ◌, ℕ, List, IfSome, OnOk, IsTrue};
 ghost use Rattle.dimacs_instance.specs.declared.network.ArcView.{ArcView};
+ghost use Rattle.dimacs_instance.specs.Links.{AreLinksOf};
+ghost use Rattle.dimacs_instance.specs.declared.links.Side.TheVariants.{Tail};
 ghost use Rattle.dimacs_claims.specs.Labels.{AreLabels, BlockValue, IsBlock};
 ghost use Rattle.dimacs_nodes.specs.Tables.{blank_of, value_of};
 ghost use Rattle.dimacs_records.specs.Ranges.{IsWide};
@@ -10,9 +13,10 @@ ghost use Rattle.dimacs_judge.specs.Marks.{AreEarlier, AreMade, AreUnmade, AreWi
 ghost use Rattle.dimacs_judge.specs.Tests.{TellsAll, TellsReason, TellsRow};
 
 use crate::labels::is_beyond;
+use crate::leaving::{labels_few, leaving_passed};
 use crate::verdict::{JudgeError, Where};
 use dimacs_claims::{Block, Label, Labels};
-use dimacs_instance::{ArcView, Network};
+use dimacs_instance::{ArcView, Links, Network, Side};
 use dimacs_lines::Memory;
 use dimacs_nodes::NodeTable;
 use dimacs_records::Reason;
@@ -47,9 +51,28 @@ pub(crate) fn marked_blocks_hold<N: Network>(
     ensures lawful { AreLabels labels.now }
 {
     let mut marks = NodeTable::new(alloc, NO_MARK);
+    let mut links = None;
     let blocks = labels.blocks();
     for i in 0..blocks.len() {
-        marked_block_holds(network, &blocks[i], i as u32 + 1, &mut marks)?;
+        let block = &blocks[i];
+        link_for(alloc, network, block, &mut links)?;
+        marked_block_holds(network, block, i as u32 + 1, &links, &mut marks)?;
+    }
+    Ok(())
+}
+
+/// Links the arcs by their tails for the first block that labels few nodes.
+fn link_for<N: Network>(
+    alloc: Global,
+    network: &N,
+    block: &Block,
+    links: &mut Option<Links>,
+) -> Result<(), Memory>
+    requires { IfSome links.old (AreLinksOf Tail (N.list network.now)) }
+    ensures { IfSome links.new (AreLinksOf Tail (N.list network.now)) }
+{
+    if links.is_none() && labels_few(block, network) {
+        *links = Some(Links::new(alloc, network, Side::Tail)?);
     }
     Ok(())
 }
@@ -59,16 +82,18 @@ fn marked_block_holds<N: Network>(
     network: &N,
     block: &Block,
     number: u32,
+    links: &Option<Links>,
     marks: &mut NodeTable<Mark>,
 ) -> Result<(), JudgeError>
     requires lawful { (nodes : ℕ) × IsBlock nodes block.now }
     requires number { 1 ≤ number }
+    requires links { IfSome links.now (AreLinksOf Tail (N.list network.now)) }
     requires earlier { AreEarlier number marks.old }
     ensures tests { TellsAll (block_rows (N.list network.now) block.now) result }
     ensures earlier { OnOk result (AreEarlier (number + 1) marks.new) }
 {
     mark_labels(block, number, marks)?;
-    let relaxed = arcs_passed(network, number, marks);
+    let relaxed = block_passed(network, block, number, links, marks);
     labels_made(block.labels(), marks)?;
     relaxed?;
     Ok(())
@@ -96,6 +121,32 @@ fn mark_labels(block: &Block, number: u32, marks: &mut NodeTable<Mark>) -> Resul
         marks.set(label.id, mark)?;
     }
     Ok(())
+}
+
+/// Marks the labels that arcs make, and tells the first arc that fails: by the arcs that leave labelled nodes where the
+/// block labels few, else by all.
+fn block_passed<N: Network>(
+    network: &N,
+    block: &Block,
+    number: u32,
+    links: &Option<Links>,
+    marks: &mut NodeTable<Mark>,
+) -> Result<(), (Where, Reason)>
+    requires lawful { (nodes : ℕ) × IsBlock nodes block.now }
+    requires number { 1 ≤ number }
+    requires links { IfSome links.now (AreLinksOf Tail (N.list network.now)) }
+    requires marked { IsMarked number block.now marks.old }
+    requires unmade { AreUnmade block.now marks.old }
+    ensures marked { IsMarked number block.now marks.new }
+    ensures made { AreMade (N.list network.now) block.now marks.new }
+    ensures relaxed { TellsRow (relax_row (N.list network.now) block.now) result }
+{
+    match links {
+        Some(links) if labels_few(block, network) => {
+            leaving_passed(network, block, number, links, marks)
+        }
+        _ => arcs_passed(network, number, marks),
+    }
 }
 
 /// Marks the labels that arcs make, and tells the first arc with a labelled tail whose head has no label, or a label
@@ -140,7 +191,7 @@ fn first_fault(
 
 /// Looks the head up only where the tail has a label, and marks it where the arc makes its label.
 #[inline(always)]
-fn pass_arc(arc: ArcView, number: u32, marks: &mut NodeTable<Mark>) -> Option<Reason>
+pub(crate) fn pass_arc(arc: ArcView, number: u32, marks: &mut NodeTable<Mark>) -> Option<Reason>
     requires blank { (blank_of marks.old).block < number }
     requires wide { AreWide number marks.old }
     ensures told { TellsReason (RelaxFails (marked_dist number (value_of marks.old arc.tail)) (marked_dist number (value_of marks.old arc.head)) arc.cost) result }

@@ -1,4 +1,4 @@
-use Rattle.std.proofs.Common.{◌≡◌, ◌≤◌, ◌<◌, ◌+◌, ◌∙◌, ap, length, arith}
+use Rattle.std.proofs.Common.{◌≡◌, ◌≤◌, ap, length, arith}
 use Rattle.dimacs_judge.specs.declared.marks.Mark.{Mark}
 use Rattle.dimacs_judge.proofs.MarkLemmas.{made_all, made_after, made_none, marked_after, told_after, told_end, told_none, wide_after}
 use Rattle.dimacs_judge.proofs.marks.arcs_passed.Goals as goal

@@ -1,5 +1,4 @@
-use Rattle.std.proofs.Common.{◌≡◌, ◌∙◌, false, true, sym, ap, subst, get_or}
-use Rattle.dimacs_claims.specs.declared.block.Label.{Label}
+use Rattle.std.proofs.Common.{◌≡◌, ◌∙◌, false, sym, ap, get_or}
 use Rattle.dimacs_nodes.specs.Tables.{value_of}
 use Rattle.dimacs_judge.specs.declared.marks.Mark.{Mark}
 use Rattle.dimacs_judge.specs.CertificateTests.{no_label}

@@ -1,4 +1,4 @@
-use Rattle.std.proofs.Common.{◌≡◌, ◌<◌, ◌∙◌, Err, Ok, length, subst, sym}
+use Rattle.std.proofs.Common.{◌≡◌, ◌<◌, Err, length, subst}
 use Rattle.std.proofs.lemmas.Result.{err_from_is_err_and}
 use Rattle.dimacs_claims.specs.Labels.{BlockValue}
 use Rattle.dimacs_judge.specs.CertificateTests.{block_rows}
@@ -15,7 +15,7 @@ returns-in_err-marked_block_holds-clause-tests g c =
     let inside : c.loop-i.i < length blocks = rw c.blocks-blocks.ensures.blocks at c.loop-i-test.true in
     let b : c.index-blocks-i.result ≡ block_at blocks c.loop-i.i = block_is blocks c.loop-i.i c.index-blocks-i.result inside (rw c.blocks-blocks.ensures.blocks at c.index-blocks-i.is) in
     let told = subst (λ (d : BlockValue). TellsAll (block_rows arcs d) (Err error)) b c.in_err-marked_block_holds.ensures.tests in
-    let p = err_from_is_err_and c.from_residual.result c.from_residual.ensures.1 in
+    let p = err_from_is_err_and c.from_residual-in_err-marked_block_holds.result c.from_residual-in_err-marked_block_holds.ensures.1 in
     rw (p.1, p.2) (blocks_told arcs blocks c.loop-i.i error inside c.loop-i.invariant.clear told)
 
 pub loop-i-preserved : goal.loop-i-preserved
@@ -28,4 +28,5 @@ loop-i-preserved g c =
     record {
       clear = blocks_more arcs blocks c.loop-i.i inside c.loop-i.invariant.clear clear;
       earlier = c.in_ok-marked_block_holds.ensures.earlier;
+      links = c.in_ok-link_for.ensures;
     }

@@ -1,4 +1,6 @@
-use Rattle.std.proofs.Common.{◌+◌, take}
+use Rattle.std.proofs.Common.{◌+◌, IfSome, take}
+use Rattle.dimacs_instance.specs.Links.{AreLinksOf}
+use Rattle.dimacs_instance.specs.declared.links.Side.TheVariants.{Tail}
 use Rattle.dimacs_judge.specs.CertificateTests.{label_rows}
 use Rattle.dimacs_judge.specs.Marks.{AreEarlier}
 use Rattle.dimacs_judge.specs.Tests.{AllClear}
@@ -9,4 +11,5 @@ abbrev pub invariant-loop-i : goal.invariant-loop-i
 invariant-loop-i g l = record {
   clear : AllClear (label_rows (g.N.Network.list l.network) (take l.i l.labels.blocks));
   earlier : AreEarlier (l.i + 1) l.marks;
+  links : IfSome l.links (AreLinksOf Tail (g.N.Network.list l.network));
 }

@@ -1,5 +1,4 @@
-use Rattle.std.proofs.Common.{◌≡◌, false, IsTrue, refl, inl, inr, rules, SFits}
-use Rattle.std.specs.Prelude.{◌+ℤ◌, ◌<ℤ◌}
+use Rattle.std.proofs.Common.{false, IsTrue, refl, inl, inr, rules, SFits}
 use Rattle.std.specs.Int.{w64, w128}
 use Rattle.std.proofs.lemmas.Int.{to_z-of_z}
 use Rattle.dimacs_judge.proofs.MarkLemmas.{is_tight, not_blank, not_tight, passes_same, passes_made, tight_near, told_far, told_near}
