@@ -1,5 +1,5 @@
 -- What labels answer to queries.
-use Rattle.std.specs.Prelude.{ℕ, ◌≡◌, List, map, length, Option, ℤ}
+use Rattle.std.specs.Prelude.{ℕ, ◌≡◌, if◌then◌else◌, List, map, is_some, length, Option, Some, None, ℤ}
 use Rattle.std.specs.List.{find}
 use Rattle.dimacs_instance.specs.QueryTexts.{QueriesValue}
 use Rattle.dimacs_instance.specs.QueryTexts as queries
@@ -16,8 +16,25 @@ block_of blocks source = find (has_source source) blocks
 abbrev pub distance_from : List BlockValue → ℕ → ℕ → Option ℤ
 distance_from blocks from to = label_in (block_of blocks from) to
 
+abbrev pub radius_in : Option BlockValue → Option ℤ
+radius_in None = None
+radius_in (Some b) = b.radius
+
+-- the radius of the block of a node; none where it has none, and where there is no block
+abbrev pub radius_from : List BlockValue → ℕ → Option ℤ
+radius_from blocks from = radius_in (block_of blocks from)
+
+-- the radius of the block of one node, where the other has no label in it
+abbrev pub beyond_from : List BlockValue → ℕ → ℕ → Option ℤ
+beyond_from blocks from to = if is_some (distance_from blocks from to) then None else radius_from blocks from
+
 abbrev pub answer_to : List BlockValue → ℕ × ℕ → Answer
-answer_to blocks pair = record { from = pair.0; to = pair.1; distance = distance_from blocks pair.0 pair.1 }
+answer_to blocks pair = record {
+  from = pair.0;
+  to = pair.1;
+  distance = distance_from blocks pair.0 pair.1;
+  beyond = beyond_from blocks pair.0 pair.1;
+}
 
 -- the verdict tells the number of sources, or the answer to each pair in order
 abbrev pub AnswersQueries : List BlockValue → QueriesValue → Verdict → Type 0

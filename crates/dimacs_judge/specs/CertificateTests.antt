@@ -1,8 +1,8 @@
 -- The tests of cuts, of potentials and of labels.
-use Rattle.std.specs.Prelude.{ℕ, ◌≡◌, ◌≢◌, ◌<◌, ◌⊎◌, Bool, true, false, List, [], ◌∷◌, length, get_or, Option, Some, None, ℤ, pos, ◌+ℤ◌, ◌<ℤ◌}
+use Rattle.std.specs.Prelude.{ℕ, ◌≡◌, ◌≢◌, ◌<◌, ◌⊎◌, Bool, true, false, List, [], ◌∷◌, length, get_or, Option, Some, None, IsSome, ℤ, pos, ◌+ℤ◌, ◌<ℤ◌}
 use Rattle.dimacs_instance.specs.declared.network.ArcView.{ArcView}
 use Rattle.dimacs_records.specs.declared.reasons.Reason.{Reason}
-use Rattle.dimacs_records.specs.declared.reasons.Reason.TheVariants.{SourceOutside, SinkInside, NotSaturated, BackFlow, NotTight, NotViolated, NoTightArc, Escapes, NotShortest}
+use Rattle.dimacs_records.specs.declared.reasons.Reason.TheVariants.{SourceOutside, SinkInside, NotSaturated, BackFlow, NotTight, NotViolated, NoTightArc, Escapes, NotShortest, NegativeWeight}
 use Rattle.dimacs_judge.specs.declared.verdict.Where.TheVariants.{Certificate, Node}
 use Rattle.dimacs_claims.specs.declared.block.Label.{Label}
 use Rattle.dimacs_instance.specs.MaxFlows.{MaxValue}
@@ -10,7 +10,7 @@ use Rattle.dimacs_instance.specs.MinFlows.{MinValue}
 use Rattle.dimacs_judge.specs.ViolatedSets.{Violated}
 use Rattle.dimacs_judge.specs.Cuts.{leaves, enters}
 use Rattle.dimacs_judge.specs.Potentials.{reduced_cost}
-use Rattle.dimacs_claims.specs.Labels.{BlockValue, label}
+use Rattle.dimacs_claims.specs.Labels.{BlockValue, IsNear, label}
 use Rattle.dimacs_judge.specs.Labels.{HasTightArc}
 use Rattle.dimacs_judge.specs.Rows.{arc_row, flow_row, one_test, arc_at}
 use Rattle.dimacs_judge.specs.Tests.{Row}
@@ -43,24 +43,37 @@ violated_row i set = one_test Certificate NotViolated (¬ Violated i set)
 abbrev pub no_label : Label
 no_label = record { dist = pos 0; id = 0; pred = 0 }
 
+-- the weight of an arc is negative
+abbrev pub negative_row : List ArcView → Row
+negative_row arcs = arc_row arcs (λ k reason. (reason ≡ NegativeWeight) × ((arc_at arcs k).cost <ℤ pos 0))
+
+-- the block has a radius, and the weight of an arc is negative
+abbrev pub weight_row : List ArcView → BlockValue → Row
+weight_row arcs b k place reason = IsSome b.radius × negative_row arcs k place reason
+
 -- no arc makes the label
 abbrev pub support_row : List ArcView → BlockValue → Row
 support_row arcs b k place reason =
     (k < length b.labels) × (place ≡ Node (get_or b.labels k no_label).id) × (reason ≡ NoTightArc) × (¬ HasTightArc arcs b (get_or b.labels k no_label))
 
--- between these labels of its ends, the arc leads to a node without a label, or to one whose label is too great
-abbrev pub RelaxFails : Option ℤ → Option ℤ → ℤ → Reason → Type 0
-RelaxFails tail head weight reason =
-    (d : ℤ) × (tail ≡ Some d) × (((reason ≡ Escapes) × (head ≡ None)) ⊎ ((reason ≡ NotShortest) × ((e : ℤ) × (head ≡ Some e) × ((d +ℤ weight) <ℤ e))))
+-- between these labels of its ends, the arc leads to a node without a label, and not past the radius, or to a node whose
+-- label is too great
+abbrev pub RelaxFails : Option ℤ → Option ℤ → Option ℤ → ℤ → Reason → Type 0
+RelaxFails radius tail head weight reason =
+    (d : ℤ) × (tail ≡ Some d) × (((reason ≡ Escapes) × (head ≡ None) × IsNear radius (d +ℤ weight)) ⊎ ((reason ≡ NotShortest) × ((e : ℤ) × (head ≡ Some e) × ((d +ℤ weight) <ℤ e))))
 
 abbrev pub relax_row : List ArcView → BlockValue → Row
-relax_row arcs b = arc_row arcs (λ k reason. RelaxFails (label b (arc_at arcs k).tail) (label b (arc_at arcs k).head) (arc_at arcs k).cost reason)
+relax_row arcs b = arc_row arcs (λ k reason. RelaxFails b.radius (label b (arc_at arcs k).tail) (label b (arc_at arcs k).head) (arc_at arcs k).cost reason)
+
+-- the tests of the labels of one block, and of the arcs between them
+abbrev pub distance_rows : List ArcView → BlockValue → List Row
+distance_rows arcs b = support_row arcs b ∷ relax_row arcs b ∷ []
 
 -- the tests of one block
 abbrev pub block_rows : List ArcView → BlockValue → List Row
-block_rows arcs b = support_row arcs b ∷ relax_row arcs b ∷ []
+block_rows arcs b = weight_row arcs b ∷ distance_rows arcs b
 
 -- the tests of all blocks, one block after another
 abbrev pub label_rows : List ArcView → List BlockValue → List Row
 label_rows arcs [] = []
-label_rows arcs (b ∷ blocks) = support_row arcs b ∷ relax_row arcs b ∷ label_rows arcs blocks
+label_rows arcs (b ∷ blocks) = weight_row arcs b ∷ support_row arcs b ∷ relax_row arcs b ∷ label_rows arcs blocks

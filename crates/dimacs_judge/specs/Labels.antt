@@ -1,8 +1,8 @@
 -- What labels must meet to be distances.
-use Rattle.std.specs.Prelude.{ℕ, ◌≡◌, List, [], All, Contains, get_or, Some, None, ℤ, ◌+ℤ◌, ◌≤ℤ◌}
+use Rattle.std.specs.Prelude.{ℕ, ◌≡◌, ◌⊎◌, List, [], All, Contains, get_or, Option, Some, None, ℤ, pos, ◌+ℤ◌, ◌≤ℤ◌}
 use Rattle.dimacs_instance.specs.declared.network.ArcView.{ArcView}
 use Rattle.dimacs_claims.specs.declared.block.Label.{Label}
-use Rattle.dimacs_claims.specs.Labels.{BlockValue, label}
+use Rattle.dimacs_claims.specs.Labels.{BlockValue, IsNear, label}
 use Rattle.dimacs_judge.specs.Walks.{IsDistance}
 
 -- the block of this number, from 0
@@ -21,14 +21,30 @@ pub record HasArcOfWeight (g : List ArcView) (l : Label) (base : ℤ) : Type 0 w
 abbrev pub HasTightArc : List ArcView → BlockValue → Label → Type 0
 HasTightArc g b l = (base : ℤ) × (label b l.pred ≡ Some base) × HasArcOfWeight g l base
 
--- where the tail of the arc is labelled, so is its head, with no more than the tail's distance and the weight
+-- a way of this length leads to the node: its label is no more, or it has none and the way goes past the block's radius
+abbrev pub IsReached : BlockValue → ℕ → ℤ → Type 0
+IsReached b v length = ((e : ℤ) × (label b v ≡ Some e) × (e ≤ℤ length)) ⊎ ((label b v ≡ None) × (¬ IsNear b.radius length))
+
+-- where the tail of the arc is labelled, its head is reached by the tail's distance and the weight
 abbrev pub IsRelaxed : BlockValue → ArcView → Type 0
-IsRelaxed b a = (d : ℤ) → label b a.tail ≡ Some d → (e : ℤ) × (label b a.head ≡ Some e) × (e ≤ℤ (d +ℤ a.cost))
+IsRelaxed b a = (d : ℤ) → label b a.tail ≡ Some d → IsReached b a.head (d +ℤ a.cost)
+
+-- where there is a radius no weight is negative
+abbrev pub HasWeights : Option ℤ → List ArcView → Type 0
+HasWeights None g = Unit {0}
+HasWeights (Some r) g = All (λ (a : ArcView). pos 0 ≤ℤ a.cost) g
+
+-- no label of the block is past its radius, and not the source's
+pub record StaysNear (b : BlockValue) : Type 0 where
+  pub source : IsNear b.radius (pos 0)
+  pub labels : All (λ (l : Label). IsNear b.radius l.dist) b.labels
 
 pub record LabelsOk (g : List ArcView) (b : BlockValue) : Type 0 where
+  pub weights : HasWeights b.radius g
   pub tight : All (HasTightArc g b) b.labels
   pub relaxed : All (IsRelaxed b) g
 
--- in every block each label is the distance from the source, and each node without a label is unreachable
+-- in every block each label is the distance from the source, and each node without a label is unreachable, or beyond the
+-- radius where the block has one
 abbrev pub AreDistances : List ArcView → List BlockValue → Type 0
-AreDistances g blocks = All (λ b. (v : ℕ) → IsDistance g b.source v (label b v)) blocks
+AreDistances g blocks = All (λ b. (v : ℕ) → IsDistance g b.source v (label b v) b.radius) blocks

@@ -14,7 +14,7 @@ use Rattle.dimacs_judge.specs.Potentials.{Slack}
 use Rattle.dimacs_judge.specs.ViolatedSets.{Violated}
 use Rattle.dimacs_judge.specs.Walks.{IsDistance}
 use Rattle.dimacs_claims.specs.Labels.{AreLabels, BlockValue, LabelsValue, PredsAreEarlier, label}
-use Rattle.dimacs_judge.specs.Labels.{LabelsOk}
+use Rattle.dimacs_judge.specs.Labels.{LabelsOk, StaysNear}
 use Rattle.dimacs_judge.specs.PathsJudge.{PassesPaths, ShowsDistances}
 
 -- for every flow and every weighting of the nodes: the balances by their weights are the amounts by the differences of the weights
@@ -36,9 +36,9 @@ SlacknessLaw = (i : MinValue) → All (JoinsNodes i.nodes) i.arcs → (x : List 
 abbrev pub ViolatedSetLaw : Type 0
 ViolatedSetLaw = (i : MinValue) → All (JoinsNodes i.nodes) i.arcs → (set : ℕ → Bool) → Violated i set → NoFlow i
 
--- labels that pass are distances, and nodes without a label are unreachable
+-- labels that pass are distances, and nodes without a label are unreachable, or beyond the radius where there is one
 abbrev pub LabelsLaw : Type 0
-LabelsLaw = (g : List ArcView) (b : BlockValue) → PredsAreEarlier b → LabelsOk g b → (v : ℕ) → IsDistance g b.source v (label b v)
+LabelsLaw = (g : List ArcView) (b : BlockValue) → PredsAreEarlier b → StaysNear b → LabelsOk g b → (v : ℕ) → IsDistance g b.source v (label b v) b.radius
 
 -- labels and queries that pass show distances
 abbrev pub PassingShowsLaw : Type 0

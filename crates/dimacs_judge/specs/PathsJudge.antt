@@ -5,10 +5,10 @@ use Rattle.dimacs_instance.specs.Arcs.{NetworkValue}
 use Rattle.dimacs_instance.specs.QueryTexts.{QueriesValue, Sources, Pairs}
 use Rattle.dimacs_claims.specs.Labels.{BlockValue, LabelsValue}
 use Rattle.dimacs_judge.specs.Agreement.{nodes_row}
-use Rattle.dimacs_judge.specs.Answers.{distance_from}
+use Rattle.dimacs_judge.specs.Answers.{beyond_from, distance_from}
 use Rattle.dimacs_judge.specs.CertificateTests.{label_rows}
 use Rattle.dimacs_judge.specs.Labels.{LabelsOk, AreDistances}
-use Rattle.dimacs_judge.specs.QueryTests.{HasBlock, nodes_asked, sources_asked, query_node_row, block_row}
+use Rattle.dimacs_judge.specs.QueryTests.{IsServed, nodes_asked, sources_asked, query_node_row, block_row}
 use Rattle.dimacs_judge.specs.Tests.{Row}
 use Rattle.dimacs_judge.specs.Walks.{IsDistance}
 
@@ -16,17 +16,19 @@ use Rattle.dimacs_judge.specs.Walks.{IsDistance}
 abbrev pub paths_rows : NetworkValue → QueriesValue → LabelsValue → List Row
 paths_rows g q l = nodes_row g.nodes l.nodes ∷ query_node_row g.nodes q ∷ block_row l.blocks q ∷ label_rows g.arcs l.blocks
 
--- the labels are of as many nodes as the graph, the queries name its nodes and have blocks, and the labels of every block pass
+-- the labels are of as many nodes as the graph, the queries name its nodes and are served by blocks, and the labels of
+-- every block pass
 pub record PassesPaths (g : NetworkValue) (q : QueriesValue) (l : LabelsValue) : Type 0 where
   pub nodes : l.nodes ≡ g.nodes
   pub queries : All (λ id. id ≤ g.nodes) (nodes_asked q)
-  pub blocks : All (HasBlock l.blocks) (sources_asked q)
+  pub blocks : All (IsServed l.blocks q) (sources_asked q)
   pub labels : All (LabelsOk g.arcs) l.blocks
 
--- the answer to each pair is the distance between its nodes
+-- the answer to each pair is the distance between its nodes; where none is told there is no walk, or none up to the radius
+-- that is told
 abbrev pub AnswersAreDistances : List ArcView → List BlockValue → QueriesValue → Type 0
 AnswersAreDistances arcs blocks (Sources ids) = Unit {0}
-AnswersAreDistances arcs blocks (Pairs pairs) = All (λ pair. IsDistance arcs pair.0 pair.1 (distance_from blocks pair.0 pair.1)) pairs
+AnswersAreDistances arcs blocks (Pairs pairs) = All (λ pair. IsDistance arcs pair.0 pair.1 (distance_from blocks pair.0 pair.1) (beyond_from blocks pair.0 pair.1)) pairs
 
 -- the labels pass and are distances, and so are the answers
 pub record ShowsDistances (g : NetworkValue) (q : QueriesValue) (l : LabelsValue) : Type 0 where

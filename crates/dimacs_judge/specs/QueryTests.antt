@@ -1,5 +1,5 @@
 -- The tests of queries: their nodes, and the blocks of their sources.
-use Rattle.std.specs.Prelude.{ℕ, ◌≡◌, ◌<◌, List, [], ◌∷◌, map, length, get_or, Result, Ok, Err}
+use Rattle.std.specs.Prelude.{ℕ, ◌≡◌, ◌<◌, List, [], ◌∷◌, map, length, get_or, Some, None, Result, Ok, Err}
 use Rattle.std.specs.List.{Any, flat_map, position}
 use Rattle.std.specs.Ordering.{nat_cmp}
 use Rattle.std.specs.FinMap.{FinMap, get}
@@ -9,6 +9,7 @@ use Rattle.dimacs_records.specs.declared.reasons.Reason.{Reason}
 use Rattle.dimacs_records.specs.declared.reasons.Reason.TheVariants.{QueryNode, BlockMissing}
 use Rattle.dimacs_judge.specs.declared.verdict.Where.TheVariants.{Node}
 use Rattle.dimacs_judge.specs.declared.verdict.JudgeError.{JudgeError}
+use Rattle.dimacs_judge.specs.Answers.{block_of}
 use Rattle.dimacs_judge.specs.Tests.{Row, Clear, FirstOfRow, Refuses}
 
 -- FROM before TO
@@ -29,6 +30,15 @@ sources_asked (Pairs pairs) = map (λ pair. pair.0) pairs
 abbrev pub HasBlock : List BlockValue → ℕ → Type 0
 HasBlock blocks source = Any (λ b. b.source ≡ source) blocks
 
+-- the block of this source has no radius
+abbrev pub HasFullBlock : List BlockValue → ℕ → Type 0
+HasFullBlock blocks source = (b : BlockValue) × (block_of blocks source ≡ Some b) × (b.radius ≡ None)
+
+-- the source has a block that serves the query: for all distances from it one without a radius, for one of them any
+abbrev pub IsServed : List BlockValue → QueriesValue → ℕ → Type 0
+IsServed blocks (Sources ids) source = HasFullBlock blocks source
+IsServed blocks (Pairs pairs) source = HasBlock blocks source
+
 -- a test of each node of a list, in order
 abbrev pub listed_row : List ℕ → Reason → (ℕ → Type 0) → Row
 listed_row ids why fails k place reason = (k < length ids) × (place ≡ Node (get_or ids k 0)) × (reason ≡ why) × fails (get_or ids k 0)
@@ -37,15 +47,15 @@ listed_row ids why fails k place reason = (k < length ids) × (place ≡ Node (g
 abbrev pub query_node_row : ℕ → QueriesValue → Row
 query_node_row nodes queries = listed_row (nodes_asked queries) QueryNode (λ id. nodes < id)
 
--- no block has the source of a query
+-- no block serves the source of a query
 abbrev pub block_row : List BlockValue → QueriesValue → Row
-block_row blocks queries = listed_row (sources_asked queries) BlockMissing (λ source. ¬ HasBlock blocks source)
+block_row blocks queries = listed_row (sources_asked queries) BlockMissing (λ source. ¬ IsServed blocks queries source)
 
 -- each source has the number of its first block, from 0; a node without a block has none
 abbrev pub AreNumbers : List BlockValue → FinMap nat_cmp ℕ → Type 0
 AreNumbers blocks numbers = (source : ℕ) → get numbers source ≡ position (has_source source) blocks
 
--- the numbers of the blocks, where every query has one; else the first query that has none
+-- the numbers of the blocks, where every query is served; else the first query that isn't
 abbrev pub TellsBlocks : List BlockValue → QueriesValue → Result (FinMap nat_cmp ℕ) JudgeError → Type 0
 TellsBlocks blocks queries (Ok numbers) = AreNumbers blocks numbers × Clear (block_row blocks queries)
 TellsBlocks blocks queries (Err error) = Refuses (FirstOfRow (block_row blocks queries)) error

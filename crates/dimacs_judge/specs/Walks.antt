@@ -1,5 +1,5 @@
 -- Walks and distances.
-use Rattle.std.specs.Prelude.{ℕ, ◌≡◌, List, [], ◌∷◌, Contains, Option, Some, None, ℤ, pos, ◌+ℤ◌, ◌≤ℤ◌}
+use Rattle.std.specs.Prelude.{ℕ, ◌≡◌, List, [], ◌∷◌, Contains, Option, Some, None, ℤ, pos, ◌+ℤ◌, ◌≤ℤ◌, ◌<ℤ◌}
 use Rattle.dimacs_instance.specs.declared.network.ArcView.{ArcView}
 
 -- a list of arcs of g from s to t, each beginning where the one before ended
@@ -21,7 +21,12 @@ pub record Dist (g : List ArcView) (s t : ℕ) (d : ℤ) : Type 0 where
 abbrev pub Unreachable : List ArcView → ℕ → ℕ → Type 0
 Unreachable g s t = (walk : List ArcView) → ¬ IsWalk g s t walk
 
--- the distance from s to t, or none where there is no walk
-abbrev pub IsDistance : List ArcView → ℕ → ℕ → Option ℤ → Type 0
-IsDistance g s t (Some d) = Dist g s t d
-IsDistance g s t None = Unreachable g s t
+-- every walk from s to t weighs more than r, or there is none
+abbrev pub Beyond : List ArcView → ℕ → ℕ → ℤ → Type 0
+Beyond g s t r = (walk : List ArcView) → IsWalk g s t walk → r <ℤ weight walk
+
+-- the distance from s to t; none where there is no walk, or where t lies beyond the radius, if there is one
+abbrev pub IsDistance : List ArcView → ℕ → ℕ → Option ℤ → Option ℤ → Type 0
+IsDistance g s t (Some d) radius = Dist g s t d
+IsDistance g s t None None = Unreachable g s t
+IsDistance g s t None (Some r) = Beyond g s t r
