@@ -1,5 +1,5 @@
 -- Blocks by their sources, and their numbers.
-use Rattle.std.proofs.Common.{◌≡◌, inl, inr, ℕ, ◌+◌, ◌<◌, ◌==◌, Bool, true, false, List, ◌∷◌, [], ◌++◌, length, get_or, take, drop, not, cond, Option, Some, None, is_some, refl, sym, ◌∙◌, ap, arith}
+use Rattle.std.proofs.Common.{◌≡◌, inl, inr, ℕ, ◌+◌, ◌<◌, ◌==◌, ◌↔◌, IsTrue, Bool, true, false, List, ◌∷◌, [], ◌++◌, length, get_or, take, drop, not, cond, Option, Some, None, is_some, refl, sym, ◌∙◌, ap, arith}
 use Rattle.std.specs.List.{find, position, position_or_len, slice_get}
 use Rattle.std.specs.Option.{option_and_then}
 use Rattle.std.specs.Ordering.{nat_cmp}
@@ -13,8 +13,9 @@ use Rattle.std.proofs.lemmas.List.Sums.{position_or_len_is, fails_before_first, 
 use Rattle.std.proofs.lemmas.Option.{slice_get_past, slice_get-get_or}
 use Rattle.dimacs_nodes.proofs.Nodes.{get-insert_same, get-insert_other}
 use Rattle.dimacs_claims.specs.Labels.{BlockValue, EachBehind, IsNewSource, label_at, has_source}
-use Rattle.dimacs_judge.specs.Answers.{block_of, distance_from}
-use Rattle.dimacs_judge.specs.QueryTests.{HasBlock, AreNumbers}
+use Rattle.dimacs_judge.specs.Answers.{block_of, distance_from, radius_from, radius_in}
+use Rattle.dimacs_judge.specs.QueryTests.{HasBlock, HasFullBlock, AreNumbers}
+use Rattle.dimacs_claims.proofs.BegunLemmas.{unlabelled}
 
 -- ---- the first place that passes a test
 module _ {X : Type 0} (p : X → Bool) where
@@ -63,14 +64,39 @@ no_block blocks source none has =
     let on = eq-eqb b.source source same in
     cc
 
--- and whether it has a number tells
-pub numbered_has_block : (blocks : List BlockValue) (source : ℕ) (number : Option ℕ) → number ≡ position (has_source source) blocks → is_some number ≡ true → HasBlock blocks source
-numbered_has_block blocks source None is some = absurd (let f : false ≡ true = some in cc)
-numbered_has_block blocks source (Some i) is some = has_block blocks source i (sym is)
+-- the block of a source that has a number
+pub block_numbered : (blocks : List BlockValue) (source i : ℕ) (b : BlockValue) → position (has_source source) blocks ≡ Some i → b ≡ get_or blocks i b → block_of blocks source ≡ Some b
+block_numbered blocks source i b is at =
+    find-position (has_source source) blocks ∙ (ap (option_and_then (slice_get blocks)) is ∙ (slice_get-get_or blocks i b (position-Some (has_source source) blocks i b is).0 ∙ ap (λ (d : BlockValue). Some d) (sym at)))
 
-pub unnumbered_has_none : (blocks : List BlockValue) (source : ℕ) (number : Option ℕ) → number ≡ position (has_source source) blocks → is_some number ≡ false → ¬ HasBlock blocks source
-unnumbered_has_none blocks source None is none = no_block blocks source (sym is)
-unnumbered_has_none blocks source (Some i) is none = absurd (let f : true ≡ false = none in cc)
+pub block_unnumbered : (blocks : List BlockValue) (source : ℕ) → position (has_source source) blocks ≡ None → block_of blocks source ≡ None
+block_unnumbered blocks source none = rw (find-position (has_source source) blocks, none) refl
+
+pub full_tells : (blocks : List BlockValue) (source i : ℕ) (b : BlockValue) (told : Bool) → position (has_source source) blocks ≡ Some i → b ≡ get_or blocks i b → is_some b.radius ≡ not told → IsTrue told ↔ HasFullBlock blocks source
+full_tells blocks source i b true is at some = (λ t. (b, block_numbered blocks source i b is at, unlabelled b.radius some), λ full. refl)
+full_tells blocks source i b false is at some = (
+  λ t. absurd (let f : false ≡ true = t in cc),
+  λ full.
+      let (d, found, none) = full in
+      let both : Some b ≡ Some d = sym (block_numbered blocks source i b is at) ∙ found in
+      let same : b ≡ d = cc in
+      let off : is_some b.radius ≡ false = ap (λ (e : BlockValue). is_some e.radius) same ∙ ap is_some none in
+      absurd (let f : true ≡ false = sym some ∙ off in cc),
+)
+
+pub no_full_block : (blocks : List BlockValue) (source : ℕ) → position (has_source source) blocks ≡ None → ¬ HasFullBlock blocks source
+no_full_block blocks source none full = let f : None ≡ Some full.0 = sym (block_unnumbered blocks source none) ∙ full.1 in cc
+
+pub radius_some : (blocks : List BlockValue) (source i : ℕ) (b : BlockValue) → position (has_source source) blocks ≡ Some i → b ≡ get_or blocks i b → b.radius ≡ radius_from blocks source
+radius_some blocks source i b is at = ap radius_in (sym (block_numbered blocks source i b is at))
+
+pub radius_none : (blocks : List BlockValue) (source : ℕ) → position (has_source source) blocks ≡ None → None ≡ radius_from blocks source
+radius_none blocks source none = ap radius_in (sym (block_unnumbered blocks source none))
+
+-- and whether it has a number tells
+pub numbered_tells : (blocks : List BlockValue) (source : ℕ) (number : Option ℕ) (told : Bool) → told ≡ is_some number → number ≡ position (has_source source) blocks → IsTrue told ↔ HasBlock blocks source
+numbered_tells blocks source None told e is = (λ t. absurd (let f : true ≡ false = sym t ∙ e in cc), λ has. absurd (no_block blocks source (sym is) has))
+numbered_tells blocks source (Some i) told e is = (λ t. has_block blocks source i (sym is), λ has. e)
 
 -- ---- the numbers so far
 pub numbers_more : (blocks : List BlockValue) (numbers : FinMap nat_cmp ℕ) (i : ℕ) (b : BlockValue) → i < length blocks → b ≡ get_or blocks i b → EachBehind IsNewSource blocks

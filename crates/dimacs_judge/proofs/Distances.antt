@@ -1,23 +1,49 @@
 -- What labels prove of all walks.
-use Rattle.std.proofs.Common.{◌≡◌, ◌≢◌, ◌⊎◌, inl, inr, ℕ, ◌==◌, ℤ, pos, ◌+ℤ◌, ◌≤ℤ◌, Bool, true, false, cond, List, [], ◌∷◌, ◌++◌, All, Contains, Option, Some, None, refl, sym, eq-eqb, ◌∙◌, arith}
-use Rattle.std.proofs.lemmas.Int.{ints}
+use Rattle.std.proofs.Common.{◌≡◌, ◌≢◌, ◌⊎◌, inl, inr, ℕ, ◌==◌, ℤ, pos, ◌+ℤ◌, ◌≤ℤ◌, ◌<ℤ◌, Bool, true, false, cond, List, [], ◌∷◌, ◌++◌, All, Contains, Option, Some, None, refl, sym, subst, eq-eqb, ◌∙◌, arith}
+use Rattle.std.proofs.lemmas.Int.{ints, by_lt_z}
 use Rattle.std.proofs.lemmas.List.{append_assoc, append-nil}
-use Rattle.std.proofs.lemmas.List.Elements.{Contains-append_right, All-contains, All-nil, All-cons, All-weaker}
+use Rattle.std.proofs.lemmas.List.Elements.{Contains-append_right, All-contains, All-head, All-tail, All-nil, All-cons, All-weaker}
 use Rattle.std.proofs.lemmas.Bool.Decides.{eqb_tells}
 use Rattle.dimacs_instance.specs.declared.network.ArcView.{ArcView}
 use Rattle.dimacs_claims.specs.declared.block.Label.{Label}
-use Rattle.dimacs_judge.specs.Walks.{IsWalk, weight, Dist, Unreachable, IsDistance}
-use Rattle.dimacs_claims.specs.Labels.{BlockValue, distance_in, label, PredsAreEarlier}
-use Rattle.dimacs_judge.specs.Labels.{HasTightArc, IsRelaxed, LabelsOk}
+use Rattle.dimacs_judge.specs.Walks.{IsWalk, weight, Dist, IsDistance}
+use Rattle.dimacs_claims.specs.Labels.{BlockValue, IsNear, distance_in, label, PredsAreEarlier}
+use Rattle.dimacs_judge.specs.Labels.{HasTightArc, HasWeights, IsReached, IsRelaxed, LabelsOk, StaysNear}
 
 -- ---- no walk weighs less
-walk_bound : (g : List ArcView) (b : BlockValue) → All (IsRelaxed b) g → (walk : List ArcView) (u t : ℕ) (d : ℤ) → IsWalk g u t walk → label b u ≡ Some d
-    → (e : ℤ) × (label b t ≡ Some e) × (e ≤ℤ (d +ℤ weight walk))
-walk_bound g b relaxed [] u t d w at = (d, rw (← w) at, omega (arith, ints))
-walk_bound g b relaxed (a ∷ walk) u t d w at =
-    let here = All-contains (IsRelaxed b) g a relaxed w.0 d (rw w.1 at) in
-    let rest = walk_bound g b relaxed walk a.head t here.0 w.2 here.1 in
-    (rest.0, rest.1, omega (arith, ints, here.2, rest.2))
+-- a length is past the radius that there is
+abbrev pub IsPast : Option ℤ → ℤ → Type 0
+IsPast radius length = (r : ℤ) × (radius ≡ Some r) × (r <ℤ length)
+
+past_where_not_near : (radius : Option ℤ) (length : ℤ) → (¬ IsNear radius length) → IsPast radius length
+past_where_not_near None length off = absurd (off tt)
+past_where_not_near (Some r) length off = (r, refl, by_lt_z r length (λ l. l) (λ le. absurd (off le)))
+
+-- a node has a label of no more than this length, or the length is past the radius
+abbrev IsBound : BlockValue → ℕ → ℤ → Type 0
+IsBound b t length = ((e : ℤ) × (label b t ≡ Some e) × (e ≤ℤ length)) ⊎ IsPast b.radius length
+
+reached_bound : (b : BlockValue) (t : ℕ) (length : ℤ) → IsReached b t length → IsBound b t length
+reached_bound b t length (inl labelled) = inl labelled
+reached_bound b t length (inr out) = inr (past_where_not_near b.radius length out.1)
+
+walk_weight : (g : List ArcView) → All (λ (a : ArcView). pos 0 ≤ℤ a.cost) g → (walk : List ArcView) (u t : ℕ) → IsWalk g u t walk → pos 0 ≤ℤ weight walk
+walk_weight g all [] u t w = omega (arith, ints)
+walk_weight g all (a ∷ walk) u t w = omega (arith, ints, All-contains (λ (c : ArcView). pos 0 ≤ℤ c.cost) g a all w.0, walk_weight g all walk a.head t w.2)
+
+weights_under : (g : List ArcView) (radius : Option ℤ) (r : ℤ) → radius ≡ Some r → HasWeights radius g → All (λ (a : ArcView). pos 0 ≤ℤ a.cost) g
+weights_under g None r is weights = absurd (cc)
+weights_under g (Some s) r is weights = weights
+
+walk_bound : (g : List ArcView) (b : BlockValue) → HasWeights b.radius g → All (IsRelaxed b) g → (walk : List ArcView) (u t : ℕ) (d : ℤ) → IsWalk g u t walk → label b u ≡ Some d → IsBound b t (d +ℤ weight walk)
+walk_bound g b weights relaxed [] u t d w at = inl (d, rw (← w) at, omega (arith, ints))
+walk_bound g b weights relaxed (a ∷ walk) u t d w at = elim (reached_bound b a.head (d +ℤ a.cost) (All-contains (IsRelaxed b) g a relaxed w.0 d (rw w.1 at))) [
+  | inl here ↦ elim (walk_bound g b weights relaxed walk a.head t here.0 w.2 here.1) [
+    | inl rest ↦ inl (rest.0, rest.1, omega (arith, ints, here.2, rest.2))
+    | inr past ↦ inr (past.0, past.1, omega (arith, ints, here.2, past.2))
+  ]
+  | inr past ↦ inr (past.0, past.1, omega (arith, ints, past.2, walk_weight g (weights_under g b.radius past.0 past.1 weights) walk a.head t w.2))
+]
 
 -- ---- a walk to each labelled node
 walk_more : (g : List ArcView) (walk : List ArcView) (s u : ℕ) (a : ArcView) → IsWalk g s u walk → Contains g a → a.tail ≡ u → IsWalk g s a.head (walk ++ a ∷ [])
@@ -125,28 +151,54 @@ walks g s labels known tight earlier (l ∷ rest) e w =
     let here = rw e at (All-contains (HasTightArc g (with_labels s labels)) labels l tight has) in
     walks g s labels known tight (earlier ++ l ∷ []) rest (e ∙ sym (append_assoc earlier (l ∷ []) rest)) (one_more g s earlier rest l here (known earlier rest l e) w)
 
-labelled_is_distance : (g : List ArcView) (b : BlockValue) → PredsAreEarlier b → LabelsOk g b → (v : ℕ) (d : ℤ) → label b v ≡ Some d → Dist g b.source v d
-labelled_is_distance g b known ok v d at =
+-- the labels of a block near its radius
+near_label : (b : BlockValue) → StaysNear b → (v : ℕ) (d : ℤ) → label b v ≡ Some d → IsNear b.radius d
+near_label b near v d at = elim (eqb_tells b.source v) [
+  | inl same ↦ (let own : Some (pos 0) ≡ Some d = (rw same.0 at at) in let e : pos 0 ≡ d = cc in subst (IsNear b.radius) e near.source)
+  | inr off ↦ near_in b.radius b.labels near.labels v d (rw off.0 at at)
+]
+  where
+    near_in : (radius : Option ℤ) (labels : List Label) → All (λ (l : Label). IsNear radius l.dist) labels → (v : ℕ) (d : ℤ) → distance_in labels v ≡ Some d → IsNear radius d
+    near_in radius [] all v d at = absurd (cc)
+    near_in radius (l ∷ labels) all v d at = elim (eqb_tells l.id v) [
+      | inl same ↦ (let own : Some l.dist ≡ Some d = (rw same.0 at at) in let e : l.dist ≡ d = cc in subst (IsNear radius) e (All-head (λ (m : Label). IsNear radius m.dist) l labels all))
+      | inr off ↦ near_in radius labels (All-tail (λ (m : Label). IsNear radius m.dist) l labels all) v d (rw off.0 at at)
+    ]
+
+near_before_past : (radius : Option ℤ) (d length : ℤ) → IsNear radius d → IsPast radius length → d ≤ℤ length
+near_before_past None d length near (r, is, far) = absurd (cc)
+near_before_past (Some s) d length near (r, is, far) = let same : s ≡ r = cc in omega (arith, ints, near, far, same)
+
+labelled_is_distance : (g : List ArcView) (b : BlockValue) → PredsAreEarlier b → StaysNear b → LabelsOk g b → (v : ℕ) (d : ℤ) → label b v ≡ Some d → Dist g b.source v d
+labelled_is_distance g b known near ok v d at =
     let (walk, leads, weighs) = walks g b.source b.labels known ok.tight [] b.labels refl (no_labels g b.source) v d at in
     record {
       walk = walk;
       leads = leads;
       weighs = weighs;
-      least = λ other w.
-          let (e, named, le) = walk_bound g b ok.relaxed other b.source v (pos 0) w (own_label b) in
-          let both : Some e ≡ Some d = sym named ∙ at in
-          let same : e ≡ d = cc in
-          omega (arith, ints);
+      least = λ other w. elim (walk_bound g b ok.weights ok.relaxed other b.source v (pos 0) w (own_label b)) [
+        | inl bound ↦
+            let (e, named, le) = bound in
+            let both : Some e ≡ Some d = sym named ∙ at in
+            let same : e ≡ d = cc in
+            omega (arith, ints)
+        | inr past ↦ (let le = near_before_past b.radius d (pos 0 +ℤ weight other) (near_label b near v d at) past in omega (arith, ints, le))
+      ];
     }
 
-unlabelled_is_unreachable : (g : List ArcView) (b : BlockValue) → LabelsOk g b → (v : ℕ) → label b v ≡ None → Unreachable g b.source v
-unlabelled_is_unreachable g b ok v none walk w =
-    let (e, named, le) = walk_bound g b ok.relaxed walk b.source v (pos 0) w (own_label b) in
-    let f : Some e ≡ None = sym named ∙ none in cc
+unlabelled_is_past : (g : List ArcView) (b : BlockValue) → LabelsOk g b → (v : ℕ) → label b v ≡ None → (walk : List ArcView) → IsWalk g b.source v walk → IsPast b.radius (weight walk)
+unlabelled_is_past g b ok v none walk w = elim (walk_bound g b ok.weights ok.relaxed walk b.source v (pos 0) w (own_label b)) [
+  | inl bound ↦ (let (e, named, le) = bound in let f : Some e ≡ None = sym named ∙ none in absurd (cc))
+  | inr past ↦ (past.0, past.1, omega (arith, ints, past.2))
+]
 
-pub labels_are_distances : (g : List ArcView) (b : BlockValue) → PredsAreEarlier b → LabelsOk g b → (v : ℕ) → IsDistance g b.source v (label b v)
-labels_are_distances g b known ok v = go (label b v) refl
+missed : (g : List ArcView) (s v : ℕ) (radius : Option ℤ) → ((walk : List ArcView) → IsWalk g s v walk → IsPast radius (weight walk)) → IsDistance g s v None radius
+missed g s v None past = λ walk w. let (r, is, far) = past walk w in let f : None ≡ Some r = is in absurd (cc)
+missed g s v (Some r') past = λ walk w. let (r, is, far) = past walk w in let same : r' ≡ r = cc in omega (arith, ints, far, same)
+
+pub labels_are_distances : (g : List ArcView) (b : BlockValue) → PredsAreEarlier b → StaysNear b → LabelsOk g b → (v : ℕ) → IsDistance g b.source v (label b v) b.radius
+labels_are_distances g b known near ok v = go (label b v) refl
   where
-    go : (told : Option ℤ) → label b v ≡ told → IsDistance g b.source v told
-    go (Some d) e = labelled_is_distance g b known ok v d e
-    go None e = unlabelled_is_unreachable g b ok v e
+    go : (told : Option ℤ) → label b v ≡ told → IsDistance g b.source v told b.radius
+    go (Some d) e = labelled_is_distance g b known near ok v d e
+    go None e = missed g b.source v b.radius (unlabelled_is_past g b ok v e)

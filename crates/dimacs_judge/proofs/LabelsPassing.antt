@@ -1,21 +1,22 @@
 -- Labels whose tests all pass.
-use Rattle.std.proofs.Common.{◌≡◌, ◌≢◌, ◌⊎◌, inl, inr, ℕ, suc, zero, ◌+◌, ◌<◌, List, [], ◌∷◌, All, Contains, length, get_or, Option, Some, None, Result, Ok, Err, ℤ, ◌+ℤ◌, ◌≤ℤ◌, ◌<ℤ◌, refl, sym, subst, ◌∙◌, arith}
+use Rattle.std.proofs.Common.{◌≡◌, ◌≢◌, ◌⊎◌, inl, inr, ℕ, suc, zero, ◌+◌, ◌<◌, List, [], ◌∷◌, All, Contains, length, get_or, Option, Some, None, Result, Ok, Err, IfSome, IsSome, ℤ, pos, ◌+ℤ◌, ◌≤ℤ◌, ◌<ℤ◌, refl, sym, ap, true, false, is_some, subst, ◌∙◌, arith}
 use Rattle.std.specs.Int.Signed.{<ℤ_irrefl}
 use Rattle.std.specs.Result.{OnOk}
 use Rattle.std.proofs.lemmas.Int.{ints, by_lt_z}
 use Rattle.std.proofs.lemmas.Bool.Decides.{eqb_tells}
 use Rattle.std.proofs.lemmas.List.Elements.{All-nil, All-cons, All-head, All-tail, All-contains, Contains-get_or, Contains-append_right, Contains-append_cases}
 use Rattle.dimacs_instance.specs.declared.network.ArcView.{ArcView}
+use Rattle.dimacs_records.specs.Ranges.{IsRadius}
 use Rattle.dimacs_records.specs.declared.reasons.Reason.{Reason}
 use Rattle.dimacs_records.specs.declared.reasons.Reason.TheVariants as reasons
 use Rattle.dimacs_claims.specs.declared.block.Label.{Label}
 use Rattle.dimacs_judge.specs.declared.verdict.Where.{Where}
 use Rattle.dimacs_judge.specs.declared.verdict.Where.TheVariants as places
-use Rattle.dimacs_claims.specs.Labels.{BlockValue, LabelsValue, AreLabels, label}
-use Rattle.dimacs_judge.specs.Labels.{HasArcOfWeight, HasTightArc, IsRelaxed, LabelsOk, AreDistances}
+use Rattle.dimacs_claims.specs.Labels.{BlockValue, LabelsValue, AreLabels, IsBlock, IsNear, label}
+use Rattle.dimacs_judge.specs.Labels.{HasArcOfWeight, HasTightArc, HasWeights, IsReached, IsRelaxed, LabelsOk, AreDistances, StaysNear}
 use Rattle.dimacs_judge.specs.Tests.{Clear, AllClear, Tells}
 use Rattle.dimacs_judge.specs.Rows.{no_arc, arc_at}
-use Rattle.dimacs_judge.specs.CertificateTests.{no_label, support_row, RelaxFails, relax_row, label_rows}
+use Rattle.dimacs_judge.specs.CertificateTests.{no_label, support_row, RelaxFails, relax_row, label_rows, weight_row}
 use Rattle.dimacs_judge.proofs.Distances.{labels_are_distances}
 
 all_from : {A : Type 0} (P : A → Type 0) (xs : List A) (d : A) → ((k : ℕ) → k < length xs → P (get_or xs k d)) → All P xs
@@ -83,37 +84,61 @@ supported arcs b clear = all_from (HasTightArc arcs b) b.labels no_label (λ k h
 support_clear : (arcs : List ArcView) (b : BlockValue) → All (HasTightArc arcs b) b.labels → Clear (support_row arcs b)
 support_clear arcs b all k place reason f = f.3 (all_at (HasTightArc arcs b) b.labels no_label k f.0 all)
 
-relaxed_where_not_failed : (head : Option ℤ) (d w : ℤ) → ((reason : Reason) → ¬ RelaxFails (Some d) head w reason) → (e : ℤ) × (head ≡ Some e) × (e ≤ℤ (d +ℤ w))
-relaxed_where_not_failed None d w h = absurd (h reasons.Escapes (d, refl, inl (refl, refl)))
-relaxed_where_not_failed (Some e) d w h =
-    (e, refl, by_lt_z (d +ℤ w) e (λ l. absurd (h reasons.NotShortest (d, refl, inr (refl, (e, refl, l))))) (λ l. l))
+relaxed_where_not_failed : (radius head : Option ℤ) (d w : ℤ) → ((reason : Reason) → ¬ RelaxFails radius (Some d) head w reason) → ((e : ℤ) × (head ≡ Some e) × (e ≤ℤ (d +ℤ w))) ⊎ ((head ≡ None) × (¬ IsNear radius (d +ℤ w)))
+relaxed_where_not_failed radius None d w h = inr (refl, λ near. h reasons.Escapes (d, refl, inl (refl, refl, near)))
+relaxed_where_not_failed radius (Some e) d w h =
+    inl (e, refl, by_lt_z (d +ℤ w) e (λ l. absurd (h reasons.NotShortest (d, refl, inr (refl, (e, refl, l))))) (λ l. l))
 
 relaxed : (arcs : List ArcView) (b : BlockValue) → Clear (relax_row arcs b) → All (IsRelaxed b) arcs
 relaxed arcs b clear = all_from (IsRelaxed b) arcs no_arc (λ k h d is.
-    relaxed_where_not_failed (label b (arc_at arcs k).head) d (arc_at arcs k).cost (λ reason f. clear k (places.Arc (k + 1)) reason (h, refl, rw is f)))
+    relaxed_where_not_failed b.radius (label b (arc_at arcs k).head) d (arc_at arcs k).cost (λ reason f. clear k (places.Arc (k + 1)) reason (h, refl, rw is f)))
 
 relax_clear : (arcs : List ArcView) (b : BlockValue) → All (IsRelaxed b) arcs → Clear (relax_row arcs b)
 relax_clear arcs b all k place reason f =
     let (d, is, fails) = f.2 in
-    let (e, named, le) = all_at (IsRelaxed b) arcs no_arc k f.0 all d is in
-    elim fails [
-      | inl out ↦ (let both : None ≡ Some e = sym out.1 ∙ named in cc)
-      | inr far ↦ (let (g, also, less) = far.1 in let both : Some g ≡ Some e = sym also ∙ named in let same : g ≡ e = cc in omega (arith, ints, le, less, same))
-    ]
+    not_both (all_at (IsRelaxed b) arcs no_arc k f.0 all d is) fails
+  where
+    not_both : {length : ℤ} → IsReached b (arc_at arcs k).head length → ((reason ≡ reasons.Escapes) × (label b (arc_at arcs k).head ≡ None) × IsNear b.radius length) ⊎ ((reason ≡ reasons.NotShortest) × ((e : ℤ) × (label b (arc_at arcs k).head ≡ Some e) × (length <ℤ e))) → ⊥
+    not_both (inl (e, named, le)) (inl out) = let both : None ≡ Some e = sym out.1 ∙ named in cc
+    not_both (inl (e, named, le)) (inr far) = let (g, also, less) = far.1 in let both : Some g ≡ Some e = sym also ∙ named in let same : g ≡ e = cc in omega (arith, ints, le, less, same)
+    not_both (inr past) (inl out) = past.1 out.2
+    not_both (inr past) (inr far) = let (g, also, less) = far.1 in let both : Some g ≡ None = sym also ∙ past.0 in cc
+
+-- ---- weights
+weights_pass : (arcs : List ArcView) (b : BlockValue) → Clear (weight_row arcs b) → HasWeights b.radius arcs
+weights_pass arcs b clear = go b.radius refl
+  where
+    go : (radius : Option ℤ) → b.radius ≡ radius → HasWeights radius arcs
+    go None is = tt
+    go (Some r) is = all_from (λ (a : ArcView). pos 0 ≤ℤ a.cost) arcs no_arc (λ k h. by_lt_z (arc_at arcs k).cost (pos 0) (λ l. absurd (clear k (places.Arc (k + 1)) reasons.NegativeWeight (ap is_some is, (h, refl, (refl, l))))) (λ le. le))
+
+weights_clear : (arcs : List ArcView) (b : BlockValue) → HasWeights b.radius arcs → Clear (weight_row arcs b)
+weights_clear arcs b weights k place reason f = go b.radius weights f.0
+  where
+    go : (radius : Option ℤ) → HasWeights radius arcs → IsSome radius → ⊥
+    go None all some = absurd (let f : false ≡ true = some in cc)
+    go (Some r) all some = let low = all_at (λ (a : ArcView). pos 0 ≤ℤ a.cost) arcs no_arc k f.1.0 all in omega (arith, ints, low, f.1.2.1)
 
 -- ---- all blocks
 pub labels_hold : (arcs : List ArcView) (blocks : List BlockValue) → AllClear (label_rows arcs blocks) → All (LabelsOk arcs) blocks
 labels_hold arcs [] clear = All-nil (LabelsOk arcs)
-labels_hold arcs (b ∷ blocks) clear = All-cons (LabelsOk arcs) b blocks (record { tight = supported arcs b clear.0; relaxed = relaxed arcs b clear.1.0 }) (labels_hold arcs blocks clear.1.1)
+labels_hold arcs (b ∷ blocks) clear = All-cons (LabelsOk arcs) b blocks (record { weights = weights_pass arcs b clear.0; tight = supported arcs b clear.1.0; relaxed = relaxed arcs b clear.1.1.0 }) (labels_hold arcs blocks clear.1.1.1)
 
 pub labels_clear : (arcs : List ArcView) (blocks : List BlockValue) → All (LabelsOk arcs) blocks → AllClear (label_rows arcs blocks)
 labels_clear arcs [] all = tt
 labels_clear arcs (b ∷ blocks) all =
     let here = All-head (LabelsOk arcs) b blocks all in
-    (support_clear arcs b here.tight, (relax_clear arcs b here.relaxed, labels_clear arcs blocks (All-tail (LabelsOk arcs) b blocks all)))
+    (weights_clear arcs b here.weights, (support_clear arcs b here.tight, (relax_clear arcs b here.relaxed, labels_clear arcs blocks (All-tail (LabelsOk arcs) b blocks all))))
+
+pub stays_near : (nodes : ℕ) (b : BlockValue) → IsBlock nodes b → StaysNear b
+stays_near nodes b is = record { source = go b.radius is.radius_within; labels = is.near }
+  where
+    go : (radius : Option ℤ) → IfSome radius IsRadius → IsNear radius (pos 0)
+    go None within = tt
+    go (Some r) within = omega (arith, ints, within.0)
 
 pub passing_are_distances : (arcs : List ArcView) (l : LabelsValue) → AreLabels l → All (LabelsOk arcs) l.blocks → AreDistances arcs l.blocks
-passing_are_distances arcs l are all k d inside = labels_are_distances arcs (get_or l.blocks k d) (are.blocks k d inside).preds (all k d inside)
+passing_are_distances arcs l are all k d inside = labels_are_distances arcs (get_or l.blocks k d) (are.blocks k d inside).preds (stays_near l.nodes (get_or l.blocks k d) (are.blocks k d inside)) (all k d inside)
 
 pub told_distances : (arcs : List ArcView) (l : LabelsValue) → AreLabels l → (told : Result Unit (Where × Reason)) → Tells (label_rows arcs l.blocks) told → OnOk told (AreDistances arcs l.blocks)
 told_distances arcs l are (Ok done) clear = passing_are_distances arcs l are (labels_hold arcs l.blocks clear)

@@ -41,7 +41,7 @@ module _ (number : ℕ) (a : ArcView) (old new : NodeTable Mark) (passes : Marks
   with_it k = these k ⊎ (k ≡ i)
 
   abbrev fails_at : Reason → Type 0
-  fails_at reason = RelaxFails (marked_dist number (value_of old a.tail)) (marked_dist number (value_of old a.head)) a.cost reason
+  fails_at reason = RelaxFails b.radius (marked_dist number (value_of old a.tail)) (marked_dist number (value_of old a.head)) a.cost reason
 
   passes_at : ((reason : Reason) → ¬ fails_at reason) → (k : ℕ) → k ≡ i → (place : Where) (reason : Reason) → ¬ relax_row arcs b k place reason
   passes_at passing k same = subst (λ j. (place : Where) (reason : Reason) → ¬ relax_row arcs b j place reason) (sym same) (arc_passes number a old new passes arcs b i here are passing)

@@ -18,7 +18,7 @@ mod EntryLemmas
 pub mod Claims
 pub mod InfeasibleJudge
 mod ListedRows
-mod BlockNumbers
+pub mod BlockNumbers
 pub mod QueriesPassing
 pub mod PathsPassing
 pub mod MaxJudge

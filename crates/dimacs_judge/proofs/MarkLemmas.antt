@@ -11,11 +11,11 @@ use Rattle.std.proofs.lemmas.List.Elements.{All-cons, All-nil, Contains-append_c
 use Rattle.dimacs_nodes.specs.declared.node_table.NodeTable.{NodeTable}
 use Rattle.dimacs_nodes.specs.Tables.{blank_of, value_of}
 use Rattle.dimacs_records.specs.declared.reasons.Reason.{Reason}
-use Rattle.dimacs_records.specs.declared.reasons.Reason.TheVariants.{NotShortest}
+use Rattle.dimacs_records.specs.declared.reasons.Reason.TheVariants.{Escapes, NotShortest}
 use Rattle.dimacs_records.specs.Ranges.{IsWide}
 use Rattle.dimacs_instance.specs.declared.network.ArcView.{ArcView}
 use Rattle.dimacs_claims.specs.declared.block.Label.{Label}
-use Rattle.dimacs_claims.specs.Labels.{BlockValue, IsBlock, IsFresh, distance_in, label}
+use Rattle.dimacs_claims.specs.Labels.{BlockValue, IsBlock, IsFresh, IsNear, distance_in, label}
 use Rattle.dimacs_claims.specs.ById as by_id
 use Rattle.dimacs_claims.proofs.BegunLemmas.{unlabelled}
 use Rattle.dimacs_claims.proofs.BlockLemmas.{fresh_has_none, label-with_label, label_at_wide}
@@ -172,15 +172,15 @@ module _ (number : ℕ) (a : ArcView) (marks : NodeTable Mark) (tail head : Mark
   to_at : marked_dist number (value_of marks a.head) ≡ Some to
   to_at = ap (marked_dist number) (sym head_is) ∙ sym to_is
 
-  pub told_far : (from +ℤ a.cost) <ℤ to → RelaxFails (marked_dist number (value_of marks a.tail)) (marked_dist number (value_of marks a.head)) a.cost NotShortest
-  told_far far = (from, from_at, inr (refl, (to, to_at, far)))
+  pub told_far : (radius : Option ℤ) → (from +ℤ a.cost) <ℤ to → RelaxFails radius (marked_dist number (value_of marks a.tail)) (marked_dist number (value_of marks a.head)) a.cost NotShortest
+  told_far radius far = (from, from_at, inr (refl, (to, to_at, far)))
 
-  pub told_near : (¬ ((from +ℤ a.cost) <ℤ to)) → (reason : Reason) → ¬ RelaxFails (marked_dist number (value_of marks a.tail)) (marked_dist number (value_of marks a.head)) a.cost reason
-  told_near near reason (d, is, fails) =
+  pub told_near : (radius : Option ℤ) → (¬ ((from +ℤ a.cost) <ℤ to)) → (reason : Reason) → ¬ RelaxFails radius (marked_dist number (value_of marks a.tail)) (marked_dist number (value_of marks a.head)) a.cost reason
+  told_near radius near reason (d, is, fails) =
       let both : Some from ≡ Some d = sym from_at ∙ is in
       let same : from ≡ d = cc in
       elim fails [
-        | inl out ↦ (let none : Some to ≡ None = sym to_at ∙ out.1 in cc)
+        | inl out ↦ (let none : Some to ≡ None = sym to_at ∙ out.1 in absurd (cc))
         | inr far ↦ (
             let (e, at, less) = far.1 in
             let there : Some to ≡ Some e = sym to_at ∙ at in
@@ -201,6 +201,23 @@ module _ (number : ℕ) (a : ArcView) (marks : NodeTable Mark) (tail head : Mark
 
   pub not_blank : (blank_of marks).block < number → head ≢ blank_of marks
   not_blank less same = omega (arith, ap (λ (m : Mark). m.block) same, marked_block number head to to_is, less)
+
+-- where the head has no label
+pub told_of_escape : (radius : Option ℤ) (from weight : ℤ) (tail head : Option ℤ) (fault : Option Reason) → tail ≡ Some from → head ≡ None → TellsReason (λ reason. (reason ≡ Escapes) × IsNear radius (from +ℤ weight)) fault → TellsReason (RelaxFails radius tail head weight) fault
+told_of_escape radius from weight tail head None tail_is head_is told = λ reason fails.
+    let (d, is, why) = fails in
+    let both : Some from ≡ Some d = sym tail_is ∙ is in
+    let same : d ≡ from = cc in
+    elim why [
+      | inl out ↦ told reason (out.0, subst (λ z. IsNear radius (z +ℤ weight)) same out.2)
+      | inr far ↦ (let (e, at, less) = far.1 in let none : None ≡ Some e = sym head_is ∙ at in absurd (cc))
+    ]
+told_of_escape radius from weight tail head (Some reason) tail_is head_is told = (from, tail_is, inl (told.0, head_is, told.1))
+
+pub told_escape : (radius : Option ℤ) (number : ℕ) (a : ArcView) (marks : NodeTable Mark) (tail head : Mark) (from : ℤ) (fault : Option Reason) → tail ≡ value_of marks a.tail → head ≡ value_of marks a.head → Some from ≡ marked_dist number tail → None ≡ marked_dist number head
+    → TellsReason (λ reason. (reason ≡ Escapes) × IsNear radius (from +ℤ a.cost)) fault → TellsReason (RelaxFails radius (marked_dist number (value_of marks a.tail)) (marked_dist number (value_of marks a.head)) a.cost) fault
+told_escape radius number a marks tail head from fault tail_is head_is from_is none told =
+    told_of_escape radius from a.cost (marked_dist number (value_of marks a.tail)) (marked_dist number (value_of marks a.head)) fault (ap (marked_dist number) (sym tail_is) ∙ sym from_is) (ap (marked_dist number) (sym head_is) ∙ sym none) told
 
 pub tail_unmarked : (number : ℕ) (a : ArcView) (marks : NodeTable Mark) (tail : Mark) → tail ≡ value_of marks a.tail → None ≡ marked_dist number tail → ¬ IsTight number a marks
 tail_unmarked number a marks tail is none (d, at, there, pred) = let e : None ≡ Some d = none ∙ (ap (marked_dist number) is ∙ at) in cc
@@ -323,13 +340,13 @@ module _ (number : ℕ) (a : ArcView) (old : NodeTable Mark) where
           (λ k less. elim (cases_eq k i) [ inl same ↦ inr same | inr off ↦ inl (omega (arith, less, off)) ])
           (made_with (λ k. k < i) made)
 
-      pub arc_passes : ((reason : Reason) → ¬ RelaxFails (marked_dist number (value_of old a.tail)) (marked_dist number (value_of old a.head)) a.cost reason) → (place : Where) (reason : Reason) → ¬ relax_row arcs b i place reason
+      pub arc_passes : ((reason : Reason) → ¬ RelaxFails b.radius (marked_dist number (value_of old a.tail)) (marked_dist number (value_of old a.head)) a.cost reason) → (place : Where) (reason : Reason) → ¬ relax_row arcs b i place reason
       arc_passes passing place reason f = passing reason (rw (this_arc, ← are.labels a.tail, ← are.labels a.head) at f.2)
 
-      pub arc_fails : (reason : Reason) → RelaxFails (marked_dist number (value_of old a.tail)) (marked_dist number (value_of old a.head)) a.cost reason → relax_row arcs b i (Arc (i + 1)) reason
+      pub arc_fails : (reason : Reason) → RelaxFails b.radius (marked_dist number (value_of old a.tail)) (marked_dist number (value_of old a.head)) a.cost reason → relax_row arcs b i (Arc (i + 1)) reason
       arc_fails reason fails = (slice_get_within arcs i a here, refl, rw (this_arc, ← are.labels a.tail, ← are.labels a.head) fails)
 
-      pub told_after : (told : Result Unit (Where × Reason)) (fault : Option Reason) → TellsBelow (relax_row arcs b) i told → TellsReason (RelaxFails (marked_dist number (value_of old a.tail)) (marked_dist number (value_of old a.head)) a.cost) fault → TellsBelow (relax_row arcs b) (i + 1) (first_told told i fault)
+      pub told_after : (told : Result Unit (Where × Reason)) (fault : Option Reason) → TellsBelow (relax_row arcs b) i told → TellsReason (RelaxFails b.radius (marked_dist number (value_of old a.tail)) (marked_dist number (value_of old a.head)) a.cost) fault → TellsBelow (relax_row arcs b) (i + 1) (first_told told i fault)
       told_after (Err refusal) fault first reason = first
       told_after (Ok done) None clear reason = relax_clear_more arcs b i a here clear (rw (are.labels a.tail, are.labels a.head) at reason)
       told_after (Ok done) (Some why) clear reason = relax_first arcs b i a here why clear (rw (are.labels a.tail, are.labels a.head) at reason)

@@ -1,6 +1,6 @@
 -- Labels and queries whose tests all pass, and the distances that they then tell.
-use Rattle.std.proofs.Common.{◌≡◌, ℕ, List, [], ◌∷◌, All, map, Result, Err, inl, inr, subst}
-use Rattle.std.specs.Prelude.{IsErrAnd}
+use Rattle.std.proofs.Common.{◌≡◌, ℕ, List, [], ◌∷◌, All, map, Option, Some, None, ℤ, Result, Err, inl, inr, subst}
+use Rattle.std.specs.Prelude.{IsErrAnd, if◌then◌else◌, is_some}
 use Rattle.std.proofs.lemmas.List.Elements.{All-nil, All-cons, All-head, All-tail}
 use Rattle.dimacs_instance.specs.declared.network.ArcView.{ArcView}
 use Rattle.dimacs_instance.specs.Arcs.{NetworkValue}
@@ -13,11 +13,11 @@ use Rattle.dimacs_judge.specs.declared.verdict.JudgeError.TheVariants.{Refused, 
 use Rattle.dimacs_judge.specs.declared.verdict.Verdict.{Verdict}
 use Rattle.dimacs_judge.specs.declared.verdict.Where.TheVariants as places
 use Rattle.dimacs_judge.specs.Agreement.{nodes_row}
-use Rattle.dimacs_judge.specs.Answers.{AnswersQueries, distance_from}
+use Rattle.dimacs_judge.specs.Answers.{AnswersQueries, beyond_from, distance_from}
 use Rattle.dimacs_judge.specs.CertificateTests.{label_rows}
 use Rattle.dimacs_judge.specs.Labels.{AreDistances}
 use Rattle.dimacs_judge.specs.PathsJudge.{paths_rows, PassesPaths, AnswersAreDistances, ShowsDistances}
-use Rattle.dimacs_judge.specs.QueryTests.{HasBlock, sources_asked, query_node_row, block_row}
+use Rattle.dimacs_judge.specs.QueryTests.{HasBlock, IsServed, sources_asked, query_node_row, block_row}
 use Rattle.dimacs_judge.specs.Tests.{Clear, AllClear, FirstOfRow, First, Refuses, Judges, TellsAll}
 use Rattle.dimacs_judge.specs.Walks.{IsDistance}
 use Rattle.dimacs_judge.proofs.BlockNumbers.{block_found}
@@ -46,13 +46,18 @@ paths_one_way g q l = (one_test_one_way places.Certificate reasons.NodesDiffer _
 -- ---- distances
 -- what the labels answer is the distance
 abbrev HasDistance : List ArcView → List BlockValue → ℕ × ℕ → Type 0
-HasDistance arcs blocks pair = IsDistance arcs pair.0 pair.1 (distance_from blocks pair.0 pair.1)
+HasDistance arcs blocks pair = IsDistance arcs pair.0 pair.1 (distance_from blocks pair.0 pair.1) (beyond_from blocks pair.0 pair.1)
 
-one_distance : (arcs : List ArcView) (blocks : List BlockValue) (from to : ℕ) → AreDistances arcs blocks → HasBlock blocks from → IsDistance arcs from to (distance_from blocks from to)
+-- where a label is told no radius needs to be
+told_beyond : (arcs : List ArcView) (s t : ℕ) (told radius : Option ℤ) → IsDistance arcs s t told radius → IsDistance arcs s t told (if is_some told then None else radius)
+told_beyond arcs s t (Some d) radius is = is
+told_beyond arcs s t None radius is = is
+
+one_distance : (arcs : List ArcView) (blocks : List BlockValue) (from to : ℕ) → AreDistances arcs blocks → HasBlock blocks from → IsDistance arcs from to (distance_from blocks from to) (beyond_from blocks from to)
 one_distance arcs blocks from to all has =
     let (i, b, inside, there, found, same) = block_found blocks from has in
-    let here : IsDistance arcs b.source to (label b to) = rw there at (all i b inside to) in
-    rw found (subst (λ (source : ℕ). IsDistance arcs source to (label b to)) same here)
+    let here : IsDistance arcs b.source to (label b to) b.radius = rw there at (all i b inside to) in
+    rw found (told_beyond arcs from to (label b to) b.radius (subst (λ (source : ℕ). IsDistance arcs source to (label b to) b.radius) same here))
 
 answered : (arcs : List ArcView) (blocks : List BlockValue) (pairs : List (ℕ × ℕ)) → AreDistances arcs blocks → All (HasBlock blocks) (map (λ pair. pair.0) pairs) → All (HasDistance arcs blocks) pairs
 answered arcs blocks [] all has = All-nil (HasDistance arcs blocks)
@@ -61,7 +66,7 @@ answered arcs blocks (p ∷ pairs) all has =
     (one_distance arcs blocks p.0 p.1 all (All-head (HasBlock blocks) p.0 (map (λ pair. pair.0) pairs) has))
     (answered arcs blocks pairs all (All-tail (HasBlock blocks) p.0 (map (λ pair. pair.0) pairs) has))
 
-answers_are_distances : (arcs : List ArcView) (blocks : List BlockValue) (q : QueriesValue) → AreDistances arcs blocks → All (HasBlock blocks) (sources_asked q) → AnswersAreDistances arcs blocks q
+answers_are_distances : (arcs : List ArcView) (blocks : List BlockValue) (q : QueriesValue) → AreDistances arcs blocks → All (IsServed blocks q) (sources_asked q) → AnswersAreDistances arcs blocks q
 answers_are_distances arcs blocks (queries.Sources ids) all has = tt
 answers_are_distances arcs blocks (queries.Pairs pairs) all has = answered arcs blocks pairs all has
 

@@ -1,14 +1,16 @@
 -- Queries whose tests all pass.
-use Rattle.std.proofs.Common.{◌≡◌, ◌⊎◌, inl, inr, ℕ, ◌<◌, ◌≤◌, List, All, get_or, Option, Some, None, refl, sym, ◌∙◌, arith}
+use Rattle.std.proofs.Common.{◌≡◌, ◌⊎◌, inl, inr, ℕ, ◌<◌, ◌≤◌, List, All, get_or, Option, Some, None, ℤ, refl, sym, ap, ◌∙◌, arith}
 use Rattle.std.specs.List.{position}
 use Rattle.std.proofs.lemmas.Bool.{cases_lt}
 use Rattle.std.proofs.lemmas.List.Elements.{All-get_or, All-from_get_or}
 use Rattle.dimacs_records.specs.declared.reasons.Reason.{Reason}
 use Rattle.dimacs_records.specs.declared.reasons.Reason.TheVariants as reasons
 use Rattle.dimacs_instance.specs.QueryTexts.{QueriesValue}
+use Rattle.dimacs_instance.specs.QueryTexts as kinds
+use Rattle.dimacs_judge.specs.Answers.{block_of}
 use Rattle.dimacs_claims.specs.Labels.{BlockValue, has_source}
 use Rattle.dimacs_judge.specs.declared.verdict.Where.TheVariants as places
-use Rattle.dimacs_judge.specs.QueryTests.{HasBlock, nodes_asked, sources_asked, listed_row, query_node_row, block_row}
+use Rattle.dimacs_judge.specs.QueryTests.{HasBlock, HasFullBlock, IsServed, nodes_asked, sources_asked, listed_row, query_node_row, block_row}
 use Rattle.dimacs_judge.specs.Tests.{Clear}
 use Rattle.dimacs_judge.proofs.BlockNumbers.{has_block, no_block}
 use Rattle.dimacs_judge.proofs.Firsts.{OneWay}
@@ -20,7 +22,7 @@ pub query_node_one_way : (nodes : ℕ) (queries : QueriesValue) → OneWay (quer
 query_node_one_way nodes queries = listed_one_way (nodes_asked queries) reasons.QueryNode (λ id. nodes < id)
 
 pub block_one_way : (blocks : List BlockValue) (queries : QueriesValue) → OneWay (block_row blocks queries)
-block_one_way blocks queries = listed_one_way (sources_asked queries) reasons.BlockMissing (λ source. ¬ HasBlock blocks source)
+block_one_way blocks queries = listed_one_way (sources_asked queries) reasons.BlockMissing (λ source. ¬ IsServed blocks queries source)
 
 -- where no test of a list fails each node has the property, and where each has it none fails
 listed_hold : (ids : List ℕ) (why : Reason) (fails holds : ℕ → Type 0) → ((id : ℕ) → (¬ fails id) → holds id) → Clear (listed_row ids why fails) → All holds ids
@@ -44,10 +46,29 @@ block_or_none blocks source = by_number (position (has_source source) blocks) re
     by_number None is = inr (no_block blocks source is)
     by_number (Some i) is = inl (has_block blocks source i is)
 
-pub query_blocks_hold : (blocks : List BlockValue) (queries : QueriesValue) → Clear (block_row blocks queries) → All (HasBlock blocks) (sources_asked queries)
-query_blocks_hold blocks queries clear =
-    listed_hold (sources_asked queries) reasons.BlockMissing (λ source. ¬ HasBlock blocks source) (HasBlock blocks) (λ source off. elim (block_or_none blocks source) [ inl has ↦ has | inr none ↦ absurd (off none) ]) clear
+full_or_not : (blocks : List BlockValue) (source : ℕ) → HasFullBlock blocks source ⊎ (¬ HasFullBlock blocks source)
+full_or_not blocks source = by_block (block_of blocks source) refl
+  where
+    by_radius : (b : BlockValue) → block_of blocks source ≡ Some b → (radius : Option ℤ) → b.radius ≡ radius → HasFullBlock blocks source ⊎ (¬ HasFullBlock blocks source)
+    by_radius b is None none = inl (b, is, none)
+    by_radius b is (Some r) some = inr (λ full.
+        let both : Some b ≡ Some full.0 = sym is ∙ full.1 in
+        let same : b ≡ full.0 = cc in
+        let f : Some r ≡ None = sym some ∙ (ap (λ (d : BlockValue). d.radius) same ∙ full.2) in
+        cc)
 
-pub query_blocks_clear : (blocks : List BlockValue) (queries : QueriesValue) → All (HasBlock blocks) (sources_asked queries) → Clear (block_row blocks queries)
+    by_block : (told : Option BlockValue) → block_of blocks source ≡ told → HasFullBlock blocks source ⊎ (¬ HasFullBlock blocks source)
+    by_block None is = inr (λ full. let f : None ≡ Some full.0 = sym is ∙ full.1 in cc)
+    by_block (Some b) is = by_radius b is b.radius refl
+
+served_or_not : (blocks : List BlockValue) (queries : QueriesValue) (source : ℕ) → IsServed blocks queries source ⊎ (¬ IsServed blocks queries source)
+served_or_not blocks (kinds.Sources ids) source = full_or_not blocks source
+served_or_not blocks (kinds.Pairs pairs) source = block_or_none blocks source
+
+pub query_blocks_hold : (blocks : List BlockValue) (queries : QueriesValue) → Clear (block_row blocks queries) → All (IsServed blocks queries) (sources_asked queries)
+query_blocks_hold blocks queries clear =
+    listed_hold (sources_asked queries) reasons.BlockMissing (λ source. ¬ IsServed blocks queries source) (IsServed blocks queries) (λ source off. elim (served_or_not blocks queries source) [ inl has ↦ has | inr none ↦ absurd (off none) ]) clear
+
+pub query_blocks_clear : (blocks : List BlockValue) (queries : QueriesValue) → All (IsServed blocks queries) (sources_asked queries) → Clear (block_row blocks queries)
 query_blocks_clear blocks queries all =
-    listed_clear (sources_asked queries) reasons.BlockMissing (λ source. ¬ HasBlock blocks source) (HasBlock blocks) (λ source has none. none has) all
+    listed_clear (sources_asked queries) reasons.BlockMissing (λ source. ¬ IsServed blocks queries source) (IsServed blocks queries) (λ source has none. none has) all

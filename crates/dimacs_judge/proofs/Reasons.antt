@@ -9,7 +9,7 @@ use Rattle.dimacs_instance.specs.MaxFlows.{MaxValue}
 use Rattle.dimacs_claims.specs.Labels.{BlockValue}
 use Rattle.dimacs_judge.specs.Rows.{arc_at, amount_at}
 use Rattle.dimacs_judge.specs.FlowTests.{BoundFails, bound_row, balance_row, cost_row}
-use Rattle.dimacs_judge.specs.CertificateTests.{TightFails, cut_rows, slack_row, support_row, RelaxFails, label_rows}
+use Rattle.dimacs_judge.specs.CertificateTests.{TightFails, cut_rows, slack_row, support_row, RelaxFails, label_rows, weight_row}
 use Rattle.dimacs_judge.proofs.Firsts.{OneWay, AllOneWay, arc_one_way, node_one_way, one_test_one_way}
 
 one_bound : (a : ArcView) (x : ℤ) (r s : Reason) → BoundFails a x r → BoundFails a x s → r ≡ s
@@ -49,12 +49,15 @@ slack_one_way arcs p x = arc_one_way arcs _ (λ k r s f g. f.0 ∙ sym g.0)
 support_one_way : (arcs : List ArcView) (b : BlockValue) → OneWay (support_row arcs b)
 support_one_way arcs b k p q r s f g = (f.1 ∙ sym g.1, f.2 ∙ sym g.2)
 
-one_relax : (tail head : Option ℤ) (w : ℤ) (r s : Reason) → RelaxFails tail head w r → RelaxFails tail head w s → r ≡ s
-one_relax tail head w r s (d, is, inl f) (e, also, inl g) = f.0 ∙ sym g.0
-one_relax tail head w r s (d, is, inl f) (e, also, inr g) = absurd (let (h, head_is, less) = g.1 in let both : None ≡ Some h = sym f.1 ∙ head_is in cc)
-one_relax tail head w r s (d, is, inr f) (e, also, inl g) = absurd (let (h, head_is, less) = f.1 in let both : None ≡ Some h = sym g.1 ∙ head_is in cc)
-one_relax tail head w r s (d, is, inr f) (e, also, inr g) = f.0 ∙ sym g.0
+one_relax : (radius tail head : Option ℤ) (w : ℤ) (r s : Reason) → RelaxFails radius tail head w r → RelaxFails radius tail head w s → r ≡ s
+one_relax radius tail head w r s (d, is, inl f) (e, also, inl g) = f.0 ∙ sym g.0
+one_relax radius tail head w r s (d, is, inl f) (e, also, inr g) = absurd (let (h, head_is, less) = g.1 in let both : None ≡ Some h = sym f.1 ∙ head_is in cc)
+one_relax radius tail head w r s (d, is, inr f) (e, also, inl g) = absurd (let (h, head_is, less) = f.1 in let both : None ≡ Some h = sym g.1 ∙ head_is in cc)
+one_relax radius tail head w r s (d, is, inr f) (e, also, inr g) = f.0 ∙ sym g.0
+
+weight_one_way : (arcs : List ArcView) (b : BlockValue) → OneWay (weight_row arcs b)
+weight_one_way arcs b k p q r s f g = (f.1.1 ∙ sym g.1.1, f.1.2.0 ∙ sym g.1.2.0)
 
 pub labels_one_way : (arcs : List ArcView) (blocks : List BlockValue) → AllOneWay (label_rows arcs blocks)
 labels_one_way arcs [] = tt
-labels_one_way arcs (b ∷ blocks) = (support_one_way arcs b, (arc_one_way arcs _ (λ k r s f g. one_relax _ _ _ r s f g), labels_one_way arcs blocks))
+labels_one_way arcs (b ∷ blocks) = (weight_one_way arcs b, (support_one_way arcs b, (arc_one_way arcs _ (λ k r s f g. one_relax _ _ _ _ r s f g), labels_one_way arcs blocks)))

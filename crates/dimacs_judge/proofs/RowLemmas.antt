@@ -1,5 +1,5 @@
 -- Rows of tests, one test after another.
-use Rattle.std.proofs.Common.{◌≡◌, ℕ, ◌+◌, ◌<◌, ◌≤◌, List, length, get_or, slice_get, Some, ℤ, pos, refl, arith, below_more}
+use Rattle.std.proofs.Common.{◌≡◌, true, false, ℕ, ◌+◌, ◌<◌, ◌≤◌, List, length, get_or, slice_get, Some, None, Result, Ok, Err, IsSome, subst, ℤ, pos, refl, arith, below_more}
 use Rattle.std.proofs.lemmas.Option.{get_or_from_slice_get, slice_get_within}
 use Rattle.dimacs_instance.specs.declared.network.ArcView.{ArcView}
 use Rattle.dimacs_records.specs.declared.reasons.Reason.{Reason}
@@ -8,8 +8,8 @@ use Rattle.dimacs_judge.specs.declared.verdict.Where.TheVariants.{Arc, Node}
 use Rattle.dimacs_records.specs.declared.reasons.Reason.TheVariants.{NoTightArc}
 use Rattle.dimacs_claims.specs.Labels.{BlockValue, label}
 use Rattle.dimacs_judge.specs.Labels.{HasTightArc}
-use Rattle.dimacs_judge.specs.CertificateTests.{no_label, support_row, RelaxFails, relax_row}
-use Rattle.dimacs_judge.specs.Tests.{Row, ClearBelow, Clear, FirstOfRow}
+use Rattle.dimacs_judge.specs.CertificateTests.{negative_row, no_label, support_row, RelaxFails, relax_row, weight_row}
+use Rattle.dimacs_judge.specs.Tests.{Row, ClearBelow, Clear, FirstOfRow, TellsRow}
 use Rattle.dimacs_judge.specs.Rows.{no_arc, arc_at, amount_at, arc_row, flow_row, node_row}
 
 -- one more test that passes
@@ -53,6 +53,17 @@ no_node_zero nodes fails v below place reason f = absurd (omega (arith, below, f
 pub node_first : (nodes : ℕ) (fails : ℕ → Reason → Type 0) (v : ℕ) (reason : Reason) → 1 ≤ v → v ≤ nodes → ClearBelow (node_row nodes fails) v → fails v reason → FirstOfRow (node_row nodes fails) (Node v) reason
 node_first nodes fails v reason low high below at = record { number = v; fails = ((low, high), refl, at); earlier = below }
 
+-- ---- weights
+pub weights_free : (arcs : List ArcView) (b : BlockValue) → b.radius ≡ None → Clear (weight_row arcs b)
+weights_free arcs b none k place reason f = let some : false ≡ true = subst IsSome none f.0 in absurd (cc)
+
+pub weights_all : (arcs : List ArcView) (b : BlockValue) → Clear (negative_row arcs) → Clear (weight_row arcs b)
+weights_all arcs b clear k place reason f = clear k place reason f.1
+
+pub weights_told : (arcs : List ArcView) (b : BlockValue) → IsSome b.radius → (told : Result Unit (Where × Reason)) → TellsRow (negative_row arcs) told → TellsRow (weight_row arcs b) told
+weights_told arcs b some (Ok done) clear = weights_all arcs b clear
+weights_told arcs b some (Err refusal) first = record { number = first.number; fails = (some, first.fails); earlier = λ k less place reason f. first.earlier k less place reason f.1 }
+
 -- ---- labels
 pub support_clear_more : (arcs : List ArcView) (b : BlockValue) (k : ℕ) → ClearBelow (support_row arcs b) k → HasTightArc arcs b (get_or b.labels k no_label) → ClearBelow (support_row arcs b) (k + 1)
 support_clear_more arcs b k below has = clear_more (support_row arcs b) k below (λ place reason f. f.3 has)
@@ -67,8 +78,8 @@ module _ (arcs : List ArcView) (b : BlockValue) (i : ℕ) (a : ArcView) (here : 
   this_arc : arc_at arcs i ≡ a
   this_arc = get_or_from_slice_get arcs i a no_arc here
 
-  pub relax_clear_more : ClearBelow (relax_row arcs b) i → ((reason : Reason) → ¬ RelaxFails (label b a.tail) (label b a.head) a.cost reason) → ClearBelow (relax_row arcs b) (i + 1)
+  pub relax_clear_more : ClearBelow (relax_row arcs b) i → ((reason : Reason) → ¬ RelaxFails b.radius (label b a.tail) (label b a.head) a.cost reason) → ClearBelow (relax_row arcs b) (i + 1)
   relax_clear_more below at = arc_clear_more arcs _ i below (rw this_arc at)
 
-  pub relax_first : (reason : Reason) → ClearBelow (relax_row arcs b) i → RelaxFails (label b a.tail) (label b a.head) a.cost reason → FirstOfRow (relax_row arcs b) (Arc (i + 1)) reason
+  pub relax_first : (reason : Reason) → ClearBelow (relax_row arcs b) i → RelaxFails b.radius (label b a.tail) (label b a.head) a.cost reason → FirstOfRow (relax_row arcs b) (Arc (i + 1)) reason
   relax_first reason below at = arc_first arcs _ i reason (slice_get_within arcs i a here) below (rw this_arc at)

@@ -8,11 +8,19 @@ use Rattle.dimacs_instance.specs.declared.network.ArcView.{ArcView}
 use Rattle.dimacs_claims.specs.declared.block.Label.{Label}
 use Rattle.dimacs_claims.specs.Labels.{BlockValue, label}
 use Rattle.dimacs_judge.specs.declared.marks.Mark.{Mark}
+use Rattle.dimacs_judge.specs.declared.marks.Weights.{Weights}
+use Rattle.dimacs_judge.specs.declared.marks.Weights.TheVariants.{Untested, NotNegative}
 use Rattle.dimacs_judge.specs.declared.verdict.Where.{Where}
 use Rattle.dimacs_judge.specs.declared.verdict.Where.TheVariants.{Arc}
+use Rattle.dimacs_judge.specs.CertificateTests.{negative_row}
 use Rattle.dimacs_judge.specs.Rows.{arc_at}
 use Rattle.dimacs_judge.specs.Labels.{HasTightArc}
-use Rattle.dimacs_judge.specs.Tests.{Row, ClearBelow, FirstOfRow}
+use Rattle.dimacs_judge.specs.Tests.{Row, Clear, ClearBelow, FirstOfRow}
+
+-- what is known of the weights holds
+abbrev pub AreAsTested : List ArcView → Weights → Type 0
+AreAsTested arcs Untested = Unit {0}
+AreAsTested arcs NotNegative = Clear (negative_row arcs)
 
 -- what the block of this number says of a node by its mark
 abbrev pub marked_dist : ℕ → Mark → Option ℤ

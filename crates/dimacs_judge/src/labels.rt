@@ -1,10 +1,11 @@
 //! Whether labels are distances.
 
 ghost use Rattle.std.specs.Prelude.{◌≡◌, ◌<◌, ◌+ℤ◌, ◌<ℤ◌, ℤ, Some, All, length, IsTrue, ◌↔◌, IfSome, OnOk};
-ghost use Rattle.dimacs_claims.specs.Labels.{AreLabels, label_at};
-ghost use Rattle.dimacs_judge.specs.CertificateTests.{RelaxFails, support_row, relax_row, block_rows, label_rows};
+ghost use Rattle.dimacs_claims.specs.Labels.{AreLabels, IsNear, label_at};
+ghost use Rattle.dimacs_judge.specs.CertificateTests.{RelaxFails, block_rows, label_rows, negative_row, relax_row, support_row, weight_row};
 ghost use Rattle.dimacs_judge.specs.Labels.{AreDistances, HasArcOfWeight, LabelsOk, block_at};
 ghost use Rattle.dimacs_records.specs.Ranges.{IsWide};
+ghost use Rattle.dimacs_records.specs.declared.reasons.Reason.TheVariants as reasons;
 ghost use Rattle.dimacs_judge.specs.Tests.{Decides, TellsReason, TellsRow, Tells};
 
 use crate::verdict::Where;
@@ -14,10 +15,12 @@ use dimacs_records::Reason;
 
 /// Whether all labels hold, in every block: an arc from the predecessor of each label makes it, and each arc with a
 /// labelled tail has a labelled head, whose label is at most the tail's and the weight. Then they are the distances over
-/// all walks from the block's source, and no walk leads to a node without a label. Takes no memory.
+/// all walks from the block's source, and no walk leads to a node without a label. Where a block has a radius no weight is
+/// negative, and an arc may lead past the radius to a node without a label; then each walk to such a node weighs more than
+/// the radius. Takes no memory.
 ///
-/// The tests of each block, in their order: each label, `NoTightArc` at its node; then each arc, from 1: `Escapes` where
-/// its head has no label, else `NotShortest`.
+/// The tests of each block, in their order: where it has a radius each arc, from 1, `NegativeWeight`; then each label,
+/// `NoTightArc` at its node; then each arc: `Escapes` where its head has no label, else `NotShortest`.
 pub fn label_tests<N: Network>(graph: &Graph<N>, labels: &Labels) -> Result<(), (Where, Reason)>
     ensures decides { Decides (All (LabelsOk graph.now.arcs) labels.now.blocks) (label_rows graph.now.arcs labels.now.blocks) result }
     ensures distances { OnOk result (AreDistances graph.now.arcs labels.now.blocks) }
@@ -36,7 +39,7 @@ fn blocks_hold<N: Network>(network: &N, labels: &Labels) -> Result<(), (Where, R
     Ok(())
 }
 
-/// The tests of one block: first its labels, then the arcs.
+/// The tests of one block: first the weights, then its labels, then the arcs.
 fn block_holds<N: Network>(
     network: &N,
     labels: &Labels,
@@ -45,8 +48,44 @@ fn block_holds<N: Network>(
     requires { block < length labels.now.blocks }
     ensures { Tells (block_rows (N.list network.now) (block_at labels.now.blocks block)) result }
 {
+    block_weights_hold(network, labels, block)?;
     labels_supported(network, labels, block)?;
     arcs_relaxed(network, labels, block)
+}
+
+/// The first arc of negative weight, where the block has a radius.
+fn block_weights_hold<N: Network>(
+    network: &N,
+    labels: &Labels,
+    block: usize,
+) -> Result<(), (Where, Reason)>
+    requires { block < length labels.now.blocks }
+    ensures { TellsRow (weight_row (N.list network.now) (block_at labels.now.blocks block)) result }
+{
+    match radius_in(labels, block) {
+        Some(_) => weights_hold(network),
+        None => Ok(()),
+    }
+}
+
+/// The radius of a block.
+fn radius_in(labels: &Labels, block: usize) -> Option<i128>
+    requires { block < length labels.now.blocks }
+    ensures { result ≡ (block_at labels.now.blocks block).radius }
+{
+    labels.blocks()[block].radius()
+}
+
+/// The first arc of negative weight.
+pub(crate) fn weights_hold<N: Network>(network: &N) -> Result<(), (Where, Reason)>
+    ensures { TellsRow (negative_row (N.list network.now)) result }
+{
+    for i in 0..network.arcs() {
+        if network.arc(i).cost < 0 {
+            return Err((Where::Arc(i + 1), Reason::NegativeWeight));
+        }
+    }
+    Ok(())
 }
 
 /// The first label of the block that no arc makes.
@@ -118,8 +157,9 @@ fn arcs_relaxed<N: Network>(
     requires { block < length labels.now.blocks }
     ensures { TellsRow (relax_row (N.list network.now) (block_at labels.now.blocks block)) result }
 {
+    let radius = radius_in(labels, block);
     for i in 0..network.arcs() {
-        if let Some(reason) = relax_fault(labels, block, network.arc(i)) {
+        if let Some(reason) = relax_fault(labels, block, radius, network.arc(i)) {
             return Err((Where::Arc(i + 1), reason));
         }
     }
@@ -128,14 +168,26 @@ fn arcs_relaxed<N: Network>(
 
 /// Looks the head up only where the tail has a label.
 #[inline(always)]
-fn relax_fault(labels: &Labels, block: usize, arc: ArcView) -> Option<Reason>
-    ensures { TellsReason (RelaxFails (label_at labels.now.blocks block arc.tail) (label_at labels.now.blocks block arc.head) arc.cost) result }
+fn relax_fault(labels: &Labels, block: usize, radius: Option<i128>, arc: ArcView) -> Option<Reason>
+    ensures { TellsReason (RelaxFails radius (label_at labels.now.blocks block arc.tail) (label_at labels.now.blocks block arc.head) arc.cost) result }
 {
     let from = labels.label(block, arc.tail)?;
     match labels.label(block, arc.head) {
-        None => Some(Reason::Escapes),
+        None => escape_fault(radius, from, arc.cost),
         Some(to) if is_beyond(to, from, arc.cost) => Some(Reason::NotShortest),
         Some(_) => None,
+    }
+}
+
+/// Whether an arc of this weight to a node without a label fails: unless there is a radius, and it leads past it.
+#[inline(always)]
+pub(crate) fn escape_fault(radius: Option<i128>, from: i128, weight: i64) -> Option<Reason>
+    requires { IsWide from }
+    ensures { TellsReason (λ reason. (reason ≡ reasons.Escapes) × IsNear radius (from +ℤ weight)) result }
+{
+    match radius {
+        Some(radius) if from + i128::from(weight) > radius => None,
+        _ => Some(Reason::Escapes),
     }
 }
 

@@ -22,7 +22,7 @@ pub fn violated_has_no_flow()
     ensures { ViolatedSetLaw }
 {}
 
-/// Labels that pass the tests are distances, and the nodes without a label are unreachable.
+/// Labels that pass the tests are distances, and the nodes without a label are unreachable, or beyond the radius.
 pub fn labels_give_distances()
     ensures { LabelsLaw }
 {}

@@ -3,7 +3,7 @@
 ghost use Rattle.std.specs.Prelude.{◌≡◌, ◌<◌, ◌≤◌, ◌+◌, ◌++◌, ℕ, List, [], ◌∷◌};
 ghost use Rattle.dimacs_instance.specs.Links.{AreLinksOf};
 ghost use Rattle.dimacs_instance.specs.declared.links.Side.TheVariants.{Tail};
-ghost use Rattle.dimacs_claims.specs.Labels.{BlockValue, IsBlock};
+ghost use Rattle.dimacs_claims.specs.Labels.{IsBlock};
 ghost use Rattle.dimacs_nodes.specs.Tables.{blank_of};
 ghost use Rattle.dimacs_judge.specs.CertificateTests.{relax_row};
 ghost use Rattle.dimacs_judge.specs.Leaving.{ArePassed, IsEarlier, Leaves, refusal_of};
@@ -50,9 +50,9 @@ pub(crate) fn leaving_passed<N: Network>(
     ensures made { AreMade (N.list network.now) block.now marks.new }
     ensures relaxed { TellsRow (relax_row (N.list network.now) block.now) result }
 {
-    let mut told = node_passed(network, block.source(), number, links, None, marks);
+    let mut told = node_passed(network, block, block.source(), number, links, None, marks);
     for label in block.labels() {
-        told = node_passed(network, label.id, number, links, told, marks);
+        told = node_passed(network, block, label.id, number, links, told, marks);
     }
     refusal(told)
 }
@@ -60,6 +60,7 @@ pub(crate) fn leaving_passed<N: Network>(
 /// Passes the arcs that leave a node, after those that leave others. They come from the last one on.
 fn node_passed<N: Network>(
     network: &N,
+    block: &Block,
     node: u32,
     number: u32,
     links: &Links,
@@ -69,13 +70,14 @@ fn node_passed<N: Network>(
     requires links { AreLinksOf Tail (N.list network.now) links.now }
     requires blank { (blank_of marks.old).block < number }
     requires wide { AreWide number marks.old }
-    ensures { (b : BlockValue) (done : List ℕ) → ArePassed (Leaves (N.list network.now) done) (N.list network.now) number b marks.old told → ArePassed (Leaves (N.list network.now) (done ++ node ∷ [])) (N.list network.now) number b marks.new result }
+    ensures { (done : List ℕ) → ArePassed (Leaves (N.list network.now) done) (N.list network.now) number block.now marks.old told → ArePassed (Leaves (N.list network.now) (done ++ node ∷ [])) (N.list network.now) number block.now marks.new result }
 {
+    let radius = block.radius();
     let mut first = told;
     let mut next = links.last(node);
     while next > 0 {
         let i = next - 1;
-        let fault = pass_arc(network.arc(i), number, marks);
+        let fault = pass_arc(network.arc(i), radius, number, marks);
         first = earlier_fault(first, next, fault);
         next = links.before(i);
     }

@@ -8,11 +8,11 @@ ghost use Rattle.dimacs_instance.specs.declared.links.Side.TheVariants.{Tail};
 ghost use Rattle.dimacs_claims.specs.Labels.{AreLabels, BlockValue, IsBlock};
 ghost use Rattle.dimacs_nodes.specs.Tables.{blank_of, value_of};
 ghost use Rattle.dimacs_records.specs.Ranges.{IsWide};
-ghost use Rattle.dimacs_judge.specs.CertificateTests.{RelaxFails, block_rows, label_rows, relax_row, support_row};
-ghost use Rattle.dimacs_judge.specs.Marks.{AreEarlier, AreMade, AreUnmade, AreWide, IsMarked, MarksArc, first_told, marked_dist};
+ghost use Rattle.dimacs_judge.specs.CertificateTests.{RelaxFails, distance_rows, label_rows, relax_row, support_row, weight_row};
+ghost use Rattle.dimacs_judge.specs.Marks.{AreAsTested, AreEarlier, AreMade, AreUnmade, AreWide, IsMarked, MarksArc, first_told, marked_dist};
 ghost use Rattle.dimacs_judge.specs.Tests.{TellsAll, TellsReason, TellsRow};
 
-use crate::labels::is_beyond;
+use crate::labels::{escape_fault, is_beyond, weights_hold};
 use crate::leaving::{labels_few, leaving_passed};
 use crate::verdict::{JudgeError, Where};
 use dimacs_claims::{Block, Label, Labels};
@@ -41,6 +41,13 @@ const NO_MARK: Mark = Mark {
     made: false,
 };
 
+/// What is known of the weights of the arcs: nothing, or that none is negative.
+#[derive(Clone, Copy)]
+pub(crate) enum Weights {
+    Untested,
+    NotNegative,
+}
+
 /// The first test that fails, block by block. One table of the nodes serves all blocks.
 pub(crate) fn marked_blocks_hold<N: Network>(
     alloc: Global,
@@ -51,14 +58,39 @@ pub(crate) fn marked_blocks_hold<N: Network>(
     ensures lawful { AreLabels labels.now }
 {
     let mut marks = NodeTable::new(alloc, NO_MARK);
+    let mut weights = Weights::Untested;
     let mut links = None;
     let blocks = labels.blocks();
     for i in 0..blocks.len() {
         let block = &blocks[i];
+        test_weights_for(network, block, &mut weights)?;
         link_for(alloc, network, block, &mut links)?;
         marked_block_holds(network, block, i as u32 + 1, &links, &mut marks)?;
     }
     Ok(())
+}
+
+/// Tests the weights for the first block that has a radius.
+fn test_weights_for<N: Network>(
+    network: &N,
+    block: &Block,
+    weights: &mut Weights,
+) -> Result<(), (Where, Reason)>
+    requires { AreAsTested (N.list network.now) weights.old }
+    ensures tests { TellsRow (weight_row (N.list network.now) block.now) result }
+    ensures tested { OnOk result (AreAsTested (N.list network.now) weights.new) }
+{
+    if block.radius().is_none() {
+        return Ok(());
+    }
+    match *weights {
+        Weights::NotNegative => Ok(()),
+        Weights::Untested => {
+            weights_hold(network)?;
+            *weights = Weights::NotNegative;
+            Ok(())
+        }
+    }
 }
 
 /// Links the arcs by their tails for the first block that labels few nodes.
@@ -77,7 +109,7 @@ fn link_for<N: Network>(
     Ok(())
 }
 
-/// The tests of one block: first its labels, then the arcs.
+/// The tests of one block but that of the weights: first its labels, then the arcs.
 fn marked_block_holds<N: Network>(
     network: &N,
     block: &Block,
@@ -89,7 +121,7 @@ fn marked_block_holds<N: Network>(
     requires number { 1 ≤ number }
     requires links { IfSome links.now (AreLinksOf Tail (N.list network.now)) }
     requires earlier { AreEarlier number marks.old }
-    ensures tests { TellsAll (block_rows (N.list network.now) block.now) result }
+    ensures tests { TellsAll (distance_rows (N.list network.now) block.now) result }
     ensures earlier { OnOk result (AreEarlier (number + 1) marks.new) }
 {
     mark_labels(block, number, marks)?;
@@ -145,26 +177,30 @@ fn block_passed<N: Network>(
         Some(links) if labels_few(block, network) => {
             leaving_passed(network, block, number, links, marks)
         }
-        _ => arcs_passed(network, number, marks),
+        _ => arcs_passed(network, block, number, marks),
     }
 }
 
-/// Marks the labels that arcs make, and tells the first arc with a labelled tail whose head has no label, or a label
-/// that is too great.
+/// Marks the labels that arcs make, and tells the first arc with a labelled tail whose head has no label, and isn't past
+/// the radius, or a label that is too great.
 fn arcs_passed<N: Network>(
     network: &N,
+    block: &Block,
     number: u32,
     marks: &mut NodeTable<Mark>,
 ) -> Result<(), (Where, Reason)>
-    requires blank { (blank_of marks.old).block < number }
-    requires wide { AreWide number marks.old }
-    ensures marked { (b : BlockValue) → IsMarked number b marks.old → IsMarked number b marks.new }
-    ensures made { (b : BlockValue) → IsMarked number b marks.old → AreUnmade b marks.old → AreMade (N.list network.now) b marks.new }
-    ensures relaxed { (b : BlockValue) → IsMarked number b marks.old → TellsRow (relax_row (N.list network.now) b) result }
+    requires lawful { (nodes : ℕ) × IsBlock nodes block.now }
+    requires number { 1 ≤ number }
+    requires marked { IsMarked number block.now marks.old }
+    requires unmade { AreUnmade block.now marks.old }
+    ensures marked { IsMarked number block.now marks.new }
+    ensures made { AreMade (N.list network.now) block.now marks.new }
+    ensures relaxed { TellsRow (relax_row (N.list network.now) block.now) result }
 {
+    let radius = block.radius();
     let mut told = Ok(());
     for i in 0..network.arcs() {
-        let fault = pass_arc(network.arc(i), number, marks);
+        let fault = pass_arc(network.arc(i), radius, number, marks);
         told = first_fault(told, i, fault);
     }
     told
@@ -191,16 +227,21 @@ fn first_fault(
 
 /// Looks the head up only where the tail has a label, and marks it where the arc makes its label.
 #[inline(always)]
-pub(crate) fn pass_arc(arc: ArcView, number: u32, marks: &mut NodeTable<Mark>) -> Option<Reason>
+pub(crate) fn pass_arc(
+    arc: ArcView,
+    radius: Option<i128>,
+    number: u32,
+    marks: &mut NodeTable<Mark>,
+) -> Option<Reason>
     requires blank { (blank_of marks.old).block < number }
     requires wide { AreWide number marks.old }
-    ensures told { TellsReason (RelaxFails (marked_dist number (value_of marks.old arc.tail)) (marked_dist number (value_of marks.old arc.head)) arc.cost) result }
+    ensures told { TellsReason (RelaxFails radius (marked_dist number (value_of marks.old arc.tail)) (marked_dist number (value_of marks.old arc.head)) arc.cost) result }
     ensures marks { MarksArc number arc marks.old marks.new }
 {
     let from = distance_by(marks.get(arc.tail), number)?;
     let head = marks.get(arc.head);
     let Some(to) = distance_by(head, number) else {
-        return Some(Reason::Escapes);
+        return escape_fault(radius, from, arc.cost);
     };
     if is_beyond(to, from, arc.cost) {
         return Some(Reason::NotShortest);

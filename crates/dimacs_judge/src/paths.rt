@@ -15,13 +15,15 @@ use std::alloc::Global;
 
 /// Whether the labels are distances, and what they answer to the queries. A yes means that in every block, whether or not
 /// a query asks for it, the label of a node is the least weight of all walks to it from the block's source, and that no
-/// walk leads to a node without a label, whatever its ID. `Sources` tells how many sources were asked for; `Pairs` the
-/// distance between the nodes of each pair, in order, or none where there is no walk. `Memory` where there is none for
-/// a table of the nodes that have labels, for the numbers of the blocks or for the answers; it says nothing of the labels.
+/// walk leads to a node without a label, whatever its ID; where the block has a radius, that each walk to such a node
+/// weighs more than the radius. `Sources` tells how many sources were asked for; `Pairs` the distance between the nodes
+/// of each pair, in order, or none with the radius of the block, where it has one. `Memory` where there is none for a table
+/// of the nodes that have labels, for links between the arcs, for the numbers of the blocks or for the answers; it says
+/// nothing of the labels.
 ///
 /// The tests in their order: `NodesDiffer`, where the labels aren't of as many nodes as the graph; each query,
 /// `QueryNode` at a node above that number, FROM before TO; each query, `BlockMissing` at its source, where no block has
-/// it; and then those of `label_tests`.
+/// it, or where all distances are asked for and its block has a radius; and then those of `label_tests`.
 pub fn judge_paths<N: Network>(
     alloc: Global,
     graph: &Graph<N>,

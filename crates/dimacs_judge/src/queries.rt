@@ -1,11 +1,10 @@
 //! Whether queries ask for what is there, and what labels answer to them.
 
-ghost use Rattle.std.specs.Prelude.{◌≡◌, ◌<◌, ◌≤◌, All, List, Some, IfOk, OnOk, map, length, slice_get};
+ghost use Rattle.std.specs.Prelude.{◌≡◌, ◌<◌, ◌≤◌, ◌↔◌, IsTrue, All, List, Some, IfOk, OnOk, map, length, slice_get};
 ghost use Rattle.dimacs_records.specs.declared.reasons.Reason.TheVariants as reasons;
 ghost use Rattle.dimacs_instance.specs.QueryTexts.{AreLawful, Pairs, asked};
-ghost use Rattle.dimacs_claims.specs.Labels.{BlockValue};
-ghost use Rattle.dimacs_judge.specs.Answers.{AnswersQueries, answer_to, distance_from};
-ghost use Rattle.dimacs_judge.specs.QueryTests.{AreNumbers, TellsBlocks, block_row, listed_row, nodes_asked, query_node_row, sources_asked};
+ghost use Rattle.dimacs_judge.specs.Answers.{AnswersQueries, answer_to, distance_from, radius_from};
+ghost use Rattle.dimacs_judge.specs.QueryTests.{AreNumbers, HasBlock, HasFullBlock, IsServed, TellsBlocks, block_row, listed_row, nodes_asked, query_node_row, sources_asked};
 ghost use Rattle.dimacs_judge.specs.Tests.{TellsRow};
 
 use crate::verdict::{Answer, JudgeError, Verdict, Where};
@@ -52,7 +51,7 @@ fn pairs_are_nodes(nodes: u32, pairs: &[(u32, u32)]) -> Result<(), (Where, Reaso
     Ok(())
 }
 
-/// The number of each source's block, where every query has a block; else the first query that has none.
+/// The number of each source's block, where every query is served by one; else the first query that isn't.
 pub(crate) fn blocks_exist(
     alloc: Global,
     labels: &Labels,
@@ -61,7 +60,7 @@ pub(crate) fn blocks_exist(
     ensures { TellsBlocks labels.now.blocks (asked queries.now) result }
 {
     let numbers = block_numbers(alloc, labels)?;
-    sources_have_blocks(&numbers, queries)?;
+    sources_are_served(labels, &numbers, queries)?;
     Ok(numbers)
 }
 
@@ -76,16 +75,49 @@ fn block_numbers(alloc: Global, labels: &Labels) -> Result<NodeMap<u32>, Memory>
     Ok(numbers)
 }
 
-fn sources_have_blocks(numbers: &NodeMap<u32>, queries: &Queries) -> Result<(), (Where, Reason)>
-    ensures { (blocks : List BlockValue) → AreNumbers blocks numbers.now → TellsRow (block_row blocks (asked queries.now)) result }
+fn sources_are_served(
+    labels: &Labels,
+    numbers: &NodeMap<u32>,
+    queries: &Queries,
+) -> Result<(), (Where, Reason)>
+    requires { AreNumbers labels.now.blocks numbers.now }
+    ensures { TellsRow (block_row labels.now.blocks (asked queries.now)) result }
 {
     for i in 0..queries.len() {
         let source = source_asked(queries, i);
-        if numbers.get(source).is_none() {
+        if !is_served(labels, numbers, queries, source) {
             return Err((Where::Node(source), Reason::BlockMissing));
         }
     }
     Ok(())
+}
+
+/// Whether the source has a block, and for all distances from it one without a radius.
+fn is_served(labels: &Labels, numbers: &NodeMap<u32>, queries: &Queries, source: u32) -> bool
+    requires { AreNumbers labels.now.blocks numbers.now }
+    ensures { IsTrue result ↔ IsServed labels.now.blocks (asked queries.now) source }
+{
+    match queries {
+        Queries::Sources(_) => has_full_block(labels, numbers, source),
+        Queries::Pairs(_) => has_block(labels, numbers, source),
+    }
+}
+
+fn has_full_block(labels: &Labels, numbers: &NodeMap<u32>, source: u32) -> bool
+    requires { AreNumbers labels.now.blocks numbers.now }
+    ensures { IsTrue result ↔ HasFullBlock labels.now.blocks source }
+{
+    match numbers.get(source) {
+        Some(number) => labels.blocks()[number as usize].radius().is_none(),
+        None => false,
+    }
+}
+
+fn has_block(labels: &Labels, numbers: &NodeMap<u32>, source: u32) -> bool
+    requires { AreNumbers labels.now.blocks numbers.now }
+    ensures { IsTrue result ↔ HasBlock labels.now.blocks source }
+{
+    numbers.get(source).is_some()
 }
 
 /// The source of a query: its node, or FROM.
@@ -141,10 +173,30 @@ fn pair_answers(
     let mut answers = Vec::new(alloc);
     for pair in pairs {
         let (from, to) = *pair;
-        let distance = distance(labels, numbers, from, to);
-        answers.push(Answer { from, to, distance })?;
+        answers.push(answer(labels, numbers, from, to))?;
     }
     Ok(answers)
+}
+
+/// The label of a node in the block of another, or else the block's radius.
+fn answer(labels: &Labels, numbers: &NodeMap<u32>, from: u32, to: u32) -> Answer
+    requires { AreNumbers labels.now.blocks numbers.now }
+    ensures { result ≡ answer_to labels.now.blocks (from, to) }
+{
+    match distance(labels, numbers, from, to) {
+        Some(label) => Answer {
+            from,
+            to,
+            distance: Some(label),
+            beyond: None,
+        },
+        None => Answer {
+            from,
+            to,
+            distance: None,
+            beyond: radius(labels, numbers, from),
+        },
+    }
 }
 
 /// The label of a node in the block of a source.
@@ -154,4 +206,13 @@ fn distance(labels: &Labels, numbers: &NodeMap<u32>, from: u32, to: u32) -> Opti
 {
     let number = numbers.get(from)?;
     labels.label(number as usize, to)
+}
+
+/// The radius of the block of a source.
+fn radius(labels: &Labels, numbers: &NodeMap<u32>, from: u32) -> Option<i128>
+    requires { AreNumbers labels.now.blocks numbers.now }
+    ensures { result ≡ radius_from labels.now.blocks from }
+{
+    let number = numbers.get(from)?;
+    labels.blocks()[number as usize].radius()
 }

@@ -58,10 +58,12 @@ pub enum Verdict {
     Pairs(Vec<Answer>),
 }
 
-/// The distance between two nodes, or none where there is no walk.
+/// The distance between two nodes. None where there is no walk, or none but those that weigh more than `beyond`, where it
+/// tells a radius.
 #[derive(Clone, Copy, Debug, PartialEq, Eq)]
 pub struct Answer {
     pub from: u32,
     pub to: u32,
     pub distance: Option<i128>,
+    pub beyond: Option<i128>,
 }

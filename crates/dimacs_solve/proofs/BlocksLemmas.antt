@@ -1,5 +1,5 @@
 -- The blocks of all sources, and that they pass the judge's tests.
-use Rattle.std.proofs.Common.{◌≡◌, ℕ, ◌+◌, ◌<◌, ◌≤◌, true, false, cond, List, [], ◌∷◌, ◌++◌, All, length, refl, sym, ap, subst, ◌∙◌, arith, Some, None, ℤ, pos}
+use Rattle.std.proofs.Common.{◌≡◌, inl, ℕ, ◌+◌, ◌<◌, ◌≤◌, true, false, cond, List, [], ◌∷◌, ◌++◌, All, length, refl, sym, ap, subst, ◌∙◌, arith, Some, None, ℤ, pos}
 use Rattle.std.specs.Prelude.{◌==◌, ◌||◌, ◌+ℤ◌, map}
 use Rattle.std.specs.List.{list_any, flat_map}
 use Rattle.std.proofs.Math.IntN.{pos-+ℤ-pos}
@@ -14,10 +14,11 @@ use Rattle.dimacs_instance.specs.Arcs.{NetworkValue}
 use Rattle.dimacs_instance.specs.QueryTexts.{QueriesValue, AreIds, HaveIds, Sources, Pairs}
 use Rattle.dimacs_claims.specs.declared.block.Label.{Label}
 use Rattle.dimacs_claims.specs.Labels.{AreLabels, BlockValue, LabelsValue, IsNewSource, has_source, label}
-use Rattle.dimacs_judge.specs.Labels.{HasTightArc, IsRelaxed, LabelsOk}
+use Rattle.dimacs_judge.specs.Labels.{HasWeights, HasTightArc, IsRelaxed, LabelsOk}
 use Rattle.dimacs_judge.specs.Laws.{PassingShowsLaw}
 use Rattle.dimacs_judge.specs.PathsJudge.{PassesPaths}
-use Rattle.dimacs_judge.specs.QueryTests.{HasBlock, ends_of, nodes_asked, sources_asked}
+use Rattle.dimacs_judge.proofs.BlockNumbers.{block_found}
+use Rattle.dimacs_judge.specs.QueryTests.{HasBlock, HasFullBlock, IsServed, ends_of, nodes_asked, sources_asked}
 use Rattle.dimacs_judge.specs.Rows.{arc_at, no_arc}
 use Rattle.dimacs_solve.specs.declared.adjacency.Adjacency.{Adjacency}
 use Rattle.dimacs_solve.specs.declared.adjacency.Hop.{Hop}
@@ -40,10 +41,11 @@ module _ (g : NetworkValue) (a : Adjacency) (by : IsAdjacencyOf g.nodes g.arcs a
       let at = tree.positive arc.tail d h in
       let among = (by.leaving arc.tail).complete k inside refl in
       let next = All-contains (λ (hop : Hop). (e : ℕ) × (label b hop.head ≡ Some (pos e)) × (e ≤ at.0 + hop.weight)) (out a arc.tail) (hop_to arc.head among.0) (tree.closed arc.tail at.0 (h ∙ ap (λ (z : ℤ). Some z) at.1)) among.2 in
-      (pos next.0, next.1, omega (arith, ints, next.2, at.1, among.1))
+      inl (pos next.0, next.1, omega (arith, ints, next.2, at.1, among.1))
 
   tree_passes : LabelsOk g.arcs b
   tree_passes = record {
+    weights = subst (λ radius. HasWeights radius g.arcs) (sym tree.unbounded) tt;
     tight = All-weaker (IsMade a b) (HasTightArc g.arcs b) made_tight b.labels tree.made;
     relaxed = All-from_get_or (IsRelaxed b) g.arcs no_arc closed_relaxed;
   }
@@ -121,19 +123,30 @@ pub sources_are_nodes : (nodes : ℕ) (q : QueriesValue) → HaveIds q → All (
 sources_are_nodes nodes (Sources ids) are within = λ k d h. ((are k d h).0, within k d h)
 sources_are_nodes nodes (Pairs pairs) are within = pairs_within nodes pairs are within
 
+-- ---- queries are served by blocks without a radius
+has_full : (blocks : List BlockValue) (source : ℕ) → All (λ (b : BlockValue). b.radius ≡ None) blocks → HasBlock blocks source → HasFullBlock blocks source
+has_full blocks source unbounded has =
+    let (i, b, inside, there, found, same) = block_found blocks source has in
+    (b, found, All-contains (λ (d : BlockValue). d.radius ≡ None) blocks b unbounded (i, inside, there))
+
+served : (q : QueriesValue) (blocks : List BlockValue) (sources : List ℕ) → All (λ (b : BlockValue). b.radius ≡ None) blocks → All (HasBlock blocks) sources → All (IsServed blocks q) sources
+served (Sources ids) blocks sources unbounded found = All-weaker (HasBlock blocks) (HasFullBlock blocks) (λ source. has_full blocks source unbounded) sources found
+served (Pairs pairs) blocks sources unbounded found = found
+
 -- ---- the whole
 pub produced : (g : NetworkValue) (q : QueriesValue) (a : Adjacency) (labels : LabelsValue) → PassingShowsLaw → IsAdjacencyOf g.nodes g.arcs a → All (λ id. id ≤ g.nodes) (nodes_asked q) → AreSolved a (sources_asked q) labels → AreProduced g q labels
 produced g q a labels passing_shows by within is =
     let T : BlockValue → Type 0 = λ b. IsTree a b.source b in
+    let unbounded = All-weaker T (λ (b : BlockValue). b.radius ≡ None) (λ b tree. tree.unbounded) labels.blocks is.trees in
     let passes : PassesPaths g q labels = record {
       nodes = is.nodes ∙ by.of_nodes;
       queries = within;
-      blocks = is.found;
+      blocks = served q labels.blocks (sources_asked q) unbounded is.found;
       labels = All-weaker T (LabelsOk g.arcs) (λ b tree. tree_passes g a by b tree) labels.blocks is.trees;
     } in
     record {
       shows = passing_shows g q labels is.lawful passes;
       nearest_first = All-weaker T (λ (b : BlockValue). IsNearestFirst b.labels) (λ b tree. tree.nearest_first) labels.blocks is.trees;
-      unbounded = All-weaker T (λ (b : BlockValue). b.radius ≡ None) (λ b tree. tree.unbounded) labels.blocks is.trees;
+      unbounded = unbounded;
       sources = is.sources_are;
     }

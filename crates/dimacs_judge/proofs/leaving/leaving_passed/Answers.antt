@@ -20,7 +20,7 @@ loop-label-init g c =
     let marks = c.node_passed-told.new.marks in
     let told = c.node_passed-told.result in
     let none = none_passed arcs c.args.number b c.args.marks.now c.requires.marked c.requires.unmade in
-    source_passed arcs c.args.number b marks told (rw c.source.ensures at (c.node_passed-told.ensures b [] none))
+    source_passed arcs c.args.number b marks told (rw c.source.ensures at (c.node_passed-told.ensures [] none))
 
 pub loop-label-preserved : goal.loop-label-preserved
 loop-label-preserved g c =
@@ -32,7 +32,7 @@ loop-label-preserved g c =
     let marks = c.node_passed-told-in-loop-label.new.marks in
     let told = c.node_passed-told-in-loop-label.result in
     let inside : n < length b.labels = rw items at c.loop-label-test.true in
-    let passed : ArePassed (Leaves arcs (is.done ++ (get_or b.labels n no_label).id ∷ [])) arcs c.args.number b marks told = subst (λ (ls : List Label). ArePassed (Leaves arcs (is.done ++ (get_or ls n no_label).id ∷ [])) arcs c.args.number b marks told) items (c.node_passed-told-in-loop-label.ensures b is.done is.passed) in
+    let passed : ArePassed (Leaves arcs (is.done ++ (get_or b.labels n no_label).id ∷ [])) arcs c.args.number b marks told = subst (λ (ls : List Label). ArePassed (Leaves arcs (is.done ++ (get_or ls n no_label).id ∷ [])) arcs c.args.number b marks told) items (c.node_passed-told-in-loop-label.ensures is.done is.passed) in
     label_passed arcs c.args.number b marks n (get_or b.labels n no_label) is.done told inside (get_or_default b.labels n (get_or b.labels n no_label) no_label inside) is.source is.labels passed
 
 pub returns-clause-made : goal.returns-clause-made

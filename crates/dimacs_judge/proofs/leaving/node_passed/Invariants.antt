@@ -1,6 +1,5 @@
 use Rattle.std.proofs.Common.{◌≡◌, ◌<◌, ◌≤◌, ◌-◌, ℕ, List, length}
 use Rattle.dimacs_nodes.specs.Tables.{blank_of}
-use Rattle.dimacs_claims.specs.Labels.{BlockValue}
 use Rattle.dimacs_judge.specs.Leaving.{ArePassed, Leaves}
 use Rattle.dimacs_judge.specs.Marks.{AreWide}
 use Rattle.dimacs_judge.specs.Rows.{arc_at}
@@ -14,7 +13,7 @@ invariant-loop-next g l = record {
   wide : AreWide l.number l.marks;
   within : l.next ≤ length (g.N.Network.list l.network);
   found : 0 < l.next → (arc_at (g.N.Network.list l.network) (l.next - 1)).tail ≡ l.node;
-  passed : (b : BlockValue) (done : List ℕ) → ArePassed (Leaves (g.N.Network.list l.network) done) (g.N.Network.list l.network) l.number b l.fn.marks l.fn.told → ArePassed (LeavesFrom (g.N.Network.list l.network) done l.node l.next) (g.N.Network.list l.network) l.number b l.marks l.first;
+  passed : (done : List ℕ) → ArePassed (Leaves (g.N.Network.list l.network) done) (g.N.Network.list l.network) l.number l.block l.fn.marks l.fn.told → ArePassed (LeavesFrom (g.N.Network.list l.network) done l.node l.next) (g.N.Network.list l.network) l.number l.block l.marks l.first;
 }
 
 abbrev pub decreases-loop-next : goal.decreases-loop-next

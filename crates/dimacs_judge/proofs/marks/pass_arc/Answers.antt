@@ -1,7 +1,10 @@
-use Rattle.std.proofs.Common.{false, IsTrue, refl, inl, inr, rules, SFits}
+use Rattle.std.proofs.Common.{◌≡◌, ◌+ℤ◌, false, IsTrue, refl, inl, inr, rules, SFits, ◌∙◌, ℤ, sym, subst, to_z, of_z}
 use Rattle.std.specs.Int.{w64, w128}
 use Rattle.std.proofs.lemmas.Int.{to_z-of_z}
-use Rattle.dimacs_judge.proofs.MarkLemmas.{is_tight, not_blank, not_tight, passes_same, passes_made, tight_near, told_far, told_near}
+use Rattle.dimacs_records.specs.declared.reasons.Reason.TheVariants.{Escapes}
+use Rattle.dimacs_claims.specs.Labels.{IsNear}
+use Rattle.dimacs_judge.specs.Tests.{TellsReason}
+use Rattle.dimacs_judge.proofs.MarkLemmas.{is_tight, not_blank, not_tight, passes_same, passes_made, tight_near, told_escape, told_far, told_near}
 use Rattle.dimacs_judge.proofs.marks.pass_arc.Goals as goal
 
 pub returns-then-is_beyond-clause-told : goal.returns-then-is_beyond-clause-told
@@ -10,7 +13,7 @@ returns-then-is_beyond-clause-told c =
     let cost : SFits w64 c.args.arc.cost = search rules in
     let to : SFits w128 c.in-Some.to = search rules in
     let far = rw (to_z-of_z w128 c.in_ok-from.from from, to_z-of_z w64 c.args.arc.cost cost, to_z-of_z w128 c.in-Some.to to) at (c.if-is_beyond.ensures.0 refl) in
-    told_far c.args.number c.args.arc c.args.marks.now c.get.result c.get-head.result c.get.ensures.value c.get-head.ensures.value c.in_ok-from.from c.in-Some.to c.in_ok-from.ensures c.in-Some.ensures far
+    told_far c.args.number c.args.arc c.args.marks.now c.get.result c.get-head.result c.get.ensures.value c.get-head.ensures.value c.in_ok-from.from c.in-Some.to c.in_ok-from.ensures c.in-Some.ensures c.args.radius far
 
 pub returns-then-is_beyond-clause-marks : goal.returns-then-is_beyond-clause-marks
 returns-then-is_beyond-clause-marks c =
@@ -31,7 +34,7 @@ returns-then-makes-clause-told c =
     let cost : SFits w64 c.args.arc.cost = search rules in
     let to : SFits w128 c.in-Some.to = search rules in
     let near = rw (to_z-of_z w128 c.in_ok-from.from from, to_z-of_z w64 c.args.arc.cost cost, to_z-of_z w128 c.in-Some.to to) at c.if-is_beyond.ensures.1 in
-    told_near c.args.number c.args.arc c.args.marks.now c.get.result c.get-head.result c.get.ensures.value c.get-head.ensures.value c.in_ok-from.from c.in-Some.to c.in_ok-from.ensures c.in-Some.ensures (λ far. let f : IsTrue false = near far in cc)
+    told_near c.args.number c.args.arc c.args.marks.now c.get.result c.get-head.result c.get.ensures.value c.get-head.ensures.value c.in_ok-from.from c.in-Some.to c.in_ok-from.ensures c.in-Some.ensures c.args.radius (λ far. let f : IsTrue false = near far in cc)
 
 pub returns-then-makes-clause-marks : goal.returns-then-makes-clause-marks
 returns-then-makes-clause-marks c =
@@ -50,7 +53,7 @@ returns-else-makes-clause-told c =
     let cost : SFits w64 c.args.arc.cost = search rules in
     let to : SFits w128 c.in-Some.to = search rules in
     let near = rw (to_z-of_z w128 c.in_ok-from.from from, to_z-of_z w64 c.args.arc.cost cost, to_z-of_z w128 c.in-Some.to to) at c.if-is_beyond.ensures.1 in
-    told_near c.args.number c.args.arc c.args.marks.now c.get.result c.get-head.result c.get.ensures.value c.get-head.ensures.value c.in_ok-from.from c.in-Some.to c.in_ok-from.ensures c.in-Some.ensures (λ far. let f : IsTrue false = near far in cc)
+    told_near c.args.number c.args.arc c.args.marks.now c.get.result c.get-head.result c.get.ensures.value c.get-head.ensures.value c.in_ok-from.from c.in-Some.to c.in_ok-from.ensures c.in-Some.ensures c.args.radius (λ far. let f : IsTrue false = near far in cc)
 
 pub returns-else-makes-clause-marks : goal.returns-else-makes-clause-marks
 returns-else-makes-clause-marks c =
@@ -58,3 +61,12 @@ returns-else-makes-clause-marks c =
     let to : SFits w128 c.in-Some.to = search rules in
     let off = rw (to_z-of_z w128 c.in_ok-from.from from, to_z-of_z w128 c.in-Some.to to) at c.if-makes.ensures.1 in
     passes_same c.args.number c.args.arc c.args.marks.now (not_tight c.args.number c.args.arc c.args.marks.now c.get.result c.get-head.result c.get.ensures.value c.get-head.ensures.value c.in_ok-from.from c.in-Some.to c.in_ok-from.ensures c.in-Some.ensures (λ made. let f : IsTrue false = off made in cc))
+
+pub returns-in_default-clause-told : goal.returns-in_default-clause-told
+returns-in_default-clause-told c =
+    let from : SFits w128 c.in_ok-from.from = search rules in
+    let cost : SFits w64 c.args.arc.cost = search rules in
+    let fault = c.escape_fault.result in
+    let near = subst (λ (z : ℤ). TellsReason (λ reason. (reason ≡ Escapes) × IsNear c.args.radius (to_z w128 (of_z w128 c.in_ok-from.from) +ℤ z)) fault) (to_z-of_z w64 c.args.arc.cost cost) c.escape_fault.ensures in
+    let told = subst (λ (z : ℤ). TellsReason (λ reason. (reason ≡ Escapes) × IsNear c.args.radius (z +ℤ c.args.arc.cost)) fault) (to_z-of_z w128 c.in_ok-from.from from) near in
+    told_escape c.args.radius c.args.number c.args.arc c.args.marks.now c.get.result c.get-head.result c.in_ok-from.from fault c.get.ensures.value c.get-head.ensures.value c.in_ok-from.ensures (sym (sym c.distance_by-2.ensures ∙ c.in_default.is)) told
