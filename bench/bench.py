@@ -211,4 +211,5 @@ def main():
     sys.exit(0 if all_agree else 1)
 
 
-main()
+if __name__ == "__main__":
+    main()
