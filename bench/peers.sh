@@ -31,4 +31,4 @@ build g++ -O2 -std=c++17 -o "$dir/peers/boost" "$here/peers/boost.cpp"
 build gcc -O2 -I/usr/include/igraph -o "$dir/peers/igraph" "$here/peers/igraph.c" -ligraph
 build gcc -O2 -o "$dir/peers/glpk" "$here/peers/glpk.c" -lglpk
 
-exec python3 "$here/peers.py" "$dir" "${SIZE:-20}" "${ROUNDS:-3}" "$binary"
+exec python3 -B "$here/peers.py" "$dir" "${SIZE:-20}" "${ROUNDS:-3}" "$binary"
