@@ -23,6 +23,8 @@ mod potentials;
 #[cfg(test)]
 mod queries;
 #[cfg(test)]
+mod radii;
+#[cfg(test)]
 mod readings;
 #[cfg(test)]
 mod reasons;

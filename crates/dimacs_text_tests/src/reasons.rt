@@ -4,7 +4,7 @@ use crate::checks::{holds, same};
 use dimacs_records::{LineFault, Reason, TakeError};
 
 /// Reasons, each with its name.
-static REASONS_OF_TEXTS: [(Reason, &str); 21] = [
+static REASONS_OF_TEXTS: [(Reason, &str); 22] = [
     (Reason::LineTooLong, "LineTooLong"),
     (Reason::UnknownLine, "UnknownLine"),
     (Reason::FieldCount, "FieldCount"),
@@ -26,6 +26,7 @@ static REASONS_OF_TEXTS: [(Reason, &str); 21] = [
     (Reason::SolutionTwice, "SolutionTwice"),
     (Reason::PredUnknown, "PredUnknown"),
     (Reason::LineLimit, "LineLimit"),
+    (Reason::PastRadius, "PastRadius"),
 ];
 
 #[test]
