@@ -3,39 +3,48 @@
 use clap::Command;
 use std::alloc::{AllocError, Global};
 
-/// The words of each run, and what it does.
+/// The words of each run, and what it does. With two blanks between them they fit 80 columns.
 static RUNS: [(&str, &str); 9] = [
-    ("convert KIND FILE", "Prints the canonical form of a text"),
-    ("show KIND FILE", "Prints a line about a text"),
-    (
-        "judge-max INSTANCE SOLUTION CUT",
-        "Says whether a flow is maximum, by a cut",
-    ),
+    ("convert KIND FILE", "Prints its canonical form"),
+    ("show KIND FILE", "Prints a line about it"),
+    ("judge-max INSTANCE SOLUTION CUT", "Is the flow maximum?"),
     (
         "judge-min INSTANCE SOLUTION POTENTIALS",
-        "Says whether a flow costs least, by potentials",
+        "Does the flow cost least?",
     ),
-    (
-        "judge-infeasible INSTANCE CUT",
-        "Says whether no flow is feasible, by a set of nodes",
-    ),
-    (
-        "judge-paths GRAPH QUERY LABELS",
-        "Answers queries by labels, if these are distances",
-    ),
+    ("judge-infeasible INSTANCE CUT", "Is no flow feasible?"),
+    ("judge-paths GRAPH QUERY LABELS", "Are these distances?"),
     (
         "solve-max INSTANCE SOLUTION CUT [--limit N]",
-        "Writes a maximum flow, and a cut that shows it",
+        "Writes a maximum flow",
     ),
     (
         "solve-min INSTANCE SOLUTION CERTIFICATE [--limit N]",
-        "Writes a flow of least cost, and potentials; or a set alone, if no flow is feasible",
+        "Writes a cheapest flow",
     ),
-    (
-        "solve-paths GRAPH QUERY LABELS",
-        "Writes labels that are distances, and answers queries",
-    ),
+    ("solve-paths GRAPH QUERY LABELS", "Writes distances"),
 ];
+
+/// What stands after the words of the runs.
+static NOTES: &str = "\
+A solve run reads INSTANCE, or GRAPH and QUERY, and writes its other files; the
+other runs write no file. N is how many flows or paths are tried, a number from
+0 to 1000000000, and 1000000 if it isn't told.
+
+KIND:
+  max    an instance of maximum flow       solution  a claimed flow
+  min    an instance of minimum cost flow  cut       a set of nodes
+  gr     a graph for shortest paths        pot       potentials of nodes
+  query  queries for shortest paths        dist      distance labels
+
+Exit status:
+  0  done; a judge said yes                3  a file failed, or isn't there
+  1  refused: the line begins with x       4  out of memory
+  2  these words ask for no run            5  a solve run gave up: g limit
+
+Example:
+  dimacs judge-max pipes.max pipes.solution pipes.cut
+  prints v max 12, or the first fault with its place, as x arc 3 NotSaturated";
 
 /// Writes the usage text to the standard error: its first line alone where no memory is there for the rest.
 pub fn tell(rt: &HostRuntime) {
@@ -48,10 +57,8 @@ pub fn tell(rt: &HostRuntime) {
 fn usage_text(alloc: Global) -> Result<String, AllocError> {
     let mut command = Command::new(alloc, "dimacs")
         .about("Reads, converts, judges and makes the DIMACS texts of flows and shortest paths")
-        .after_help(
-            "KIND is max, min, gr, query, solution, cut, pot or dist. \
-             N is how many flows or paths are tried, 0 to 1000000000, and 1000000 if it isn't told.",
-        );
+        .override_usage("dimacs COMMAND FILE...")
+        .after_help(NOTES);
     for &(words, about) in &RUNS {
         command = command.subcommand(Command::new(alloc, words).about(about))?;
     }
