@@ -1,3 +1,4 @@
+pub mod FileLemmas
 pub mod JudgingLemmas
 mod WordLemmas
 pub mod ReportLemmas

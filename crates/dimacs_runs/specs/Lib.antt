@@ -1,3 +1,5 @@
+pub mod Commands
+pub mod Files
 pub mod Jobs
 pub mod Judged
 pub mod Judgings

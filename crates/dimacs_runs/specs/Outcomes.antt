@@ -1,5 +1,5 @@
--- The exit statuses of the command.
-use Rattle.std.specs.Prelude.{ℕ, Result, Ok, Err}
+-- The exit statuses of the command, and the lines on the standard error that tell of them.
+use Rattle.std.specs.Prelude.{ℕ, ◌==◌, if◌then◌else◌, List, Option, None, Some, Result, Ok, Err, codes}
 use Rattle.dimacs_runs.specs.declared.outcome.Status.{Status}
 use Rattle.dimacs_runs.specs.declared.outcome.Status.TheVariants.{Done, Refused, GaveUp}
 use Rattle.dimacs_runs.specs.declared.outcome.RunError.{RunError}
@@ -11,3 +11,11 @@ status_number (Ok Refused) = 1
 status_number (Ok GaveUp) = 5
 status_number (Err Device) = 3
 status_number (Err Memory) = 4
+
+-- the usage line, and those of a device's fault and of want of memory
+abbrev pub complaint_of : ℕ → Option (List ℕ)
+complaint_of status =
+    if status == 2 then Some (codes "dimacs: usage")
+    else if status == 3 then Some (codes "dimacs: device fault")
+    else if status == 4 then Some (codes "dimacs: out of memory")
+    else None

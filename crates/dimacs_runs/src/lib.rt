@@ -2,13 +2,17 @@
 #![tactic(auto)]
 
 mod claim_texts;
+mod command;
 mod convert;
+mod counted;
 mod ending;
+mod files;
 mod instance_texts;
 mod jobs;
 mod judge;
 mod outcome;
 mod produced;
+mod reading;
 mod refusal;
 mod show;
 mod solve;
@@ -17,11 +21,15 @@ mod told;
 mod unread;
 mod verdict;
 mod words;
+mod writing;
 
+pub use command::{NO_RUN, run_command};
 pub use convert::run_convert;
+pub use counted::Counted;
+pub use files::Files;
 pub use jobs::{Job, JudgeKind, SolveJob};
 pub use judge::run_judge;
-pub use outcome::{RunError, Status, exit_status};
+pub use outcome::{RunError, Status, complaint, exit_status};
 pub use show::run_show;
 pub use solve::run_solve;
 pub use words::job;

@@ -1,7 +1,7 @@
 //! How a run ends.
 
-ghost use Rattle.std.specs.Prelude.{◌≡◌};
-ghost use Rattle.dimacs_runs.specs.Outcomes.{status_number};
+ghost use Rattle.std.specs.Prelude.{◌≡◌, Some, None, IfSome, IfNone};
+ghost use Rattle.dimacs_runs.specs.Outcomes.{complaint_of, status_number};
 
 use dimacs_lines::{DeviceFault, Memory};
 
@@ -55,5 +55,18 @@ pub fn exit_status(outcome: &Result<Status, RunError>) -> u8
         Ok(Status::GaveUp) => 5,
         Err(RunError::Device) => 3,
         Err(RunError::Memory) => 4,
+    }
+}
+
+/// The line on the standard error that tells of an exit status, where one does.
+pub fn complaint(status: u8) -> Option<&'static str>
+    ensures told { IfSome result (λ line. complaint_of status ≡ Some line.now) }
+    ensures untold { IfNone result (complaint_of status ≡ None) }
+{
+    match status {
+        2 => Some("dimacs: usage"),
+        3 => Some("dimacs: device fault"),
+        4 => Some("dimacs: out of memory"),
+        _ => None,
     }
 }
