@@ -46,9 +46,8 @@ Example:
   dimacs judge-max pipes.max pipes.solution pipes.cut
   prints v max 12, or the first fault with its place, as x arc 3 NotSaturated";
 
-/// Writes the usage text to the standard error: its first line alone where no memory is there for the rest.
+/// Writes the usage text to the standard error, where memory is there for it.
 pub fn tell(rt: &HostRuntime) {
-    let _ = eprintln!(rt; "dimacs: usage");
     if let Ok(text) = usage_text(rt.alloc()) {
         let _ = eprintln!(rt; "{text}");
     }
