@@ -1,0 +1,293 @@
+//! The command from its words to its exit status, over files in memory.
+
+ghost use Rattle.std.specs.Prelude.{◌≡◌, ◌≢◌, ◌+◌, ◌%◌, ◌^◌, None, Err};
+ghost use Rattle.dimacs_runs.specs.declared.outcome.RunError.TheVariants.{Device};
+
+use crate::checks::{holds, same};
+use dimacs_lines::{DeviceFault, FlakySink, FlakySource, MemorySink, Sink, Source};
+use dimacs_runs::{Counted, Files, RunError, run_command};
+use std::alloc::Global;
+use std::fmt::Write;
+use std::process::Abort;
+use std::test::Fail;
+
+/// Texts by the names of their files.
+static HELD: [(&str, &str); 17] = [
+    ("road", "c x\n  p  sp 2 1\r\n\na 1 2 +007"),
+    ("nothing", ""),
+    (
+        "max",
+        "p max 4 5\nn 1 s\nn 4 t\na 1 2 4\na 1 3 2\na 2 3 2\na 2 4 3\na 3 4 5\n",
+    ),
+    ("flow", "s 6\nf 1 2 4\nf 1 3 2\nf 2 3 1\nf 2 4 3\nf 3 4 3\n"),
+    ("cut", "p cut 4 1\nu 1\n"),
+    (
+        "min",
+        "p min 4 5\nn 1 4\nn 4 -4\na 1 2 0 4 2\na 1 3 0 2 2\na 2 3 0 2 1\na 2 4 0 3 3\na 3 4 0 5 1\n",
+    ),
+    ("least", "s 14\nf 1 2 2\nf 1 3 2\nf 2 3 2\nf 3 4 4\n"),
+    ("pot", "p pot 4 3\ny 1 4\ny 2 2\ny 3 1\n"),
+    ("unmet", "p min 2 1\nn 1 1\na 1 2 0 5 1\n"),
+    ("set", "p cut 2 2\nu 1\nu 2\n"),
+    ("cycle", "p sp 4 3\na 1 2 5\na 3 4 0\na 4 3 0\n"),
+    ("pairs", "p aux sp p2p 2\nq 1 2\nq 1 4\n"),
+    ("labels", "p dist 4 1\nt 1 1\nd 2 5 1\n"),
+    ("pipe", "p max 2 1\nn 1 s\nn 2 t\na 1 2 3\n"),
+    ("supply", "p min 2 1\nn 1 1\nn 2 -1\na 1 2 0 1 3\n"),
+    ("source", "p aux sp ss 1\ns 1\n"),
+    ("negative", "p sp 2 2\na 1 2 -4\na 2 1 3\n"),
+];
+
+/// A device that tells no contract what it holds.
+#[derive(Drop)]
+struct Quiet<D>(Counted<D>);
+
+impl<S: Source> Source for Quiet<S> {
+    ghost coming = { λ s. None };
+
+    ghost faults = { λ s. s.0.faults };
+
+    fn pull(&mut self, into: &mut [u8]) -> Result<usize, DeviceFault> {
+        self.0.pull(into)
+    }
+}
+
+impl<K: Sink> Sink for Quiet<K> {
+    ghost accepted = { λ s. None };
+
+    ghost faults = { λ s. s.0.faults };
+
+    fn put(&mut self, bytes: &[u8]) -> Result<usize, DeviceFault> {
+        self.0.put(bytes)
+    }
+}
+
+/// The files in memory, and a line for each thing done with them: `<` and the name of a file that was opened, `>` and
+/// that of one that was created, `=` and that of one that was closed, and after that line what was written.
+#[derive(Drop)]
+struct MemoryFiles {
+    alloc: Global,
+    done: String,
+    faults: u64,
+}
+
+impl MemoryFiles {
+    /// Adds to what was done.
+    fn note(&mut self, what: &str, name: &str) -> Result<(), RunError>
+        ensures faults { self.new.faults ≡ self.old.faults }
+        ensures no_device { result ≢ Err Device }
+    {
+        match writeln!(self.done, "{what} {name}") {
+            Ok(()) => Ok(()),
+            Err(_) => Err(RunError::Memory),
+        }
+    }
+
+    fn refuse(&mut self) -> RunError
+        ensures fault { self.new.faults ≡ (self.old.faults + 1) % 2 ^ 64 }
+        ensures device { result ≡ Device }
+    {
+        self.faults = self.faults.wrapping_add(1);
+        RunError::Device
+    }
+}
+
+/// The text in the file of this name.
+fn held(name: &str) -> Option<&'static str> {
+    for &(held, text) in &HELD {
+        if held == name {
+            return Some(text);
+        }
+    }
+    None
+}
+
+impl Files for MemoryFiles {
+    type Input = Quiet<FlakySource<'static>>;
+
+    type Output = Quiet<FlakySink<'static>>;
+
+    ghost holds = { λ s name. None };
+
+    ghost empty = { None };
+
+    ghost done = { λ s. None };
+
+    ghost faults = { λ s. s.faults };
+
+    fn open(&mut self, name: &str) -> Result<Quiet<FlakySource<'static>>, RunError> {
+        if name == "greedy" {
+            return Err(RunError::Memory);
+        }
+        let fails: &'static [u64] = if name == "broken" { &[1] } else { &[] };
+        let text = match held(name) {
+            Some(text) => text,
+            None if name == "broken" => "p sp 1 0\n",
+            None => return Err(self.refuse()),
+        };
+        self.note("<", name)?;
+        Ok(Quiet(Counted::new(FlakySource::new(text.as_bytes(), &[], fails))))
+    }
+
+    fn create(&mut self, name: &str) -> Result<Quiet<FlakySink<'static>>, RunError> {
+        if name == "denied" {
+            return Err(self.refuse());
+        }
+        let fails: &'static [u64] = if name == "full" { &[1] } else { &[] };
+        self.note(">", name)?;
+        Ok(Quiet(Counted::new(FlakySink::new(self.alloc, &[], fails))))
+    }
+
+    fn close_input(&mut self, file: Quiet<FlakySource<'static>>) {
+        if file.0.faults() != 0 {
+            self.faults = self.faults.wrapping_add(1);
+        }
+    }
+
+    fn close_output(&mut self, name: &str, file: Quiet<FlakySink<'static>>) {
+        if file.0.faults() != 0 {
+            self.faults = self.faults.wrapping_add(1);
+        }
+        let _ = self.note("=", name);
+        if let Ok(text) = str::from_utf8(file.0.device().bytes()) {
+            let _ = self.done.push_str(text);
+        }
+    }
+}
+
+/// Command lines, each with its exit status, what it prints, and what is done with files, as far as it is written here.
+static COMMANDS: [(&str, u8, &str, &str); 29] = [
+    ("convert gr road", 0, "p sp 2 1\na 1 2 7\n", "< road\n"),
+    (
+        "convert gr nothing",
+        1,
+        "x instance 1 0 ProblemMissing\n",
+        "< nothing\n",
+    ),
+    ("show max max", 0, "i max 4 5 1 4\n", "< max\n"),
+    ("show cut cut", 0, "i cut 4 1\n", "< cut\n"),
+    (
+        "judge-max max flow cut",
+        0,
+        "v max 6\n",
+        "< max\n< flow\n< cut\n",
+    ),
+    (
+        "judge-max max cut flow",
+        1,
+        "x solution 1 1 UnknownLine\n",
+        "< max\n< cut\n< flow\n",
+    ),
+    (
+        "judge-min min least pot",
+        0,
+        "v min 14\n",
+        "< min\n< least\n< pot\n",
+    ),
+    (
+        "judge-infeasible unmet set",
+        0,
+        "v infeasible\n",
+        "< unmet\n< set\n",
+    ),
+    (
+        "judge-paths cycle pairs labels",
+        0,
+        "v 1 2 5\nv 1 4 unreachable\n",
+        "< cycle\n< pairs\n< labels\n",
+    ),
+    (
+        "solve-max pipe a b",
+        0,
+        "v max 3\n",
+        "< pipe\n> a\n> b\n= a\ns 3\nf 1 2 3\n= b\np cut 2 1\nu 1\n",
+    ),
+    (
+        "solve-max pipe a b --limit 0",
+        5,
+        "g limit\n",
+        "< pipe\n> a\n> b\n= a\n= b\n",
+    ),
+    (
+        "solve-min supply a b",
+        0,
+        "v min 3\n",
+        "< supply\n> a\n> b\n= a\ns 3\nf 1 2 1\n= b\np pot 2 ",
+    ),
+    (
+        "solve-min unmet a b",
+        0,
+        "v infeasible\n",
+        "< unmet\n> a\n> b\n= a\n= b\np cut 2 ",
+    ),
+    (
+        "solve-paths cycle source a",
+        0,
+        "v sp ss 1\n",
+        "< cycle\n< source\n> a\n= a\np dist 4 1\nt 1 1\nd 2 5 1\n",
+    ),
+    (
+        "solve-paths negative source a",
+        1,
+        "x arc 1 NegativeWeight\n",
+        "< negative\n< source\n> a\n= a\n",
+    ),
+    ("convert gr absent", 3, "", ""),
+    ("convert gr broken", 3, "", "< broken\n"),
+    ("convert gr greedy", 4, "", ""),
+    ("show max absent", 3, "", ""),
+    ("judge-max max absent cut", 3, "", "< max\n"),
+    ("judge-max absent flow cut", 3, "", ""),
+    ("judge-infeasible unmet absent", 3, "", "< unmet\n"),
+    ("solve-max absent a b", 3, "", ""),
+    ("solve-max pipe a denied", 3, "", "< pipe\n> a\n"),
+    (
+        "solve-max pipe full b",
+        3,
+        "",
+        "< pipe\n> full\n> b\n= full\n= b\n",
+    ),
+    (
+        "solve-paths cycle source denied",
+        3,
+        "",
+        "< cycle\n< source\n",
+    ),
+    ("judge-max max flow", 2, "", ""),
+    ("--help", 2, "", ""),
+    ("solve-max pipe a b --limit", 2, "", ""),
+];
+
+/// Whether a command line ends so.
+fn ends(
+    rt: &impl Abort,
+    alloc: Global,
+    line: &str,
+    status: u8,
+    output: &str,
+    done: &str,
+) -> Result<(), Fail> {
+    let mut words = Vec::new(alloc);
+    for word in line.split(' ') {
+        words.push(String::from_str(alloc, word)?)?;
+    }
+    let mut files = MemoryFiles {
+        alloc,
+        done: String::new(alloc),
+        faults: 0,
+    };
+    let mut printed = MemorySink::new(alloc);
+    let ended = run_command(alloc, &words, &mut files, &mut printed);
+    same(rt, line, ended, status);
+    holds(rt, line, printed.bytes() == output.as_bytes());
+    holds(rt, line, files.done.as_str().starts_with(done));
+    Ok(())
+}
+
+#[test]
+fn commands_end_with_their_statuses(rt: HostRuntime) -> Result<(), Fail> {
+    for &(line, status, output, done) in &COMMANDS {
+        ends(&rt, rt.alloc(), line, status, output, done)?;
+    }
+    Ok(())
+}
