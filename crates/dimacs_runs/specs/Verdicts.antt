@@ -28,12 +28,17 @@ infeasible_line = yes_line (codes "infeasible" ∷ [])
 abbrev pub sources_line : ℕ → List ℕ
 sources_line count = yes_line (codes "sp" ∷ codes "ss" ∷ decimal count ∷ [])
 
-abbrev pub distance_word : Option ℤ → List ℕ
-distance_word None = codes "unreachable"
-distance_word (Some distance) = signed_decimal distance
+-- where no distance is told: the target is farther than a radius, or can't be reached
+abbrev pub far_words : Option ℤ → List (List ℕ)
+far_words None = codes "unreachable" ∷ []
+far_words (Some radius) = codes "more" ∷ signed_decimal radius ∷ []
+
+abbrev pub distance_words : Option ℤ → Option ℤ → List (List ℕ)
+distance_words None beyond = far_words beyond
+distance_words (Some distance) beyond = signed_decimal distance ∷ []
 
 abbrev pub answer_line : Answer → List ℕ
-answer_line a = yes_line (decimal a.from ∷ decimal a.to ∷ distance_word a.distance ∷ [])
+answer_line a = yes_line (decimal a.from ∷ decimal a.to ∷ distance_words a.distance a.beyond)
 
 abbrev pub verdict_lines : Verdict → List ℕ
 verdict_lines (verdicts.Max value) = max_line value

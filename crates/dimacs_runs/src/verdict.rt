@@ -46,17 +46,23 @@ fn put_answers<K: Sink>(sink: &mut K, answers: &[Answer]) -> Result<(), DeviceFa
     page.finish(sink)
 }
 
+/// Writes the line of an answer.
 fn write_answer<K: Sink>(page: &mut Page, sink: &mut K, answer: &Answer)
     ensures written { (start : Option (List ℕ)) (text : List ℕ) → IsWritten start text (K.accepted sink.old) page.old → IsWritten start (text ++ answer_line answer.now) (K.accepted sink.new) page.new }
     ensures faults { (start : ℕ) → FaultsAre start (K.faults sink.old) page.old → FaultsAre start (K.faults sink.new) page.new }
 {
-    let distance = match answer.distance {
-        Some(distance) => Part::Wide(distance),
-        None => Part::Word(b"unreachable"),
-    };
     let from = Part::Number(i64::from(answer.from));
     let to = Part::Number(i64::from(answer.to));
-    write_line(page, sink, b"v", &[from, to, distance]);
+    match answer.distance {
+        Some(distance) => write_line(page, sink, b"v", &[from, to, Part::Wide(distance)]),
+        None => match answer.beyond {
+            Some(radius) => {
+                let more = Part::Word(b"more");
+                write_line(page, sink, b"v", &[from, to, more, Part::Wide(radius)]);
+            }
+            None => write_line(page, sink, b"v", &[from, to, Part::Word(b"unreachable")]),
+        },
+    }
 }
 
 /// Puts the line that tells that a limit was reached.

@@ -334,11 +334,13 @@ fn labels_answer_queries(rt: HostRuntime) -> Result<(), Fail> {
             from: 1,
             to: 3,
             distance: None,
+            beyond: None,
         },
         Answer {
             from: 1,
             to: 2,
             distance: Some(5),
+            beyond: None,
         },
     ];
     same(&rt, "answers", answers.as_slice(), wanted.as_slice());
