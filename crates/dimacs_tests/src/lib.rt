@@ -18,6 +18,8 @@ mod judging;
 #[cfg(test)]
 mod paths;
 #[cfg(test)]
+mod radii;
+#[cfg(test)]
 mod shown;
 #[cfg(test)]
 mod solving;
