@@ -14,8 +14,8 @@ use Rattle.dimacs_judge.specs.Feasible.{FeasibleMax, value}
 use Rattle.dimacs_judge.specs.Optimum.{Maximum}
 use Rattle.dimacs_judge.specs.Rows.{no_arc, arc_at, amount_at}
 use Rattle.dimacs_judge.proofs.Duality.{tight_is_maximum}
-use Rattle.dimacs_decide.specs.declared.sides.Side.{Side}
-use Rattle.dimacs_decide.specs.declared.sides.Side.TheVariants.{Tail, Head}
+use Rattle.dimacs_instance.specs.declared.links.Side.{Side}
+use Rattle.dimacs_instance.specs.declared.links.Side.TheVariants.{Tail, Head}
 use Rattle.dimacs_decide.specs.declared.search.Visit.{Visit}
 use Rattle.dimacs_decide.specs.Residual.{rank_of, is_in, IsExplored}
 use Rattle.dimacs_decide.proofs.SideLemmas.{near_within, AllZip-at, AllZip-of, length-AllZip}

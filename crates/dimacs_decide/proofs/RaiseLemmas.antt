@@ -9,10 +9,11 @@ use Rattle.dimacs_instance.specs.MaxFlows.{MaxValue}
 use Rattle.dimacs_judge.specs.Feasible.{FeasibleMax, value}
 use Rattle.dimacs_judge.specs.Flows.{sum_arcs, when, net}
 use Rattle.dimacs_judge.specs.Rows.{no_arc, arc_at, amount_at}
-use Rattle.dimacs_decide.specs.declared.sides.Side.{Side}
-use Rattle.dimacs_decide.specs.declared.sides.Side.TheVariants.{Tail, Head}
+use Rattle.dimacs_instance.specs.declared.links.Side.{Side}
+use Rattle.dimacs_instance.specs.declared.links.Side.TheVariants.{Tail, Head}
 use Rattle.dimacs_decide.specs.declared.search.Visit.{Visit}
-use Rattle.dimacs_decide.specs.Sides.{end_of, other_end, room_at}
+use Rattle.dimacs_instance.specs.Links.{end_of, other_end}
+use Rattle.dimacs_decide.specs.Rooms.{room_at}
 use Rattle.dimacs_decide.specs.Residual.{KeepsBounds, IsReachedBy, rank_of, room_of, via_of}
 use Rattle.dimacs_decide.specs.Raising.{Pushed, IsRaising}
 use Rattle.dimacs_decide.proofs.SideLemmas.{AllZip-at, length-AllZip}

@@ -7,11 +7,11 @@ use Rattle.std.proofs.lemmas.List.{length-append, get_or_append_left}
 use Rattle.std.proofs.Math.Seq.{get_or-append_seam}
 use Rattle.dimacs_instance.specs.declared.network.ArcView.{ArcView}
 use Rattle.dimacs_judge.specs.Rows.{arc_at}
-use Rattle.dimacs_decide.specs.declared.sides.Side.{Side}
-use Rattle.dimacs_decide.specs.declared.sides.Side.TheVariants.{Tail, Head}
+use Rattle.dimacs_instance.specs.declared.links.Side.{Side}
+use Rattle.dimacs_instance.specs.declared.links.Side.TheVariants.{Tail, Head}
 use Rattle.dimacs_decide.specs.declared.search.Visit.{Visit}
-use Rattle.dimacs_decide.specs.Sides.{end_of, other_end}
-use Rattle.dimacs_decide.specs.Links.{IsLast}
+use Rattle.dimacs_instance.specs.Links.{end_of, other_end}
+use Rattle.dimacs_instance.specs.Links.{IsLast}
 use Rattle.dimacs_decide.specs.Residual.{unvisited, rank_of, room_of, via_of, room_on, IsReachedBy, unreached, IsPassed, IsWaiting, IsSearch, IsNext, Becomes, Reaches, Grows, IsExplored}
 
 -- ---- counting

@@ -9,8 +9,8 @@ ghost use Rattle.dimacs_decide.specs.Links.{IsIncidenceOf};
 ghost use Rattle.dimacs_decide.specs.Residual.{Grows, IsExplored, IsNext, IsPassed, IsSearch, KeepsBounds, Reaches, rank_of, room_of};
 
 use crate::links::Incidence;
-use crate::sides::Side;
-use dimacs_instance::Network;
+use crate::room::room_from;
+use dimacs_instance::{Network, Side};
 use dimacs_judge::Flow;
 use dimacs_lines::Memory;
 use dimacs_nodes::NodeTable;
@@ -119,7 +119,7 @@ impl Search {
         while next > 0 {
             let via = next - 1;
             let arc = network.arc(via);
-            let room = side.room(arc, flow.amount(via));
+            let room = room_from(side, arc, flow.amount(via));
             self.reach(from, side.far(arc), via, room)?;
             next = links.before(via);
         }

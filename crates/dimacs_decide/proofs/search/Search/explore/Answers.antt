@@ -1,6 +1,6 @@
 use Rattle.std.proofs.Common.{◌≡◌, ◌∙◌, ◌<◌, length, arith, sym, subst, slice_index}
 use Rattle.dimacs_nodes.specs.Tables.{value_of}
-use Rattle.dimacs_decide.specs.declared.sides.Side.TheVariants.{Tail, Head}
+use Rattle.dimacs_instance.specs.declared.links.Side.TheVariants.{Tail, Head}
 use Rattle.dimacs_decide.specs.Residual.{IsPassed}
 use Rattle.dimacs_decide.proofs.SearchLemmas.{passed_still, search_next}
 use Rattle.dimacs_decide.proofs.search.Search.explore.Goals as goal
