@@ -2,7 +2,7 @@
 use Rattle.std.specs.Prelude.{ℕ, ◌≡◌, ◌≤◌, List, ◌∷◌, map, length}
 use Rattle.std.specs.List.{flat_map}
 use Rattle.dimacs_lines.specs.Lines.{lines}
-use Rattle.dimacs_lines.specs.declared.reader.TheConstants.{MAX_LINES}
+use Rattle.dimacs_lines.specs.Limits.{most_lines}
 use Rattle.dimacs_records.specs.declared.kinds.TextKind.TheVariants as kinds
 use Rattle.dimacs_records.specs.declared.records.Record.{Record}
 use Rattle.dimacs_records.specs.declared.records.Record.TheVariants.{LabelsProblem, LabelsBlock, LabelsNode}
@@ -35,4 +35,4 @@ canonical_labels labels = canonical_text (label_records labels)
 
 -- no more lines than a text may have
 abbrev pub FitText : LabelsValue → Type 0
-FitText labels = length (label_records labels) ≤ MAX_LINES
+FitText labels = length (label_records labels) ≤ most_lines

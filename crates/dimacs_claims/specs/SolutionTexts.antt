@@ -2,7 +2,7 @@
 use Rattle.std.specs.Prelude.{ℕ, suc, ◌+◌, ◌≡◌, ◌≤◌, List, [], ◌∷◌, ◌++◌, map, length, ℤ}
 use Rattle.std.specs.List.{All}
 use Rattle.dimacs_lines.specs.Lines.{lines}
-use Rattle.dimacs_lines.specs.declared.reader.TheConstants.{MAX_LINES}
+use Rattle.dimacs_lines.specs.Limits.{most_lines}
 use Rattle.dimacs_records.specs.declared.kinds.TextKind.TheVariants as kinds
 use Rattle.dimacs_records.specs.declared.records.Record.{Record}
 use Rattle.dimacs_records.specs.declared.records.Record.TheVariants as records
@@ -54,7 +54,7 @@ pub record IsLawfulEntry (e : Entry) : Type 0 where
 pub record IsLawful (s : SolutionValue) : Type 0 where
   pub value : IsWide s.value
   pub entries : All IsLawfulEntry s.entries
-  pub few : length s.entries + 1 ≤ MAX_LINES
+  pub few : length s.entries + 1 ≤ most_lines
 
 -- the value, and then the entries
 abbrev pub solution_records : SolutionValue → List Record

@@ -4,7 +4,7 @@ use Rattle.std.specs.List.{All, flat_map}
 use Rattle.std.proofs.lemmas.List.{length-map}
 use Rattle.std.proofs.lemmas.List.Elements.{All-head, All-tail, All-map, All-weaker}
 use Rattle.dimacs_lines.specs.Lines.{lines}
-use Rattle.dimacs_lines.specs.declared.reader.TheConstants.{MAX_LINE, MAX_LINES}
+use Rattle.dimacs_lines.specs.Limits.{longest_line, most_lines}
 use Rattle.dimacs_records.specs.declared.kinds.TextKind.{TextKind}
 use Rattle.dimacs_records.specs.declared.records.Record.{Record}
 use Rattle.dimacs_records.specs.Spelling.{SpellsRecord, letter_of, parts_of, texts_in, is_skip}
@@ -56,11 +56,11 @@ module _ (kind : TextKind) (r : Record) (can : CanBeSpelled kind r) where
   is_skip-body : is_skip (texts_in (body_of r)) ≡ false
   is_skip-body = rw (texts_in-body, can.letter) form_is.no_comment
 
-  short_body : length (body_of r) ≤ MAX_LINE
+  short_body : length (body_of r) ≤ longest_line
   short_body = omega (arith, length-spaced (letter_of r) (map text_of (parts_of r)) letter_is parts_are, length-map (parts_of r) text_of, length-parts can.form.types (parts_of r) can.fit, form_is.few)
 
 abbrev IsShort : List ℕ → Type 0
-IsShort line = length line ≤ MAX_LINE
+IsShort line = length line ≤ longest_line
 
 lines-canonical_text : (kind : TextKind) (rs : List Record) → All (CanBeSpelled kind) rs → lines (canonical_text rs) ≡ map body_of rs
 lines-canonical_text kind [] can = refl
@@ -76,7 +76,7 @@ bodies_spell kind (r ∷ rs) can =
     let first = All-head (CanBeSpelled kind) r rs can in
     (is_skip-body kind r first, body_spells kind r first, bodies_spell kind rs (All-tail (CanBeSpelled kind) r rs can))
 
-pub canonical_spelled : (kind : TextKind) (rs : List Record) → All (CanBeSpelled kind) rs → length rs ≤ MAX_LINES
+pub canonical_spelled : (kind : TextKind) (rs : List Record) → All (CanBeSpelled kind) rs → length rs ≤ most_lines
     → AreSpelled kind (lines (canonical_text rs)) (map (λ (r : Record). Some r) rs)
 canonical_spelled kind rs can few =
     rw (lines-canonical_text kind rs can) (record { few = rw (length-map rs body_of) few; short = short_bodies kind rs can; spell = bodies_spell kind rs can })

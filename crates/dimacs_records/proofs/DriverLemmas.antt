@@ -8,7 +8,7 @@ use Rattle.dimacs_lines.specs.Lines.{lines}
 use Rattle.dimacs_lines.specs.Reader.{State, text_left, GivesLine, AtEnd, Stops}
 use Rattle.dimacs_lines.specs.declared.reader.LinesError.{LinesError}
 use Rattle.dimacs_lines.specs.declared.reader.LinesError.TheVariants as line_errors
-use Rattle.dimacs_lines.specs.declared.reader.TheConstants.{MAX_LINE, MAX_LINES}
+use Rattle.dimacs_lines.specs.Limits.{longest_line, most_lines}
 use Rattle.dimacs_records.specs.declared.kinds.TextKind.{TextKind}
 use Rattle.dimacs_records.specs.declared.records.Record.{Record}
 use Rattle.dimacs_records.specs.declared.faults.TakeError.{TakeError}
@@ -33,23 +33,23 @@ records_of-numbered n [] = refl
 records_of-numbered n (None ∷ more) = records_of-numbered (suc n) more
 records_of-numbered n (Some r ∷ more) = ap (λ rs. r ∷ rs) (records_of-numbered (suc n) more)
 
-line_number : (number : ℕ) → number ≤ MAX_LINES → nat_lt MAX_LINES number ≡ false
-line_number number few = le-ltb MAX_LINES number few
+line_number : (number : ℕ) → number ≤ most_lines → nat_lt most_lines number ≡ false
+line_number number few = le-ltb most_lines number few
 
 -- a line within the limits
-pub within : (number : ℕ) (line : List ℕ) → number ≤ MAX_LINES → length line ≤ MAX_LINE → NoneHolds (limit_condition number line)
-within number line few short f LineLimit h = true≢false (sym h ∙ and_right (f == 0) (nat_lt MAX_LINES number) (line_number number few))
-within number line few short f LineTooLong h = true≢false (sym h ∙ and_right (f == 0) (nat_lt MAX_LINE (length line)) (le-ltb MAX_LINE (length line) short))
+pub within : (number : ℕ) (line : List ℕ) → number ≤ most_lines → length line ≤ longest_line → NoneHolds (limit_condition number line)
+within number line few short f LineLimit h = true≢false (sym h ∙ and_right (f == 0) (nat_lt most_lines number) (line_number number few))
+within number line few short f LineTooLong h = true≢false (sym h ∙ and_right (f == 0) (nat_lt longest_line (length line)) (le-ltb longest_line (length line) short))
 within number line few short f reason h = true≢false (sym h)
 
 -- a line behind the last that may be
-too_many : (kind : TextKind) (earlier : List Record) (number : ℕ) (line : List ℕ) → MAX_LINES < number → First (Condition kind earlier number line) places (at 0 LineLimit)
+too_many : (kind : TextKind) (earlier : List Record) (number : ℕ) (line : List ℕ) → most_lines < number → First (Condition kind earlier number line) places (at 0 LineLimit)
 too_many kind earlier number line above =
-    first_limit kind earlier number line 0 LineLimit (is_first (test_at (limit_condition number line)) limit_places (at 0 LineLimit) (rw (lt-ltb MAX_LINES number above) refl))
+    first_limit kind earlier number line 0 LineLimit (is_first (test_at (limit_condition number line)) limit_places (at 0 LineLimit) (rw (lt-ltb most_lines number above) refl))
 
-too_long : (kind : TextKind) (earlier : List Record) (number : ℕ) (line : List ℕ) → number ≤ MAX_LINES → MAX_LINE < length line → First (Condition kind earlier number line) places (at 0 LineTooLong)
+too_long : (kind : TextKind) (earlier : List Record) (number : ℕ) (line : List ℕ) → number ≤ most_lines → longest_line < length line → First (Condition kind earlier number line) places (at 0 LineTooLong)
 too_long kind earlier number line few long =
-    first_limit kind earlier number line 0 LineTooLong (is_first (test_at (limit_condition number line)) limit_places (at 0 LineTooLong) (rw (line_number number few, lt-ltb MAX_LINE (length line) long) refl))
+    first_limit kind earlier number line 0 LineTooLong (is_first (test_at (limit_condition number line)) limit_places (at 0 LineTooLong) (rw (line_number number few, lt-ltb longest_line (length line) long) refl))
 
 numbered-append : (n : ℕ) (said more : List (Option Record)) → numbered n (said ++ more) ≡ numbered n said ++ numbered (n + length said) more
 numbered-append n [] more = ap (λ k. numbered k more) (omega arith)

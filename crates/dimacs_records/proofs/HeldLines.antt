@@ -5,7 +5,7 @@ use Rattle.dimacs_lines.specs.Devices.{before_piece}
 use Rattle.dimacs_lines.specs.Lines.{lines}
 use Rattle.dimacs_lines.specs.Reader.{State, GivesLine}
 use Rattle.dimacs_lines.specs.declared.reader.Progress.TheVariants.{Open}
-use Rattle.dimacs_lines.specs.declared.reader.TheConstants.{MAX_LINES}
+use Rattle.dimacs_lines.specs.Limits.{most_lines}
 use Rattle.dimacs_records.specs.declared.faults.TakeError.{TakeError}
 use Rattle.dimacs_records.specs.declared.kinds.TextKind.{TextKind}
 use Rattle.dimacs_records.specs.declared.records.Record.{Record}
@@ -31,7 +31,7 @@ first_given bytes line size there first (Some later) text is =
     some_is e = cc
 
 -- what is held begins with a line, as if it were given
-given_line : (kind : TextKind) (bytes : List ℕ) (r : Record) (size given : ℕ) (coming : Option (List ℕ)) → (h : SaysFirst kind bytes r size) → given < MAX_LINES
+given_line : (kind : TextKind) (bytes : List ℕ) (r : Record) (size given : ℕ) (coming : Option (List ℕ)) → (h : SaysFirst kind bytes r size) → given < most_lines
     → GivesLine (state bytes given []) (state (drop size bytes) (given + 1) h.line) (before_piece bytes coming) (before_piece (drop size bytes) coming) (given + 1)
 given_line kind bytes r size given coming h few = record {
   next = refl;
@@ -44,7 +44,7 @@ given_line kind bytes r size given coming h few = record {
 
 -- one more plain line is taken, or it is where the text has its fault
 pub plain_step : (kind : TextKind) (all : List (List ℕ)) (bytes : List ℕ) (given size : ℕ) (coming : Option (List ℕ)) (r : Record) (old new : List LineRecord → Type 0) (result : Result Unit TakeError)
-    → SaysFirst kind bytes r size → given < MAX_LINES → IsReadSoFar kind all given (before_piece bytes coming) old
+    → SaysFirst kind bytes r size → given < most_lines → IsReadSoFar kind all given (before_piece bytes coming) old
     → OnOk result ((rs : List LineRecord) → old rs → IsAllowed (records_of rs) r)
     → OnOk result ((rs : List LineRecord) → old rs → AreBefore (given + 1) rs → new (rs ++ on_line (given + 1) r ∷ []))
     → IfErr result (λ error. (rs : List LineRecord) → old rs → RefusesRecord (records_of rs) r error)

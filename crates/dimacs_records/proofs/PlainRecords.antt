@@ -11,7 +11,7 @@ use Rattle.std.proofs.lemmas.List.Elements.{All-nil, All-cons, All-head, All-tai
 use Rattle.dimacs_lines.specs.Lines.{lines}
 use Rattle.dimacs_lines.specs.Number.{Spells, IsWithin}
 use Rattle.dimacs_lines.specs.Plain.{EndsAt, StandsAt}
-use Rattle.dimacs_lines.specs.declared.reader.TheConstants.{MAX_LINE}
+use Rattle.dimacs_lines.specs.Limits.{longest_line}
 use Rattle.dimacs_records.specs.declared.kinds.TextKind.{TextKind}
 use Rattle.dimacs_records.specs.declared.records.Record.{Record}
 use Rattle.dimacs_records.specs.Forms.{FieldType, Word, Either, Number, Id, Whole, Wide, Form, forms}

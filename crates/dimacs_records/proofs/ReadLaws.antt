@@ -2,7 +2,7 @@
 use Rattle.std.proofs.Common.{◌≡◌, ℕ, suc, ◌<◌, ◌≤◌, ◌+◌, ◌∷◌, ◌++◌, [], List, Option, Some, None, Result, Ok, Err, length, get_or, take, drop, refl, ap, sym, ◌∙◌, arith, inl, inr, length-take, length-append}
 use Rattle.std.proofs.Math.Seq.{split_at, get_or-append_seam}
 use Rattle.std.proofs.lemmas.Bool.{true≢false, ltb-false, false_from_ne_true, cases_lt}
-use Rattle.dimacs_lines.specs.declared.reader.TheConstants.{MAX_LINE, MAX_LINES}
+use Rattle.dimacs_lines.specs.Limits.{longest_line, most_lines}
 use Rattle.dimacs_records.specs.declared.kinds.TextKind.{TextKind}
 use Rattle.dimacs_records.specs.declared.records.Record.{Record}
 use Rattle.dimacs_records.specs.declared.reasons.Reason.TheVariants.{LineTooLong, LineLimit}
@@ -48,12 +48,12 @@ no_limit kind all before after line said clean e f reason h =
     clean.none before after line s.earlier (at f reason) e s.spell (of_limit h)
 
 -- a line at which neither limit's condition holds
-limits_of : (number : ℕ) (line : List ℕ) → NoneHolds (limit_condition number line) → (number ≤ MAX_LINES) × (length line ≤ MAX_LINE)
-limits_of number line none = (ltb-false MAX_LINES number (false_from_ne_true _ (none 0 LineLimit)), ltb-false MAX_LINE (length line) (false_from_ne_true _ (none 0 LineTooLong)))
+limits_of : (number : ℕ) (line : List ℕ) → NoneHolds (limit_condition number line) → (number ≤ most_lines) × (length line ≤ longest_line)
+limits_of number line none = (ltb-false most_lines number (false_from_ne_true _ (none 0 LineLimit)), ltb-false longest_line (length line) (false_from_ne_true _ (none 0 LineTooLong)))
 
 -- each line of a clean text lies within the limits
 clean_limits : (kind : TextKind) (all : List (List ℕ)) (said : List (Option Record)) (k : ℕ) (d : List ℕ) → IsClean kind all said → k < length all
-    → (k < MAX_LINES) × (length (get_or all k d) ≤ MAX_LINE)
+    → (k < most_lines) × (length (get_or all k d) ≤ longest_line)
 clean_limits kind all said k d clean below =
     let limits = limits_of _ _ (no_limit kind all (take k all) (drop (suc k) all) (get_or all k d) said clean (split_at all k d below)) in
     (omega (arith, limits.0, length-take k all), limits.1)
@@ -61,7 +61,7 @@ clean_limits kind all said k d clean below =
 -- no limit's condition at any line gives the two limits
 pub spelled_of_faultless : (kind : TextKind) (all : List (List ℕ)) (said : List (Option Record)) → IsFaultless kind all said → AreSpelled kind all said
 spelled_of_faultless kind all said h = record {
-  few = elim (cases_lt MAX_LINES (length all)) [ inl more ↦ absurd (omega (arith, (clean_limits kind all said MAX_LINES [] h.clean more).0)) | inr few ↦ few ];
+  few = elim (cases_lt most_lines (length all)) [ inl more ↦ absurd (omega (arith, (clean_limits kind all said most_lines [] h.clean more).0)) | inr few ↦ few ];
   short = λ k d below. (clean_limits kind all said k d h.clean below).1;
   spell = h.clean.spell;
 }

@@ -2,7 +2,7 @@
 use Rattle.std.specs.Prelude.{◌≤◌, List, Some, length, map}
 use Rattle.std.specs.List.{All}
 use Rattle.dimacs_lines.specs.Lines.{lines}
-use Rattle.dimacs_lines.specs.declared.reader.TheConstants.{MAX_LINES}
+use Rattle.dimacs_lines.specs.Limits.{most_lines}
 use Rattle.dimacs_records.specs.declared.kinds.TextKind.{TextKind}
 use Rattle.dimacs_records.specs.declared.records.Record.{Record}
 use Rattle.dimacs_records.specs.Canonical.{canonical_text, CanBeSpelled}
@@ -10,4 +10,4 @@ use Rattle.dimacs_records.specs.Texts.{AreSpelled}
 
 -- the canonical lines of records whose numbers lie within their ranges are lines within the limits that spell just these records
 abbrev pub CanonicalLaw : Type 0
-CanonicalLaw = (kind : TextKind) (rs : List Record) → All (CanBeSpelled kind) rs → length rs ≤ MAX_LINES → AreSpelled kind (lines (canonical_text rs)) (map (λ (r : Record). Some r) rs)
+CanonicalLaw = (kind : TextKind) (rs : List Record) → All (CanBeSpelled kind) rs → length rs ≤ most_lines → AreSpelled kind (lines (canonical_text rs)) (map (λ (r : Record). Some r) rs)

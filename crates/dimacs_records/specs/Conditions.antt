@@ -1,7 +1,7 @@
 -- Why a record is refused behind the earlier ones, reason by reason.
 use Rattle.std.specs.Prelude.{ℕ, ◌==◌, Bool, true, false, ◌&&◌, ◌||◌, not, List, [], ◌∷◌, Option, is_some, is_none, if◌then◌else◌, nat_lt, length, count_by, pos, int_lt}
 use Rattle.std.specs.List.{list_any}
-use Rattle.dimacs_lines.specs.declared.reader.TheConstants.{MAX_LINE, MAX_LINES}
+use Rattle.dimacs_lines.specs.Limits.{longest_line, most_lines}
 use Rattle.dimacs_records.specs.declared.kinds.TextKind.{TextKind}
 use Rattle.dimacs_records.specs.declared.kinds.TextKind.TheVariants.{Max, Solution, Labels}
 use Rattle.dimacs_records.specs.declared.records.QueryKind.TheVariants.{Sources, Pairs}
@@ -15,8 +15,8 @@ use Rattle.dimacs_records.specs.Blocks.{block_in, is_labelled, is_full_block, is
 
 -- at field f of a line with this number the condition of a limit holds
 abbrev pub limit_condition : ℕ → List ℕ → ℕ → Reason → Bool
-limit_condition number line f LineLimit = (f == 0) && nat_lt MAX_LINES number
-limit_condition number line f LineTooLong = (f == 0) && nat_lt MAX_LINE (length line)
+limit_condition number line f LineLimit = (f == 0) && nat_lt most_lines number
+limit_condition number line f LineTooLong = (f == 0) && nat_lt longest_line (length line)
 limit_condition number line f reason = false
 
 -- a solution alone has no problem line

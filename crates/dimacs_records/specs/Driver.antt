@@ -7,7 +7,7 @@ use Rattle.dimacs_records.specs.declared.faults.ReadError.{ReadError}
 use Rattle.dimacs_records.specs.declared.faults.ReadError.TheVariants as read_errors
 use Rattle.dimacs_lines.specs.declared.reader.LinesError.{LinesError}
 use Rattle.dimacs_lines.specs.declared.reader.LinesError.TheVariants as line_errors
-use Rattle.dimacs_lines.specs.declared.reader.TheConstants.{MAX_LINE, MAX_LINES}
+use Rattle.dimacs_lines.specs.Limits.{longest_line, most_lines}
 use Rattle.dimacs_records.specs.declared.faults.TakeError.{TakeError}
 use Rattle.dimacs_records.specs.declared.faults.TakeError.TheVariants as take_errors
 use Rattle.dimacs_records.specs.declared.reasons.Reason.TheVariants.{LineTooLong, LineLimit}
@@ -65,8 +65,8 @@ TakesLine kind before said line stands_for (Err take_errors.Memory) = Unit {0}
 pub record IsBehind (kind : TextKind) (before : List (List ℕ)) (said : List (Option Record)) (number : ℕ) (line : List ℕ) : Type 0 where
   pub clean : IsClean kind before said
   pub next : number ≡ length before + 1
-  pub few : number ≤ MAX_LINES
-  pub short : length line ≤ MAX_LINE
+  pub few : number ≤ most_lines
+  pub short : length line ≤ longest_line
 
 -- how a refusal at a line is told
 abbrev pub read_error : ℕ → TakeError → ReadError

@@ -4,7 +4,7 @@ use Rattle.std.specs.List.{All}
 use Rattle.dimacs_lines.specs.Devices.{before_piece}
 use Rattle.dimacs_lines.specs.Lines.{lines}
 use Rattle.dimacs_lines.specs.Plain.{EndsAt}
-use Rattle.dimacs_lines.specs.declared.reader.TheConstants.{MAX_LINE}
+use Rattle.dimacs_lines.specs.Limits.{longest_line}
 use Rattle.dimacs_records.specs.declared.faults.ReadError.{ReadError}
 use Rattle.dimacs_records.specs.declared.kinds.TextKind.{TextKind}
 use Rattle.dimacs_records.specs.declared.records.Record.{Record}
@@ -36,7 +36,7 @@ pub record SaysFirst (kind : TextKind) (bytes : List ℕ) (r : Record) (size : �
   pub size_is : size ≡ length line + 1
   pub within : size ≤ length bytes
   pub first : (rest : List ℕ) → lines (line ++ 10 ∷ rest) ≡ line ∷ lines rest
-  pub short : length line ≤ MAX_LINE
+  pub short : length line ≤ longest_line
   pub reads : ReadsLine kind (texts_in line) (Ok (Some r))
 
 -- the first lines of the bytes held were read, and what follows them is left; or why one of them is refused

@@ -1,7 +1,7 @@
 -- What a text spells, with no word of faults; and what a reader answers.
 use Rattle.std.specs.Prelude.{ℕ, ◌≡◌, ◌≤◌, List, ◌∷◌, ◌++◌, length, Option, Result, Ok, Err}
 use Rattle.std.specs.List.{All}
-use Rattle.dimacs_lines.specs.declared.reader.TheConstants.{MAX_LINE, MAX_LINES}
+use Rattle.dimacs_lines.specs.Limits.{longest_line, most_lines}
 use Rattle.dimacs_records.specs.declared.kinds.TextKind.{TextKind}
 use Rattle.dimacs_records.specs.declared.records.Record.{Record}
 use Rattle.dimacs_records.specs.declared.reasons.Reason.{Reason}
@@ -12,8 +12,8 @@ use Rattle.dimacs_records.specs.Readings.{LineRecord, numbered, IsAllowed, IsCom
 
 -- the lines lie within the limits, and each is skipped or spells the record beside it
 pub record AreSpelled (kind : TextKind) (all : List (List ℕ)) (said : List (Option Record)) : Type 0 where
-  pub few : length all ≤ MAX_LINES
-  pub short : All (λ (line : List ℕ). length line ≤ MAX_LINE) all
+  pub few : length all ≤ most_lines
+  pub short : All (λ (line : List ℕ). length line ≤ longest_line) all
   pub spell : Spell kind all said
 
 -- the lines are spelled, and their records give this value

@@ -5,7 +5,7 @@ ghost use Rattle.dimacs_lines.specs.Devices.{before_piece};
 ghost use Rattle.dimacs_lines.specs.Lines.{lines};
 ghost use Rattle.dimacs_lines.specs.Reader.{text_left};
 ghost use Rattle.dimacs_lines.specs.declared.reader.Progress.TheVariants.{Open};
-ghost use Rattle.dimacs_lines.specs.declared.reader.TheConstants.{MAX_LINES};
+ghost use Rattle.dimacs_lines.specs.Limits.{most_lines};
 ghost use Rattle.dimacs_records.specs.declared.faults.ReadError.TheVariants.{Device};
 ghost use Rattle.dimacs_records.specs.declared.records.Record.{Record};
 ghost use Rattle.dimacs_records.specs.Readings.{ReadsLines, CountsRead, numbered};
@@ -54,9 +54,9 @@ fn read_lines<R: Reading, S: Source>(
 ) -> Result<u64, ReadError>
     requires kind { R.kind reading.old ≡ kind }
     requires open { lines.old.progress ≡ Open }
-    requires few { lines.old.given ≤ MAX_LINES }
+    requires few { lines.old.given ≤ most_lines }
     ensures kind { R.kind reading.new ≡ kind }
-    ensures few { IfOk result (λ count. count ≤ MAX_LINES) }
+    ensures few { IfOk result (λ count. count ≤ most_lines) }
     ensures reads { (all : List (List ℕ)) → IsReadSoFar kind all lines.old.given (text_left lines.old (S.coming source.old)) (R.stands_for reading.old)
         → ReadsAll kind all (R.stands_for reading.new) result }
     ensures kept { (value : R.Value) → R.keeps reading.new value → R.keeps reading.old value }
@@ -82,7 +82,7 @@ fn take_held<R: Reading>(
     ensures kind { R.kind reading.new ≡ kind }
     ensures progress { lines.new.progress ≡ lines.old.progress }
     ensures no_fewer { lines.old.given ≤ lines.new.given }
-    ensures few { lines.old.given ≤ MAX_LINES → lines.new.given ≤ MAX_LINES }
+    ensures few { lines.old.given ≤ most_lines → lines.new.given ≤ most_lines }
     ensures reads { (all : List (List ℕ)) (coming : Option (List ℕ)) → IsReadSoFar kind all lines.old.given (text_left lines.old coming) (R.stands_for reading.old)
         → ReadsSome kind all lines.new.given (text_left lines.new coming) (R.stands_for reading.new) result }
     ensures kept { (value : R.Value) → R.keeps reading.new value → R.keeps reading.old value }
@@ -105,10 +105,10 @@ fn take_plain<R: Reading>(
     reading: &mut R,
 ) -> Result<PlainLines, ReadError>
     requires kind { R.kind reading.old ≡ kind }
-    requires few { given + length held.now ≤ MAX_LINES }
+    requires few { given + length held.now ≤ most_lines }
     ensures kind { R.kind reading.new ≡ kind }
     ensures within { IfOk result (λ taken. taken.bytes ≤ length held.now) }
-    ensures few { IfOk result (λ taken. given + taken.lines ≤ MAX_LINES) }
+    ensures few { IfOk result (λ taken. given + taken.lines ≤ most_lines) }
     ensures takes { (all : List (List ℕ)) (coming : Option (List ℕ)) → IsReadSoFar kind all given (before_piece held.now coming) (R.stands_for reading.old) → TakesPlain kind all given held.now coming (R.stands_for reading.new) result }
     ensures kept { (value : R.Value) → R.keeps reading.new value → R.keeps reading.old value }
     ensures undisturbed { IfErr result (λ error. error ≢ Device) }
@@ -136,7 +136,7 @@ fn read_line<R: Reading, S: Source>(
     requires kind { R.kind reading.old ≡ kind }
     requires open { lines.old.progress ≡ Open }
     ensures kind { R.kind reading.new ≡ kind }
-    ensures next { IfOk result (λ answer. IfSome answer (λ number. (lines.new.progress ≡ Open) × (lines.new.given ≡ number) × (number ≡ lines.old.given + 1) × (number ≤ MAX_LINES))) }
+    ensures next { IfOk result (λ answer. IfSome answer (λ number. (lines.new.progress ≡ Open) × (lines.new.given ≡ number) × (number ≡ lines.old.given + 1) × (number ≤ most_lines))) }
     ensures reads { (all : List (List ℕ)) → IsReadSoFar kind all lines.old.given (text_left lines.old (S.coming source.old)) (R.stands_for reading.old)
         → ReadsOne kind all lines.old.given (text_left lines.new (S.coming source.new)) (R.stands_for reading.new) result }
     ensures kept { (value : R.Value) → R.keeps reading.new value → R.keeps reading.old value }

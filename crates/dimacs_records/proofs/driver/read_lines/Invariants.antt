@@ -1,7 +1,7 @@
 use Rattle.std.proofs.Common.{◌≡◌, ◌≤◌, ◌-◌, List, ℕ}
 use Rattle.dimacs_lines.specs.Reader.{text_left}
 use Rattle.dimacs_lines.specs.declared.reader.Progress.TheVariants.{Open}
-use Rattle.dimacs_lines.specs.declared.reader.TheConstants.{MAX_LINES}
+use Rattle.dimacs_lines.specs.Limits.{most_lines}
 use Rattle.dimacs_records.specs.Driver.{IsReadSoFar}
 use Rattle.dimacs_records.proofs.driver.read_lines.Given as goal
 
@@ -10,7 +10,7 @@ abbrev pub invariant-loop-lines : goal.invariant-loop-lines
 invariant-loop-lines g l = record {
   kind : g.R.Reading.kind l.reading ≡ l.kind;
   goes_on : l.lines.progress ≡ Open;
-  few : l.lines.given ≤ MAX_LINES;
+  few : l.lines.given ≤ most_lines;
   read : (all : List (List ℕ)) → IsReadSoFar l.kind all l.fn.lines.given (text_left l.fn.lines (g.S.Source.coming l.fn.source)) (g.R.Reading.stands_for l.fn.reading)
       → IsReadSoFar l.kind all l.lines.given (text_left l.lines (g.S.Source.coming l.source)) (g.R.Reading.stands_for l.reading);
   kept : (value : _) → g.R.Reading.keeps l.reading value → g.R.Reading.keeps l.fn.reading value;
@@ -18,4 +18,4 @@ invariant-loop-lines g l = record {
 }
 
 abbrev pub decreases-loop-lines : goal.decreases-loop-lines
-decreases-loop-lines g l = MAX_LINES - l.lines.given
+decreases-loop-lines g l = most_lines - l.lines.given

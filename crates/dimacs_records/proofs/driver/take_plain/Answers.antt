@@ -2,7 +2,7 @@ use Rattle.std.proofs.Common.{◌≡◌, ◌+◌, ◌<◌, ◌≤◌, ℕ, List,
 use Rattle.std.proofs.lemmas.List.{drop-drop}
 use Rattle.std.proofs.lemmas.Slice.{between_to_end}
 use Rattle.dimacs_lines.specs.Devices.{before_piece}
-use Rattle.dimacs_lines.specs.declared.reader.TheConstants.{MAX_LINES}
+use Rattle.dimacs_lines.specs.Limits.{most_lines}
 use Rattle.dimacs_records.specs.Driver.{IsReadSoFar}
 use Rattle.dimacs_records.specs.Plain.{SaysFirst}
 use Rattle.dimacs_records.proofs.HeldLines.{plain_step}
@@ -16,7 +16,7 @@ returns-in-Err-clause-takes g c = λ all coming h.
     let given = c.args.given + loop.lines in
     let says : SaysFirst c.args.kind bytes line.said line.size = rw (between_to_end c.args.held.now loop.bytes (length c.args.held.now) (omega (arith, loop.invariant.within))) at c.in-Some.ensures in
     let next : c.args.given + (loop.lines + 1) ≡ given + 1 = omega arith in
-    let few : given < MAX_LINES = omega (arith, loop.invariant.few, loop.invariant.within, c.requires.few, says.size_is, says.within, length-drop loop.bytes c.args.held.now) in
+    let few : given < most_lines = omega (arith, loop.invariant.few, loop.invariant.within, c.requires.few, says.size_is, says.within, length-drop loop.bytes c.args.held.now) in
     rw (c.at_line.ensures, next)
     (plain_step c.args.kind all bytes given line.size coming line.said (g.R.Reading.stands_for loop.reading) (g.R.Reading.stands_for c.take.new.self) (Err c.in-Err.error) says few (loop.invariant.read all coming h)
     c.in-Err.ensures.allowed c.in-Err.ensures.taken c.in-Err.ensures.refused)
@@ -30,7 +30,7 @@ loop-line-preserved g c =
     let given = c.args.given + loop.lines in
     let says : SaysFirst c.args.kind bytes line.said line.size = rw (between_to_end c.args.held.now loop.bytes (length c.args.held.now) (omega (arith, loop.invariant.within))) at c.in-Some.ensures in
     let next : c.args.given + (loop.lines + 1) ≡ given + 1 = omega arith in
-    let few : given < MAX_LINES = omega (arith, loop.invariant.few, loop.invariant.within, c.requires.few, says.size_is, says.within, length-drop loop.bytes held) in
+    let few : given < most_lines = omega (arith, loop.invariant.few, loop.invariant.within, c.requires.few, says.size_is, says.within, length-drop loop.bytes held) in
     record {
       kind = c.take.ensures.kind ∙ loop.invariant.kind;
       within = omega (arith, loop.invariant.within, says.within, length-drop loop.bytes held);
