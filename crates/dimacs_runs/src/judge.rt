@@ -137,10 +137,7 @@ fn tell_paths<P: Source, Q: Source, R: Source>(
     match read_three::<Graph<PlainArcs<WeightArc>>, Queries, Labels, P, Q, R>(
         alloc, graph, queries, labels,
     ) {
-        Ok((graph, queries, labels)) => {
-            let indexed = graph.indexed(alloc)?;
-            answer_told(judge_paths(alloc, &indexed, &queries, &labels))
-        }
+        Ok((graph, queries, labels)) => answer_told(judge_paths(alloc, &graph, &queries, &labels)),
         Err(unread) => unread.told(),
     }
 }
