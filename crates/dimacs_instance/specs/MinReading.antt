@@ -1,12 +1,15 @@
 -- How far a minimum cost flow instance has been read.
-use Rattle.std.specs.Prelude.{ℕ, ℤ, ◌≡◌, ◌≤◌, ◌||◌, Bool, List, [], ◌∷◌, ◌++◌, length, is_some, pos, if◌then◌else◌}
+use Rattle.std.specs.Prelude.{ℕ, ℤ, ◌≡◌, ◌≤◌, ◌||◌, Bool, false, List, [], ◌∷◌, ◌++◌, Option, None, Some, length, is_some, nat_lt, pos, if◌then◌else◌}
 use Rattle.std.specs.List.{All, filter, list_any}
 use Rattle.std.specs.Ordering.{nat_cmp, int_eq}
 use Rattle.std.specs.FinMap.{FinMap, from_entries, entries}
 use Rattle.std.specs.FinMap as map
 use Rattle.std.specs.FinSet.{FinSet}
 use Rattle.std.specs.FinSet as set
+use Rattle.dimacs_records.specs.declared.order.Declared.{Declared}
+use Rattle.dimacs_records.specs.declared.order.Earlier.{Earlier}
 use Rattle.dimacs_records.specs.declared.records.Record.{Record}
+use Rattle.dimacs_records.specs.Tests.{earlier_of}
 use Rattle.dimacs_instance.specs.declared.network.ArcView.{ArcView}
 use Rattle.dimacs_instance.specs.Arcs.{JoinsNodes}
 use Rattle.dimacs_instance.specs.MinFlows.{IsSupply, HasBounds}
@@ -30,15 +33,15 @@ pub record IsMinBegun (begun : MinBegun) : Type 0 where
   pub joined : All (JoinsNodes begun.nodes) begun.arcs
   pub bounds : All HasBounds begun.arcs
 
-abbrev pub is_named : MinBegun → ℕ → Bool
-is_named begun id = is_some (map.get begun.supplies id) || set.contains begun.zeros id
+abbrev pub has_line : MinBegun → ℕ → Bool
+has_line begun id = is_some (map.get begun.supplies id) || set.contains begun.zeros id
 
 -- these records may have been taken
 pub record IsBegunBy (begun : MinBegun) (rs : List Record) : Type 0 where
   pub named : List (ℕ × ℤ)
   pub name_nodes : NameNodes begun.nodes named
   pub supplies : begun.supplies ≡ from_entries (filter has_value named)
-  pub nodes_named : (id : ℕ) → is_named begun id ≡ list_any (is_of id) named
+  pub nodes_named : (id : ℕ) → has_line begun id ≡ list_any (is_of id) named
   pub records : rs ≡ min_records begun.nodes begun.declared named begun.arcs
 
 -- with one node line more
@@ -48,3 +51,23 @@ with_supply begun id supply = if int_eq supply (pos 0) then record begun { zeros
 -- with one arc more
 abbrev pub with_arc : MinBegun → ArcView → MinBegun
 with_arc begun arc = record begun { arcs = begun.arcs ++ arc ∷ [] }
+
+abbrev pub declared_by : Option MinBegun → Option Declared
+declared_by None = None
+declared_by (Some begun) = Some (record { nodes = Some begun.nodes; count = begun.declared })
+
+abbrev pub arcs_of : Option MinBegun → ℕ
+arcs_of None = 0
+arcs_of (Some begun) = length begun.arcs
+
+-- what the records taken say of one that names no node
+abbrev pub earlier_lines : Option MinBegun → Earlier
+earlier_lines begun = earlier_of (declared_by begun) (arcs_of begun)
+
+abbrev pub is_named : Option MinBegun → ℕ → Bool
+is_named None id = false
+is_named (Some begun) id = has_line begun id
+
+-- what they say of a node line
+abbrev pub earlier_names : Option MinBegun → ℕ → Earlier
+earlier_names begun id = record (earlier_lines begun) { misplaced = nat_lt 0 (arcs_of begun); named = is_named begun id }

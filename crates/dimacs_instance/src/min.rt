@@ -1,6 +1,6 @@
 //! Minimum cost flow instances.
 
-ghost use Rattle.std.specs.Prelude.{◌≡◌, ◌≤◌, ◌<◌, ◌≤ℤ◌, ◌<ℤ◌, ◌+ℤ◌, ◌^◌, ◌++◌, ◌∷◌, [], ℕ, List, Option, map, Some, None, pos, OnOk, OnErr, IfOk};
+ghost use Rattle.std.specs.Prelude.{◌≡◌, ◌≤◌, ◌<◌, ◌≤ℤ◌, ◌<ℤ◌, ◌+ℤ◌, ◌^◌, ◌++◌, ◌∷◌, [], ℕ, List, Option, length, map, Some, None, pos, OnOk, OnErr, IfOk};
 ghost use Rattle.std.specs.List.{filter};
 ghost use Rattle.std.specs.FinMap.{entries};
 ghost use Rattle.dimacs_lines.specs.Devices.{CountsFault};
@@ -13,11 +13,12 @@ ghost use Rattle.dimacs_records.specs.Canonical.{canonical_text};
 ghost use Rattle.dimacs_records.specs.Readings.{CountsRead, records_of};
 ghost use Rattle.dimacs_records.specs.Faults.{Fault};
 ghost use Rattle.dimacs_records.specs.Texts.{Reads};
-ghost use Rattle.dimacs_instance.specs.MinFlows.{MinValue, IsMin, supply_of, positive_part, negative_part, supplied, demanded};
+ghost use Rattle.dimacs_instance.specs.MinFlows.{HasBounds, MinValue, IsMin, supply_of, positive_part, negative_part, supplied, demanded};
 ghost use Rattle.dimacs_records.specs.Ranges.{IsNode};
 ghost use Rattle.dimacs_instance.specs.MinTexts.{GivesMin, SpellsMin, canonical_min, min_node, min_arc};
 ghost use Rattle.dimacs_records.specs.NodeValues.{has_value};
-ghost use Rattle.dimacs_instance.specs.MinReading.{is_named, with_supply, IsBegunBy};
+ghost use Rattle.dimacs_instance.specs.Arcs.{JoinsNodes};
+ghost use Rattle.dimacs_instance.specs.MinReading.{IsBegunBy, earlier_lines, is_named, with_arc, with_supply};
 ghost use Rattle.dimacs_records.specs.Takings.{Takes, StandsFor};
 
 use crate::network::{ArcView, Network};
@@ -26,7 +27,8 @@ use crate::star::ForwardStar;
 use dimacs_lines::{DeviceFault, Memory, Page, Sink, Source};
 use dimacs_nodes::{NodeMap, NodeSet};
 use dimacs_records::{
-    ReadError, Reading, Reason, Record, TakeError, TextKind, read_text, write_record,
+    Declared, Earlier, ReadError, Reading, Record, TakeError, TextKind, read_text, test_end,
+    test_record, write_record,
 };
 use std::alloc::Global;
 use std::marker::Model;
@@ -188,31 +190,6 @@ impl Model for BegunMin {
 }
 
 impl BegunMin {
-    /// Whether a node line was taken for this node.
-    #[inline]
-    fn is_named(&self, id: u32) -> bool
-        ensures { result ≡ is_named self.now id }
-    {
-        self.supplies.get(id).is_some() || self.zeros.contains(id)
-    }
-
-    fn name(&mut self, id: u32, supply: i64) -> Result<(), TakeError>
-        requires { 1 ≤ id }
-        ensures { Takes IsBegunBy (Some self.old) (MinNode id supply) result (Some self.new) }
-    {
-        if self.network.arcs() > 0 {
-            return Err(TakeError::refused(0, Reason::RecordOrder));
-        }
-        if id > self.network.nodes() {
-            return Err(TakeError::refused(2, Reason::NodeRange));
-        }
-        if self.is_named(id) {
-            return Err(TakeError::refused(2, Reason::NodeTwice));
-        }
-        self.keep_supply(id, supply)?;
-        Ok(())
-    }
-
     fn keep_supply(&mut self, id: u32, supply: i64) -> Result<(), Memory>
         requires { IsNode self.old.nodes id }
         ensures kept { OnOk result (self.new ≡ with_supply self.old id supply) }
@@ -225,29 +202,15 @@ impl BegunMin {
         }
     }
 
-    #[inline]
-    fn add(&mut self, arc: ArcView) -> Result<(), TakeError>
-        requires tail { 1 ≤ arc.tail }
-        requires head { 1 ≤ arc.head }
-        ensures { Takes IsBegunBy (Some self.old) (min_arc arc) result (Some self.new) }
+    #[inline(always)]
+    fn keep_arc(&mut self, arc: ArcView) -> Result<(), Memory>
+        requires joined { JoinsNodes self.old.nodes arc }
+        requires bounds { HasBounds arc }
+        requires room { length self.old.arcs < self.old.declared }
+        ensures kept { OnOk result (self.new ≡ with_arc self.old arc) }
+        ensures unchanged { OnErr result (self.new ≡ self.old) }
     {
-        if arc.tail > self.network.nodes() {
-            return Err(TakeError::refused(2, Reason::NodeRange));
-        }
-        if arc.head > self.network.nodes() {
-            return Err(TakeError::refused(3, Reason::NodeRange));
-        }
-        if arc.low < 0 {
-            return Err(TakeError::refused(4, Reason::BoundOrder));
-        }
-        if arc.cap < arc.low {
-            return Err(TakeError::refused(5, Reason::BoundOrder));
-        }
-        if self.network.arcs() == self.declared {
-            return Err(TakeError::refused(0, Reason::TooMany));
-        }
-        self.network.push(arc)?;
-        Ok(())
+        self.network.push(arc)
     }
 }
 
@@ -258,16 +221,39 @@ impl PlainMinReading {
         PlainMinReading { alloc, begun: None }
     }
 
-    fn start(&mut self, nodes: u32, declared: u32) -> Result<(), TakeError>
-        requires nodes { nodes ≤ 134217728 }
-        requires declared { declared ≤ 268435456 }
-        ensures { Takes IsBegunBy self.old (MinProblem nodes declared) result self.new }
+    /// What the earlier records say of one that names no node.
+    #[inline(always)]
+    fn earlier(&self) -> Earlier
+        ensures { result ≡ earlier_lines self.now }
     {
-        if self.begun.is_some() {
-            return Err(TakeError::refused(0, Reason::ProblemTwice));
+        match &self.begun {
+            Some(begun) => {
+                let nodes = Some(begun.network.nodes());
+                let count = begun.declared;
+                Earlier::of(Some(Declared { nodes, count }), begun.network.arcs())
+            }
+            None => Earlier::of(None, 0),
         }
+    }
+
+    /// Whether a node line named this node.
+    fn names(&self, id: u32) -> bool
+        ensures { result ≡ is_named self.now id }
+    {
+        match &self.begun {
+            Some(begun) => begun.supplies.get(id).is_some() || begun.zeros.contains(id),
+            None => false,
+        }
+    }
+
+    fn start(&mut self, nodes: u32, arcs: u32) -> Result<(), TakeError>
+        requires nodes { nodes ≤ 134217728 }
+        requires arcs { arcs ≤ 268435456 }
+        ensures { Takes IsBegunBy self.old (MinProblem nodes arcs) result self.new }
+    {
+        test_record(self.earlier(), Record::MinProblem { nodes, arcs })?;
         self.begun = Some(BegunMin {
-            declared,
+            declared: arcs,
             supplies: NodeMap::new(self.alloc),
             zeros: NodeSet::new(self.alloc),
             network: PlainArcs::new(self.alloc, nodes),
@@ -279,10 +265,20 @@ impl PlainMinReading {
         requires { 1 ≤ id }
         ensures { Takes IsBegunBy self.old (MinNode id supply) result self.new }
     {
-        let Some(begun) = &mut self.begun else {
-            return Err(TakeError::refused(0, Reason::ProblemMissing));
+        let named = self.names(id);
+        let earlier = self.earlier();
+        let misplaced = earlier.counted > 0;
+        let earlier = Earlier {
+            misplaced,
+            named,
+            ..earlier
         };
-        begun.name(id, supply)
+        test_record(earlier, Record::MinNode { id, supply })?;
+        let Some(begun) = &mut self.begun else {
+            unreachable!()
+        };
+        begun.keep_supply(id, supply)?;
+        Ok(())
     }
 
     #[inline(always)]
@@ -291,10 +287,12 @@ impl PlainMinReading {
         requires head { 1 ≤ arc.head }
         ensures { Takes IsBegunBy self.old (min_arc arc) result self.new }
     {
+        test_record(self.earlier(), arc_record(arc))?;
         let Some(begun) = &mut self.begun else {
-            return Err(TakeError::refused(0, Reason::ProblemMissing));
+            unreachable!()
         };
-        begun.add(arc)
+        begun.keep_arc(arc)?;
+        Ok(())
     }
 }
 
@@ -330,12 +328,10 @@ impl Reading for PlainMinReading {
     }
 
     fn finish(self) -> Result<MinInstance<PlainArcs<ArcView>>, TakeError> {
+        test_end(TextKind::Min, self.earlier())?;
         let Some(begun) = self.begun else {
-            return Err(TakeError::refused(0, Reason::ProblemMissing));
+            unreachable!()
         };
-        if begun.network.arcs() < begun.declared {
-            return Err(TakeError::refused(0, Reason::TooFew));
-        }
         Ok(MinInstance {
             supplies: begun.supplies,
             network: begun.network,

@@ -1,12 +1,18 @@
-use Rattle.std.proofs.Common.{refl, sym}
-use Rattle.dimacs_instance.proofs.MinLemmas.{refuses_second, takes_first, new_law}
+use Rattle.std.proofs.lemmas.Result.{err_from_is_err_and}
+use Rattle.dimacs_records.proofs.OrderLemmas.{refused_told, taken_told}
+use Rattle.dimacs_instance.specs.MinReading.{IsBegunBy}
+use Rattle.dimacs_instance.proofs.MinLemmas.{begins, new_law, problem_tells}
 use Rattle.dimacs_instance.proofs.min.PlainMinReading.start.Goals as goal
 
-pub returns-then-is_some : goal.returns-then-is_some
-returns-then-is_some c = rw (← c.self.view_is, c.refused.ensures) (λ rs h. refuses_second c.self.inside.begun rs c.args.nodes c.args.declared (sym c.if-is_some.ensures) h, refl)
+pub returns-in_err-test_record : goal.returns-in_err-test_record
+returns-in_err-test_record c =
+    let p = err_from_is_err_and c.from_residual.result c.from_residual.ensures.1 in
+    rw (p.1, p.2) (refused_told IsBegunBy c.args.self.now _ _ (problem_tells c.args.self.now c.args.nodes c.args.arcs) _ (rw c.earlier.ensures at c.in_err-test_record.ensures.refused))
 
-pub invariant_of-t-15 : goal.invariant_of-t-15
-invariant_of-t-15 c = rw (c.new.ensures, c.new-2.ensures, c.new-3.ensures) (new_law c.args.nodes c.args.declared c.requires.nodes c.requires.declared)
+pub invariant_of-t-18 : goal.invariant_of-t-18
+invariant_of-t-18 c = rw (c.new.ensures, c.new-2.ensures, c.new-3.ensures) (new_law c.args.nodes c.args.arcs c.requires.nodes c.requires.arcs)
 
 pub returns : goal.returns
-returns c = rw (← c.self.view_is, c.new.ensures, c.new-2.ensures, c.new-3.ensures) (λ rs h. takes_first c.self.inside.begun rs c.args.nodes c.args.declared (sym c.if-is_some.ensures) h)
+returns c =
+    let passes = rw c.earlier.ensures at c.in_ok-test_record.ensures.passes in
+    rw (c.new.ensures, c.new-2.ensures, c.new-3.ensures) (taken_told IsBegunBy c.args.self.now _ _ (problem_tells c.args.self.now c.args.nodes c.args.arcs) _ passes (begins c.args.self.now c.args.nodes c.args.arcs passes))

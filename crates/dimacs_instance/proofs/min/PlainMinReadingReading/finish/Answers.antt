@@ -1,18 +1,20 @@
-use Rattle.std.proofs.Common.{◌<◌, ◌≤◌, Some, refl, sym, ◌∙◌, ap, arith, length}
-use Rattle.dimacs_instance.proofs.MinLemmas.{refuses_nothing, refuses_end, completes}
+use Rattle.std.proofs.Common.{Some, sym, ◌∙◌, ap}
+use Rattle.std.proofs.lemmas.Result.{err_from_is_err_and}
+use Rattle.dimacs_records.specs.declared.kinds.TextKind.TheVariants.{Min}
+use Rattle.dimacs_records.proofs.OrderLemmas.{complete_told}
+use Rattle.dimacs_instance.proofs.MinLemmas.{end_tells, gives_min}
 use Rattle.dimacs_instance.proofs.min.PlainMinReadingReading.finish.Goals as goal
-use Rattle.dimacs_records.proofs.TakingLemmas.{stands}
-use Rattle.dimacs_instance.specs.MinReading.{IsBegunBy}
 
-pub returns-in_default-clause-refused : goal.returns-in_default-clause-refused
-returns-in_default-clause-refused c = λ rs h. rw (c.refused.ensures) (refl, refuses_nothing c.args.self _ (sym c.self.view_is ∙ c.in_default.is) h)
-
-pub returns-then-arcs-begun-clause-refused : goal.returns-then-arcs-begun-clause-refused
-returns-then-arcs-begun-clause-refused c =
-    let room : length c.begun.inside.network.arcs < c.begun.inside.declared = omega (arith, c.arcs.ensures, c.if-arcs-begun.true) in
-    λ rs h. rw (c.refused-then-arcs-begun.ensures) (refl, refuses_end _ _ (stands IsBegunBy c.args.self _ _ (sym c.self.view_is ∙ c.in-Some.is ∙ ap Some (sym (c.begun.view_is ∙ c.in-Some.begun-is))) h) room)
+pub returns-in_err-test_end-clause-refused : goal.returns-in_err-test_end-clause-refused
+returns-in_err-test_end-clause-refused c =
+    let p = err_from_is_err_and c.from_residual.result c.from_residual.ensures.1 in
+    let refused = rw c.earlier.ensures at c.in_err-test_end.ensures.refused in
+    rw (p.1, p.2) (λ rs h. refused _ (end_tells c.args.self _ h))
 
 pub returns-clause-complete : goal.returns-clause-complete
-returns-clause-complete c =
-    let full : c.begun.inside.declared ≤ length c.begun.inside.network.arcs = omega (arith, c.arcs.ensures, c.if-arcs-begun.false) in
-    λ rs h. completes _ _ (stands IsBegunBy c.args.self _ _ (sym c.self.view_is ∙ c.in-Some.is ∙ ap Some (sym (c.begun.view_is ∙ c.in-Some.begun-is))) h) full
+returns-clause-complete c = λ rs h. complete_told Min _ _ (rw c.earlier.ensures at c.in_ok-test_end.ensures.passes) (end_tells c.args.self _ h)
+
+pub returns-clause-given : goal.returns-clause-given
+returns-clause-given c =
+    let begun = sym c.self.view_is ∙ c.in-Some.is ∙ ap Some (sym (c.begun.view_is ∙ c.in-Some.begun-is)) in
+    gives_min c.args.self _ begun c.begun.invariant (rw c.earlier.ensures at c.in_ok-test_end.ensures.passes)
