@@ -1,13 +1,13 @@
 -- Records behind those of a maximum flow instance that was begun.
-use Rattle.std.proofs.Common.{◌≡◌, ◌≢◌, ℕ, suc, ◌<◌, ◌≤◌, ◌∷◌, ◌++◌, [], List, Bool, true, false, Option, Some, None, length, map, count_by, refl, ap, sym, ◌∙◌, arith, append_assoc}
-use Rattle.std.specs.Prelude.{ℤ, pos, ◌≤ℤ◌, ◌||◌, is_some, nat_lt, nat_le, int_lt}
+use Rattle.std.proofs.Common.{◌≡◌, ◌≢◌, ℕ, suc, ◌<◌, ◌≤◌, ◌∷◌, ◌++◌, [], List, Bool, true, false, Option, Some, None, length, map, refl, ap, ap₂, sym, ◌∙◌, arith, append_assoc}
+use Rattle.std.specs.Prelude.{ℤ, pos, ◌≤ℤ◌, ◌||◌, nat_lt, nat_le, int_lt}
 use Rattle.std.specs.List.{list_any, filter}
 use Rattle.std.proofs.Math.Bool.{or-false}
-use Rattle.std.proofs.lemmas.Bool.{lt-ltb, le-ltb, le-leb}
+use Rattle.std.proofs.lemmas.Bool.{lt-ltb, le-ltb}
 use Rattle.std.proofs.lemmas.Bool.Decides.{nat_tests}
 use Rattle.std.proofs.lemmas.Int.{ints}
-use Rattle.std.proofs.lemmas.List.{map-append, length_push}
-use Rattle.std.proofs.lemmas.List.Elements.{All-nil, All-cons, All-append}
+use Rattle.std.proofs.lemmas.List.{map-append, length_push, nil_from_length}
+use Rattle.std.proofs.lemmas.List.Elements.{All-push}
 use Rattle.std.proofs.lemmas.List.Folds.{list_any-append}
 use Rattle.std.proofs.lemmas.List.Sums.{length-filter}
 use Rattle.dimacs_records.specs.declared.kinds.TextKind.TheVariants.{Max}
@@ -15,13 +15,13 @@ use Rattle.dimacs_records.specs.declared.records.End.{End}
 use Rattle.dimacs_records.specs.declared.records.End.TheVariants.{Source, Sink}
 use Rattle.dimacs_records.specs.declared.records.Record.{Record}
 use Rattle.dimacs_records.specs.declared.records.Record.TheVariants.{MaxProblem, MaxNode, MaxArc}
-use Rattle.dimacs_records.specs.declared.reasons.Reason.TheVariants.{ProblemMissing, ProblemTwice, RecordOrder, NodeRange, NodeTwice, EndTwice, EndMissing, BoundOrder, TooMany, TooFew}
-use Rattle.dimacs_records.specs.Earlier.{counted_in, is_counted, names, is_end, is_flow_arc, is_max_node}
+use Rattle.dimacs_records.specs.Earlier.{counted_in, is_counted, is_short, names, is_end, is_flow_arc, is_max_node}
 use Rattle.dimacs_records.specs.Conditions.{lacks_end}
-use Rattle.dimacs_records.specs.Readings.{IsAllowed, IsFirstCondition, IsComplete}
-use Rattle.dimacs_records.specs.Faults.{FirstAtEnd}
-use Rattle.dimacs_records.specs.FieldReader.{fault_at}
-use Rattle.dimacs_records.proofs.ConditionLemmas.{is_first_condition, is_allowed, is_first_at_end, is_complete}
+use Rattle.dimacs_records.specs.Readings.{IsAllowed, IsComplete}
+use Rattle.dimacs_records.specs.Takings.{StandsFor}
+use Rattle.dimacs_records.specs.Tests.{Counts, Passes, PassesEnd, Tells, TellsEnd}
+use Rattle.dimacs_records.proofs.ConditionLemmas.{is_allowed, is_complete}
+use Rattle.dimacs_records.proofs.TakingLemmas.{stands}
 use Rattle.dimacs_instance.specs.declared.network.ArcView.{ArcView}
 use Rattle.dimacs_instance.specs.declared.max.EndLine.{EndLine}
 use Rattle.dimacs_instance.specs.declared.max.EndLines.{EndLines}
@@ -31,11 +31,7 @@ use Rattle.dimacs_instance.specs.Plain.{capacity_arc}
 use Rattle.dimacs_instance.specs.Arcs.{JoinsNodes}
 use Rattle.dimacs_instance.specs.MaxFlows.{HasCapacityAlone}
 use Rattle.dimacs_records.specs.Ranges.{IsNode, IsWhole}
-use Rattle.dimacs_instance.specs.MaxReading.{MaxBegun, IsMaxBegun, ComeLast, max_node, end_records, max_begun_records, max_records_so_far, with_arc}
-
-pub no_arcs : (arcs : List ArcView) → length arcs ≤ 0 → arcs ≡ []
-no_arcs [] none = refl
-no_arcs (a ∷ arcs) none = absurd (omega arith)
+use Rattle.dimacs_instance.specs.MaxReading.{MaxBegun, IsMaxBegun, IsMaxBegunBy, arcs_by, declared_by, earlier_ends, earlier_lines, earlier_names, end_records, ends_by, max_begun_records, max_node, with_arc}
 
 none_of_arcs : (test : Record → Bool) → ((a : ArcView) → test (max_arc a) ≡ false) → (arcs : List ArcView) → list_any test (map max_arc arcs) ≡ false
 none_of_arcs test none [] = refl
@@ -91,122 +87,96 @@ module _ (nodes declared : ℕ) (ends : EndLines) (arcs : List ArcView) where
       by_ends (One first) = counted_arcs arcs
       by_ends (Both first second) = counted_arcs arcs
 
-  pub second_problem : (n m : ℕ) → IsFirstCondition earlier (MaxProblem n m) (fault_at 0 ProblemTwice)
-  second_problem n m = is_first_condition earlier (MaxProblem n m) (fault_at 0 ProblemTwice) refl
-
-  pub behind_arc : (id : ℕ) (end : End) → 0 < length arcs → IsFirstCondition earlier (MaxNode id end) (fault_at 0 RecordOrder)
-  behind_arc id end some =
-      let arc : list_any is_flow_arc earlier ≡ true = among_arcs is_flow_arc refl (λ e. refl) ∙ an_arc arcs some in
-      is_first_condition earlier (MaxNode id end) (fault_at 0 RecordOrder) (rw arc refl)
+  any_flow_arc : list_any is_flow_arc earlier ≡ nat_lt 0 (length arcs)
+  any_flow_arc = among_arcs is_flow_arc refl (λ e. refl) ∙ by_arcs arcs
     where
-      an_arc : (xs : List ArcView) → 0 < length xs → list_any is_flow_arc (map max_arc xs) ≡ true
-      an_arc [] some = absurd (omega arith)
-      an_arc (a ∷ more) some = refl
+      by_arcs : (xs : List ArcView) → list_any is_flow_arc (map max_arc xs) ≡ nat_lt 0 (length xs)
+      by_arcs [] = refl
+      by_arcs (a ∷ more) = sym (lt-ltb 0 (suc (length more)) (omega arith))
 
-  no_arc : arcs ≡ [] → list_any is_flow_arc earlier ≡ false
-  no_arc none = among_arcs is_flow_arc refl (λ e. refl) ∙ rw none refl
-
-  pub node_above : (id : ℕ) (end : End) → arcs ≡ [] → nodes < id → IsFirstCondition earlier (MaxNode id end) (fault_at 2 NodeRange)
-  node_above id end none above =
-      is_first_condition earlier (MaxNode id end) (fault_at 2 NodeRange) (rw (no_arc none, lt-ltb nodes id above) refl)
-
-  pub node_twice : (id : ℕ) (end : End) → arcs ≡ [] → id ≤ nodes → list_any (names id) (end_records ends) ≡ true → IsFirstCondition earlier (MaxNode id end) (fault_at 2 NodeTwice)
-  node_twice id end none within twice =
-      is_first_condition earlier (MaxNode id end) (fault_at 2 NodeTwice) (rw (no_arc none, le-ltb nodes id within, named id ∙ twice) refl)
-
-  pub end_twice : (id : ℕ) (end : End) → arcs ≡ [] → id ≤ nodes → list_any (names id) (end_records ends) ≡ false → list_any (is_end end) (end_records ends) ≡ true → IsFirstCondition earlier (MaxNode id end) (fault_at 3 EndTwice)
-  end_twice id end none within fresh twice =
-      is_first_condition earlier (MaxNode id end) (fault_at 3 EndTwice) (rw (no_arc none, le-ltb nodes id within, named id ∙ fresh, ended end ∙ twice) refl)
+  pub lacking : lacks_end earlier ≡ lacks_end (end_records ends)
+  lacking = ap (λ n. nat_lt n 2) (sym (length-filter is_max_node earlier) ∙ by_ends ends ∙ length-filter is_max_node (end_records ends))
+    where
+      by_ends : (lines : EndLines) → length (filter is_max_node (MaxProblem nodes declared ∷ (end_records lines ++ map max_arc arcs))) ≡ length (filter is_max_node (end_records lines))
+      by_ends Neither = no_node_arcs arcs
+      by_ends (One first) = ap suc (no_node_arcs arcs)
+      by_ends (Both first second) = ap (λ n. suc (suc n)) (no_node_arcs arcs)
 
   pub one_more_node : (id : ℕ) (end : End) → arcs ≡ [] → id ≤ nodes → list_any (names id) (end_records ends) ≡ false → list_any (is_end end) (end_records ends) ≡ false → IsAllowed earlier (MaxNode id end)
   one_more_node id end none within fresh other =
-      is_allowed earlier (MaxNode id end) (rw (no_arc none, le-ltb nodes id within, named id ∙ fresh, ended end ∙ other) refl)
-
-  pub tail_above : (t h : ℕ) (cap : ℤ) → nodes < t → IsFirstCondition earlier (MaxArc t h cap) (fault_at 2 NodeRange)
-  tail_above t h cap above = is_first_condition earlier (MaxArc t h cap) (fault_at 2 NodeRange) (rw (lt-ltb nodes t above) refl)
-
-  pub head_above : (t h : ℕ) (cap : ℤ) → t ≤ nodes → nodes < h → IsFirstCondition earlier (MaxArc t h cap) (fault_at 3 NodeRange)
-  head_above t h cap within above = is_first_condition earlier (MaxArc t h cap) (fault_at 3 NodeRange) (rw (le-ltb nodes t within, lt-ltb nodes h above) refl)
-
-  pub end_missing : (t h : ℕ) (cap : ℤ) → t ≤ nodes → h ≤ nodes → lacks_end earlier ≡ true → IsFirstCondition earlier (MaxArc t h cap) (fault_at 0 EndMissing)
-  end_missing t h cap tail head lacks = is_first_condition earlier (MaxArc t h cap) (fault_at 0 EndMissing) (rw (le-ltb nodes t tail, le-ltb nodes h head, lacks) refl)
-
-  pub negative : (t h : ℕ) (cap : ℤ) → t ≤ nodes → h ≤ nodes → lacks_end earlier ≡ false → int_lt cap (pos 0) ≡ true → IsFirstCondition earlier (MaxArc t h cap) (fault_at 4 BoundOrder)
-  negative t h cap tail head ended_twice test = is_first_condition earlier (MaxArc t h cap) (fault_at 4 BoundOrder) (rw (le-ltb nodes t tail, le-ltb nodes h head, ended_twice, test) refl)
-
-  pub one_too_many : (t h : ℕ) (cap : ℤ) → t ≤ nodes → h ≤ nodes → lacks_end earlier ≡ false → int_lt cap (pos 0) ≡ false → length arcs ≡ declared → IsFirstCondition earlier (MaxArc t h cap) (fault_at 0 TooMany)
-  one_too_many t h cap tail head ended_twice test full =
-      let all : nat_le declared (counted_in earlier) ≡ true = rw counted (le-leb declared (length arcs) (omega (arith, full))) in
-      is_first_condition earlier (MaxArc t h cap) (fault_at 0 TooMany) (rw (le-ltb nodes t tail, le-ltb nodes h head, ended_twice, test, all) refl)
+      is_allowed earlier (MaxNode id end) (rw (any_flow_arc ∙ ap (λ (xs : List ArcView). nat_lt 0 (length xs)) none, le-ltb nodes id within, named id ∙ fresh, ended end ∙ other) refl)
 
   pub one_more_arc : (t h : ℕ) (cap : ℤ) → t ≤ nodes → h ≤ nodes → lacks_end earlier ≡ false → int_lt cap (pos 0) ≡ false → length arcs < declared → IsAllowed earlier (MaxArc t h cap)
   one_more_arc t h cap tail head ended_twice test room =
       let some : nat_le declared (counted_in earlier) ≡ false = rw counted (grind (arith, nat_tests, room)) in
       is_allowed earlier (MaxArc t h cap) (rw (le-ltb nodes t tail, le-ltb nodes h head, ended_twice, test, some) refl)
 
-  pub lacks_at_end : lacks_end earlier ≡ true → FirstAtEnd Max earlier EndMissing
-  lacks_at_end lacks = is_first_at_end Max earlier EndMissing (rw lacks refl)
-
-  pub too_few_arcs : lacks_end earlier ≡ false → length arcs < declared → FirstAtEnd Max earlier TooFew
-  too_few_arcs ended_twice room =
-      let few : nat_lt (counted_in earlier) declared ≡ true = rw counted (lt-ltb (length arcs) declared room) in
-      is_first_at_end Max earlier TooFew (rw (ended_twice, few) refl)
-
   pub all_arcs : lacks_end earlier ≡ false → declared ≤ length arcs → IsComplete Max earlier
   all_arcs ended_twice full =
       let few : nat_lt (counted_in earlier) declared ≡ false = rw counted (le-ltb (length arcs) declared full) in
       is_complete Max earlier (rw (ended_twice, few) refl)
 
--- both node lines came
-pub ends_there : (nodes declared : ℕ) (ends : EndLines) (arcs : List ArcView) (first second : EndLine) → ends ≡ Both first second
-    → lacks_end (max_begun_records (record { nodes = nodes; declared = declared; ends = ends; arcs = arcs })) ≡ false
-ends_there nodes declared ends arcs first second is =
-    let before = max_begun_records (record { nodes = nodes; declared = declared; ends = Both first second; arcs = arcs }) in
-    let two : count_by is_max_node before ≡ 2 = sym (length-filter is_max_node before) ∙ ap (λ n. suc (suc n)) (no_node_arcs arcs) in
-    rw (is, two) refl
-
--- one did not come
-pub ends_lack : (nodes declared : ℕ) (ends : EndLines) (arcs : List ArcView) → ((first second : EndLine) → ends ≢ Both first second) → ComeLast ends arcs
-    → lacks_end (max_begun_records (record { nodes = nodes; declared = declared; ends = ends; arcs = arcs })) ≡ true
-ends_lack nodes declared Neither arcs other last = rw last refl
-ends_lack nodes declared (One first) arcs other last = rw last refl
-ends_lack nodes declared (Both first second) arcs other last = absurd (other first second refl)
-
-pub pushed_arc : (nodes declared : ℕ) (ends : EndLines) (arcs : List ArcView) (t h : ℕ) (cap : ℤ)
-    → max_begun_records (record { nodes = nodes; declared = declared; ends = ends; arcs = arcs ++ capacity_arc t h cap ∷ [] })
-    ≡ max_begun_records (record { nodes = nodes; declared = declared; ends = ends; arcs = arcs }) ++ MaxArc t h cap ∷ []
-pushed_arc nodes declared ends arcs t h cap =
-    ap (λ rs. MaxProblem nodes declared ∷ rs) (ap (λ rs. end_records ends ++ rs) (map-append max_arc arcs (capacity_arc t h cap ∷ [])) ∙ sym (append_assoc (end_records ends) (map max_arc arcs) (MaxArc t h cap ∷ [])))
-
 from_zero : (cap : ℤ) → int_lt cap (pos 0) ≡ false → pos 0 ≤ℤ cap
 from_zero cap test = grind (arith, ints)
-
--- an arc that is allowed behind both node lines keeps the beginning lawful
-pub more_lawful : (begun : MaxBegun) (first second : EndLine) (t h : ℕ) (cap : ℤ) → IsMaxBegun begun → begun.ends ≡ Both first second → IsNode begun.nodes t → IsNode begun.nodes h → int_lt cap (pos 0) ≡ false → IsWhole cap
-    → length begun.arcs < begun.declared → IsMaxBegun (with_arc begun (capacity_arc t h cap))
-more_lawful begun first second t h cap is ends tail head test whole room = record {
-  nodes_few = is.nodes_few;
-  arcs_few = is.arcs_few;
-  no_more = omega (arith, length_push begun.arcs (capacity_arc t h cap), room);
-  ends_within = is.ends_within;
-  ends_apart = is.ends_apart;
-  arcs_last = rw ends tt;
-  joined = All-append (JoinsNodes begun.nodes) begun.arcs (capacity_arc t h cap ∷ []) is.joined (All-cons (JoinsNodes begun.nodes) (capacity_arc t h cap) [] (tail, head) (All-nil (JoinsNodes begun.nodes)));
-  capacities = All-append HasCapacityAlone begun.arcs (capacity_arc t h cap ∷ []) is.capacities (All-cons HasCapacityAlone (capacity_arc t h cap) [] (refl, refl, from_zero cap test, whole) (All-nil HasCapacityAlone));
-}
-
-pub nothing_before_node : (id : ℕ) (end : End) → IsFirstCondition [] (MaxNode id end) (fault_at 0 ProblemMissing)
-nothing_before_node id end = is_first_condition [] (MaxNode id end) (fault_at 0 ProblemMissing) refl
-
-pub nothing_before_arc : (t h : ℕ) (cap : ℤ) → IsFirstCondition [] (MaxArc t h cap) (fault_at 0 ProblemMissing)
-nothing_before_arc t h cap = is_first_condition [] (MaxArc t h cap) (fault_at 0 ProblemMissing) refl
 
 pub first_problem : (n m : ℕ) → IsAllowed [] (MaxProblem n m)
 first_problem n m = is_allowed [] (MaxProblem n m) refl
 
-pub nothing_read : FirstAtEnd Max [] ProblemMissing
-nothing_read = is_first_at_end Max [] ProblemMissing refl
+-- what is told of the records is so
+counts : (o : Option MaxBegun) (rs : List Record) → StandsFor IsMaxBegunBy o rs → Counts (declared_by o) (arcs_by o) rs
+counts None rs h = rw h (record { problem_is = refl; counted_is = refl })
+counts (Some b) rs h = rw h (record { problem_is = refl; counted_is = counted b.nodes b.declared b.ends b.arcs })
 
-pub begun_twice : (begun : Option MaxBegun) (n m : ℕ) → is_some begun ≡ true → IsFirstCondition (max_records_so_far begun) (MaxProblem n m) (fault_at 0 ProblemTwice)
-begun_twice (Some begun) n m some = second_problem begun.nodes begun.declared begun.ends begun.arcs n m
-begun_twice None n m some = absurd (cc)
+pub problem_tells : (o : Option MaxBegun) (n m : ℕ) (rs : List Record) → StandsFor IsMaxBegunBy o rs → Tells (earlier_lines o) rs (MaxProblem n m)
+problem_tells o n m rs h = record { counts = counts o rs h; misplaced = refl; named = refl; end_named = refl; lacks_end = refl; block_full = refl; block_short = refl; valued = refl; pred_unknown = refl; past_radius = refl }
+
+pub node_tells : (o : Option MaxBegun) (id : ℕ) (end : End) (rs : List Record) → StandsFor IsMaxBegunBy o rs → Tells (earlier_names o id end) rs (MaxNode id end)
+node_tells None id end rs h = rw h (record { counts = counts None [] refl; misplaced = refl; named = refl; end_named = refl; lacks_end = refl; block_full = refl; block_short = refl; valued = refl; pred_unknown = refl; past_radius = refl })
+node_tells (Some b) id end rs h = rw h (record { counts = counts (Some b) (max_begun_records b) refl; misplaced = any_flow_arc b.nodes b.declared b.ends b.arcs; named = named b.nodes b.declared b.ends b.arcs id; end_named = ended b.nodes b.declared b.ends b.arcs end; lacks_end = refl; block_full = refl; block_short = refl; valued = refl; pred_unknown = refl; past_radius = refl })
+
+lacks_told : (o : Option MaxBegun) (rs : List Record) → StandsFor IsMaxBegunBy o rs → lacks_end rs ≡ lacks_end (end_records (ends_by o))
+lacks_told None rs h = rw h refl
+lacks_told (Some b) rs h = rw h (lacking b.nodes b.declared b.ends b.arcs)
+
+pub arc_tells : (o : Option MaxBegun) (t h : ℕ) (cap : ℤ) (rs : List Record) → StandsFor IsMaxBegunBy o rs → Tells (earlier_ends o) rs (MaxArc t h cap)
+arc_tells o t h cap rs so = record { counts = counts o rs so; misplaced = refl; named = refl; end_named = refl; lacks_end = lacks_told o rs so; block_full = refl; block_short = refl; valued = refl; pred_unknown = refl; past_radius = refl }
+
+pub end_tells : (o : Option MaxBegun) (rs : List Record) → StandsFor IsMaxBegunBy o rs → TellsEnd Max (earlier_ends o) rs
+end_tells o rs h = record { counts = counts o rs h; lacks_end = lacks_told o rs h; unfinished = ap₂ is_short (counts o rs h).problem_is (counts o rs h).counted_is; valued = refl }
+
+-- a problem line begins an instance, and another record goes on with it
+pub begins : (o : Option MaxBegun) (n m : ℕ) → Passes (earlier_lines o) (MaxProblem n m) → (rs : List Record) → StandsFor IsMaxBegunBy o rs
+    → IsMaxBegunBy (record { nodes = n; declared = m; ends = Neither; arcs = [] }) (rs ++ MaxProblem n m ∷ [])
+begins None n m p rs h = ap (λ rs. rs ++ MaxProblem n m ∷ []) h
+begins (Some b) n m p rs h = absurd (cc (p.one_problem))
+
+pub goes_on : (o : Option MaxBegun) (b new : MaxBegun) (r : Record) → o ≡ Some b → max_begun_records new ≡ max_begun_records b ++ r ∷ [] → (rs : List Record) → StandsFor IsMaxBegunBy o rs → IsMaxBegunBy new (rs ++ r ∷ [])
+goes_on o b new r is more rs h = ap (λ rs. rs ++ r ∷ []) (stands IsMaxBegunBy o b rs is h) ∙ sym more
+
+-- a node line that passes the tests
+module _ (o : Option MaxBegun) (b : MaxBegun) (id : ℕ) (end : End) (is : o ≡ Some b) (passes : Passes (earlier_names o id end) (MaxNode id end)) where
+  pub node_told : Passes (earlier_names (Some b) id end) (MaxNode id end)
+  node_told = rw is at passes
+
+  pub node_within : 1 ≤ id → IsNode b.nodes id
+  node_within least = (least, grind (arith, nat_tests, node_told.second_within))
+
+  pub before_arcs : b.arcs ≡ []
+  before_arcs = nil_from_length b.arcs (grind (arith, nat_tests, node_told.placed))
+
+-- an arc that passes the tests
+module _ (o : Option MaxBegun) (b : MaxBegun) (t h : ℕ) (cap : ℤ) (is : o ≡ Some b) (passes : Passes (earlier_ends o) (MaxArc t h cap)) where
+  arc_told : Passes (earlier_ends (Some b)) (MaxArc t h cap)
+  arc_told = rw is at passes
+
+  pub tail_within : 1 ≤ t → IsNode b.nodes t
+  tail_within least = (least, grind (arith, nat_tests, arc_told.second_within))
+
+  pub head_within : 1 ≤ h → IsNode b.nodes h
+  head_within least = (least, grind (arith, nat_tests, arc_told.third_within))
+
+  pub cap_least : pos 0 ≤ℤ cap
+  cap_least = from_zero cap arc_told.low
+
+  pub arc_room : length b.arcs < b.declared
+  arc_room = grind (arith, nat_tests, arc_told.room)

@@ -28,7 +28,7 @@ use Rattle.dimacs_records.specs.Ranges.{IsNode}
 use Rattle.dimacs_instance.specs.Plain.{capacity_arc}
 use Rattle.dimacs_instance.specs.MaxTexts.{max_arc, source_node, sink_node, max_records, canonical_max, GivesMax, SpellsMax}
 use Rattle.dimacs_instance.specs.MaxReading.{MaxBegun, IsMaxBegun, max_node, max_begun_records}
-use Rattle.dimacs_instance.proofs.MaxLemmas.{first_problem, one_more_node, one_more_arc, all_arcs, ends_there}
+use Rattle.dimacs_instance.proofs.MaxLemmas.{first_problem, one_more_node, one_more_arc, all_arcs, lacking}
 use Rattle.dimacs_instance.proofs.ArcLemmas.{take_next}
 
 -- an instance whose node lines come in this order
@@ -48,7 +48,6 @@ source_first m is = record {
   no_more = omega arith;
   ends_within = (is.source_within, is.sink_within);
   ends_apart = (is.ends_apart, λ e. absurd (cc));
-  arcs_last = tt;
   joined = is.joined;
   capacities = is.capacities;
 }
@@ -60,7 +59,6 @@ sink_first m is = record {
   no_more = omega arith;
   ends_within = (is.sink_within, is.source_within);
   ends_apart = (λ e. is.ends_apart (sym e), λ e. absurd (cc));
-  arcs_last = tt;
   joined = is.joined;
   capacities = is.capacities;
 }
@@ -85,7 +83,7 @@ module _ (nodes : ℕ) (first second : EndLine) (arcs : List ArcView) (is : IsMa
       let alone = All-at HasCapacityAlone arcs at.front at.back at.x at.xs_are is.capacities in
       let room : length at.front < length arcs = omega (arith, ap length at.xs_are, length-append at.front (at.x ∷ at.back)) in
       rw (before, at.y_is) (one_more_arc nodes (length arcs) (Both first second) at.front at.x.tail at.x.head at.x.cap joins.0.1 joins.1.1
-      (ends_there nodes (length arcs) (Both first second) at.front first second refl) (not_below_zero at.x.cap alone.2) room)
+      (lacking nodes (length arcs) (Both first second) at.front) (not_below_zero at.x.cap alone.2) room)
 
   -- its records are refused for nothing
   all_allowed : (before after : List Record) (r : Record) → max_begun_records (read_whole nodes first second arcs) ≡ before ++ r ∷ after → IsAllowed before r
@@ -108,7 +106,7 @@ module _ (nodes : ℕ) (first second : EndLine) (arcs : List ArcView) (is : IsMa
   all_faultless : AreFaultless Max (max_begun_records (read_whole nodes first second arcs))
   all_faultless = record {
     allowed = all_allowed;
-    complete = all_arcs nodes (length arcs) (Both first second) arcs (ends_there nodes (length arcs) (Both first second) arcs first second refl) (omega arith);
+    complete = all_arcs nodes (length arcs) (Both first second) arcs (lacking nodes (length arcs) (Both first second) arcs) (omega arith);
   }
 
   problem_fits : CanBeSpelled Max (MaxProblem nodes (length arcs))

@@ -1,8 +1,14 @@
 -- How far a maximum flow instance has been read.
-use Rattle.std.specs.Prelude.{ℕ, ◌≡◌, ◌≢◌, ◌≤◌, List, [], ◌∷◌, ◌++◌, map, length, Option, None, Some}
-use Rattle.std.specs.List.{All}
+use Rattle.std.specs.Prelude.{ℕ, ◌≡◌, ◌≢◌, ◌≤◌, List, [], ◌∷◌, ◌++◌, map, length, nat_lt, Option, None, Some}
+use Rattle.std.specs.List.{All, list_any}
+use Rattle.dimacs_records.specs.declared.order.Declared.{Declared}
+use Rattle.dimacs_records.specs.declared.order.Earlier.{Earlier}
+use Rattle.dimacs_records.specs.declared.records.End.{End}
 use Rattle.dimacs_records.specs.declared.records.Record.{Record}
 use Rattle.dimacs_records.specs.declared.records.Record.TheVariants.{MaxProblem, MaxNode}
+use Rattle.dimacs_records.specs.Conditions.{lacks_end}
+use Rattle.dimacs_records.specs.Earlier.{is_end, names}
+use Rattle.dimacs_records.specs.Tests.{earlier_of}
 use Rattle.dimacs_instance.specs.declared.network.ArcView.{ArcView}
 use Rattle.dimacs_instance.specs.declared.max.EndLine.{EndLine}
 use Rattle.dimacs_instance.specs.declared.max.EndLines.{EndLines}
@@ -39,11 +45,6 @@ AreNodes nodes Neither = Unit {0}
 AreNodes nodes (One first) = IsNode nodes first.node
 AreNodes nodes (Both first second) = IsNode nodes first.node × IsNode nodes second.node
 
--- arcs come behind both node lines
-abbrev pub ComeLast : EndLines → List ArcView → Type 0
-ComeLast (Both first second) arcs = Unit {0}
-ComeLast ends arcs = arcs ≡ []
-
 -- a beginning of a maximum flow instance
 pub record IsMaxBegun (begun : MaxBegun) : Type 0 where
   pub nodes_few : begun.nodes ≤ 134217728
@@ -51,7 +52,6 @@ pub record IsMaxBegun (begun : MaxBegun) : Type 0 where
   pub no_more : length begun.arcs ≤ begun.declared
   pub ends_within : AreNodes begun.nodes begun.ends
   pub ends_apart : AreApart begun.ends
-  pub arcs_last : ComeLast begun.ends begun.arcs
   pub joined : All (JoinsNodes begun.nodes) begun.arcs
   pub capacities : All HasCapacityAlone begun.arcs
 
@@ -59,10 +59,37 @@ pub record IsMaxBegun (begun : MaxBegun) : Type 0 where
 abbrev pub with_arc : MaxBegun → ArcView → MaxBegun
 with_arc begun a = record begun { arcs = begun.arcs ++ a ∷ [] }
 
--- the records that were taken
 abbrev pub max_begun_records : MaxBegun → List Record
 max_begun_records begun = MaxProblem begun.nodes begun.declared ∷ (end_records begun.ends ++ map max_arc begun.arcs)
 
-abbrev pub max_records_so_far : Option MaxBegun → List Record
-max_records_so_far None = []
-max_records_so_far (Some begun) = max_begun_records begun
+-- these records may have been taken
+abbrev pub IsMaxBegunBy : MaxBegun → List Record → Type 0
+IsMaxBegunBy begun rs = rs ≡ max_begun_records begun
+
+abbrev pub declared_by : Option MaxBegun → Option Declared
+declared_by None = None
+declared_by (Some begun) = Some (record { nodes = Some begun.nodes; count = begun.declared })
+
+abbrev pub arcs_by : Option MaxBegun → ℕ
+arcs_by None = 0
+arcs_by (Some begun) = length begun.arcs
+
+abbrev pub ends_by : Option MaxBegun → EndLines
+ends_by None = Neither
+ends_by (Some begun) = begun.ends
+
+-- what the records taken say of one that asks for no end
+abbrev pub earlier_lines : Option MaxBegun → Earlier
+earlier_lines begun = earlier_of (declared_by begun) (arcs_by begun)
+
+-- what they say of a node line
+abbrev pub earlier_names : Option MaxBegun → ℕ → End → Earlier
+earlier_names begun id end = record (earlier_lines begun) {
+  misplaced = nat_lt 0 (arcs_by begun);
+  named = list_any (names id) (end_records (ends_by begun));
+  end_named = list_any (is_end end) (end_records (ends_by begun));
+}
+
+-- what they say of an arc, and of the end
+abbrev pub earlier_ends : Option MaxBegun → Earlier
+earlier_ends begun = record (earlier_lines begun) { lacks_end = lacks_end (end_records (ends_by begun)) }

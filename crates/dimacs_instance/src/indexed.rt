@@ -10,6 +10,7 @@ ghost use Rattle.dimacs_records.specs.Takings.{StandsFor};
 ghost use Rattle.dimacs_records.specs.Texts.{Reads};
 ghost use Rattle.dimacs_instance.specs.Graph.{GivesGraph, SpellsGraph};
 ghost use Rattle.dimacs_instance.specs.MaxTexts.{GivesMax, SpellsMax};
+ghost use Rattle.dimacs_instance.specs.MaxReading.{IsMaxBegunBy};
 ghost use Rattle.dimacs_instance.specs.MinReading.{IsBegunBy};
 ghost use Rattle.dimacs_instance.specs.MinTexts.{GivesMin, SpellsMin};
 
@@ -32,17 +33,17 @@ pub struct MaxReading {
 }
 
 impl Model for MaxReading {
-    ghost use Rattle.std.specs.Prelude.{List};
-    ghost use Rattle.dimacs_records.specs.declared.records.Record.{Record};
+    ghost use Rattle.std.specs.Prelude.{Option};
+    ghost use Rattle.dimacs_instance.specs.MaxReading.{MaxBegun};
 
-    ghost Value = { List Record };
+    ghost Value = { Option MaxBegun };
 
     ghost view = { λ reading. reading.plain };
 }
 
 impl MaxReading {
     pub fn new(alloc: Global) -> MaxReading
-        ensures { result ≡ [] }
+        ensures { result ≡ None }
     {
         let plain = PlainMaxReading::new(alloc);
         MaxReading { alloc, plain }
@@ -54,7 +55,7 @@ impl Reading for MaxReading {
 
     ghost kind = { λ reading. kinds.Max };
 
-    ghost stands_for = { λ reading rs. records_of rs ≡ reading };
+    ghost stands_for = { λ reading rs. StandsFor IsMaxBegunBy reading (records_of rs) };
 
     ghost gives = { λ rs m. GivesMax rs m };
 

@@ -1,6 +1,6 @@
 //! Maximum flow instances.
 
-ghost use Rattle.std.specs.Prelude.{◌≡◌, ◌≤◌, ◌++◌, ◌∷◌, [], ℕ, List, Option, Some, IfOk, false};
+ghost use Rattle.std.specs.Prelude.{◌≡◌, ◌≤◌, ◌<◌, ◌≤ℤ◌, ◌++◌, ◌∷◌, [], ℕ, List, Option, None, Some, IfOk, OnOk, OnErr, false, length, pos};
 ghost use Rattle.std.specs.List.{list_any};
 ghost use Rattle.dimacs_lines.specs.Devices.{CountsFault};
 ghost use Rattle.dimacs_lines.specs.Lines.{lines};
@@ -8,19 +8,23 @@ ghost use Rattle.dimacs_lines.specs.Puts.{Puts};
 ghost use Rattle.dimacs_records.specs.declared.kinds.TextKind.TheVariants as kinds;
 ghost use Rattle.dimacs_records.specs.declared.records.Record.TheVariants.{MaxProblem, MaxNode, MaxArc};
 ghost use Rattle.dimacs_records.specs.Earlier.{names, is_end};
-ghost use Rattle.dimacs_records.specs.Readings.{CountsRead, TakesRecord, records_of};
+ghost use Rattle.dimacs_records.specs.Conditions.{lacks_end};
+ghost use Rattle.dimacs_records.specs.Ranges.{IsNode};
+ghost use Rattle.dimacs_records.specs.Readings.{CountsRead, records_of};
+ghost use Rattle.dimacs_records.specs.Takings.{StandsFor, Takes};
 ghost use Rattle.dimacs_records.specs.Faults.{Fault};
 ghost use Rattle.dimacs_records.specs.Texts.{Reads};
 ghost use Rattle.dimacs_instance.specs.MaxFlows.{MaxValue, IsMax};
 ghost use Rattle.dimacs_instance.specs.MaxTexts.{GivesMax, SpellsMax, canonical_max, max_arc, nodes_by_id};
-ghost use Rattle.dimacs_instance.specs.MaxReading.{AreApart, IsMaxBegun, end_records, max_node, max_begun_records};
+ghost use Rattle.dimacs_instance.specs.MaxReading.{AreApart, IsMaxBegunBy, earlier_lines, end_records, ends_by, max_begun_records, max_node};
 
 use crate::network::{ArcView, Network};
 use crate::plain::{CapacityArc, KeptArc, PlainArcs};
 use crate::star::ForwardStar;
 use dimacs_lines::{DeviceFault, Memory, Page, Sink, Source};
 use dimacs_records::{
-    End, ReadError, Reading, Reason, Record, TakeError, TextKind, read_text, write_record,
+    Declared, Earlier, End, ReadError, Reading, Record, TakeError, TextKind, read_text, test_end,
+    test_record, write_record,
 };
 use std::alloc::Global;
 use std::marker::Model;
@@ -102,13 +106,12 @@ pub struct PlainMaxReading {
 }
 
 impl Model for PlainMaxReading {
-    ghost use Rattle.std.specs.Prelude.{List};
-    ghost use Rattle.dimacs_records.specs.declared.records.Record.{Record};
-    ghost use Rattle.dimacs_instance.specs.MaxReading.{max_records_so_far};
+    ghost use Rattle.std.specs.Prelude.{Option};
+    ghost use Rattle.dimacs_instance.specs.MaxReading.{MaxBegun};
 
-    ghost Value = { List Record };
+    ghost Value = { Option MaxBegun };
 
-    ghost view = { λ reading. max_records_so_far reading.begun };
+    ghost view = { λ reading. reading.begun };
 }
 
 /// A node line.
@@ -149,6 +152,17 @@ impl EndLines {
         }
     }
 
+    /// Whether one of the two ends has no line.
+    #[inline(always)]
+    fn lack_one(self) -> bool
+        ensures { result ≡ lacks_end (end_records self) }
+    {
+        match self {
+            EndLines::Neither | EndLines::One(_) => true,
+            EndLines::Both(..) => false,
+        }
+    }
+
     /// These lines, and one more of another end.
     fn and(self, line: EndLine) -> EndLines
         requires apart { AreApart self }
@@ -182,69 +196,70 @@ impl Model for BegunMax {
 }
 
 impl BegunMax {
-    fn add_node(&mut self, node: u32, end: End) -> Result<(), TakeError>
-        requires { 1 ≤ node }
-        ensures { TakesRecord (max_begun_records self.old) (MaxNode node end) result (max_begun_records self.new) }
+    fn keep_node(&mut self, line: EndLine)
+        requires node { IsNode self.old.nodes line.node }
+        requires no_arcs { self.old.arcs ≡ [] }
+        requires other_node { list_any (names line.node) (end_records self.old.ends) ≡ false }
+        requires other_end { list_any (is_end line.end) (end_records self.old.ends) ≡ false }
+        ensures { max_begun_records self.new ≡ max_begun_records self.old ++ max_node line ∷ [] }
     {
-        if self.network.arcs() > 0 {
-            return Err(TakeError::refused(0, Reason::RecordOrder));
-        }
-        if node > self.network.nodes() {
-            return Err(TakeError::refused(2, Reason::NodeRange));
-        }
-        if self.ends.names(node) {
-            return Err(TakeError::refused(2, Reason::NodeTwice));
-        }
-        if self.ends.has(end) {
-            return Err(TakeError::refused(3, Reason::EndTwice));
-        }
-        self.ends = self.ends.and(EndLine { node, end });
-        Ok(())
+        self.ends = self.ends.and(line);
     }
 
     #[inline(always)]
-    fn add_arc(&mut self, tail: u32, head: u32, cap: i64) -> Result<(), TakeError>
-        requires tail { 1 ≤ tail }
-        requires head { 1 ≤ head }
-        ensures { TakesRecord (max_begun_records self.old) (MaxArc tail head cap) result (max_begun_records self.new) }
+    fn keep_arc(&mut self, tail: u32, head: u32, cap: i64) -> Result<(), Memory>
+        requires tail { IsNode self.old.nodes tail }
+        requires head { IsNode self.old.nodes head }
+        requires capacity { pos 0 ≤ℤ cap }
+        requires room { length self.old.arcs < self.old.declared }
+        ensures kept { OnOk result (max_begun_records self.new ≡ max_begun_records self.old ++ MaxArc tail head cap ∷ []) }
+        ensures unchanged { OnErr result (self.new ≡ self.old) }
     {
-        if tail > self.network.nodes() {
-            return Err(TakeError::refused(2, Reason::NodeRange));
-        }
-        if head > self.network.nodes() {
-            return Err(TakeError::refused(3, Reason::NodeRange));
-        }
-        let EndLines::Both(..) = self.ends else {
-            return Err(TakeError::refused(0, Reason::EndMissing));
-        };
-        if cap < 0 {
-            return Err(TakeError::refused(4, Reason::BoundOrder));
-        }
-        if self.network.arcs() == self.declared {
-            return Err(TakeError::refused(0, Reason::TooMany));
-        }
-        self.network.push(CapacityArc { tail, head, cap })?;
-        Ok(())
+        self.network.push(CapacityArc { tail, head, cap })
     }
 }
 
 impl PlainMaxReading {
     pub fn new(alloc: Global) -> PlainMaxReading
-        ensures { result ≡ [] }
+        ensures { result ≡ None }
     {
         PlainMaxReading { alloc, begun: None }
     }
 
-    fn start(&mut self, nodes: u32, declared: u32) -> Result<(), TakeError>
-        requires nodes { nodes ≤ 134217728 }
-        requires declared { declared ≤ 268435456 }
-        ensures { TakesRecord self.old (MaxProblem nodes declared) result self.new }
+    /// What the earlier records say of one that asks for no end.
+    #[inline(always)]
+    fn earlier(&self) -> Earlier
+        ensures { result ≡ earlier_lines self.now }
     {
-        if self.begun.is_some() {
-            return Err(TakeError::refused(0, Reason::ProblemTwice));
+        match &self.begun {
+            Some(begun) => {
+                let nodes = Some(begun.network.nodes());
+                let count = begun.declared;
+                Earlier::of(Some(Declared { nodes, count }), begun.network.arcs())
+            }
+            None => Earlier::of(None, 0),
         }
+    }
+
+    /// The node lines that came.
+    #[inline(always)]
+    fn ends(&self) -> EndLines
+        ensures { result ≡ ends_by self.now }
+    {
+        match &self.begun {
+            Some(begun) => begun.ends,
+            None => EndLines::Neither,
+        }
+    }
+
+    fn start(&mut self, nodes: u32, arcs: u32) -> Result<(), TakeError>
+        requires nodes { nodes ≤ 134217728 }
+        requires arcs { arcs ≤ 268435456 }
+        ensures { Takes IsMaxBegunBy self.old (MaxProblem nodes arcs) result self.new }
+    {
+        test_record(self.earlier(), Record::MaxProblem { nodes, arcs })?;
         self.begun = Some(BegunMax {
-            declared,
+            declared: arcs,
             ends: EndLines::Neither,
             network: PlainArcs::new(self.alloc, nodes),
         });
@@ -253,24 +268,44 @@ impl PlainMaxReading {
 
     fn add_node(&mut self, node: u32, end: End) -> Result<(), TakeError>
         requires { 1 ≤ node }
-        ensures { TakesRecord self.old (MaxNode node end) result self.new }
+        ensures { Takes IsMaxBegunBy self.old (MaxNode node end) result self.new }
     {
-        let Some(begun) = &mut self.begun else {
-            return Err(TakeError::refused(0, Reason::ProblemMissing));
+        let ends = self.ends();
+        let named = ends.names(node);
+        let end_named = ends.has(end);
+        let earlier = self.earlier();
+        let misplaced = earlier.counted > 0;
+        let earlier = Earlier {
+            misplaced,
+            named,
+            end_named,
+            ..earlier
         };
-        begun.add_node(node, end)
+        test_record(earlier, Record::MaxNode { id: node, end })?;
+        let Some(begun) = &mut self.begun else {
+            unreachable!()
+        };
+        begun.keep_node(EndLine { node, end });
+        Ok(())
     }
 
     #[inline(always)]
     fn add_arc(&mut self, tail: u32, head: u32, cap: i64) -> Result<(), TakeError>
         requires tail { 1 ≤ tail }
         requires head { 1 ≤ head }
-        ensures { TakesRecord self.old (MaxArc tail head cap) result self.new }
+        ensures { Takes IsMaxBegunBy self.old (MaxArc tail head cap) result self.new }
     {
-        let Some(begun) = &mut self.begun else {
-            return Err(TakeError::refused(0, Reason::ProblemMissing));
+        let lacks_end = self.ends().lack_one();
+        let earlier = Earlier {
+            lacks_end,
+            ..self.earlier()
         };
-        begun.add_arc(tail, head, cap)
+        test_record(earlier, Record::MaxArc { tail, head, cap })?;
+        let Some(begun) = &mut self.begun else {
+            unreachable!()
+        };
+        begun.keep_arc(tail, head, cap)?;
+        Ok(())
     }
 }
 
@@ -279,7 +314,7 @@ impl Reading for PlainMaxReading {
 
     ghost kind = { λ reading. kinds.Max };
 
-    ghost stands_for = { λ reading rs. records_of rs ≡ reading };
+    ghost stands_for = { λ reading rs. StandsFor IsMaxBegunBy reading (records_of rs) };
 
     ghost gives = { λ rs m. GivesMax rs m };
 
@@ -294,15 +329,18 @@ impl Reading for PlainMaxReading {
     }
 
     fn finish(self) -> Result<MaxInstance<PlainArcs<CapacityArc>>, TakeError> {
+        let lacks_end = self.ends().lack_one();
+        let earlier = Earlier {
+            lacks_end,
+            ..self.earlier()
+        };
+        test_end(TextKind::Max, earlier)?;
         let Some(begun) = self.begun else {
-            return Err(TakeError::refused(0, Reason::ProblemMissing));
+            unreachable!()
         };
         let EndLines::Both(first, second) = begun.ends else {
-            return Err(TakeError::refused(0, Reason::EndMissing));
+            unreachable!()
         };
-        if begun.network.arcs() < begun.declared {
-            return Err(TakeError::refused(0, Reason::TooFew));
-        }
         let (source, sink) = match first.end {
             End::Source => (first.node, second.node),
             End::Sink => (second.node, first.node),

@@ -1,30 +1,15 @@
-use Rattle.std.proofs.Common.{◌≡◌, ◌<◌, ◌≤◌, refl, sym, ◌∙◌, ap, arith, length}
-use Rattle.dimacs_instance.specs.MaxReading.{max_begun_records, max_records_so_far}
-use Rattle.dimacs_instance.proofs.MaxLemmas.{nothing_read, lacks_at_end, too_few_arcs, all_arcs, ends_there, ends_lack}
+use Rattle.std.proofs.Common.{Some, sym, ◌∙◌, ap}
+use Rattle.std.proofs.lemmas.Result.{err_from_is_err_and}
+use Rattle.dimacs_records.specs.declared.kinds.TextKind.TheVariants.{Max}
+use Rattle.dimacs_records.proofs.OrderLemmas.{complete_told}
+use Rattle.dimacs_instance.proofs.MaxLemmas.{end_tells}
 use Rattle.dimacs_instance.proofs.max.PlainMaxReadingReading.finish.Goals as goal
 
-pub returns-in_default-clause-refused : goal.returns-in_default-clause-refused
-returns-in_default-clause-refused c = λ rs h. rw (c.refused.ensures, h, ← c.self.view_is, c.in_default.is) (refl, nothing_read)
-
-pub returns-in_default-ends-clause-refused : goal.returns-in_default-ends-clause-refused
-returns-in_default-ends-clause-refused c =
-    let b = c.begun.inside in
-    let records : max_records_so_far c.self.inside.begun ≡ max_begun_records (record { nodes = b.network.nodes; declared = b.declared; ends = b.ends; arcs = b.network.arcs }) = ap max_records_so_far c.in-Some.is ∙ ap max_begun_records (sym (c.begun.view_is ∙ c.in-Some.begun-is)) in
-    let lacks = ends_lack b.network.nodes b.declared b.ends b.network.arcs c.in_default-ends.not-Both c.begun.invariant.arcs_last in
-    λ rs h. rw (c.refused-in_default-ends.ensures, h, ← c.self.view_is, records) (refl, lacks_at_end b.network.nodes b.declared b.ends b.network.arcs lacks)
-
-pub returns-then-arcs-begun-clause-refused : goal.returns-then-arcs-begun-clause-refused
-returns-then-arcs-begun-clause-refused c =
-    let b = c.begun.inside in
-    let room : length b.network.arcs < b.declared = omega (arith, c.arcs.ensures, c.if-arcs-begun.true) in
-    let records : max_records_so_far c.self.inside.begun ≡ max_begun_records (record { nodes = b.network.nodes; declared = b.declared; ends = b.ends; arcs = b.network.arcs }) = ap max_records_so_far c.in-Some.is ∙ ap max_begun_records (sym (c.begun.view_is ∙ c.in-Some.begun-is)) in
-    let there = ends_there b.network.nodes b.declared b.ends b.network.arcs c.in-Both.first c.in-Both.second c.in-Both.is in
-    λ rs h. rw (c.refused-then-arcs-begun.ensures, h, ← c.self.view_is, records) (refl, too_few_arcs b.network.nodes b.declared b.ends b.network.arcs there room)
+pub returns-in_err-test_end-clause-refused : goal.returns-in_err-test_end-clause-refused
+returns-in_err-test_end-clause-refused c =
+    let p = err_from_is_err_and c.from_residual.result c.from_residual.ensures.1 in
+    let refused = rw (c.earlier.ensures, c.lack_one-lacks_end.ensures, c.ends.ensures) at c.in_err-test_end.ensures.refused in
+    rw (p.1, p.2) (λ rs h. refused _ (end_tells c.args.self _ h))
 
 pub returns-clause-complete : goal.returns-clause-complete
-returns-clause-complete c =
-    let b = c.begun.inside in
-    let full : b.declared ≤ length b.network.arcs = omega (arith, c.arcs.ensures, c.if-arcs-begun.false) in
-    let records : max_records_so_far c.self.inside.begun ≡ max_begun_records (record { nodes = b.network.nodes; declared = b.declared; ends = b.ends; arcs = b.network.arcs }) = ap max_records_so_far c.in-Some.is ∙ ap max_begun_records (sym (c.begun.view_is ∙ c.in-Some.begun-is)) in
-    let there = ends_there b.network.nodes b.declared b.ends b.network.arcs c.in-Both.first c.in-Both.second c.in-Both.is in
-    λ rs h. rw (h, ← c.self.view_is, records) (all_arcs b.network.nodes b.declared b.ends b.network.arcs there full)
+returns-clause-complete c = λ rs h. complete_told Max _ _ (rw (c.earlier.ensures, c.lack_one-lacks_end.ensures, c.ends.ensures) at c.in_ok-test_end.ensures.passes) (end_tells c.args.self _ h)
