@@ -1,13 +1,14 @@
 -- What the slots of the pages hold, as a map.
-use Rattle.std.proofs.Common.{◌≡◌, ◌≢◌, inl, inr, ℕ, zero, suc, ◌*◌, ◌/◌, ◌%◌, ◌<◌, ◌≤◌, [], ◌∷◌, ◌++◌, length, map, set, get_or, Option, None, Some, IsSome, Vec, Global, refl, sym, ◌∙◌, ap, arith, get_or-set_same, get_or-set_other, replicate}
+use Rattle.std.proofs.Common.{◌≡◌, ◌≢◌, inl, inr, ℕ, zero, suc, ◌*◌, ◌/◌, ◌%◌, ◌<◌, ◌≤◌, [], ◌∷◌, ◌++◌, length, map, set, get_or, Option, None, Some, IsSome, Vec, Global, ◌+◌, refl, sym, ◌∙◌, ap, subst, arith, get_or-set_same, get_or-set_other, replicate}
 use Rattle.std.proofs.lemmas.Bool.{cases_eq, cases_lt}
-use Rattle.std.proofs.lemmas.List.{map-append, get_or_append_left, get_or-append_right, map-set, length-map, get_or-map, get_or_past, get_or-replicate}
+use Rattle.std.proofs.lemmas.List.{map-append, get_or_append_left, get_or-append_right, map-set, length-map, length-set, get_or-map, get_or_past, get_or-replicate}
 use Rattle.std.specs.List.{FoldsTo}
+use Rattle.std.specs.Prelude.{max}
 use Rattle.std.specs.Ordering.{nat_cmp}
 use Rattle.std.specs.Cmp.{nat_cmp_total}
 use Rattle.std.specs.FinMap.{FinMap, empty, insert, get, same_map, nat_cmp-IsAntisymmetric}
 use Rattle.dimacs_nodes.proofs.Nodes.{get-empty, get-insert_same, get-insert_other}
-use Rattle.dimacs_nodes.specs.Pages.{Directory, slots_of, ArePages, HasSlot, value_at, SameSlots, SameValues, with_option, values_below, values_in}
+use Rattle.dimacs_nodes.specs.Pages.{Directory, slots_of, ArePages, AreNeeded, HasSlot, IsUsed, TakesPageOf, value_at, SameSlots, SameValues, with_option, values_below, values_in}
 
 module _ {T : Type 0} where
   -- the values below n, at an ID
@@ -137,6 +138,48 @@ module _ {T : Type 0} where
         | inl none ↦ let impossible = rw (get-values_in pages id, value_at-none pages id none) at some in cc
         | inr has ↦ has
       ]
+
+  -- ---- a page is taken where an ID of it has a value
+  pub AreNeeded-none : AreNeeded {T = T} []
+  AreNeeded-none = record { used = λ id has. absurd (cc); last = λ page is. absurd (omega (arith, is)) }
+
+  pub TakesPageOf-had : (pages : Directory T) (id : ℕ) → HasSlot pages id → TakesPageOf pages pages id
+  TakesPageOf-had pages id has = record { slot = has; others = λ other apart. refl; reach = omega (arith, HasSlot-within pages id has) }
+
+  pub TakesPageOf-set : (old new : Directory T) (id : ℕ) (page : Vec (Option T) Global) → SameSlots old new → length new ≡ max (length old) (id / 256 + 1) → length page.items ≡ 256 → TakesPageOf old (set new (id / 256) page) id
+  TakesPageOf-set old new id page same reach whole = record {
+    slot = HasSlot-set new id page (omega (arith, reach)) whole;
+    others = λ other apart. slots_of-set_other new id other page apart ∙ same other;
+    reach = length-set new (id / 256) page ∙ reach;
+  }
+
+  value_at-slots : (old new : Directory T) (id : ℕ) → slots_of new id ≡ slots_of old id → value_at new id ≡ value_at old id
+  unfolding value_at
+  value_at-slots old new id same = ap (λ slots. get_or slots (id % 256) None) same
+
+  -- after the page of an ID was taken, and a value was put there
+  pub AreNeeded-set : (old new : Directory T) (id : ℕ) (page : Vec (Option T) Global) (value : T) → AreNeeded old → TakesPageOf old new id → page.items ≡ set (slots_of new id) (id % 256) (Some value) → AreNeeded (set new (id / 256) page)
+  AreNeeded-set old new id page value needed taken is = record {
+    used = λ other has. elim (cases_eq (other / 256) (id / 256)) [
+      | inl same ↦ here (other / 256) same
+      | inr apart ↦ elsewhere (other / 256) apart (needed.used other (ap length (sym (as_before other apart)) ∙ has))
+    ];
+    last = λ last_page longest. elim (cases_eq last_page (id / 256)) [
+      | inl same ↦ here last_page same
+      | inr apart ↦ elsewhere last_page apart (needed.last last_page (omega (arith, apart, taken.reach, longest, length-set new (id / 256) page)))
+    ];
+  }
+    where
+      as_before : (other : ℕ) → other / 256 ≢ id / 256 → slots_of (set new (id / 256) page) other ≡ slots_of old other
+      as_before other apart = slots_of-set_other new id other page apart ∙ taken.others other apart
+
+      here : (number : ℕ) → number ≡ id / 256 → IsUsed (set new (id / 256) page) number
+      here number same = (id, sym same, subst IsSome (sym (value_at-set_same new id page value taken.slot is)) refl)
+
+      elsewhere : (number : ℕ) → number ≢ id / 256 → IsUsed old number → IsUsed (set new (id / 256) page) number
+      elsewhere number apart used =
+          let away : used.0 / 256 ≢ id / 256 = λ same. apart (sym used.1 ∙ same) in
+          (used.0, used.1, subst IsSome (sym (value_at-slots old (set new (id / 256) page) used.0 (as_before used.0 away))) used.2)
 
   -- what a lookup finds
   pub get-values_in-past : (pages : Directory T) (id : ℕ) → length pages ≤ id / 256 → get (values_in pages) id ≡ None

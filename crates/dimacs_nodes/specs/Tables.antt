@@ -1,5 +1,5 @@
 -- Tables by node.
-use Rattle.std.specs.Prelude.{ℕ, ◌≡◌, ◌<◌, length}
+use Rattle.std.specs.Prelude.{ℕ, ◌+◌, ◌/◌, ◌≡◌, ◌<◌, ◌≤◌, length, max}
 use Rattle.dimacs_nodes.specs.declared.node_table.NodeTable.{NodeTable}
 use Rattle.dimacs_nodes.specs.Slots.{place_of, slot_value}
 
@@ -18,3 +18,17 @@ module _ {T : Type 0} where
 
   abbrev pub SameValues : NodeTable T → NodeTable T → Type 0
   SameValues old new = (id : ℕ) → value_of new id ≡ value_of old id
+
+  -- up to which page the directory goes; the page of an ID is its 256th part
+  abbrev pub reach_of : NodeTable T → ℕ
+  reach_of table = length table.directory.items
+
+  -- how many slots were taken, 256 for each page
+  abbrev pub slots_in : NodeTable T → ℕ
+  slots_in table = length table.slots.items
+
+  -- nothing was taken but the page of this ID, where it had none, and the directory up to it
+  pub record TakesPageAlone (old new : NodeTable T) (id : ℕ) : Type 0 where
+    pub reach : reach_of new ≤ max (reach_of old) (id / 256 + 1)
+    pub page : slots_in new ≤ slots_in old + 256
+    pub none : HasPlace old id → slots_in new ≡ slots_in old

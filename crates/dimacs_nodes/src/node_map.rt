@@ -1,8 +1,8 @@
 //! Values by node.
 
-ghost use Rattle.std.specs.Prelude.{◌≡◌, ◌<◌, ◌/◌, ◌%◌, [], length, IsSome, IsOk, OnOk, OnErr, MatchBool};
+ghost use Rattle.std.specs.Prelude.{◌≡◌, ◌+◌, ◌/◌, ◌%◌, [], length, max, IsSome, IsOk, OnOk, OnErr, MatchBool};
 ghost use Rattle.std.specs.FinMap as map;
-ghost use Rattle.dimacs_nodes.specs.Pages.{ArePages, HasSlot, slots_of, SameSlots, SameValues};
+ghost use Rattle.dimacs_nodes.specs.Pages.{ArePages, HasSlot, slots_of, SameSlots, SameValues, TakesPageOf};
 
 use dimacs_lines::Memory;
 use std::alloc::Global;
@@ -13,8 +13,8 @@ const PAGE: usize = 256;
 
 /// A value for each node that was given one, by the node's ID.
 ///
-/// A page of slots is taken when an ID of it is first set, and the directory of pages reaches to the greatest ID that
-/// was set.
+/// A page of slots is taken when an ID of it is first set, and the directory of pages ends with that of the greatest ID
+/// that was set. That is a law of the type, so no body takes memory for other IDs.
 #[derive(Drop)]
 pub struct NodeMap<T> {
     pages: Vec<Vec<Option<T>>>,
@@ -24,7 +24,7 @@ impl<T> Model for NodeMap<T> {
     ghost use Rattle.std.specs.Ordering.{nat_cmp};
     ghost use Rattle.std.specs.FinMap as map;
     ghost use Rattle.std.specs.Coded.{coded_ℕ};
-    ghost use Rattle.dimacs_nodes.specs.Pages.{ArePages, values_in};
+    ghost use Rattle.dimacs_nodes.specs.Pages.{ArePages, AreNeeded, values_in};
 
     ghost Value = { map.FinMap nat_cmp T };
 
@@ -32,7 +32,7 @@ impl<T> Model for NodeMap<T> {
 
     ghost view = { λ nodes. values_in nodes.pages.items };
 
-    ghost invariant = { λ nodes. ArePages nodes.pages.items };
+    ghost invariant = { λ nodes. ArePages nodes.pages.items × AreNeeded nodes.pages.items };
 }
 
 impl<T: Copy> NodeMap<T> {
@@ -87,7 +87,8 @@ fn provide_slot<T: Copy>(pages: &mut Vec<Vec<Option<T>>>, id: u32) -> Result<(),
     requires { ArePages pages.old.items }
     ensures pages { ArePages pages.new.items }
     ensures values { SameValues pages.old.items pages.new.items }
-    ensures slot { OnOk result (HasSlot pages.new.items id) }
+    ensures page { OnOk result (TakesPageOf pages.old.items pages.new.items id) }
+    ensures unchanged { OnErr result (pages.new.items ≡ pages.old.items) }
     ensures had { HasSlot pages.old.items id → IsOk result }
 {
     if has_slot(pages, id) {
@@ -113,10 +114,11 @@ fn add_page<T: Copy>(pages: &mut Vec<Vec<Option<T>>>, id: u32) -> Result<(), Mem
     requires missing { slots_of pages.old.items id ≡ [] }
     ensures pages { ArePages pages.new.items }
     ensures values { SameValues pages.old.items pages.new.items }
-    ensures slot { OnOk result (HasSlot pages.new.items id) }
+    ensures page { OnOk result (TakesPageOf pages.old.items pages.new.items id) }
+    ensures unchanged { OnErr result (pages.new.items ≡ pages.old.items) }
 {
-    extend_directory(pages, id)?;
     let page = vec![in *pages.allocator(); None; PAGE]?;
+    extend_directory(pages, id)?;
     pages[page_of(id)] = page;
     Ok(())
 }
@@ -124,7 +126,8 @@ fn add_page<T: Copy>(pages: &mut Vec<Vec<Option<T>>>, id: u32) -> Result<(), Mem
 /// Makes the directory reach to the page of an ID, by pages without slots.
 fn extend_directory<T: Copy>(pages: &mut Vec<Vec<Option<T>>>, id: u32) -> Result<(), Memory>
     ensures slots { SameSlots pages.old.items pages.new.items }
-    ensures reached { OnOk result (id / 256 < length pages.new.items) }
+    ensures reached { OnOk result (length pages.new.items ≡ max (length pages.old.items) (id / 256 + 1)) }
+    ensures unchanged { OnErr result (pages.new.items ≡ pages.old.items) }
 {
     let count = page_of(id) + 1;
     if pages.len() < count {

@@ -1,6 +1,6 @@
 //! A value for each node, blank but for those that were set.
 
-ghost use Rattle.std.specs.Prelude.{◌≡◌, ◌≢◌, ◌<◌, ◌≤◌, ◌/◌, ◌⊎◌, ℕ, length, OnOk, OnErr};
+ghost use Rattle.std.specs.Prelude.{◌≡◌, ◌≢◌, ◌<◌, ◌≤◌, ◌+◌, ◌/◌, ◌⊎◌, ℕ, length, max, OnOk, OnErr};
 ghost use Rattle.dimacs_nodes.specs.Slots.{IsDirectory, SameNumbers, place_of};
 
 use dimacs_lines::Memory;
@@ -25,12 +25,13 @@ pub struct NodeTable<T> {
 }
 
 impl<T: Copy> NodeTable<T> {
-    ghost use Rattle.dimacs_nodes.specs.Tables.{HasPlace, SameValues, blank_of, value_of};
+    ghost use Rattle.dimacs_nodes.specs.Tables.{HasPlace, SameValues, TakesPageAlone, blank_of, reach_of, slots_in, value_of};
 
     /// All values are blank. Takes no memory.
     pub fn new(alloc: Global, blank: T) -> NodeTable<T>
         ensures values { (id : ℕ) → value_of result id ≡ blank }
         ensures blank { blank_of result ≡ blank }
+        ensures no_memory { (reach_of result ≡ 0) × (slots_in result ≡ 0) }
     {
         NodeTable {
             blank,
@@ -57,6 +58,7 @@ impl<T: Copy> NodeTable<T> {
         ensures others { OnOk result ((other : ℕ) → other ≢ id → value_of self.new other ≡ value_of self.old other) }
         ensures unchanged { OnErr result (SameValues self.old self.new) }
         ensures blank { blank_of self.new ≡ blank_of self.old }
+        ensures memory { TakesPageAlone self.old self.new id }
     {
         self.reserve(id)?;
         self.put(id, value);
@@ -69,6 +71,7 @@ impl<T: Copy> NodeTable<T> {
         ensures same { SameValues self.old self.new }
         ensures place { OnOk result (HasPlace self.new id) }
         ensures blank { blank_of self.new ≡ blank_of self.old }
+        ensures memory { TakesPageAlone self.old self.new id }
     {
         if place(&self.directory, id) < self.slots.len() {
             return Ok(());
@@ -84,6 +87,7 @@ impl<T: Copy> NodeTable<T> {
         ensures others { (other : ℕ) → other ≢ id → value_of self.new other ≡ value_of self.old other }
         ensures places { (other : ℕ) → HasPlace self.old other → HasPlace self.new other }
         ensures blank { blank_of self.new ≡ blank_of self.old }
+        ensures no_memory { (reach_of self.new ≡ reach_of self.old) × (slots_in self.new ≡ slots_in self.old) }
     {
         let place = place(&self.directory, id);
         self.slots[place] = value;
@@ -118,6 +122,7 @@ impl<T: Copy> NodeTable<T> {
         ensures same { SameValues self.old self.new }
         ensures place { OnOk result (HasPlace self.new id) }
         ensures blank { blank_of self.new ≡ blank_of self.old }
+        ensures memory { TakesPageAlone self.old self.new id }
     {
         let number = self.slots.len() / PAGE;
         if number >= NO_PAGE as usize {
@@ -147,6 +152,7 @@ fn extend_directory(directory: &mut Vec<u32>, id: u32) -> Result<(), Memory>
     ensures same { SameNumbers directory.old.items directory.new.items }
     ensures reached { OnOk result (id / 256 < length directory.new.items) }
     ensures short { length directory.old.items ≤ 16777216 → length directory.new.items ≤ 16777216 }
+    ensures no_longer { length directory.new.items ≤ max (length directory.old.items) (id / 256 + 1) }
 {
     let count = id as usize / PAGE + 1;
     if directory.len() < count {

@@ -1,4 +1,4 @@
-use Rattle.std.proofs.Common.{◌≡◌, ◌≤◌, ◌/◌, length, arith, rules}
+use Rattle.std.proofs.Common.{◌≡◌, ◌≤◌, length, arith, rules}
 use Rattle.std.specs.Vec.{vec_len}
 use Rattle.dimacs_nodes.specs.Slots.{place_of}
 use Rattle.dimacs_nodes.proofs.SlotLemmas.{slot_value-same_page}
