@@ -1,6 +1,6 @@
 -- The records of labels have no fault, are those of no others, and can be spelled.
 use Rattle.std.proofs.Common.{◌≡◌, ℕ, suc, ◌<◌, ◌≤◌, ◌+◌, ◌∷◌, ◌++◌, [], List, false, Option, Some, None, length, map, refl, ap, sym, ◌∙◌, subst, arith, append_assoc}
-use Rattle.std.specs.Prelude.{ℤ, IfSome, codes, nat_le}
+use Rattle.std.specs.Prelude.{ℤ, IfOk, IfSome, Result, Ok, Err, codes, nat_le}
 use Rattle.std.specs.List.{All, list_any, flat_map}
 use Rattle.std.proofs.lemmas.Bool.{le-ltb, ne_eqb}
 use Rattle.std.proofs.lemmas.Bool.Decides.{nat_tests}
@@ -14,13 +14,16 @@ use Rattle.dimacs_records.specs.Blocks.{Block, is_short_block}
 use Rattle.dimacs_records.specs.Forms.{form, Word, Nodes, Count, Id, Wide, Radius}
 use Rattle.dimacs_records.specs.Canonical.{CanBeSpelled}
 use Rattle.dimacs_records.specs.Ranges.{IsRadius}
-use Rattle.dimacs_records.specs.Readings.{LineRecord, records_of, IsAllowed, IsComplete}
+use Rattle.dimacs_records.specs.declared.faults.ReadError.{ReadError}
+use Rattle.dimacs_records.specs.Readings.{LineRecord, ReadsLines, numbered, records_of, IsAllowed, IsComplete}
 use Rattle.dimacs_records.specs.Texts.{AreFaultless}
 use Rattle.dimacs_records.proofs.CanonicalLaws.{canonical_spelled, numbered_all}
+use Rattle.dimacs_records.proofs.ReadLaws.{spelled_of_faultless}
 use Rattle.dimacs_claims.specs.declared.block.Label.{Label}
 use Rattle.dimacs_claims.specs.Labels.{BlockValue, LabelsValue, AreLabels, EachBehind, IsBlock, IsLabel, IsFresh, HasPred, IsNear, IsNewSource}
 use Rattle.dimacs_claims.specs.LabelTexts.{label_line, block_lines, label_records, GivesLabels, SpellsLabels, canonical_labels, FitText}
 use Rattle.dimacs_claims.proofs.BlockLemmas.{label_id, is_some-label, fresh_has_none, not_past, pred_has_label}
+use Rattle.dimacs_claims.proofs.LineCounts.{one_a_line}
 use Rattle.dimacs_claims.proofs.LabelStates.{Say, opened, is_source, say_problem, say_block, say_label, first_problem, block_allowed, label_allowed, all_there}
 use Rattle.dimacs_claims.proofs.LabelRecords.{source_of, say_labels}
 
@@ -219,3 +222,10 @@ labels_round_trip labels are few =
       spelled = canonical_spelled Labels rs fit few;
       given = (numbered_all rs, are);
     }
+
+-- the labels of a text have no more lines than it
+pub fit_read : (all : List (List ℕ)) (told : Result LabelsValue ReadError) → ReadsLines Labels GivesLabels all told → IfOk told FitText
+fit_read all (Ok labels) h =
+    let spelled = spelled_of_faultless Labels all h.said h.faultless in
+    omega (arith, one_a_line Labels all h.said 1 spelled.spell, spelled.few, ap length h.given.0, length-map (numbered 1 h.said) (λ (r : LineRecord). r.says))
+fit_read all (Err error) h = tt

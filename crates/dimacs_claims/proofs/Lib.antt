@@ -6,6 +6,7 @@ pub mod LabelLaws
 pub mod LabelRecords
 pub mod LabelStates
 pub mod LabelWrites
+pub mod LineCounts
 mod NodeLists
 mod PotentialsLemmas
 pub mod SolutionLemmas

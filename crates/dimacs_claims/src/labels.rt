@@ -377,6 +377,7 @@ impl Reading for LabelsReading {
 /// Reads a text of labels.
 pub fn read_labels<S: Source>(alloc: Global, source: &mut S) -> Result<Labels, ReadError>
     ensures reads { (text : List ℕ) → S.coming source.old ≡ Some text → Reads (SpellsLabels text) (Fault kinds.Labels (lines text)) result }
+    ensures fits { (text : List ℕ) → S.coming source.old ≡ Some text → IfOk result (λ labels. FitText labels) }
     ensures device { CountsRead result (S.faults source.old) (S.faults source.new) }
 {
     read_text(alloc, TextKind::Labels, LabelsReading::new(alloc), source)

@@ -1,0 +1,12 @@
+-- A text has no more records than lines.
+use Rattle.std.proofs.Common.{ℕ, suc, ◌≤◌, List, [], ◌∷◌, Option, None, Some, length, arith}
+use Rattle.dimacs_records.specs.declared.kinds.TextKind.{TextKind}
+use Rattle.dimacs_records.specs.declared.records.Record.{Record}
+use Rattle.dimacs_records.specs.Faults.{Spell}
+use Rattle.dimacs_records.specs.Readings.{numbered}
+
+pub one_a_line : (kind : TextKind) (all : List (List ℕ)) (said : List (Option Record)) (line : ℕ) → Spell kind all said → length (numbered line said) ≤ length all
+one_a_line kind [] [] line h = omega arith
+one_a_line kind (text ∷ all) (None ∷ said) line h = omega (arith, one_a_line kind all said (suc line) h.1)
+one_a_line kind (text ∷ all) (Some r ∷ said) line h = omega (arith, one_a_line kind all said (suc line) h.2)
+one_a_line kind all said line h = absurd h
