@@ -1,0 +1,147 @@
+/* Refuses calls of a program that is loaded after this library (LD_PRELOAD), and counts them.
+ *
+ * Growths (calls that take memory), reads, writes and openings of files count from 1, each kind for itself, from the
+ * start of the program's own code. Writes to the standard error aren't counted, and never fail.
+ *
+ *   REFUSE_GROWTH, REFUSE_READ, REFUSE_WRITE, REFUSE_OPENING   the number of the call that fails, once
+ *   INTERRUPT   where it is set, a read or write that fails was interrupted by a signal
+ *   AT_MOST     the most bytes that one read or write moves
+ *   COUNTS      the file that is written at the end: the four counts, and the most memory that was held at once, in kB
+ *
+ * The names with underscores are those by which the GNU C library offers the same calls.
+ */
+#include <errno.h>
+#include <fcntl.h>
+#include <stdarg.h>
+#include <stdio.h>
+#include <stdlib.h>
+#include <string.h>
+#include <sys/types.h>
+
+void *__libc_malloc(size_t);
+void *__libc_calloc(size_t, size_t);
+void *__libc_realloc(void *, size_t);
+void *__libc_memalign(size_t, size_t);
+ssize_t __read(int, void *, size_t);
+ssize_t __write(int, const void *, size_t);
+int __open(const char *, int, ...);
+
+enum call { GROWTH, READ, WRITE, OPENING, CALLS };
+
+static long counts[CALLS], refused[CALLS];
+static size_t at_most = (size_t)-1;
+static int failure = EIO, counting;
+
+static long number(const char *name)
+{
+    const char *word = getenv(name);
+    return word ? atol(word) : 0;
+}
+
+__attribute__((constructor)) static void start(void)
+{
+    refused[GROWTH] = number("REFUSE_GROWTH");
+    refused[READ] = number("REFUSE_READ");
+    refused[WRITE] = number("REFUSE_WRITE");
+    refused[OPENING] = number("REFUSE_OPENING");
+    if (number("AT_MOST") > 0)
+        at_most = number("AT_MOST");
+    if (getenv("INTERRUPT"))
+        failure = EINTR;
+    counting = 1;
+}
+
+/* The most memory that was held at once, in kB. */
+static long peak(void)
+{
+    char status[4096];
+    int file = __open("/proc/self/status", O_RDONLY);
+    ssize_t size = __read(file, status, sizeof status - 1);
+    status[size < 0 ? 0 : size] = 0;
+    const char *line = strstr(status, "VmHWM:");
+    return line ? atol(line + strlen("VmHWM:")) : -1;
+}
+
+__attribute__((destructor)) static void end(void)
+{
+    const char *name = getenv("COUNTS");
+    counting = 0;
+    if (!name)
+        return;
+    char line[200];
+    int size = snprintf(line, sizeof line, "%ld %ld %ld %ld %ld\n", counts[GROWTH], counts[READ], counts[WRITE],
+                        counts[OPENING], peak());
+    int file = __open(name, O_WRONLY | O_CREAT | O_TRUNC, 0666);
+    if (__write(file, line, size) != size)
+        abort();
+}
+
+/* Counts a call, and says whether it fails, with this error. */
+static int fails(enum call call, int error)
+{
+    if (!counting)
+        return 0;
+    counts[call] += 1;
+    if (counts[call] != refused[call])
+        return 0;
+    errno = error;
+    return 1;
+}
+
+static size_t shortened(size_t size)
+{
+    return size < at_most ? size : at_most;
+}
+
+void *malloc(size_t size)
+{
+    return fails(GROWTH, ENOMEM) ? NULL : __libc_malloc(size);
+}
+
+void *calloc(size_t count, size_t size)
+{
+    return fails(GROWTH, ENOMEM) ? NULL : __libc_calloc(count, size);
+}
+
+void *realloc(void *old, size_t size)
+{
+    return fails(GROWTH, ENOMEM) ? NULL : __libc_realloc(old, size);
+}
+
+void *aligned_alloc(size_t alignment, size_t size)
+{
+    return fails(GROWTH, ENOMEM) ? NULL : __libc_memalign(alignment, size);
+}
+
+int posix_memalign(void **place, size_t alignment, size_t size)
+{
+    void *memory = aligned_alloc(alignment, size);
+    if (!memory)
+        return ENOMEM;
+    *place = memory;
+    return 0;
+}
+
+ssize_t read(int file, void *into, size_t size)
+{
+    return fails(READ, failure) ? -1 : __read(file, into, shortened(size));
+}
+
+ssize_t write(int file, const void *from, size_t size)
+{
+    if (file == 2)
+        return __write(file, from, size);
+    return fails(WRITE, failure) ? -1 : __write(file, from, shortened(size));
+}
+
+int open(const char *name, int flags, ...)
+{
+    mode_t mode = 0;
+    if (flags & O_CREAT) {
+        va_list more;
+        va_start(more, flags);
+        mode = va_arg(more, mode_t);
+        va_end(more);
+    }
+    return fails(OPENING, EACCES) ? -1 : __open(name, flags, mode);
+}
