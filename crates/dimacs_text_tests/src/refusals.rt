@@ -1,7 +1,9 @@
 //! Graph texts that are refused: the line, the field and the reason.
 
-use crate::texts::{Refused, Weights, refuses, refuses_each};
-use dimacs_records::{At, Reason};
+use crate::checks::same;
+use crate::texts::{Refused, Text, Weights, refuses, refuses_each};
+use dimacs_lines::FlakySource;
+use dimacs_records::{At, ReadError, Reason};
 use std::test::Fail;
 
 /// Texts that are refused for their first fault.
@@ -239,6 +241,56 @@ fn nothing_behind_a_refused_line_matters(rt: HostRuntime) -> Result<(), Fail> {
             at,
             Reason::UnknownLine,
         )?;
+    }
+    Ok(())
+}
+
+/// Texts that come byte by byte: how many pulls there are, and the line, field and reason of the refusal.
+static LAST_PULLS: [(&str, &str, u64, u64, u32, Reason); 5] = [
+    (
+        "a fault in the first line",
+        "x\np sp 1 0\n",
+        2,
+        1,
+        1,
+        Reason::UnknownLine,
+    ),
+    (
+        "a fault in the second line",
+        "p sp 1 1\ne 1 1 0\na 1 1 0\n",
+        17,
+        2,
+        1,
+        Reason::UnknownLine,
+    ),
+    (
+        "an arc too many",
+        "p sp 1 0\na 1 1 0\n\n",
+        17,
+        2,
+        0,
+        Reason::TooMany,
+    ),
+    ("a fault at the end", "p sp 1 1\n", 10, 2, 0, Reason::TooFew),
+    (
+        "a fault at the end, after a line without its end",
+        "p sp 1 1",
+        10,
+        2,
+        0,
+        Reason::TooFew,
+    ),
+];
+
+#[test]
+fn nothing_is_pulled_after_a_fault(rt: HostRuntime) -> Result<(), Fail> {
+    for &(name, text, pulls, line, field, reason) in &LAST_PULLS {
+        let ones = Vec::from_elem(rt.alloc(), 1, text.len())?;
+        let fails = [pulls + 1];
+        let mut source = FlakySource::new(text.as_bytes(), &ones, &fails);
+        let error = Weights::read(rt.alloc(), &mut source).err();
+        let at = At { line, field };
+        same(&rt, name, error, Some(ReadError::Refused(at, reason)));
     }
     Ok(())
 }
