@@ -417,6 +417,104 @@ fn faulty_claims_and_certificates_get_one_line(rt: HostRuntime) -> Result<(), Fa
     )
 }
 
+/// Texts made to be misread: their names, their kinds, the texts, how the run ends and what is put.
+static HOSTILE: [(&str, TextKind, &[u8], Status, &str); 10] = [
+    (
+        "the greatest counts and nothing more",
+        TextKind::Graph,
+        b"p sp 134217728 268435456\n",
+        Status::Refused,
+        "x instance 2 0 TooFew\n",
+    ),
+    (
+        "a node more than there may be",
+        TextKind::Graph,
+        b"p sp 134217729 268435456\n",
+        Status::Refused,
+        "x instance 1 3 NumberRange\n",
+    ),
+    (
+        "the greatest counts of labels and nothing more",
+        TextKind::Labels,
+        b"p dist 134217728 268435456\nt 1 268435456\n",
+        Status::Refused,
+        "x certificate 3 0 TooFew\n",
+    ),
+    (
+        "a blank of another kind",
+        TextKind::Graph,
+        b"p sp 2 1\na 1\xa02 5\n",
+        Status::Refused,
+        "x instance 2 0 FieldCount\n",
+    ),
+    (
+        "a line that begins with byte 0",
+        TextKind::Graph,
+        b"p sp 2 1\n\x00a 1 2 5\n",
+        Status::Refused,
+        "x instance 2 1 UnknownLine\n",
+    ),
+    (
+        "byte 255 in a comment",
+        TextKind::Graph,
+        b"p sp 2 1\nc\xff\na 1 2 5\n",
+        Status::Done,
+        "p sp 2 1\na 1 2 5\n",
+    ),
+    (
+        "a sign alone",
+        TextKind::Graph,
+        b"p sp 2 1\na 1 2 +\n",
+        Status::Refused,
+        "x instance 2 4 BadNumber\n",
+    ),
+    (
+        "two signs",
+        TextKind::Graph,
+        b"p sp 2 1\na 1 2 --1\n",
+        Status::Refused,
+        "x instance 2 4 BadNumber\n",
+    ),
+    (
+        "nought with a sign",
+        TextKind::Graph,
+        b"p sp 2 1\na -0 2 1\n",
+        Status::Refused,
+        "x instance 2 2 NumberRange\n",
+    ),
+    (
+        "the bytes of a wide blank",
+        TextKind::Graph,
+        b"p sp 2 1\na 1 2\xe3\x80\x80 5\n",
+        Status::Refused,
+        "x instance 2 3 BadNumber\n",
+    ),
+];
+
+#[test]
+fn texts_made_to_be_misread_are_read_by_the_rules(rt: HostRuntime) -> Result<(), Fail> {
+    for &(name, kind, text, status, output) in &HOSTILE {
+        converts_in_pieces(&rt, rt.alloc(), kind, name, text, status, output)?;
+    }
+    Ok(())
+}
+
+#[test]
+fn a_number_may_have_a_thousand_zeros_in_front(rt: HostRuntime) -> Result<(), Fail> {
+    let mut text = b"p sp 2 1\na 1 2 ".to_vec(rt.alloc())?;
+    text.resize(1015, b'0')?;
+    text.extend_from_slice(b"7\n")?;
+    converts_in_pieces(
+        &rt,
+        rt.alloc(),
+        TextKind::Graph,
+        "zeros",
+        &text,
+        Status::Done,
+        "p sp 2 1\na 1 2 7\n",
+    )
+}
+
 /// The length of a line of blanks, and the line that is put.
 static LONG_LINES: [(usize, &str); 2] = [
     (1_048_576, "x instance 2 0 ProblemMissing\n"),

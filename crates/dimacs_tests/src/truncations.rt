@@ -15,6 +15,21 @@ const MAX: Texts<'static> = Texts {
     certificate: "p cut 4 1\nu 1\n",
 };
 
+const MIN: Texts<'static> = Texts {
+    kind: JudgeKind::Min,
+    instance: "p min 4 5\nn 1 4\nn 4 -4\na 1 2 0 4 2\na 1 3 0 2 2\na 2 3 0 2 1\na 2 4 0 3 3\na 3 4 0 5 1\n",
+    claim: "s 14\nf 1 2 2\nf 1 3 2\nf 2 3 2\nf 3 4 4\n",
+    certificate: "p pot 4 3\ny 1 4\ny 2 2\ny 3 1\n",
+};
+
+/// The labels of two nodes that are each other's predecessor.
+const PATHS: Texts<'static> = Texts {
+    kind: JudgeKind::Paths,
+    instance: "p sp 4 3\na 1 2 5\na 3 4 0\na 4 3 0\n",
+    claim: "p aux sp ss 1\ns 1\n",
+    certificate: "p dist 4 1\nt 1 3\nd 2 5 1\nd 3 0 4\nd 4 0 3\n",
+};
+
 /// The instance up to a byte, how the run ends and what it puts.
 static CUT_INSTANCES: [(usize, Status, &str); 7] = [
     (61, Status::Done, "v max 6\n"),
@@ -76,19 +91,34 @@ fn alike(rt: &impl Abort, alloc: Global, texts: Texts<'_>) -> Result<(), Fail> {
     Ok(())
 }
 
+/// Whether texts are judged alike in any pieces, each of the three cut off at every byte.
+fn alike_cut_off(rt: &impl Abort, alloc: Global, texts: Texts<'_>) -> Result<(), Fail> {
+    for end in 0..texts.instance.len() {
+        let instance = texts.instance.get(..end).unwrap_or_default();
+        alike(rt, alloc, Texts { instance, ..texts })?;
+    }
+    for end in 0..texts.claim.len() {
+        let claim = texts.claim.get(..end).unwrap_or_default();
+        alike(rt, alloc, Texts { claim, ..texts })?;
+    }
+    for end in 0..texts.certificate.len() {
+        let certificate = texts.certificate.get(..end).unwrap_or_default();
+        alike(
+            rt,
+            alloc,
+            Texts {
+                certificate,
+                ..texts
+            },
+        )?;
+    }
+    Ok(())
+}
+
 #[test]
 fn texts_cut_off_anywhere_are_judged_alike_in_any_pieces(rt: HostRuntime) -> Result<(), Fail> {
-    for end in 0..MAX.instance.len() {
-        let instance = MAX.instance.get(..end).unwrap_or_default();
-        alike(&rt, rt.alloc(), Texts { instance, ..MAX })?;
-    }
-    for end in 0..MAX.claim.len() {
-        let claim = MAX.claim.get(..end).unwrap_or_default();
-        alike(&rt, rt.alloc(), Texts { claim, ..MAX })?;
-    }
-    for end in 0..MAX.certificate.len() {
-        let certificate = MAX.certificate.get(..end).unwrap_or_default();
-        alike(&rt, rt.alloc(), Texts { certificate, ..MAX })?;
+    for texts in [MAX, MIN, PATHS] {
+        alike_cut_off(&rt, rt.alloc(), texts)?;
     }
     Ok(())
 }
