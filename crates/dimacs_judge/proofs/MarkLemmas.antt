@@ -25,18 +25,18 @@ use Rattle.dimacs_judge.specs.declared.verdict.Where.{Where}
 use Rattle.dimacs_judge.specs.declared.verdict.Where.TheVariants.{Arc}
 use Rattle.dimacs_judge.specs.CertificateTests.{no_label, RelaxFails, relax_row}
 use Rattle.dimacs_judge.specs.Labels.{HasTightArc}
-use Rattle.dimacs_judge.specs.Marks.{AreEarlier, AreMade, AreMadeAmong, AreMadeBelow, AreUnmade, AreWide, IsMadeAmong, IsMarked, IsTight, Makes, MarksArc, SaysSame, TellsBelow, first_told, marked_dist}
+use Rattle.dimacs_judge.specs.Marks.{AreEarlier, AreMade, AreMadeAmong, AreMadeBelow, AreUnmade, AreWide, IsMadeAmong, IsMarked, IsTight, Makes, MarksArc, SaysSame, TellsBelow, dist_of, first_told, marked_dist}
 use Rattle.dimacs_judge.specs.Rows.{arc_at, no_arc}
 use Rattle.dimacs_judge.specs.Tests.{ClearBelow, TellsReason, TellsRow}
 use Rattle.dimacs_judge.proofs.RowLemmas.{arc_clear_end, relax_clear_more, relax_first}
 
-marked_here : (number : ℕ) (m : Mark) → m.block ≡ number → marked_dist number m ≡ Some m.dist
-marked_here number m same = ap (λ t. if t then Some m.dist else None) (eq-eqb m.block number same)
+marked_here : (number : ℕ) (m : Mark) → m.block ≡ number → marked_dist number m ≡ Some (dist_of m)
+marked_here number m same = ap (λ t. if t then Some (dist_of m) else None) (eq-eqb m.block number same)
 
 marked_elsewhere : (number : ℕ) (m : Mark) → m.block ≢ number → marked_dist number m ≡ None
 marked_elsewhere number m off = elim (eqb_tells m.block number) [
   | inl same ↦ absurd (off same.1)
-  | inr told ↦ ap (λ t. if t then Some m.dist else None) told.0
+  | inr told ↦ ap (λ t. if t then Some (dist_of m) else None) told.0
 ]
 
 label_source : (b : BlockValue) → label b b.source ≡ Some (pos 0)
@@ -85,7 +85,7 @@ the_only x y (suc k, inside, is) = absurd (omega (arith, inside))
 pub no_contains : {A : Type 0} {x : A} → Contains [] x → ⊥
 no_contains has = omega (arith, has.1)
 
-pub marked_source : (number : ℕ) (b : BlockValue) (old new : NodeTable Mark) (m : Mark) → AreEarlier number old → blank_of new ≡ blank_of old → value_of new b.source ≡ m → ((v : ℕ) → v ≢ b.source → value_of new v ≡ value_of old v) → m.dist ≡ pos 0 → m.block ≡ number → AreMarkedFirst number b 0 new
+pub marked_source : (number : ℕ) (b : BlockValue) (old new : NodeTable Mark) (m : Mark) → AreEarlier number old → blank_of new ≡ blank_of old → value_of new b.source ≡ m → ((v : ℕ) → v ≢ b.source → value_of new v ≡ value_of old v) → dist_of m ≡ pos 0 → m.block ≡ number → AreMarkedFirst number b 0 new
 marked_source number b old new m early blank here others none by = record {
   early = record {
     blank = ap (λ (n : Mark). n.block) blank ∙ early.blank;
@@ -107,7 +107,7 @@ marked_source number b old new m early blank here others none by = record {
 }
 
 pub marked_more : (number nodes : ℕ) (b : BlockValue) (n : ℕ) (old new : NodeTable Mark) (m : Mark) → IsBlock nodes b → n < length b.labels → AreMarkedFirst number b n old → blank_of new ≡ blank_of old → value_of new (label_of b n).id ≡ m → ((v : ℕ) → v ≢ (label_of b n).id → value_of new v ≡ value_of old v)
-    → m.dist ≡ (label_of b n).dist → m.pred ≡ (label_of b n).pred → m.block ≡ number → m.made ≡ false → AreMarkedFirst number b (n + 1) new
+    → dist_of m ≡ (label_of b n).dist → m.pred ≡ (label_of b n).pred → m.block ≡ number → m.made ≡ false → AreMarkedFirst number b (n + 1) new
 marked_more number nodes b n old new m is inside are blank here others dist pred by unmade =
     let l = label_of b n in
     let fresh = label_fresh nodes b is n inside in
@@ -191,13 +191,28 @@ module _ (number : ℕ) (a : ArcView) (marks : NodeTable Mark) (tail head : Mark
   pub is_tight : (from +ℤ a.cost) ≡ to → head.pred ≡ a.tail → IsTight number a marks
   is_tight adds pred = (from, from_at, to_at ∙ ap (λ d. Some d) (sym adds), ap (λ (m : Mark). m.pred) (sym head_is) ∙ pred)
 
-  pub not_tight : (¬ (((from +ℤ a.cost) ≡ to) × (head.pred ≡ a.tail))) → ¬ IsTight number a marks
-  not_tight off (d, at, there, pred) =
+  tight_gives : IsTight number a marks → ((from +ℤ a.cost) ≡ to) × (head.pred ≡ a.tail)
+  tight_gives (d, at, there, pred) =
       let both : Some from ≡ Some d = sym from_at ∙ at in
       let same : from ≡ d = cc in
       let ends : Some to ≡ Some (d +ℤ a.cost) = sym to_at ∙ there in
       let sum : to ≡ (d +ℤ a.cost) = cc in
-      off (ap (λ (z : ℤ). z +ℤ a.cost) same ∙ sym sum, ap (λ (m : Mark). m.pred) head_is ∙ pred)
+      (ap (λ (z : ℤ). z +ℤ a.cost) same ∙ sym sum, ap (λ (m : Mark). m.pred) head_is ∙ pred)
+
+  pub not_tight : (¬ (((from +ℤ a.cost) ≡ to) × (head.pred ≡ a.tail))) → ¬ IsTight number a marks
+  not_tight off tight = off (tight_gives tight)
+
+  pub made_with_arc : (made : Bool) → ((made ≡ true) ↔ ((head.made ≡ true) ⊎ (((from +ℤ a.cost) ≡ to) × (head.pred ≡ a.tail)))) → (made ≡ true) ↔ (((value_of marks a.head).made ≡ true) ⊎ IsTight number a marks)
+  made_with_arc made is = (
+    λ so. elim (is.0 so) [
+      | inl before ↦ inl (ap (λ (m : Mark). m.made) (sym head_is) ∙ before)
+      | inr both ↦ inr (is_tight both.0 both.1)
+    ],
+    λ either. is.1 (elim either [
+      | inl before ↦ inl (ap (λ (m : Mark). m.made) head_is ∙ before)
+      | inr tight ↦ inr (tight_gives tight)
+    ]),
+  )
 
   pub not_blank : (blank_of marks).block < number → head ≢ blank_of marks
   not_blank less same = omega (arith, ap (λ (m : Mark). m.block) same, marked_block number head to to_is, less)
@@ -242,12 +257,12 @@ module _ (number : ℕ) (a : ArcView) (old : NodeTable Mark) where
     made = (λ m. inl m, λ e. elim e [ inl m ↦ m | inr tight ↦ absurd (off tight) ]);
   }
 
-  pub passes_made : (new : NodeTable Mark) (m : Mark) → IsTight number a old → blank_of new ≡ blank_of old → value_of new a.head ≡ m → ((v : ℕ) → v ≢ a.head → value_of new v ≡ value_of old v) → SaysSame (value_of old a.head) m → m.made ≡ true → MarksArc number a old new
-  passes_made new m tight blank here others same made = record {
+  pub passes_put : (new : NodeTable Mark) (m : Mark) → blank_of new ≡ blank_of old → value_of new a.head ≡ m → ((v : ℕ) → v ≢ a.head → value_of new v ≡ value_of old v) → SaysSame (value_of old a.head) m → ((m.made ≡ true) ↔ (((value_of old a.head).made ≡ true) ⊎ IsTight number a old)) → MarksArc number a old new
+  passes_put new m blank here others same made = record {
     blank = blank;
     others = others;
     head = rw here same;
-    made = (λ any. inr tight, λ any. ap (λ (k : Mark). k.made) here ∙ made);
+    made = rw here made;
   }
 
   -- after an arc
@@ -257,7 +272,7 @@ module _ (number : ℕ) (a : ArcView) (old : NodeTable Mark) where
       | inl same ↦ subst (λ w. SaysSame (value_of old w) (value_of new w)) (sym same) passes.head
       | inr off ↦
           let e = passes.others v off in
-          record { dist = ap (λ (m : Mark). m.dist) e; pred = ap (λ (m : Mark). m.pred) e; block = ap (λ (m : Mark). m.block) e }
+          record { dist = ap dist_of e; pred = ap (λ (m : Mark). m.pred) e; block = ap (λ (m : Mark). m.block) e }
     ]
 
     dist_same : (v : ℕ) → marked_dist number (value_of new v) ≡ marked_dist number (value_of old v)

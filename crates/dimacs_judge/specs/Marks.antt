@@ -1,5 +1,5 @@
 -- Marks of the nodes that a block labels.
-use Rattle.std.specs.Prelude.{ℕ, ◌≡◌, ◌≢◌, ◌<◌, ◌+◌, ◌⊎◌, ◌↔◌, ◌==◌, true, false, if◌then◌else◌, List, Contains, Option, Some, None, Result, Ok, Err, IfSome, ℤ, ◌+ℤ◌}
+use Rattle.std.specs.Prelude.{ℕ, ◌≡◌, ◌≢◌, ◌<◌, ◌+◌, ◌*◌, ◌^◌, ◌⊎◌, ◌↔◌, ◌==◌, true, false, if◌then◌else◌, List, Contains, Option, Some, None, Result, Ok, Err, IfSome, ℤ, pos, ◌+ℤ◌, ◌-ℤ◌}
 use Rattle.dimacs_nodes.specs.declared.node_table.NodeTable.{NodeTable}
 use Rattle.dimacs_nodes.specs.Tables.{blank_of, value_of}
 use Rattle.dimacs_records.specs.declared.reasons.Reason.{Reason}
@@ -22,9 +22,13 @@ abbrev pub AreAsTested : List ArcView → Weights → Type 0
 AreAsTested arcs Untested = Unit {0}
 AreAsTested arcs NotNegative = Clear (negative_row arcs)
 
+-- the distance that stands in a mark by its parts
+abbrev pub dist_of : Mark → ℤ
+dist_of mark = pos ((mark.high * 2 ^ 32 + mark.middle) * 2 ^ 64 + mark.low) -ℤ pos (2 ^ 100)
+
 -- what the block of this number says of a node by its mark
 abbrev pub marked_dist : ℕ → Mark → Option ℤ
-marked_dist number mark = if mark.block == number then Some mark.dist else None
+marked_dist number mark = if mark.block == number then Some (dist_of mark) else None
 
 -- the blocks that set the marks
 pub record AreEarlier (number : ℕ) (marks : NodeTable Mark) : Type 0 where
@@ -77,7 +81,7 @@ IsTight number a marks =
 
 -- a mark that may say more of whether its label is made
 pub record SaysSame (old new : Mark) : Type 0 where
-  pub dist : new.dist ≡ old.dist
+  pub dist : dist_of new ≡ dist_of old
   pub pred : new.pred ≡ old.pred
   pub block : new.block ≡ old.block
 

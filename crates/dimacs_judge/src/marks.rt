@@ -1,7 +1,7 @@
 //! Whether the labels of blocks are distances, by one pass over the arcs for each block, or over those that leave its
 //! nodes.
 
-ghost use Rattle.std.specs.Prelude.{◌≡◌, ◌<◌, ◌≤◌, ◌+◌, ◌↔◌, ◌+ℤ◌, ℕ, List, IfSome, OnOk, IsTrue};
+ghost use Rattle.std.specs.Prelude.{◌≡◌, ◌<◌, ◌≤◌, ◌+◌, ◌⊎◌, ◌↔◌, ◌+ℤ◌, ℕ, List, IfSome, OnOk, IsTrue, false, true};
 ghost use Rattle.dimacs_instance.specs.declared.network.ArcView.{ArcView};
 ghost use Rattle.dimacs_instance.specs.Links.{AreLinksOf};
 ghost use Rattle.dimacs_instance.specs.declared.links.Side.TheVariants.{Tail};
@@ -9,7 +9,7 @@ ghost use Rattle.dimacs_claims.specs.Labels.{AreLabels, BlockValue, IsBlock};
 ghost use Rattle.dimacs_nodes.specs.Tables.{blank_of, value_of};
 ghost use Rattle.dimacs_records.specs.Ranges.{IsWide};
 ghost use Rattle.dimacs_judge.specs.CertificateTests.{RelaxFails, distance_rows, label_rows, relax_row, support_row, weight_row};
-ghost use Rattle.dimacs_judge.specs.Marks.{AreAsTested, AreEarlier, AreMade, AreUnmade, AreWide, IsMarked, MarksArc, first_told, marked_dist};
+ghost use Rattle.dimacs_judge.specs.Marks.{AreAsTested, AreEarlier, AreMade, AreUnmade, AreWide, IsMarked, MarksArc, dist_of, first_told, marked_dist};
 ghost use Rattle.dimacs_judge.specs.Tests.{TellsAll, TellsReason, TellsRow};
 
 use crate::labels::{escape_fault, is_beyond, weights_hold};
@@ -23,23 +23,71 @@ use dimacs_records::Reason;
 use std::alloc::Global;
 
 /// What a block of labels says of a node.
+///
+/// A distance takes 101 bits with its sign. In three parts it takes 13 bytes, and the mark 24 in place of 32. Two marks
+/// are looked up for each arc, so the smaller they are, the more often the cache has them.
 #[derive(Clone, Copy)]
 pub(crate) struct Mark {
-    dist: i128,
+    low: u64,
+    middle: u32,
     pred: u32,
     /// The number of the block, from 1. Other blocks say nothing of the node by this mark.
     block: u32,
+    high: u8,
     /// Whether an arc was found that makes the label.
     made: bool,
 }
 
 /// Set by no block.
 const NO_MARK: Mark = Mark {
-    dist: 0,
+    low: 0,
+    middle: 0,
     pred: 0,
     block: 0,
+    high: 0,
     made: false,
 };
+
+/// Is added to a distance, so that the parts are of a number from 0 on.
+const SHIFT: i128 = 1 << 100;
+
+/// Past the greatest low part.
+const LOW_END: u128 = 1 << 64;
+
+/// Past the greatest middle part.
+const MIDDLE_END: u128 = 1 << 32;
+
+impl Mark {
+    /// Of a label that no arc was found to make.
+    #[inline(always)]
+    fn of(dist: i128, pred: u32, block: u32) -> Mark
+        requires { IsWide dist }
+        ensures dist { dist_of result ≡ dist }
+        ensures pred { result.pred ≡ pred }
+        ensures block { result.block ≡ block }
+        ensures unmade { result.made ≡ false }
+    {
+        let parts = (dist + SHIFT) as u128;
+        let upper = parts / LOW_END;
+        Mark {
+            low: (parts % LOW_END) as u64,
+            middle: (upper % MIDDLE_END) as u32,
+            pred,
+            block,
+            high: (upper / MIDDLE_END) as u8,
+            made: false,
+        }
+    }
+
+    #[inline(always)]
+    fn dist(self) -> i128
+        ensures { result ≡ dist_of self }
+    {
+        let upper = u128::from(self.high) * MIDDLE_END + u128::from(self.middle);
+        let parts = upper * LOW_END + u128::from(self.low);
+        parts as i128 - SHIFT
+    }
+}
 
 /// What is known of the weights of the arcs: nothing, or that none is negative.
 #[derive(Clone, Copy)]
@@ -138,19 +186,9 @@ fn mark_labels(block: &Block, number: u32, marks: &mut NodeTable<Mark>) -> Resul
     ensures marked { OnOk result (IsMarked number block.now marks.new) }
     ensures unmade { OnOk result (AreUnmade block.now marks.new) }
 {
-    let source = Mark {
-        block: number,
-        ..NO_MARK
-    };
-    marks.set(block.source(), source)?;
+    marks.set(block.source(), Mark::of(0, 0, number))?;
     for label in block.labels() {
-        let mark = Mark {
-            dist: label.dist,
-            pred: label.pred,
-            block: number,
-            made: false,
-        };
-        marks.set(label.id, mark)?;
+        marks.set(label.id, Mark::of(label.dist, label.pred, number))?;
     }
     Ok(())
 }
@@ -246,10 +284,19 @@ pub(crate) fn pass_arc(
     if is_beyond(to, from, arc.cost) {
         return Some(Reason::NotShortest);
     }
-    if makes(arc, from, to, head.pred) {
-        marks.put(arc.head, Mark { made: true, ..head });
-    }
+    // Put in any case: a branch would often be foretold wrongly, since two of five arcs of a road graph make a label.
+    let made = made_with(arc, from, to, head);
+    marks.put(arc.head, Mark { made, ..head });
     None
+}
+
+/// Whether the arc makes the label of its head, or one before it did.
+#[inline(always)]
+fn made_with(arc: ArcView, from: i128, to: i128, head: Mark) -> bool
+    requires { IsWide from }
+    ensures { IsTrue result ↔ ((head.made ≡ true) ⊎ (((from +ℤ arc.cost) ≡ to) × (head.pred ≡ arc.tail))) }
+{
+    head.made || makes(arc, from, to, head.pred)
 }
 
 /// Whether the arc leads from the one distance to the other, and from the predecessor.
@@ -267,7 +314,7 @@ fn distance_by(mark: Mark, number: u32) -> Option<i128>
     ensures { result ≡ marked_dist number mark }
 {
     if mark.block == number {
-        Some(mark.dist)
+        Some(mark.dist())
     } else {
         None
     }

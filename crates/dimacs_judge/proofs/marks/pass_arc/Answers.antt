@@ -4,7 +4,7 @@ use Rattle.std.proofs.lemmas.Int.{to_z-of_z}
 use Rattle.dimacs_records.specs.declared.reasons.Reason.TheVariants.{Escapes}
 use Rattle.dimacs_claims.specs.Labels.{IsNear}
 use Rattle.dimacs_judge.specs.Tests.{TellsReason}
-use Rattle.dimacs_judge.proofs.MarkLemmas.{is_tight, not_blank, not_tight, passes_same, passes_made, tight_near, told_escape, told_far, told_near}
+use Rattle.dimacs_judge.proofs.MarkLemmas.{made_with_arc, not_blank, not_tight, passes_put, passes_same, tight_near, told_escape, told_far, told_near}
 use Rattle.dimacs_judge.proofs.marks.pass_arc.Goals as goal
 
 pub returns-then-is_beyond-clause-told : goal.returns-then-is_beyond-clause-told
@@ -28,39 +28,21 @@ put-requires c =
     let off = not_blank c.args.number c.args.arc c.args.marks.now c.get.result c.get-head.result c.get.ensures.value c.get-head.ensures.value c.in_ok-from.from c.in-Some.to c.in_ok-from.ensures c.in-Some.ensures c.requires.blank in
     elim c.get-head.ensures.place [ inl blank ↦ absurd (off blank) | inr place ↦ place ]
 
-pub returns-then-makes-clause-told : goal.returns-then-makes-clause-told
-returns-then-makes-clause-told c =
+pub returns-clause-told : goal.returns-clause-told
+returns-clause-told c =
     let from : SFits w128 c.in_ok-from.from = search rules in
     let cost : SFits w64 c.args.arc.cost = search rules in
     let to : SFits w128 c.in-Some.to = search rules in
     let near = rw (to_z-of_z w128 c.in_ok-from.from from, to_z-of_z w64 c.args.arc.cost cost, to_z-of_z w128 c.in-Some.to to) at c.if-is_beyond.ensures.1 in
     told_near c.args.number c.args.arc c.args.marks.now c.get.result c.get-head.result c.get.ensures.value c.get-head.ensures.value c.in_ok-from.from c.in-Some.to c.in_ok-from.ensures c.in-Some.ensures c.args.radius (λ far. let f : IsTrue false = near far in cc)
 
-pub returns-then-makes-clause-marks : goal.returns-then-makes-clause-marks
-returns-then-makes-clause-marks c =
+pub returns-clause-marks : goal.returns-clause-marks
+returns-clause-marks c =
     let from : SFits w128 c.in_ok-from.from = search rules in
     let to : SFits w128 c.in-Some.to = search rules in
-    let dist : SFits w128 c.get-head.result.dist = search rules in
-    let made = rw (to_z-of_z w128 c.in_ok-from.from from, to_z-of_z w128 c.in-Some.to to) at (c.if-makes.ensures.0 refl) in
+    let made = rw (to_z-of_z w128 c.in_ok-from.from from, to_z-of_z w128 c.in-Some.to to) at c.made_with-made.ensures in
     let e = c.put.ensures in
-    let tight = is_tight c.args.number c.args.arc c.args.marks.now c.get.result c.get-head.result c.get.ensures.value c.get-head.ensures.value c.in_ok-from.from c.in-Some.to c.in_ok-from.ensures c.in-Some.ensures made.0 made.1 in
-    let same = rw (to_z-of_z w128 c.get-head.result.dist dist) at e.set in
-    passes_made c.args.number c.args.arc c.args.marks.now c.put.new.self _ tight e.blank same e.others (rw (← c.get-head.ensures.value) record { dist = refl; pred = refl; block = refl }) refl
-
-pub returns-else-makes-clause-told : goal.returns-else-makes-clause-told
-returns-else-makes-clause-told c =
-    let from : SFits w128 c.in_ok-from.from = search rules in
-    let cost : SFits w64 c.args.arc.cost = search rules in
-    let to : SFits w128 c.in-Some.to = search rules in
-    let near = rw (to_z-of_z w128 c.in_ok-from.from from, to_z-of_z w64 c.args.arc.cost cost, to_z-of_z w128 c.in-Some.to to) at c.if-is_beyond.ensures.1 in
-    told_near c.args.number c.args.arc c.args.marks.now c.get.result c.get-head.result c.get.ensures.value c.get-head.ensures.value c.in_ok-from.from c.in-Some.to c.in_ok-from.ensures c.in-Some.ensures c.args.radius (λ far. let f : IsTrue false = near far in cc)
-
-pub returns-else-makes-clause-marks : goal.returns-else-makes-clause-marks
-returns-else-makes-clause-marks c =
-    let from : SFits w128 c.in_ok-from.from = search rules in
-    let to : SFits w128 c.in-Some.to = search rules in
-    let off = rw (to_z-of_z w128 c.in_ok-from.from from, to_z-of_z w128 c.in-Some.to to) at c.if-makes.ensures.1 in
-    passes_same c.args.number c.args.arc c.args.marks.now (not_tight c.args.number c.args.arc c.args.marks.now c.get.result c.get-head.result c.get.ensures.value c.get-head.ensures.value c.in_ok-from.from c.in-Some.to c.in_ok-from.ensures c.in-Some.ensures (λ made. let f : IsTrue false = off made in cc))
+    passes_put c.args.number c.args.arc c.args.marks.now c.put.new.self _ e.blank e.set e.others (rw (← c.get-head.ensures.value) record { dist = refl; pred = refl; block = refl }) (made_with_arc c.args.number c.args.arc c.args.marks.now c.get.result c.get-head.result c.get.ensures.value c.get-head.ensures.value c.in_ok-from.from c.in-Some.to c.in_ok-from.ensures c.in-Some.ensures c.made_with-made.result made)
 
 pub returns-in_default-clause-told : goal.returns-in_default-clause-told
 returns-in_default-clause-told c =
