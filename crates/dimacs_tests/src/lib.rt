@@ -12,6 +12,8 @@ mod commands;
 #[cfg(test)]
 mod conversions;
 #[cfg(test)]
+mod failures;
+#[cfg(test)]
 mod flows;
 #[cfg(test)]
 mod judging;

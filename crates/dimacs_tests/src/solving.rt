@@ -9,7 +9,7 @@ use std::process::Abort;
 use std::test::Fail;
 
 /// A network of four nodes.
-const MAX: &str = "p max 4 5\nn 1 s\nn 4 t\na 1 2 4\na 1 3 2\na 2 3 2\na 2 4 3\na 3 4 5\n";
+pub const MAX: &str = "p max 4 5\nn 1 s\nn 4 t\na 1 2 4\na 1 3 2\na 2 3 2\na 2 4 3\na 3 4 5\n";
 
 /// A network whose flow from 1 by 2 and 3 to 4 has to be taken back.
 const BACK: &str = "p max 4 5\nn 1 s\nn 4 t\na 1 2 1\na 1 3 1\na 2 3 1\na 2 4 1\na 3 4 1\n";
@@ -18,29 +18,29 @@ const BACK: &str = "p max 4 5\nn 1 s\nn 4 t\na 1 2 1\na 1 3 1\na 2 3 1\na 2 4 1\
 const ARCLESS: &str = "p max 2 0\nn 1 s\nn 2 t\n";
 
 /// The first network with costs, and supplies at its ends.
-const MIN: &str =
+pub const MIN: &str =
     "p min 4 5\nn 1 4\nn 4 -4\na 1 2 0 4 2\na 1 3 0 2 2\na 2 3 0 2 1\na 2 4 0 3 3\na 3 4 0 5 1\n";
 
 /// An arc, and a cycle of weight 0 beside it.
-const CYCLE: &str = "p sp 4 3\na 1 2 5\na 3 4 0\na 4 3 0\n";
+pub const CYCLE: &str = "p sp 4 3\na 1 2 5\na 3 4 0\na 4 3 0\n";
 
 /// The distances from node 1 are asked for.
-const SOURCE: &str = "p aux sp ss 1\ns 1\n";
+pub const SOURCE: &str = "p aux sp ss 1\ns 1\n";
 
 /// What a producer is given.
 #[derive(Clone, Copy)]
-struct Given<'a> {
-    job: SolveJob,
-    instance: &'a str,
-    queries: &'a str,
+pub struct Given<'a> {
+    pub job: SolveJob,
+    pub instance: &'a str,
+    pub queries: &'a str,
 }
 
 /// The sinks of a producer's run.
 #[derive(Drop)]
-struct Outputs<'a> {
-    claim: FlakySink<'a>,
-    certificate: FlakySink<'a>,
-    report: FlakySink<'a>,
+pub struct Outputs<'a> {
+    pub claim: FlakySink<'a>,
+    pub certificate: FlakySink<'a>,
+    pub report: FlakySink<'a>,
 }
 
 /// Sinks that accept pieces of these sizes.
@@ -52,6 +52,25 @@ fn new_outputs<'a>(alloc: Global, sizes: &'a [usize]) -> Outputs<'a> {
     }
 }
 
+/// Solves what sources give.
+pub fn solve_from(
+    alloc: Global,
+    job: SolveJob,
+    instance: &mut FlakySource<'_>,
+    queries: &mut FlakySource<'_>,
+    outputs: &mut Outputs<'_>,
+) -> Result<Status, RunError> {
+    run_solve(
+        alloc,
+        job,
+        instance,
+        queries,
+        &mut outputs.claim,
+        &mut outputs.certificate,
+        &mut outputs.report,
+    )
+}
+
 /// Solves texts that come in pieces of these sizes.
 fn solve(
     alloc: Global,
@@ -59,14 +78,12 @@ fn solve(
     sizes: &[usize],
     outputs: &mut Outputs<'_>,
 ) -> Result<Status, RunError> {
-    run_solve(
+    solve_from(
         alloc,
         given.job,
         &mut FlakySource::new(given.instance.as_bytes(), sizes, &[]),
         &mut FlakySource::new(given.queries.as_bytes(), sizes, &[]),
-        &mut outputs.claim,
-        &mut outputs.certificate,
-        &mut outputs.report,
+        outputs,
     )
 }
 

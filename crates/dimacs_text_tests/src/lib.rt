@@ -33,6 +33,8 @@ mod records;
 #[cfg(test)]
 mod refusals;
 #[cfg(test)]
+mod refused_growths;
+#[cfg(test)]
 mod solutions;
 #[cfg(test)]
 mod texts;

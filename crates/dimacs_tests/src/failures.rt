@@ -1,0 +1,282 @@
+//! Runs in which one pull or one put fails, each of them in turn. Texts come and go byte by byte.
+
+use crate::checks::{holds, holds_at, same_at};
+use crate::judging::{Texts, judge};
+use crate::solving::{CYCLE, Given, MAX, MIN, Outputs, SOURCE, solve_from};
+use dimacs_lines::{FlakySink, FlakySource};
+use dimacs_runs::{JudgeKind, RunError, SolveJob, Status};
+use std::alloc::Global;
+use std::process::Abort;
+use std::test::Fail;
+
+/// A source or a sink of a run. A producer's queries stand in place of the claim that is read.
+#[derive(Clone, Copy, PartialEq, Eq)]
+enum Device {
+    Instance,
+    Claim,
+    Certificate,
+    MadeClaim,
+    MadeCertificate,
+    Report,
+}
+
+/// The calls of one device that fail.
+#[derive(Clone, Copy)]
+struct Failing<'a> {
+    device: Device,
+    calls: &'a [u64],
+}
+
+impl<'a> Failing<'a> {
+    /// Those of this device.
+    fn of(self, device: Device) -> &'a [u64] {
+        if self.device == device {
+            self.calls
+        } else {
+            &[]
+        }
+    }
+}
+
+/// Judges texts.
+fn judge_failing(
+    alloc: Global,
+    texts: Texts<'_>,
+    ones: &[usize],
+    failing: Failing<'_>,
+    sink: &mut FlakySink<'_>,
+) -> Result<Status, RunError> {
+    let instance = failing.of(Device::Instance);
+    let claim = failing.of(Device::Claim);
+    let certificate = failing.of(Device::Certificate);
+    judge(
+        alloc,
+        texts.kind,
+        &mut FlakySource::new(texts.instance.as_bytes(), ones, instance),
+        &mut FlakySource::new(texts.claim.as_bytes(), ones, claim),
+        &mut FlakySource::new(texts.certificate.as_bytes(), ones, certificate),
+        sink,
+    )
+}
+
+/// How many bytes were put to each sink before this call of a device, given what is put in all.
+fn put_before(device: Device, call: u64, whole: [usize; 3]) -> [usize; 3] {
+    let [claim, certificate, _] = whole;
+    let last = (call as usize).saturating_sub(1);
+    match device {
+        Device::MadeClaim => [last, 0, 0],
+        Device::MadeCertificate => [claim, last, 0],
+        Device::Report => [claim, certificate, last],
+        _ => [0, 0, 0],
+    }
+}
+
+/// Whether a sink was given the first bytes of what another was given, and no more.
+fn has_front(sink: &FlakySink<'_>, whole: &FlakySink<'_>, count: usize) -> bool {
+    whole.bytes().get(..count) == Some(sink.bytes())
+}
+
+/// Fails each call of a device of a judge in turn, until a run meets no failure, which ends as the whole one.
+fn judge_fails_in_turn(
+    rt: &impl Abort,
+    alloc: Global,
+    texts: Texts<'_>,
+    device: Device,
+) -> Result<(), Fail> {
+    let name = texts.certificate;
+    let ones = Vec::from_elem(alloc, 1, 1000)?;
+    let mut whole = FlakySink::new(alloc, &ones, &[]);
+    let none = Failing { device, calls: &[] };
+    let wanted = judge_failing(alloc, texts, &ones, none, &mut whole);
+    for call in 1..=1000 {
+        let calls = [call];
+        let calls = calls.as_slice();
+        let failing = Failing { device, calls };
+        let mut sink = FlakySink::new(alloc, &ones, failing.of(Device::Report));
+        let ended = judge_failing(alloc, texts, &ones, failing, &mut sink);
+        if ended == wanted {
+            holds(rt, name, sink.bytes() == whole.bytes());
+            return Ok(());
+        }
+        same_at(rt, name, call, ended, Err(RunError::Device));
+        let [_, _, put] = put_before(device, call, [0, 0, 0]);
+        holds_at(rt, name, call, has_front(&sink, &whole, put));
+    }
+    Err(Fail::new("each run meets a failure"))
+}
+
+static JUDGED: [Texts<'static>; 5] = [
+    Texts {
+        kind: JudgeKind::Max,
+        instance: MAX,
+        claim: "s 6\nf 1 2 4\nf 1 3 2\nf 2 3 1\nf 2 4 3\nf 3 4 3\n",
+        certificate: "p cut 4 1\nu 1\n",
+    },
+    Texts {
+        kind: JudgeKind::Min,
+        instance: MIN,
+        claim: "s 14\nf 1 2 2\nf 1 3 2\nf 2 3 2\nf 3 4 4\n",
+        certificate: "p pot 4 3\ny 1 4\ny 2 2\ny 3 1\n",
+    },
+    Texts {
+        kind: JudgeKind::Paths,
+        instance: CYCLE,
+        claim: SOURCE,
+        certificate: "p dist 4 1\nt 1 3\nd 2 5 1\nd 3 0 4\nd 4 0 3\n",
+    },
+    Texts {
+        kind: JudgeKind::Paths,
+        instance: CYCLE,
+        claim: "p aux sp p2p 2\nq 1 2\nq 1 4\n",
+        certificate: "p dist 4 1\nt 1 1\nd 2 5 1\n",
+    },
+    Texts {
+        kind: JudgeKind::Infeasible,
+        instance: "p min 2 1\nn 1 1\na 1 2 0 5 1\n",
+        claim: "",
+        certificate: "p cut 2 2\nu 1\nu 2\n",
+    },
+];
+
+#[test]
+fn each_call_of_a_judge_that_fails_is_told(rt: HostRuntime) -> Result<(), Fail> {
+    for texts in &JUDGED {
+        for device in [
+            Device::Instance,
+            Device::Claim,
+            Device::Certificate,
+            Device::Report,
+        ] {
+            judge_fails_in_turn(&rt, rt.alloc(), *texts, device)?;
+        }
+    }
+    Ok(())
+}
+
+/// Solves texts.
+fn solve_failing(
+    alloc: Global,
+    given: Given<'_>,
+    ones: &[usize],
+    failing: Failing<'_>,
+    outputs: &mut Outputs<'_>,
+) -> Result<Status, RunError> {
+    let instance = failing.of(Device::Instance);
+    let queries = failing.of(Device::Claim);
+    solve_from(
+        alloc,
+        given.job,
+        &mut FlakySource::new(given.instance.as_bytes(), ones, instance),
+        &mut FlakySource::new(given.queries.as_bytes(), ones, queries),
+        outputs,
+    )
+}
+
+/// Sinks of which one fails.
+fn failing_outputs<'a>(alloc: Global, ones: &'a [usize], failing: Failing<'a>) -> Outputs<'a> {
+    Outputs {
+        claim: FlakySink::new(alloc, ones, failing.of(Device::MadeClaim)),
+        certificate: FlakySink::new(alloc, ones, failing.of(Device::MadeCertificate)),
+        report: FlakySink::new(alloc, ones, failing.of(Device::Report)),
+    }
+}
+
+/// How many bytes each sink was given.
+fn lengths(outputs: &Outputs<'_>) -> [usize; 3] {
+    [
+        outputs.claim.bytes().len(),
+        outputs.certificate.bytes().len(),
+        outputs.report.bytes().len(),
+    ]
+}
+
+/// Whether the sinks were given the first bytes of what others were given, and no more.
+fn have_fronts(outputs: &Outputs<'_>, whole: &Outputs<'_>, counts: [usize; 3]) -> bool {
+    let [claim, certificate, report] = counts;
+    has_front(&outputs.claim, &whole.claim, claim)
+        && has_front(&outputs.certificate, &whole.certificate, certificate)
+        && has_front(&outputs.report, &whole.report, report)
+}
+
+/// Fails each call of a device of a producer in turn, until a run meets no failure, which ends as the whole one.
+fn solve_fails_in_turn(
+    rt: &impl Abort,
+    alloc: Global,
+    given: Given<'_>,
+    device: Device,
+) -> Result<(), Fail> {
+    let name = given.instance;
+    let ones = Vec::from_elem(alloc, 1, 1000)?;
+    let none = Failing { device, calls: &[] };
+    let mut whole = failing_outputs(alloc, &ones, none);
+    let wanted = solve_failing(alloc, given, &ones, none, &mut whole);
+    for call in 1..=1000 {
+        let calls = [call];
+        let calls = calls.as_slice();
+        let failing = Failing { device, calls };
+        let mut outputs = failing_outputs(alloc, &ones, failing);
+        let ended = solve_failing(alloc, given, &ones, failing, &mut outputs);
+        if ended == wanted {
+            holds(rt, name, have_fronts(&outputs, &whole, lengths(&whole)));
+            return Ok(());
+        }
+        same_at(rt, name, call, ended, Err(RunError::Device));
+        let put = put_before(device, call, lengths(&whole));
+        holds_at(rt, name, call, have_fronts(&outputs, &whole, put));
+    }
+    Err(Fail::new("each run meets a failure"))
+}
+
+static SOLVED: [Given<'static>; 7] = [
+    Given {
+        job: SolveJob::Max(10),
+        instance: MAX,
+        queries: "",
+    },
+    Given {
+        job: SolveJob::Max(1),
+        instance: MAX,
+        queries: "",
+    },
+    Given {
+        job: SolveJob::Min(10),
+        instance: MIN,
+        queries: "",
+    },
+    Given {
+        job: SolveJob::Min(10),
+        instance: "p min 2 1\nn 1 1\na 1 2 0 5 1\n",
+        queries: "",
+    },
+    Given {
+        job: SolveJob::Min(10),
+        instance: "p min 2 1\nn 1 -1\na 1 2 0 5 1\n",
+        queries: "",
+    },
+    Given {
+        job: SolveJob::Paths,
+        instance: CYCLE,
+        queries: SOURCE,
+    },
+    Given {
+        job: SolveJob::Paths,
+        instance: "p sp 2 2\na 1 2 -4\na 2 1 3\n",
+        queries: SOURCE,
+    },
+];
+
+#[test]
+fn each_call_of_a_producer_that_fails_is_told(rt: HostRuntime) -> Result<(), Fail> {
+    for given in &SOLVED {
+        for device in [
+            Device::Instance,
+            Device::Claim,
+            Device::MadeClaim,
+            Device::MadeCertificate,
+            Device::Report,
+        ] {
+            solve_fails_in_turn(&rt, rt.alloc(), *given, device)?;
+        }
+    }
+    Ok(())
+}
