@@ -5,7 +5,7 @@ ghost use Rattle.std.specs.List.{filter};
 ghost use Rattle.std.specs.FinSet as set;
 ghost use Rattle.dimacs_lines.specs.Devices.{CountsFault};
 ghost use Rattle.dimacs_lines.specs.Lines.{lines};
-ghost use Rattle.dimacs_lines.specs.Pages.{IsWritten, FaultsAre};
+ghost use Rattle.dimacs_lines.specs.Pages.{Appends, CountsOn};
 ghost use Rattle.dimacs_lines.specs.Puts.{Puts};
 ghost use Rattle.dimacs_records.specs.declared.kinds.TextKind.TheVariants as kinds;
 ghost use Rattle.dimacs_records.specs.declared.records.Record.TheVariants.{CutProblem, CutNode};
@@ -256,8 +256,8 @@ pub fn write_cut<S: Sink>(cut: &Cut, sink: &mut S) -> Result<(), DeviceFault>
 /// Writes the line of a node, if it is in the set.
 #[inline(always)]
 fn write_node<S: Sink>(page: &mut Page, sink: &mut S, cut: &Cut, id: u32)
-    ensures written { (start : Option (List ℕ)) (text : List ℕ) → IsWritten start text (S.accepted sink.old) page.old → IsWritten start (text ++ canonical_text (map CutNode (filter (set.contains cut.now.ids) (id ∷ [])))) (S.accepted sink.new) page.new }
-    ensures faults { (start : ℕ) → FaultsAre start (S.faults sink.old) page.old → FaultsAre start (S.faults sink.new) page.new }
+    ensures written { Appends (canonical_text (map CutNode (filter (set.contains cut.now.ids) (id ∷ [])))) (S.accepted sink.old) page.old (S.accepted sink.new) page.new }
+    ensures faults { CountsOn (S.faults sink.old) page.old (S.faults sink.new) page.new }
 {
     if cut.contains(id) {
         write_record(page, sink, &Record::CutNode { id });

@@ -3,7 +3,7 @@
 ghost use Rattle.std.specs.Prelude.{◌≡◌, ◌<◌, ◌≤◌, ◌++◌, ◌∷◌, [], ℕ, List, Option, Some, None, OnOk, OnErr, IfOk, IfSome, is_some, length};
 ghost use Rattle.dimacs_lines.specs.Devices.{CountsFault};
 ghost use Rattle.dimacs_lines.specs.Lines.{lines};
-ghost use Rattle.dimacs_lines.specs.Pages.{FaultsAre, IsWritten};
+ghost use Rattle.dimacs_lines.specs.Pages.{Appends, CountsOn};
 ghost use Rattle.dimacs_lines.specs.Puts.{Puts};
 ghost use Rattle.dimacs_records.specs.declared.kinds.TextKind.TheVariants as kinds;
 ghost use Rattle.dimacs_records.specs.declared.records.Record.TheVariants.{LabelsProblem, LabelsBlock, LabelsNode};
@@ -411,8 +411,8 @@ pub fn write_labels<S: Sink>(labels: &Labels, sink: &mut S) -> Result<(), Device
 /// Writes the line of a block and those of its labels.
 fn write_block<S: Sink>(page: &mut Page, sink: &mut S, block: &Block)
     requires { length block.now.labels ≤ 268435456 }
-    ensures written { (start : Option (List ℕ)) (text : List ℕ) → IsWritten start text (S.accepted sink.old) page.old → IsWritten start (text ++ canonical_text (block_lines block.now)) (S.accepted sink.new) page.new }
-    ensures faults { (start : ℕ) → FaultsAre start (S.faults sink.old) page.old → FaultsAre start (S.faults sink.new) page.new }
+    ensures written { Appends (canonical_text (block_lines block.now)) (S.accepted sink.old) page.old (S.accepted sink.new) page.new }
+    ensures faults { CountsOn (S.faults sink.old) page.old (S.faults sink.new) page.new }
 {
     let labels = block.labels();
     let source = block.source();

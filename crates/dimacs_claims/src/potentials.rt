@@ -4,7 +4,7 @@ ghost use Rattle.std.specs.Prelude.{◌≡◌, ◌≤◌, ◌<◌, ◌++◌, ◌
 ghost use Rattle.std.specs.List.{filter};
 ghost use Rattle.dimacs_lines.specs.Devices.{CountsFault};
 ghost use Rattle.dimacs_lines.specs.Lines.{lines};
-ghost use Rattle.dimacs_lines.specs.Pages.{IsWritten, FaultsAre};
+ghost use Rattle.dimacs_lines.specs.Pages.{Appends, CountsOn};
 ghost use Rattle.dimacs_lines.specs.Puts.{Puts};
 ghost use Rattle.dimacs_records.specs.declared.kinds.TextKind.TheVariants as kinds;
 ghost use Rattle.dimacs_records.specs.declared.records.Record.TheVariants.{PotentialsProblem, PotentialsNode};
@@ -288,8 +288,8 @@ pub fn write_potentials<S: Sink>(potentials: &Potentials, sink: &mut S) -> Resul
 /// Writes the line of a node, if its potential isn't 0.
 #[inline(always)]
 fn write_node<S: Sink>(page: &mut Page, sink: &mut S, potentials: &Potentials, id: u32)
-    ensures written { (start : Option (List ℕ)) (text : List ℕ) → IsWritten start text (S.accepted sink.old) page.old → IsWritten start (text ++ canonical_text (map node_line (with_values potentials.now (filter (λ id. is_nonzero (potential_of potentials.now id)) (id ∷ []))))) (S.accepted sink.new) page.new }
-    ensures faults { (start : ℕ) → FaultsAre start (S.faults sink.old) page.old → FaultsAre start (S.faults sink.new) page.new }
+    ensures written { Appends (canonical_text (map node_line (with_values potentials.now (filter (λ id. is_nonzero (potential_of potentials.now id)) (id ∷ []))))) (S.accepted sink.old) page.old (S.accepted sink.new) page.new }
+    ensures faults { CountsOn (S.faults sink.old) page.old (S.faults sink.new) page.new }
 {
     let value = potentials.of(id);
     if value != 0 {

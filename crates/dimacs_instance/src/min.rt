@@ -5,7 +5,7 @@ ghost use Rattle.std.specs.List.{filter};
 ghost use Rattle.std.specs.FinMap.{entries};
 ghost use Rattle.dimacs_lines.specs.Devices.{CountsFault};
 ghost use Rattle.dimacs_lines.specs.Lines.{lines};
-ghost use Rattle.dimacs_lines.specs.Pages.{IsWritten, FaultsAre};
+ghost use Rattle.dimacs_lines.specs.Pages.{Appends, CountsOn};
 ghost use Rattle.dimacs_lines.specs.Puts.{Puts};
 ghost use Rattle.dimacs_records.specs.declared.kinds.TextKind.TheVariants as kinds;
 ghost use Rattle.dimacs_records.specs.declared.records.Record.TheVariants.{MinProblem, MinNode};
@@ -374,8 +374,8 @@ pub fn write_min<N: Network, S: Sink>(
 
 /// Writes the node lines, by ID.
 fn write_supplies<N: Network, S: Sink>(page: &mut Page, sink: &mut S, instance: &MinInstance<N>)
-    ensures written { (start : Option (List ℕ)) (text : List ℕ) → IsWritten start text (S.accepted sink.old) page.old → IsWritten start (text ++ canonical_text (map min_node (entries instance.now.supplies))) (S.accepted sink.new) page.new }
-    ensures faults { (start : ℕ) → FaultsAre start (S.faults sink.old) page.old → FaultsAre start (S.faults sink.new) page.new }
+    ensures written { Appends (canonical_text (map min_node (entries instance.now.supplies))) (S.accepted sink.old) page.old (S.accepted sink.new) page.new }
+    ensures faults { CountsOn (S.faults sink.old) page.old (S.faults sink.new) page.new }
 {
     for id in 1..=instance.network().nodes() {
         write_supply(page, sink, id, instance.supply(id));
@@ -385,8 +385,8 @@ fn write_supplies<N: Network, S: Sink>(page: &mut Page, sink: &mut S, instance: 
 /// Writes the line of a node, unless its supply is 0.
 #[inline(always)]
 fn write_supply<S: Sink>(page: &mut Page, sink: &mut S, id: u32, supply: i64)
-    ensures written { (start : Option (List ℕ)) (text : List ℕ) → IsWritten start text (S.accepted sink.old) page.old → IsWritten start (text ++ canonical_text (map min_node (filter has_value ((id, supply) ∷ [])))) (S.accepted sink.new) page.new }
-    ensures faults { (start : ℕ) → FaultsAre start (S.faults sink.old) page.old → FaultsAre start (S.faults sink.new) page.new }
+    ensures written { Appends (canonical_text (map min_node (filter has_value ((id, supply) ∷ [])))) (S.accepted sink.old) page.old (S.accepted sink.new) page.new }
+    ensures faults { CountsOn (S.faults sink.old) page.old (S.faults sink.new) page.new }
 {
     if supply != 0 {
         write_record(page, sink, &Record::MinNode { id, supply });

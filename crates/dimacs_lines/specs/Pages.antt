@@ -28,6 +28,14 @@ IsWritten old text new page = IsWrittenBy page.failed old text new page.kept
 abbrev pub FaultsAre : ℕ → ℕ → PageState → Type 0
 FaultsAre start now page = now ≡ (if page.failed then one_more start else start)
 
+-- more was written, after whatever stood there: the sink accepted it, or the page keeps it
+abbrev pub Appends : List ℕ → Option (List ℕ) → PageState → Option (List ℕ) → PageState → Type 0
+Appends more old page new after = (start : Option (List ℕ)) (text : List ℕ) → IsWritten start text old page → IsWritten start (text ++ more) new after
+
+-- the sink's faults are counted on, from whatever number they began at
+abbrev pub CountsOn : ℕ → PageState → ℕ → PageState → Type 0
+CountsOn old page new after = (start : ℕ) → FaultsAre start old page → FaultsAre start new after
+
 -- the bytes were put, unless the sink had failed before; and whether it has failed by now
 abbrev pub IsPut : Bool → Option (List ℕ) → ℕ → List ℕ → Bool → Option (List ℕ) → ℕ → Type 0
 IsPut true old faults bytes failed new counted = (failed ≡ true) × (new ≡ old) × (counted ≡ faults)

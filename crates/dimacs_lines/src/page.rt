@@ -4,7 +4,7 @@ ghost use Rattle.std.specs.Prelude.{◌≡◌, ◌+◌, ◌≤◌, [], ◌++◌,
 ghost use Rattle.std.specs.Fmt.{decimal, signed_decimal};
 ghost use Rattle.dimacs_lines.specs.Puts.{Puts};
 ghost use Rattle.dimacs_lines.specs.Devices.{CountsFault};
-ghost use Rattle.dimacs_lines.specs.Pages.{IsWritten, IsPut, FaultsAre, number_field, numbers_line};
+ghost use Rattle.dimacs_lines.specs.Pages.{Appends, CountsOn, IsWritten, IsPut, FaultsAre, number_field, numbers_line};
 
 use crate::decimals::decimal_length;
 use crate::device::{DeviceFault, Sink, put_all};
@@ -66,8 +66,8 @@ impl Page {
     /// Writes the bytes behind what was written before.
     #[inline(always)]
     pub fn write<S: Sink>(&mut self, sink: &mut S, bytes: &[u8])
-        ensures written { (start : Option (List ℕ)) (text : List ℕ) → IsWritten start text (S.accepted sink.old) self.old → IsWritten start (text ++ bytes.now) (S.accepted sink.new) self.new }
-        ensures faults { (start : ℕ) → FaultsAre start (S.faults sink.old) self.old → FaultsAre start (S.faults sink.new) self.new }
+        ensures written { Appends bytes.now (S.accepted sink.old) self.old (S.accepted sink.new) self.new }
+        ensures faults { CountsOn (S.faults sink.old) self.old (S.faults sink.new) self.new }
     {
         if PAGE - self.length < bytes.len() {
             self.turn(sink, bytes);
@@ -79,8 +79,8 @@ impl Page {
     /// Writes a number in decimal.
     #[inline(always)]
     pub fn number<S: Sink>(&mut self, sink: &mut S, n: i64)
-        ensures written { (start : Option (List ℕ)) (text : List ℕ) → IsWritten start text (S.accepted sink.old) self.old → IsWritten start (text ++ signed_decimal n) (S.accepted sink.new) self.new }
-        ensures faults { (start : ℕ) → FaultsAre start (S.faults sink.old) self.old → FaultsAre start (S.faults sink.new) self.new }
+        ensures written { Appends (signed_decimal n) (S.accepted sink.old) self.old (S.accepted sink.new) self.new }
+        ensures faults { CountsOn (S.faults sink.old) self.old (S.faults sink.new) self.new }
     {
         self.make_room(sink, LONGEST);
         self.append_number(n);
@@ -92,8 +92,8 @@ impl Page {
     pub fn line<S: Sink>(&mut self, sink: &mut S, word: &[u8], numbers: &[i64])
         requires short { length word.now ≤ 8 }
         requires few { length numbers.now ≤ 5 }
-        ensures written { (start : Option (List ℕ)) (text : List ℕ) → IsWritten start text (S.accepted sink.old) self.old → IsWritten start (text ++ numbers_line word.now numbers.now) (S.accepted sink.new) self.new }
-        ensures faults { (start : ℕ) → FaultsAre start (S.faults sink.old) self.old → FaultsAre start (S.faults sink.new) self.new }
+        ensures written { Appends (numbers_line word.now numbers.now) (S.accepted sink.old) self.old (S.accepted sink.new) self.new }
+        ensures faults { CountsOn (S.faults sink.old) self.old (S.faults sink.new) self.new }
     {
         self.make_room(sink, LONGEST_LINE);
         self.append_line(word, numbers);
@@ -101,8 +101,8 @@ impl Page {
 
     /// Writes a wide number in decimal.
     pub fn wide<S: Sink>(&mut self, sink: &mut S, n: i128)
-        ensures written { (start : Option (List ℕ)) (text : List ℕ) → IsWritten start text (S.accepted sink.old) self.old → IsWritten start (text ++ signed_decimal n) (S.accepted sink.new) self.new }
-        ensures faults { (start : ℕ) → FaultsAre start (S.faults sink.old) self.old → FaultsAre start (S.faults sink.new) self.new }
+        ensures written { Appends (signed_decimal n) (S.accepted sink.old) self.old (S.accepted sink.new) self.new }
+        ensures faults { CountsOn (S.faults sink.old) self.old (S.faults sink.new) self.new }
     {
         let mut digits = Buffer::new();
         self.write(sink, digits.format(n).as_bytes());
@@ -123,8 +123,8 @@ impl Page {
     /// Writes the bytes where the page has no room for them.
     #[inline(never)]
     fn turn<S: Sink>(&mut self, sink: &mut S, bytes: &[u8])
-        ensures written { (start : Option (List ℕ)) (text : List ℕ) → IsWritten start text (S.accepted sink.old) self.old → IsWritten start (text ++ bytes.now) (S.accepted sink.new) self.new }
-        ensures faults { (start : ℕ) → FaultsAre start (S.faults sink.old) self.old → FaultsAre start (S.faults sink.new) self.new }
+        ensures written { Appends bytes.now (S.accepted sink.old) self.old (S.accepted sink.new) self.new }
+        ensures faults { CountsOn (S.faults sink.old) self.old (S.faults sink.new) self.new }
     {
         self.flush(sink);
         if PAGE < bytes.len() {
@@ -139,7 +139,7 @@ impl Page {
     fn make_room<S: Sink>(&mut self, sink: &mut S, bytes: usize)
         requires { bytes ≤ 16384 }
         ensures written { (start : Option (List ℕ)) (text : List ℕ) → IsWritten start text (S.accepted sink.old) self.old → IsWritten start text (S.accepted sink.new) self.new }
-        ensures faults { (start : ℕ) → FaultsAre start (S.faults sink.old) self.old → FaultsAre start (S.faults sink.new) self.new }
+        ensures faults { CountsOn (S.faults sink.old) self.old (S.faults sink.new) self.new }
         ensures room { length self.new.kept + bytes ≤ 16384 }
     {
         if PAGE - self.length < bytes {
@@ -149,7 +149,7 @@ impl Page {
 
     fn flush<S: Sink>(&mut self, sink: &mut S)
         ensures written { (start : Option (List ℕ)) (text : List ℕ) → IsWritten start text (S.accepted sink.old) self.old → IsWritten start text (S.accepted sink.new) self.new }
-        ensures faults { (start : ℕ) → FaultsAre start (S.faults sink.old) self.old → FaultsAre start (S.faults sink.new) self.new }
+        ensures faults { CountsOn (S.faults sink.old) self.old (S.faults sink.new) self.new }
         ensures empty { self.new.kept ≡ [] }
     {
         self.failed = put_unless(self.failed, sink, &self.bytes[..self.length]);

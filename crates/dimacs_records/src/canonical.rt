@@ -3,7 +3,7 @@
 ghost use Rattle.std.specs.Prelude.{◌≡◌, ◌≤◌, ℕ, List, Option, [], ◌∷◌, ◌++◌, length, pos, codes};
 ghost use Rattle.dimacs_lines.specs.Devices.{CountsFault};
 ghost use Rattle.dimacs_lines.specs.Puts.{Puts};
-ghost use Rattle.dimacs_lines.specs.Pages.{IsWritten, FaultsAre};
+ghost use Rattle.dimacs_lines.specs.Pages.{Appends, CountsOn};
 ghost use Rattle.dimacs_records.specs.declared.printed.Part.TheVariants.{Number};
 ghost use Rattle.dimacs_records.specs.Canonical.{canonical_line, line_of};
 ghost use Rattle.dimacs_records.specs.Spelling.{Text, Amount};
@@ -25,8 +25,8 @@ pub fn put_record<S: Sink>(sink: &mut S, said: &Record) -> Result<(), DeviceFaul
 /// Writes the line of a record behind what was written before.
 #[inline(always)]
 pub fn write_record<S: Sink>(page: &mut Page, sink: &mut S, said: &Record)
-    ensures written { (start : Option (List ℕ)) (text : List ℕ) → IsWritten start text (S.accepted sink.old) page.old → IsWritten start (text ++ canonical_line said.now) (S.accepted sink.new) page.new }
-    ensures faults { (start : ℕ) → FaultsAre start (S.faults sink.old) page.old → FaultsAre start (S.faults sink.new) page.new }
+    ensures written { Appends (canonical_line said.now) (S.accepted sink.old) page.old (S.accepted sink.new) page.new }
+    ensures faults { CountsOn (S.faults sink.old) page.old (S.faults sink.new) page.new }
 {
     match *said {
         Record::MaxProblem { nodes, arcs } => write_problem(page, sink, b"max", nodes, arcs),
@@ -104,8 +104,8 @@ pub fn write_record<S: Sink>(page: &mut Page, sink: &mut S, said: &Record)
 /// Writes a problem line that declares nodes and a count.
 #[inline(always)]
 fn write_problem<S: Sink>(page: &mut Page, sink: &mut S, word: &[u8], nodes: u32, count: u32)
-    ensures written { (start : Option (List ℕ)) (text : List ℕ) → IsWritten start text (S.accepted sink.old) page.old → IsWritten start (text ++ line_of (codes "p") (Text word.now ∷ Amount (pos nodes) ∷ Amount (pos count) ∷ [])) (S.accepted sink.new) page.new }
-    ensures faults { (start : ℕ) → FaultsAre start (S.faults sink.old) page.old → FaultsAre start (S.faults sink.new) page.new }
+    ensures written { Appends (line_of (codes "p") (Text word.now ∷ Amount (pos nodes) ∷ Amount (pos count) ∷ [])) (S.accepted sink.old) page.old (S.accepted sink.new) page.new }
+    ensures faults { CountsOn (S.faults sink.old) page.old (S.faults sink.new) page.new }
 {
     write_line(
         page,
@@ -119,8 +119,8 @@ fn write_problem<S: Sink>(page: &mut Page, sink: &mut S, word: &[u8], nodes: u32
 #[inline(always)]
 fn write_arc<S: Sink>(page: &mut Page, sink: &mut S, letter: &[u8], tail: u32, head: u32, n: i64)
     requires { length letter.now ≤ 8 }
-    ensures written { (start : Option (List ℕ)) (text : List ℕ) → IsWritten start text (S.accepted sink.old) page.old → IsWritten start (text ++ line_of letter.now (Amount (pos tail) ∷ Amount (pos head) ∷ Amount n ∷ [])) (S.accepted sink.new) page.new }
-    ensures faults { (start : ℕ) → FaultsAre start (S.faults sink.old) page.old → FaultsAre start (S.faults sink.new) page.new }
+    ensures written { Appends (line_of letter.now (Amount (pos tail) ∷ Amount (pos head) ∷ Amount n ∷ [])) (S.accepted sink.old) page.old (S.accepted sink.new) page.new }
+    ensures faults { CountsOn (S.faults sink.old) page.old (S.faults sink.new) page.new }
 {
     page.line(sink, letter, &[i64::from(tail), i64::from(head), n]);
 }

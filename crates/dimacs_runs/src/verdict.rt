@@ -3,7 +3,7 @@
 ghost use Rattle.std.specs.Prelude.{◌++◌, ℕ, List, Option};
 ghost use Rattle.std.specs.List.{flat_map};
 ghost use Rattle.dimacs_lines.specs.Devices.{CountsFault};
-ghost use Rattle.dimacs_lines.specs.Pages.{FaultsAre, IsWritten};
+ghost use Rattle.dimacs_lines.specs.Pages.{Appends, CountsOn};
 ghost use Rattle.dimacs_lines.specs.Puts.{Puts};
 ghost use Rattle.dimacs_runs.specs.Verdicts.{verdict_lines, failure_line, gave_up_line, numbered_line, answer_line};
 
@@ -48,8 +48,8 @@ fn put_answers<K: Sink>(sink: &mut K, answers: &[Answer]) -> Result<(), DeviceFa
 
 /// Writes the line of an answer.
 fn write_answer<K: Sink>(page: &mut Page, sink: &mut K, answer: &Answer)
-    ensures written { (start : Option (List ℕ)) (text : List ℕ) → IsWritten start text (K.accepted sink.old) page.old → IsWritten start (text ++ answer_line answer.now) (K.accepted sink.new) page.new }
-    ensures faults { (start : ℕ) → FaultsAre start (K.faults sink.old) page.old → FaultsAre start (K.faults sink.new) page.new }
+    ensures written { Appends (answer_line answer.now) (K.accepted sink.old) page.old (K.accepted sink.new) page.new }
+    ensures faults { CountsOn (K.faults sink.old) page.old (K.faults sink.new) page.new }
 {
     let from = Part::Number(i64::from(answer.from));
     let to = Part::Number(i64::from(answer.to));
