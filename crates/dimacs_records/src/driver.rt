@@ -115,7 +115,7 @@ fn take_plain<R: Reading>(
 {
     let mut bytes = 0;
     let mut lines = 0;
-    while let Some(line) = plain_line(kind, &held[bytes..]) {
+    while let Some(line) = plain_line::<R>(kind, &held[bytes..]) {
         lines += 1;
         if let Err(error) = reading.take(given + lines, line.said) {
             return Err(at_line(given + lines, error));

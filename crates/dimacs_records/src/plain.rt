@@ -8,6 +8,7 @@ ghost use Rattle.dimacs_records.specs.Plain.{IsPlainLine, SaysFirst};
 ghost use Rattle.dimacs_records.specs.Spelling.{Amount};
 
 use crate::kinds::TextKind;
+use crate::reading::Reading;
 use crate::records::Record;
 use dimacs_lines::{plain_id, plain_whole};
 
@@ -43,8 +44,10 @@ struct Value {
 }
 
 /// What the first line says, where it has the plain form.
-#[inline(always)]
-pub(crate) fn plain_line(kind: TextKind, bytes: &[u8]) -> Option<PlainLine>
+///
+/// Each reading R has a copy of its own, in which the kind is constant, so that the forms of the others fall away.
+#[inline]
+pub(crate) fn plain_line<R: Reading>(kind: TextKind, bytes: &[u8]) -> Option<PlainLine>
     ensures { IfSome result (λ line. SaysFirst kind bytes.now line.said line.size) }
 {
     match kind {
