@@ -14,7 +14,7 @@ const PAGE: usize = 256;
 /// A value for each node that was given one, by the node's ID.
 ///
 /// A page of slots is taken when an ID of it is first set, and the directory of pages ends with that of the greatest ID
-/// that was set. That is a law of the type, so no body takes memory for other IDs.
+/// that was set. That is a law of the type, so no page is kept for other IDs.
 #[derive(Drop)]
 pub struct NodeMap<T> {
     pages: Vec<Vec<Option<T>>>,
