@@ -16,6 +16,10 @@ pub record LabelsValue : Type 0 where
   pub nodes : ℕ
   pub blocks : List BlockValue
 
+-- stands past the end of a list
+abbrev pub no_label : Label
+no_label = record { dist = pos 0; id = 0; pred = 0 }
+
 abbrev pub distance_in : List Label → ℕ → Option ℤ
 distance_in [] v = None
 distance_in (l ∷ labels) v = if l.id == v then Some l.dist else distance_in labels v

@@ -6,6 +6,7 @@ ghost use Rattle.dimacs_records.specs.Ranges.{IsNode};
 ghost use Rattle.dimacs_claims.specs.Labels.{BlockValue, IsBlock, IsLabel, IsNear, with_label};
 ghost use Rattle.dimacs_claims.specs.Labels as claims;
 
+use crate::label_list::LabelList;
 use dimacs_lines::Memory;
 use std::alloc::Global;
 use std::marker::Model;
@@ -23,7 +24,7 @@ pub struct Label {
 pub struct Block {
     source: u32,
     radius: Option<i128>,
-    labels: Vec<Label>,
+    labels: LabelList,
 }
 
 impl Model for Block {
@@ -31,7 +32,7 @@ impl Model for Block {
 
     ghost Value = { BlockValue };
 
-    ghost view = { λ b. record { source = b.source; radius = b.radius; labels = b.labels.items } };
+    ghost view = { λ b. record { source = b.source; radius = b.radius; labels = b.labels } };
 }
 
 impl Block {
@@ -50,7 +51,7 @@ impl Block {
         Block {
             source,
             radius,
-            labels: Vec::new(alloc),
+            labels: LabelList::new(alloc),
         }
     }
 
@@ -91,7 +92,7 @@ impl Block {
     }
 
     /// In the order of the text.
-    pub fn labels(&self) -> &[Label]
+    pub fn labels(&self) -> &LabelList
         ensures { result.now ≡ self.now.labels }
     {
         &self.labels

@@ -427,8 +427,8 @@ fn write_block<S: Sink>(page: &mut Page, sink: &mut S, block: &Block)
             radius,
         },
     );
-    for label in labels {
-        write_record(page, sink, &label_record(*label));
+    for i in 0..labels.len() {
+        write_record(page, sink, &label_record(labels.at(i)));
     }
 }
 

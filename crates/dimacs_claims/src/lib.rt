@@ -4,6 +4,7 @@
 mod block;
 mod by_id;
 mod cut;
+mod label_list;
 mod labels;
 mod place;
 mod potentials;
@@ -11,6 +12,7 @@ mod solution;
 
 pub use block::{Block, Label};
 pub use cut::{Cut, CutReading, read_cut, write_cut};
+pub use label_list::LabelList;
 pub use labels::{Labels, LabelsReading, read_labels, write_labels};
 pub use place::{Place, Placed};
 pub use potentials::{Potentials, PotentialsReading, read_potentials, write_potentials};

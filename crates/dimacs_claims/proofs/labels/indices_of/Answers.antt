@@ -1,4 +1,4 @@
-use Rattle.std.proofs.Common.{◌≡◌, ◌+◌, ◌∷◌, [], ◌∙◌, ap, sym, subst, length, arith}
+use Rattle.std.proofs.Common.{◌≡◌, ◌∷◌, [], ◌∙◌, ap, sym, subst, length, arith}
 use Rattle.std.proofs.lemmas.List.{length-append}
 use Rattle.dimacs_claims.specs.ById.{IsById, labels_at}
 use Rattle.dimacs_claims.specs.Labels.{IsBlock}

@@ -6,8 +6,8 @@ use Rattle.dimacs_claims.specs.LabelTexts.{label_line}
 use Rattle.dimacs_claims.proofs.labels.write_block.Given as goal
 
 -- the line of the block and the labels so far were written
-abbrev pub invariant-loop-label : goal.invariant-loop-label
-invariant-loop-label g l = record {
-  written : (start : Option (List ℕ)) (text : List ℕ) → IsWritten start text (g.S.Sink.accepted l.fn.sink) l.fn.page → IsWritten start (text ++ canonical_text (LabelsBlock l.source (length l.labels) l.block.radius ∷ map label_line (take l.label-index l.labels))) (g.S.Sink.accepted l.sink) l.page;
+abbrev pub invariant-loop-i : goal.invariant-loop-i
+invariant-loop-i g l = record {
+  written : (start : Option (List ℕ)) (text : List ℕ) → IsWritten start text (g.S.Sink.accepted l.fn.sink) l.fn.page → IsWritten start (text ++ canonical_text (LabelsBlock l.source (length l.labels) l.block.radius ∷ map label_line (take l.i l.labels))) (g.S.Sink.accepted l.sink) l.page;
   faults : (start : ℕ) → FaultsAre start (g.S.Sink.faults l.fn.sink) l.fn.page → FaultsAre start (g.S.Sink.faults l.sink) l.page;
 }
