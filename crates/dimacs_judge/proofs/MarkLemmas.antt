@@ -15,15 +15,14 @@ use Rattle.dimacs_records.specs.declared.reasons.Reason.TheVariants.{Escapes, No
 use Rattle.dimacs_records.specs.Ranges.{IsWide}
 use Rattle.dimacs_instance.specs.declared.network.ArcView.{ArcView}
 use Rattle.dimacs_claims.specs.declared.block.Label.{Label}
-use Rattle.dimacs_claims.specs.Labels.{BlockValue, IsBlock, IsFresh, IsNear, distance_in, label}
-use Rattle.dimacs_claims.specs.ById as by_id
+use Rattle.dimacs_claims.specs.Labels.{BlockValue, IsBlock, IsFresh, IsNear, distance_in, label, no_label}
 use Rattle.dimacs_claims.proofs.BegunLemmas.{unlabelled}
 use Rattle.dimacs_claims.proofs.BlockLemmas.{fresh_has_none, label-with_label, label_at_wide}
 use Rattle.dimacs_claims.proofs.ByIdLemmas.{distance_in-at, fresh_apart, label_elsewhere}
 use Rattle.dimacs_judge.specs.declared.marks.Mark.{Mark}
 use Rattle.dimacs_judge.specs.declared.verdict.Where.{Where}
 use Rattle.dimacs_judge.specs.declared.verdict.Where.TheVariants.{Arc}
-use Rattle.dimacs_judge.specs.CertificateTests.{no_label, RelaxFails, relax_row}
+use Rattle.dimacs_judge.specs.CertificateTests.{RelaxFails, relax_row}
 use Rattle.dimacs_judge.specs.Labels.{HasTightArc}
 use Rattle.dimacs_judge.specs.Marks.{AreEarlier, AreMade, AreMadeAmong, AreMadeBelow, AreUnmade, AreWide, IsMadeAmong, IsMarked, IsTight, Makes, MarksArc, SaysSame, TellsBelow, dist_of, first_told, marked_dist}
 use Rattle.dimacs_judge.specs.Rows.{arc_at, no_arc}
@@ -53,14 +52,14 @@ split_at : {A : Type 0} (xs : List A) (j : ℕ) (d : A) → j < length xs → xs
 split_at xs j d inside = sym (take-append-drop j xs) ∙ ap (λ rest. take j xs ++ rest) (drop-cons xs j d inside)
 
 abbrev pub label_of : BlockValue → ℕ → Label
-label_of b n = get_or b.labels n by_id.no_label
+label_of b n = get_or b.labels n no_label
 
 label_fresh : (nodes : ℕ) (b : BlockValue) → IsBlock nodes b → (n : ℕ) → n < length b.labels → IsFresh b.source (take n b.labels) (label_of b n)
-label_fresh nodes b is n inside = is.fresh (take n b.labels) (drop (suc n) b.labels) (label_of b n) (split_at b.labels n by_id.no_label inside)
+label_fresh nodes b is n inside = is.fresh (take n b.labels) (drop (suc n) b.labels) (label_of b n) (split_at b.labels n no_label inside)
 
 label_named : (nodes : ℕ) (b : BlockValue) → IsBlock nodes b → (l : Label) → Contains b.labels l → label b l.id ≡ Some l.dist
 label_named nodes b is l (k, inside, at) =
-    let same : label_of b k ≡ l = get_or_default b.labels k by_id.no_label l inside ∙ at in
+    let same : label_of b k ≡ l = get_or_default b.labels k no_label l inside ∙ at in
     let off : b.source ≢ l.id = λ e. (label_fresh nodes b is k inside).0 (ap (λ (m : Label). m.id) same ∙ sym e) in
     label_elsewhere b l.id off ∙ subst (λ (m : Label). distance_in b.labels m.id ≡ Some m.dist) same (distance_in-at b.labels (fresh_apart b.source b.labels is.fresh) k inside)
 
@@ -112,7 +111,7 @@ marked_more number nodes b n old new m is inside are blank here others dist pred
     let l = label_of b n in
     let fresh = label_fresh nodes b is n inside in
     let none : label (first_labels b n) l.id ≡ None = unlabelled (label (first_labels b n) l.id) (fresh_has_none (first_labels b n) l fresh) in
-    let more : take (n + 1) b.labels ≡ take n b.labels ++ l ∷ [] = take_more b.labels n by_id.no_label inside in
+    let more : take (n + 1) b.labels ≡ take n b.labels ++ l ∷ [] = take_more b.labels n no_label inside in
     record {
       early = record {
         blank = ap (λ (k : Mark). k.block) blank ∙ are.early.blank;

@@ -6,9 +6,9 @@ use Rattle.dimacs_records.specs.declared.reasons.Reason.{Reason}
 use Rattle.dimacs_judge.specs.declared.verdict.Where.{Where}
 use Rattle.dimacs_judge.specs.declared.verdict.Where.TheVariants.{Arc, Node}
 use Rattle.dimacs_records.specs.declared.reasons.Reason.TheVariants.{NoTightArc}
-use Rattle.dimacs_claims.specs.Labels.{BlockValue, label}
+use Rattle.dimacs_claims.specs.Labels.{BlockValue, label, no_label}
 use Rattle.dimacs_judge.specs.Labels.{HasTightArc}
-use Rattle.dimacs_judge.specs.CertificateTests.{negative_row, no_label, support_row, RelaxFails, relax_row, weight_row}
+use Rattle.dimacs_judge.specs.CertificateTests.{negative_row, support_row, RelaxFails, relax_row, weight_row}
 use Rattle.dimacs_judge.specs.Tests.{Row, ClearBelow, Clear, FirstOfRow, TellsRow}
 use Rattle.dimacs_judge.specs.Rows.{no_arc, arc_at, amount_at, arc_row, flow_row, node_row}
 

@@ -4,13 +4,12 @@ use Rattle.dimacs_instance.specs.declared.network.ArcView.{ArcView}
 use Rattle.dimacs_records.specs.declared.reasons.Reason.{Reason}
 use Rattle.dimacs_records.specs.declared.reasons.Reason.TheVariants.{SourceOutside, SinkInside, NotSaturated, BackFlow, NotTight, NotViolated, NoTightArc, Escapes, NotShortest, NegativeWeight}
 use Rattle.dimacs_judge.specs.declared.verdict.Where.TheVariants.{Certificate, Node}
-use Rattle.dimacs_claims.specs.declared.block.Label.{Label}
 use Rattle.dimacs_instance.specs.MaxFlows.{MaxValue}
 use Rattle.dimacs_instance.specs.MinFlows.{MinValue}
 use Rattle.dimacs_judge.specs.ViolatedSets.{Violated}
 use Rattle.dimacs_judge.specs.Cuts.{leaves, enters}
 use Rattle.dimacs_judge.specs.Potentials.{reduced_cost}
-use Rattle.dimacs_claims.specs.Labels.{BlockValue, IsNear, label}
+use Rattle.dimacs_claims.specs.Labels.{BlockValue, IsNear, label, no_label}
 use Rattle.dimacs_judge.specs.Labels.{HasTightArc}
 use Rattle.dimacs_judge.specs.Rows.{arc_row, flow_row, one_test, arc_at}
 use Rattle.dimacs_judge.specs.Tests.{Row}
@@ -39,9 +38,6 @@ slack_row arcs p x = flow_row (λ a. SlackFails (reduced_cost p a) a) arcs x
 -- the test of a set of nodes
 abbrev pub violated_row : MinValue → (ℕ → Bool) → Row
 violated_row i set = one_test Certificate NotViolated (¬ Violated i set)
-
-abbrev pub no_label : Label
-no_label = record { dist = pos 0; id = 0; pred = 0 }
 
 -- the weight of an arc is negative
 abbrev pub negative_row : List ArcView → Row

@@ -9,7 +9,7 @@ ghost use Rattle.dimacs_records.specs.declared.reasons.Reason.TheVariants as rea
 ghost use Rattle.dimacs_judge.specs.Tests.{Decides, TellsReason, TellsRow, Tells};
 
 use crate::verdict::Where;
-use dimacs_claims::{Label, Labels};
+use dimacs_claims::{Label, LabelList, Labels};
 use dimacs_instance::{ArcView, Graph, Network};
 use dimacs_records::Reason;
 
@@ -97,8 +97,10 @@ fn labels_supported<N: Network>(
     requires { block < length labels.now.blocks }
     ensures { TellsRow (support_row (N.list network.now) (block_at labels.now.blocks block)) result }
 {
-    for label in labels_in(labels, block) {
-        if !is_supported(network, *label, labels.label(block, label.pred)) {
+    let list = labels_in(labels, block);
+    for i in 0..list.len() {
+        let label = list.at(i);
+        if !is_supported(network, label, labels.label(block, label.pred)) {
             return Err((Where::Node(label.id), Reason::NoTightArc));
         }
     }
@@ -106,7 +108,7 @@ fn labels_supported<N: Network>(
 }
 
 /// The labels of a block, in order.
-fn labels_in(labels: &Labels, block: usize) -> &[Label]
+fn labels_in(labels: &Labels, block: usize) -> &LabelList
     requires { block < length labels.now.blocks }
     ensures { result.now ≡ (block_at labels.now.blocks block).labels }
 {

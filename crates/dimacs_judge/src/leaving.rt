@@ -51,8 +51,9 @@ pub(crate) fn leaving_passed<N: Network>(
     ensures relaxed { TellsRow (relax_row (N.list network.now) block.now) result }
 {
     let mut told = node_passed(network, block, block.source(), number, links, None, marks);
-    for label in block.labels() {
-        told = node_passed(network, block, label.id, number, links, told, marks);
+    let labels = block.labels();
+    for i in 0..labels.len() {
+        told = node_passed(network, block, labels.at(i).id, number, links, told, marks);
     }
     refusal(told)
 }

@@ -15,7 +15,7 @@ ghost use Rattle.dimacs_judge.specs.Tests.{TellsAll, TellsReason, TellsRow};
 use crate::labels::{escape_fault, is_beyond, weights_hold};
 use crate::leaving::{labels_few, leaving_passed};
 use crate::verdict::{JudgeError, Where};
-use dimacs_claims::{Block, Label, Labels};
+use dimacs_claims::{Block, LabelList, Labels};
 use dimacs_instance::{ArcView, Links, Network, Side};
 use dimacs_lines::Memory;
 use dimacs_nodes::NodeTable;
@@ -187,7 +187,9 @@ fn mark_labels(block: &Block, number: u32, marks: &mut NodeTable<Mark>) -> Resul
     ensures unmade { OnOk result (AreUnmade block.now marks.new) }
 {
     marks.set(block.source(), Mark::of(0, 0, number))?;
-    for label in block.labels() {
+    let labels = block.labels();
+    for i in 0..labels.len() {
+        let label = labels.at(i);
         marks.set(label.id, Mark::of(label.dist, label.pred, number))?;
     }
     Ok(())
@@ -321,12 +323,13 @@ fn distance_by(mark: Mark, number: u32) -> Option<i128>
 }
 
 /// The first label that no arc makes, by the marks.
-fn labels_made(labels: &[Label], marks: &NodeTable<Mark>) -> Result<(), (Where, Reason)>
+fn labels_made(labels: &LabelList, marks: &NodeTable<Mark>) -> Result<(), (Where, Reason)>
     ensures { (arcs : List ArcView) (b : BlockValue) → b.labels ≡ labels.now → AreMade arcs b marks.now → TellsRow (support_row arcs b) result }
 {
-    for label in labels {
-        if !marks.get(label.id).made {
-            return Err((Where::Node(label.id), Reason::NoTightArc));
+    for i in 0..labels.len() {
+        let id = labels.at(i).id;
+        if !marks.get(id).made {
+            return Err((Where::Node(id), Reason::NoTightArc));
         }
     }
     Ok(())

@@ -1,25 +1,28 @@
 use Rattle.std.proofs.Common.{◌≡◌, ◌∙◌, false, sym, ap, get_or}
 use Rattle.dimacs_nodes.specs.Tables.{value_of}
 use Rattle.dimacs_judge.specs.declared.marks.Mark.{Mark}
-use Rattle.dimacs_judge.specs.CertificateTests.{no_label}
+use Rattle.dimacs_claims.specs.Labels.{no_label}
+use Rattle.dimacs_claims.specs.declared.block.Label.{Label}
 use Rattle.dimacs_judge.proofs.MarkLemmas.{label_made, not_true, not_false}
 use Rattle.dimacs_judge.proofs.RowLemmas.{support_clear_more, support_first, support_clear_end}
 use Rattle.dimacs_judge.proofs.marks.labels_made.Goals as goal
 
 pub returns-then-not-get : goal.returns-then-not-get
 returns-then-not-get c = λ arcs b labels made.
-    let k = c.loop-label.label-index in
-    let inside = rw (← labels) at c.loop-label-test.true in
-    let at = rw (← labels) at c.get.ensures.value in
+    let k = c.loop-i.i in
+    let inside = rw (c.len-i-end.ensures, ← labels) at c.loop-i-test.true in
+    let id : c.at-id.result.id ≡ (get_or b.labels k no_label).id = ap (λ (l : Label). l.id) (rw (← labels) at c.at-id.ensures) in
+    let at = rw id at c.get.ensures.value in
     let unmade : (value_of c.args.marks.now (get_or b.labels k no_label).id).made ≡ false = sym (ap (λ (m : Mark). m.made) at) ∙ not_true c.get.result.made c.if-not-get.true in
-    rw (← labels) (support_first arcs b k inside (c.loop-label.invariant arcs b labels made) (λ has. let e = (label_made arcs b c.args.marks.now k inside made).1 has in cc))
+    rw id (support_first arcs b k inside (c.loop-i.invariant arcs b labels made) (λ has. let e = (label_made arcs b c.args.marks.now k inside made).1 has in cc))
 
-pub loop-label-preserved : goal.loop-label-preserved
-loop-label-preserved c = λ arcs b labels made.
-    let k = c.loop-label.label-index in
-    let inside = rw (← labels) at c.loop-label-test.true in
-    let at = rw (← labels) at c.get.ensures.value in
-    support_clear_more arcs b k (c.loop-label.invariant arcs b labels made) ((label_made arcs b c.args.marks.now k inside made).0 (sym (ap (λ (m : Mark). m.made) at) ∙ not_false c.get.result.made c.if-not-get.false))
+pub loop-i-preserved : goal.loop-i-preserved
+loop-i-preserved c = λ arcs b labels made.
+    let k = c.loop-i.i in
+    let inside = rw (c.len-i-end.ensures, ← labels) at c.loop-i-test.true in
+    let id : c.at-id.result.id ≡ (get_or b.labels k no_label).id = ap (λ (l : Label). l.id) (rw (← labels) at c.at-id.ensures) in
+    let at = rw id at c.get.ensures.value in
+    support_clear_more arcs b k (c.loop-i.invariant arcs b labels made) ((label_made arcs b c.args.marks.now k inside made).0 (sym (ap (λ (m : Mark). m.made) at) ∙ not_false c.get.result.made c.if-not-get.false))
 
 pub returns : goal.returns
-returns c = λ arcs b labels made. support_clear_end arcs b c.loop-label.label-index (rw labels c.loop-label-test.false) (c.loop-label.invariant arcs b labels made)
+returns c = λ arcs b labels made. support_clear_end arcs b c.loop-i.i (rw labels (rw c.len-i-end.ensures at c.loop-i-test.false)) (c.loop-i.invariant arcs b labels made)

@@ -6,5 +6,5 @@ use Rattle.dimacs_judge.specs.Marks.{AreMade}
 use Rattle.dimacs_judge.specs.Tests.{ClearBelow}
 use Rattle.dimacs_judge.proofs.marks.labels_made.Given as goal
 
-abbrev pub invariant-loop-label : goal.invariant-loop-label
-invariant-loop-label l = (arcs : List ArcView) (b : BlockValue) → b.labels ≡ l.labels → AreMade arcs b l.marks → ClearBelow (support_row arcs b) l.label-index
+abbrev pub invariant-loop-i : goal.invariant-loop-i
+invariant-loop-i l = (arcs : List ArcView) (b : BlockValue) → b.labels ≡ l.labels → AreMade arcs b l.marks → ClearBelow (support_row arcs b) l.i
