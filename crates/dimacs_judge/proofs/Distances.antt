@@ -152,7 +152,7 @@ walks g s labels known tight earlier (l ∷ rest) e w =
     walks g s labels known tight (earlier ++ l ∷ []) rest (e ∙ sym (append_assoc earlier (l ∷ []) rest)) (one_more g s earlier rest l here (known earlier rest l e) w)
 
 -- the labels of a block near its radius
-near_label : (b : BlockValue) → StaysNear b → (v : ℕ) (d : ℤ) → label b v ≡ Some d → IsNear b.radius d
+pub near_label : (b : BlockValue) → StaysNear b → (v : ℕ) (d : ℤ) → label b v ≡ Some d → IsNear b.radius d
 near_label b near v d at = elim (eqb_tells b.source v) [
   | inl same ↦ (let own : Some (pos 0) ≡ Some d = (rw same.0 at at) in let e : pos 0 ≡ d = cc in subst (IsNear b.radius) e near.source)
   | inr off ↦ near_in b.radius b.labels near.labels v d (rw off.0 at at)

@@ -1,209 +1,177 @@
 -- The arcs that leave labelled nodes.
-use Rattle.std.proofs.Common.{◌≡◌, ◌⊎◌, inl, inr, ℕ, ◌+◌, ◌-◌, ◌<◌, ◌≤◌, List, [], ◌∷◌, ◌++◌, Contains, length, get_or, slice_get, Option, Some, None, ℤ, sym, ap, subst, ◌∙◌, arith}
-use Rattle.std.proofs.lemmas.Bool.{cases_order}
-use Rattle.std.proofs.lemmas.List.{get_or_default}
-use Rattle.std.proofs.lemmas.List.Elements.{Contains-get_or, Contains-push_cases, Contains-append_left, Contains-push}
+use Rattle.std.proofs.Common.{◌≡◌, inl, inr, false, ℕ, ◌+◌, ◌<◌, ◌≤◌, List, length, get_or, slice_get, Option, Some, None, ℤ, ◌+ℤ◌, ◌<ℤ◌, ◌≤ℤ◌, refl, sym, ap, subst, ◌∙◌, arith}
+use Rattle.std.proofs.lemmas.Int.{ints, by_lt_z}
+use Rattle.std.proofs.lemmas.Bool.{cases_lt, cases_order}
+use Rattle.std.proofs.lemmas.List.{get_or_default, get_or-map, length-map}
 use Rattle.std.specs.Option.{is_some}
 use Rattle.dimacs_nodes.specs.declared.node_table.NodeTable.{NodeTable}
 use Rattle.dimacs_nodes.specs.Tables.{value_of}
 use Rattle.dimacs_records.specs.declared.reasons.Reason.{Reason}
+use Rattle.dimacs_records.specs.declared.reasons.Reason.TheVariants.{NotShortest}
 use Rattle.dimacs_instance.specs.declared.network.ArcView.{ArcView}
 use Rattle.dimacs_instance.specs.declared.links.Side.TheVariants.{Tail}
 use Rattle.dimacs_instance.specs.Links.{IsLast}
 use Rattle.dimacs_claims.specs.declared.block.Label.{Label}
-use Rattle.dimacs_claims.specs.Labels.{BlockValue, label}
+use Rattle.dimacs_claims.specs.Labels.{BlockValue, IsBlock, IsNear, label, no_label}
 use Rattle.dimacs_claims.proofs.BlockLemmas.{has_pred}
-use Rattle.dimacs_judge.specs.declared.leaving.ArcFault.{ArcFault}
 use Rattle.dimacs_judge.specs.declared.marks.Mark.{Mark}
-use Rattle.dimacs_judge.specs.declared.verdict.Where.{Where}
 use Rattle.dimacs_judge.specs.CertificateTests.{RelaxFails, relax_row}
-use Rattle.dimacs_judge.specs.Leaving.{ArePassed, IsEarlier, IsFirstAmong, Leaves, TellsAmong, refusal_of}
-use Rattle.dimacs_judge.specs.Marks.{AreMade, AreUnmade, IsMarked, Makes, MarksArc, marked_dist}
+use Rattle.dimacs_judge.specs.Leaving.{AreCovering, ArePassedFrom, Covers, IsPassed, WeightsFall, arcs_in}
+use Rattle.dimacs_judge.specs.Marks.{AreMade, AreMadeAlone, IsMarked, MarksArc, marked_dist}
 use Rattle.dimacs_judge.specs.Rows.{arc_at, no_arc}
-use Rattle.dimacs_judge.specs.Tests.{Row, TellsReason, TellsRow}
-use Rattle.dimacs_judge.proofs.MarkLemmas.{arc_fails, arc_passes, made_alike, made_with, marked_after, no_contains}
+use Rattle.dimacs_judge.specs.Tests.{Clear, TellsReason}
+use Rattle.dimacs_judge.proofs.Distances.{near_label}
+use Rattle.dimacs_judge.proofs.LabelsPassing.{stays_near}
+use Rattle.dimacs_judge.proofs.MarkLemmas.{marks_still, marks_this, some_makes}
 
--- ---- the same arcs, said in another way
-tells_alike : (these those : ℕ → Type 0) (row : Row) (told : Option ArcFault) → ((k : ℕ) → those k → these k) → TellsAmong these row told → TellsAmong those row told
-tells_alike these those row None from tells = λ k among. tells k (from k among)
-tells_alike these those row (Some f) from tells = record { positive = tells.positive; fails = tells.fails; earlier = λ k among. tells.earlier k (from k among) }
+-- ---- one arc
+near_less : (radius : Option ℤ) (x y : ℤ) → x ≤ℤ y → IsNear radius y → IsNear radius x
+near_less None x y less near = tt
+near_less (Some r) x y less near = omega (arith, ints, less, near)
 
-pub passed_alike : (these those : ℕ → Type 0) (arcs : List ArcView) (number : ℕ) (b : BlockValue) (marks : NodeTable Mark) (told : Option ArcFault) → ((k : ℕ) → these k → those k) → ((k : ℕ) → those k → these k) → ArePassed these arcs number b marks told → ArePassed those arcs number b marks told
-passed_alike these those arcs number b marks told to from are = record {
-  marked = are.marked;
-  made = made_alike these those arcs b marks to from are.made;
-  first = tells_alike these those (relax_row arcs b) told from are.first;
+less_far : (d x y e : ℤ) → x ≤ℤ y → (d +ℤ y) <ℤ e → (d +ℤ x) <ℤ e
+less_far d x y e less far = omega (arith, ints, less, far)
+
+less_sum : (d x y : ℤ) → x ≤ℤ y → (d +ℤ x) ≤ℤ (d +ℤ y)
+less_sum d x y less = omega (arith, ints, less)
+
+same_sum : (d x y e : ℤ) → x ≤ℤ y → (d +ℤ y) ≡ e → (¬ ((d +ℤ x) <ℤ e)) → (d +ℤ x) ≡ e
+same_sum d x y e less sum near = by_lt_z (d +ℤ x) e (λ l. absurd (near l)) (λ m. omega (arith, ints, m, less, sum))
+
+-- an arc that this arc covers
+pub passed_covered : (number : ℕ) (b : BlockValue) (marks own : NodeTable Mark) (one other : ArcView) → IsMarked number b own → Covers one other → IsPassed b marks one → IsPassed b marks other
+passed_covered number b marks own one other are covers is = record {
+  holds = λ reason fails.
+      let (d, tail, why) = fails in
+      let from : label b one.tail ≡ Some d = ap (label b) covers.tail ∙ tail in
+      elim why [
+        | inl out ↦ is.holds reason (d, from, inl (out.0, ap (label b) covers.head ∙ out.1, near_less b.radius (d +ℤ one.cost) (d +ℤ other.cost) (less_sum d one.cost other.cost covers.cost) out.2))
+        | inr far ↦ (let (e, head, less) = far.1 in is.holds reason (d, from, inr (far.0, (e, ap (label b) covers.head ∙ head, less_far d one.cost other.cost e covers.cost less))))
+      ];
+  marked = λ l has makes.
+      let from : label b one.tail ≡ Some makes.base = ap (label b) (covers.tail ∙ makes.from) ∙ makes.known in
+      let head : label b one.head ≡ Some l.dist = ap (label b) (covers.head ∙ makes.to) ∙ are.named l has in
+      is.marked l has (record {
+        base = makes.base;
+        known = makes.known;
+        from = covers.tail ∙ makes.from;
+        to = covers.head ∙ makes.to;
+        adds = same_sum makes.base one.cost other.cost l.dist covers.cost makes.adds (λ less. is.holds NotShortest (makes.base, from, inr (refl, (l.dist, head, less))));
+      });
 }
 
--- ---- one arc more
-module _ (number : ℕ) (a : ArcView) (old new : NodeTable Mark) (passes : MarksArc number a old new) (arcs : List ArcView) (b : BlockValue) (i : ℕ) (here : slice_get arcs i ≡ Some a) (are : IsMarked number b old) (these : ℕ → Type 0) where
-  abbrev with_it : ℕ → Type 0
-  with_it k = these k ⊎ (k ≡ i)
-
-  abbrev fails_at : Reason → Type 0
-  fails_at reason = RelaxFails b.radius (marked_dist number (value_of old a.tail)) (marked_dist number (value_of old a.head)) a.cost reason
-
-  passes_at : ((reason : Reason) → ¬ fails_at reason) → (k : ℕ) → k ≡ i → (place : Where) (reason : Reason) → ¬ relax_row arcs b k place reason
-  passes_at passing k same = subst (λ j. (place : Where) (reason : Reason) → ¬ relax_row arcs b j place reason) (sym same) (arc_passes number a old new passes arcs b i here are passing)
-
-  this_first : (why : Reason) → fails_at why → ((k : ℕ) → these k → k < i → (place : Where) (reason : Reason) → ¬ relax_row arcs b k place reason) → IsFirstAmong with_it (relax_row arcs b) (record { number = i + 1; reason = why })
-  this_first why fails before =
-      let less : i ≡ (i + 1) - 1 = omega arith in
-      record {
-        positive = omega arith;
-        fails = rw (← less) (arc_fails number a old new passes arcs b i here are why fails);
-        earlier = λ k among short. elim among [
-          | inl at ↦ before k at (omega (arith, short))
-          | inr same ↦ absurd (omega (arith, short, same))
-        ];
-      }
-
-  told_with : (told : Option ArcFault) (fault : Option Reason) (result : Option ArcFault) → TellsAmong these (relax_row arcs b) told → TellsReason fails_at fault → IsEarlier told (i + 1) fault result → TellsAmong with_it (relax_row arcs b) result
-  told_with None None result tells reason is = subst (TellsAmong with_it (relax_row arcs b)) (sym is) (λ k among. elim among [
-    | inl at ↦ tells k at
-    | inr same ↦ passes_at reason k same
-  ])
-  told_with (Some f) None result tells reason is = subst (TellsAmong with_it (relax_row arcs b)) (sym is) (record {
-    positive = tells.positive;
-    fails = tells.fails;
-    earlier = λ k among short. elim among [
-      | inl at ↦ tells.earlier k at short
-      | inr same ↦ passes_at reason k same
-    ];
-  })
-  told_with None (Some why) result tells reason is = subst (TellsAmong with_it (relax_row arcs b)) (sym is) (this_first why reason (λ k at short. tells k at))
-  told_with (Some f) (Some why) result tells reason is = elim is [
-    | inl before ↦ subst (TellsAmong with_it (relax_row arcs b)) (sym before.1) (record {
-      positive = tells.positive;
-      fails = tells.fails;
-      earlier = λ k among short. elim among [
-        | inl at ↦ tells.earlier k at short
-        | inr same ↦ absurd (omega (arith, short, same, before.0))
+-- an arc that leads past the radius
+pub passed_beyond : (number nodes : ℕ) (b : BlockValue) (marks own : NodeTable Mark) (a : ArcView) (d : ℤ) → IsBlock nodes b → IsMarked number b own → label b a.tail ≡ Some d → (¬ IsNear b.radius (d +ℤ a.cost)) → IsPassed b marks a
+passed_beyond number nodes b marks own a d is are tail beyond = record {
+  holds = λ reason fails.
+      let (e, from, why) = fails in
+      let both : Some e ≡ Some d = sym from ∙ tail in
+      let same : e ≡ d = cc in
+      elim why [
+        | inl out ↦ beyond (subst (λ z. IsNear b.radius (z +ℤ a.cost)) same out.2)
+        | inr far ↦
+            let (to, head, less) = far.1 in
+            beyond (near_less b.radius (d +ℤ a.cost) to (below to (subst (λ z. (z +ℤ a.cost) <ℤ to) same less)) (near_label b (stays_near nodes b is) a.head to head))
       ];
-    })
-    | inr after ↦ subst (TellsAmong with_it (relax_row arcs b)) (sym after.1) (this_first why reason (λ k at short. tells.earlier k at (omega (arith, short, after.0))))
+  marked = λ l has makes.
+      let both : Some makes.base ≡ Some d = sym makes.known ∙ (ap (label b) (sym makes.from) ∙ tail) in
+      let same : makes.base ≡ d = cc in
+      absurd (beyond (subst (IsNear b.radius) (sym makes.adds ∙ ap (λ z. z +ℤ a.cost) same) (near_label b (stays_near nodes b is) l.id l.dist (are.named l has))));
+}
+  where
+    below : (to : ℤ) → (d +ℤ a.cost) <ℤ to → (d +ℤ a.cost) ≤ℤ to
+    below to less = omega (arith, ints, less)
+
+-- a single test without a reason to fail
+pub no_reason : (fails : Reason → Type 0) (told : Option Reason) → is_some told ≡ false → TellsReason fails told → (reason : Reason) → ¬ fails reason
+no_reason fails None none tells = tells
+no_reason fails (Some why) none tells = absurd (cc)
+
+-- after an arc
+module _ (number : ℕ) (a : ArcView) (old new : NodeTable Mark) (passes : MarksArc number a old new) (b : BlockValue) where
+  pub passed_still : (c : ArcView) → IsPassed b old c → IsPassed b new c
+  passed_still c is = record { holds = is.holds; marked = marks_still number a old new passes b c is.marked }
+
+  pub passed_this : (arcs : List ArcView) (i : ℕ) → slice_get arcs i ≡ Some a → IsMarked number b old → ((reason : Reason) → ¬ RelaxFails b.radius (marked_dist number (value_of old a.tail)) (marked_dist number (value_of old a.head)) a.cost reason) → IsPassed b new a
+  passed_this arcs i here are holds = record {
+    holds = rw (← are.labels a.tail, ← are.labels a.head) holds;
+    marked = marks_this number a old new passes arcs b i here are;
+  }
+
+-- ---- the arcs of a node
+pub at_place : (arcs : List ArcView) (order : List ℕ) (p : ℕ) → p < length order → arc_at (arcs_in arcs order) p ≡ arc_at arcs (get_or order p 0)
+at_place arcs order p inside = get_or-map (arc_at arcs) order p 0 no_arc inside
+
+module _ (arcs : List ArcView) (order : List ℕ) (number : ℕ) (b : BlockValue) (marks : NodeTable Mark) (node : ℕ) where
+  -- the arcs at the places from this one on, so far as they leave the node
+  abbrev pub ArePassedOn : ℕ → Type 0
+  ArePassedOn next = (p : ℕ) → next ≤ p → p < length order → (arc_at (arcs_in arcs order) p).tail ≡ node → IsPassed b marks (arc_at (arcs_in arcs order) p)
+
+  pub node_more : (place before : ℕ) → IsLast Tail (arcs_in arcs order) place node before → IsPassed b marks (arc_at (arcs_in arcs order) place) → ArePassedOn (place + 1) → ArePassedOn before
+  node_more place before last this passed p after there here = elim (cases_order p place) [
+    | inl same ↦ subst (λ q. IsPassed b marks (arc_at (arcs_in arcs order) q)) (sym same) this
+    | inr apart ↦ elim apart [
+      | inl less ↦ absurd (last.none_after p after less here)
+      | inr more ↦ passed p (omega (arith, more)) there here
+    ]
   ]
 
-  pub passed_with : (told : Option ArcFault) (fault : Option Reason) (result : Option ArcFault) → ArePassed these arcs number b old told → TellsReason fails_at fault → IsEarlier told (i + 1) fault result → ArePassed with_it arcs number b new result
-  passed_with told fault result passed reason is = record {
-    marked = marked_after number a old new passes b are;
-    made = made_with number a old new passes arcs b i here are these passed.made;
-    first = told_with told fault result passed.first reason is;
-  }
+  pub node_done : IsMarked number b marks → AreCovering arcs order → ArePassedOn 0 → ArePassedFrom arcs b marks node
+  node_done are covering passed k inside here =
+      let (i, (p, there, at), covers) = covering.all k inside in
+      let same : arc_at (arcs_in arcs order) p ≡ arc_at arcs i = at_place arcs order p there ∙ ap (arc_at arcs) (get_or_default order p 0 i there ∙ at) in
+      let tail : (arc_at (arcs_in arcs order) p).tail ≡ node = ap (λ (c : ArcView). c.tail) same ∙ (covers.tail ∙ here) in
+      passed_covered number b marks marks (arc_at arcs i) (arc_at arcs k) are covers (subst (IsPassed b marks) same (passed p (omega arith) there tail))
 
--- ---- the arcs of a node, from the last one on
--- the arcs that leave nodes that are done, and those from this index on that leave this node
-abbrev pub LeavesFrom : List ArcView → List ℕ → ℕ → ℕ → ℕ → Type 0
-LeavesFrom arcs done node next k = Leaves arcs done k ⊎ ((k < length arcs) × ((arc_at arcs k).tail ≡ node) × (next ≤ k))
-
-module _ (arcs : List ArcView) (number : ℕ) (b : BlockValue) (done : List ℕ) (node : ℕ) (marks : NodeTable Mark) (told : Option ArcFault) where
-  pub node_begun : (last : ℕ) → IsLast Tail arcs (length arcs) node last → ArePassed (Leaves arcs done) arcs number b marks told → ArePassed (LeavesFrom arcs done node last) arcs number b marks told
-  node_begun last is = passed_alike (Leaves arcs done) (LeavesFrom arcs done node last) arcs number b marks told (λ k at. inl at) (λ k at. elim at [
-    | inl before ↦ before
-    | inr here ↦ absurd (is.none_after k here.2 here.0 here.1)
-  ])
-
-  pub node_more : (i before : ℕ) → i < length arcs → (arc_at arcs i).tail ≡ node → IsLast Tail arcs i node before
-      → ArePassed (λ k. LeavesFrom arcs done node (i + 1) k ⊎ (k ≡ i)) arcs number b marks told → ArePassed (LeavesFrom arcs done node before) arcs number b marks told
-  node_more i before inside here is = passed_alike (λ k. LeavesFrom arcs done node (i + 1) k ⊎ (k ≡ i)) (LeavesFrom arcs done node before) arcs number b marks told
-      (λ k at. elim at [
-        | inl passed ↦ elim passed [
-          | inl other ↦ inl other
-          | inr later ↦ inr (later.0, later.1, omega (arith, later.2, is.within))
-        ]
-        | inr same ↦ inr (omega (arith, same, inside), ap (λ j. (arc_at arcs j).tail) same ∙ here, omega (arith, same, is.within))
-      ])
-      (λ k at. elim at [
-        | inl other ↦ inl (inl other)
-        | inr later ↦ elim (cases_order k i) [
-          | inl same ↦ inr same
-          | inr apart ↦ elim apart [
-            | inl less ↦ absurd (is.none_after k later.2 less later.1)
-            | inr more ↦ inl (inr (later.0, later.1, omega (arith, more)))
-          ]
-        ]
-      ])
-
-  pub node_done : ArePassed (LeavesFrom arcs done node 0) arcs number b marks told → ArePassed (Leaves arcs (done ++ node ∷ [])) arcs number b marks told
-  node_done = passed_alike (LeavesFrom arcs done node 0) (Leaves arcs (done ++ node ∷ [])) arcs number b marks told
-      (λ k at. elim at [
-        | inl before ↦ (before.0, Contains-append_left done (node ∷ []) (arc_at arcs k).tail before.1)
-        | inr here ↦ (here.0, subst (Contains (done ++ node ∷ [])) (sym here.1) (Contains-push done node))
-      ])
-      (λ k at. elim (Contains-push_cases done node (arc_at arcs k).tail at.1) [
-        | inl before ↦ inl (at.0, before)
-        | inr here ↦ inr (at.0, sym here, omega arith)
-      ])
+  pub node_beyond : (nodes : ℕ) (d : ℤ) (next : ℕ) → IsBlock nodes b → IsMarked number b marks → label b node ≡ Some d → WeightsFall (arcs_in arcs order) → next < length order → (¬ IsNear b.radius (d +ℤ (arc_at (arcs_in arcs order) next).cost))
+      → ArePassedOn (next + 1) → ArePassedOn 0
+  node_beyond nodes d next is are from fall inside beyond passed p after there here = elim (cases_lt next p) [
+    | inl more ↦ passed p (omega (arith, more)) there here
+    | inr less ↦
+        passed_beyond number nodes b marks marks (arc_at (arcs_in arcs order) p) d is are (ap (label b) here ∙ from)
+        (λ near. beyond (near_less b.radius (d +ℤ (arc_at (arcs_in arcs order) next).cost) (d +ℤ (arc_at (arcs_in arcs order) p).cost) (less_sum d _ _ (falls p less)) near))
+  ]
+    where
+      falls : (p : ℕ) → p ≤ next → (arc_at (arcs_in arcs order) next).cost ≤ℤ (arc_at (arcs_in arcs order) p).cost
+      falls p less = elim (cases_lt p next) [
+        | inl before ↦ fall p next before (omega (arith, inside, length-map order (arc_at arcs)))
+        | inr last ↦ (let same : p ≡ next = omega (arith, less, last) in subst (λ q. (arc_at (arcs_in arcs order) next).cost ≤ℤ (arc_at (arcs_in arcs order) q).cost) (sym same) (omega (arith, ints)))
+      ]
 
 -- ---- the nodes of a block
+pub from_still : (arcs : List ArcView) (b : BlockValue) (old new : NodeTable Mark) (v : ℕ) → ((a : ArcView) → IsPassed b old a → IsPassed b new a) → ArePassedFrom arcs b old v → ArePassedFrom arcs b new v
+from_still arcs b old new v still passed k inside here = still (arc_at arcs k) (passed k inside here)
+
+pub labels_more : (arcs : List ArcView) (b : BlockValue) (old new : NodeTable Mark) (n : ℕ) → ((a : ArcView) → IsPassed b old a → IsPassed b new a) → ((k : ℕ) → k < n → ArePassedFrom arcs b old (get_or b.labels k no_label).id)
+    → ArePassedFrom arcs b new (get_or b.labels n no_label).id → (k : ℕ) → k < n + 1 → ArePassedFrom arcs b new (get_or b.labels k no_label).id
+labels_more arcs b old new n still passed this k below = elim (cases_lt k n) [
+  | inl less ↦ from_still arcs b old new (get_or b.labels k no_label).id still (passed k less)
+  | inr last ↦ (let same : k ≡ n = omega (arith, below, last) in subst (λ j. ArePassedFrom arcs b new (get_or b.labels j no_label).id) (sym same) this)
+]
+
 -- the arcs that leave the source and the nodes of the first n labels are passed
-pub record ArePassedFirst (arcs : List ArcView) (number : ℕ) (b : BlockValue) (n : ℕ) (marks : NodeTable Mark) (told : Option ArcFault) : Type 0 where
-  pub done : List ℕ
-  pub source : Contains done b.source
-  pub labels : (k : ℕ) → k < n → (d : Label) → Contains done (get_or b.labels k d).id
-  pub passed : ArePassed (Leaves arcs done) arcs number b marks told
+pub record ArePassedFirst (arcs : List ArcView) (number : ℕ) (b : BlockValue) (n : ℕ) (marks : NodeTable Mark) : Type 0 where
+  pub marked : IsMarked number b marks
+  pub alone : AreMadeAlone arcs b marks
+  pub source : ArePassedFrom arcs b marks b.source
+  pub labels : (k : ℕ) → k < n → ArePassedFrom arcs b marks (get_or b.labels k no_label).id
 
-module _ (arcs : List ArcView) (number : ℕ) (b : BlockValue) (marks : NodeTable Mark) where
-  pub none_passed : IsMarked number b marks → AreUnmade b marks → ArePassed (Leaves arcs []) arcs number b marks None
-  none_passed marked unmade = record {
-    marked = marked;
-    made = λ l has. (λ m. absurd (let e = unmade l has in cc), λ some. absurd (no_contains some.1.1));
-    first = λ k at. absurd (no_contains at.1);
-  }
+module _ (arcs : List ArcView) (number : ℕ) (b : BlockValue) (n : ℕ) (marks : NodeTable Mark) (all : length b.labels ≤ n) (are : ArePassedFirst arcs number b n marks) where
+  labelled_passed : (v : ℕ) (d : ℤ) → label b v ≡ Some d → ArePassedFrom arcs b marks v
+  labelled_passed v d is = elim (has_pred b (record { dist = d; id = v; pred = v }) (ap is_some is)) [
+    | inl source ↦ subst (ArePassedFrom arcs b marks) (sym source) are.source
+    | inr named ↦
+        let (m, (k, inside, at), same) = named in
+        subst (ArePassedFrom arcs b marks) (ap (λ (l : Label). l.id) (get_or_default b.labels k no_label m inside ∙ at) ∙ same) (are.labels k (omega (arith, inside, all)))
+  ]
 
-  pub source_passed : (told : Option ArcFault) → ArePassed (Leaves arcs ([] ++ b.source ∷ [])) arcs number b marks told → ArePassedFirst arcs number b 0 marks told
-  source_passed told passed = record {
-    done = [] ++ b.source ∷ [];
-    source = Contains-push [] b.source;
-    labels = λ k below. absurd (omega (arith, below));
-    passed = passed;
-  }
+  pub all_clear : Clear (relax_row arcs b)
+  all_clear k place reason f = (labelled_passed (arc_at arcs k).tail f.2.0 f.2.1 k f.0 refl).holds reason f.2
 
-  pub label_passed : (n : ℕ) (l : Label) (done : List ℕ) (told : Option ArcFault) → n < length b.labels → get_or b.labels n l ≡ l → Contains done b.source → ((k : ℕ) → k < n → (d : Label) → Contains done (get_or b.labels k d).id)
-      → ArePassed (Leaves arcs (done ++ l.id ∷ [])) arcs number b marks told → ArePassedFirst arcs number b (n + 1) marks told
-  label_passed n l done told inside is source labels passed = record {
-    done = done ++ l.id ∷ [];
-    source = Contains-append_left done (l.id ∷ []) b.source source;
-    labels = λ k below d. elim (cases_order k n) [
-      | inl same ↦
-          let at : get_or b.labels k d ≡ l = ap (λ j. get_or b.labels j d) same ∙ (get_or_default b.labels n d l inside ∙ is) in
-          subst (λ (m : Label). Contains (done ++ l.id ∷ []) m.id) (sym at) (Contains-push done l.id)
-      | inr apart ↦ elim apart [
-        | inl less ↦ Contains-append_left done (l.id ∷ []) (get_or b.labels k d).id (labels k less d)
-        | inr more ↦ absurd (omega (arith, more, below))
-      ]
-    ];
-    passed = passed;
-  }
-
-  module _ (n : ℕ) (told : Option ArcFault) (all : length b.labels ≤ n) (are : ArePassedFirst arcs number b n marks told) where
-    labelled_done : (v : ℕ) (d : ℤ) → label b v ≡ Some d → Contains are.done v
-    labelled_done v d is = elim (has_pred b (record { dist = d; id = v; pred = v }) (ap is_some is)) [
-      | inl source ↦ subst (Contains are.done) (sym source) are.source
-      | inr named ↦
-          let (m, (k, inside, at), same) = named in
-          subst (Contains are.done) (ap (λ (l : Label). l.id) at ∙ same) (are.labels k (omega (arith, inside, all)) m)
-    ]
-
-    pub all_made : AreMade arcs b marks
-    all_made l has = (
-      λ m.
-          let (k, among, makes) = (are.passed.made l has).0 m in
-          (makes.base, makes.known, record { arc = arc_at arcs k; present = Contains-get_or arcs k no_arc among.0; from = makes.from; to = makes.to; adds = makes.adds }),
-      λ tight.
-          let (base, known, arc) = tight in
-          let (k, inside, at) = arc.present in
-          let same : arc.arc ≡ arc_at arcs k = sym at ∙ get_or_default arcs k arc.arc no_arc inside in
-          let makes : Makes b (arc_at arcs k) l = subst (λ (c : ArcView). Makes b c l) same (record { base = base; known = known; from = arc.from; to = arc.to; adds = arc.adds }) in
-          (are.passed.made l has).1 (k, (inside, subst (Contains are.done) (sym makes.from) (labelled_done l.pred base known)), makes),
-    )
-
-    fails_leaving : (k : ℕ) (place : Where) (reason : Reason) → relax_row arcs b k place reason → Leaves arcs are.done k
-    fails_leaving k place reason f = (f.0, labelled_done (arc_at arcs k).tail f.2.0 f.2.1)
-
-    pub all_told : TellsRow (relax_row arcs b) (refusal_of told)
-    all_told = told_row told are.passed.first
-      where
-        told_row : (told : Option ArcFault) → TellsAmong (Leaves arcs are.done) (relax_row arcs b) told → TellsRow (relax_row arcs b) (refusal_of told)
-        told_row None tells = λ k place reason f. tells k (fails_leaving k place reason f) place reason f
-        told_row (Some g) tells = record { number = g.number - 1; fails = tells.fails; earlier = λ k short place reason f. tells.earlier k (fails_leaving k place reason f) short place reason f }
+  pub all_made : AreMade arcs b marks
+  all_made l has = (
+    are.alone l has,
+    λ tight.
+        let (k, inside, makes) = some_makes arcs b l tight in
+        (labelled_passed l.pred makes.base makes.known k inside makes.from).marked l has makes,
+  )

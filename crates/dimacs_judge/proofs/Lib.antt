@@ -25,3 +25,5 @@ pub mod MaxJudge
 pub mod MinJudge
 mod MarkLemmas
 mod LeavingLemmas
+mod LeastLemmas
+mod LinkedLemmas

@@ -24,7 +24,7 @@ use Rattle.dimacs_judge.specs.declared.verdict.Where.{Where}
 use Rattle.dimacs_judge.specs.declared.verdict.Where.TheVariants.{Arc}
 use Rattle.dimacs_judge.specs.CertificateTests.{RelaxFails, relax_row}
 use Rattle.dimacs_judge.specs.Labels.{HasTightArc}
-use Rattle.dimacs_judge.specs.Marks.{AreEarlier, AreMade, AreMadeAmong, AreMadeBelow, AreUnmade, AreWide, IsMadeAmong, IsMarked, IsTight, Makes, MarksArc, SaysSame, TellsBelow, dist_of, first_told, marked_dist}
+use Rattle.dimacs_judge.specs.Marks.{AreEarlier, AreMade, AreMadeAlone, AreMadeBelow, AreUnmade, AreWide, IsMarked, IsTight, Makes, MarksArc, MarksMade, SaysSame, TellsBelow, dist_of, first_told, marked_dist}
 use Rattle.dimacs_judge.specs.Rows.{arc_at, no_arc}
 use Rattle.dimacs_judge.specs.Tests.{ClearBelow, TellsReason, TellsRow}
 use Rattle.dimacs_judge.proofs.RowLemmas.{arc_clear_end, relax_clear_more, relax_first}
@@ -38,7 +38,7 @@ marked_elsewhere number m off = elim (eqb_tells m.block number) [
   | inr told ↦ ap (λ t. if t then Some (dist_of m) else None) told.0
 ]
 
-label_source : (b : BlockValue) → label b b.source ≡ Some (pos 0)
+pub label_source : (b : BlockValue) → label b b.source ≡ Some (pos 0)
 label_source b = elim (eqb_tells b.source b.source) [
   | inl same ↦ rw same.0 refl
   | inr off ↦ absurd (off.1 refl)
@@ -63,7 +63,7 @@ label_named nodes b is l (k, inside, at) =
     let off : b.source ≢ l.id = λ e. (label_fresh nodes b is k inside).0 (ap (λ (m : Label). m.id) same ∙ sym e) in
     label_elsewhere b l.id off ∙ subst (λ (m : Label). distance_in b.labels m.id ≡ Some m.dist) same (distance_in-at b.labels (fresh_apart b.source b.labels is.fresh) k inside)
 
-label_wide : (nodes : ℕ) (b : BlockValue) (v : ℕ) → IsBlock nodes b → IfSome (label b v) IsWide
+pub label_wide : (nodes : ℕ) (b : BlockValue) (v : ℕ) → IsBlock nodes b → IfSome (label b v) IsWide
 label_wide nodes b v is = label_at_wide nodes (b ∷ []) 0 v (All-cons (IsBlock nodes) b [] is (All-nil (IsBlock nodes)))
 
 -- ---- marking
@@ -239,12 +239,15 @@ tail_unmarked number a marks tail is none (d, at, there, pred) = let e : None �
 pub head_unmarked : (number : ℕ) (a : ArcView) (marks : NodeTable Mark) (head : Mark) → head ≡ value_of marks a.head → None ≡ marked_dist number head → ¬ IsTight number a marks
 head_unmarked number a marks head is none (d, at, there, pred) = let e : None ≡ Some (d +ℤ a.cost) = none ∙ (ap (marked_dist number) is ∙ there) in cc
 
--- ---- the same arcs, said in another way
-pub made_alike : (these those : ℕ → Type 0) (arcs : List ArcView) (b : BlockValue) (marks : NodeTable Mark) → ((k : ℕ) → these k → those k) → ((k : ℕ) → those k → these k) → AreMadeAmong these arcs b marks → AreMadeAmong those arcs b marks
-made_alike these those arcs b marks to from made l has = (
-  λ m. (let (k, among, makes) = (made l has).0 m in (k, to k among, makes)),
-  λ some. (made l has).1 (some.0, from some.0 some.1, some.2),
-)
+-- ---- the arc that makes a label
+pub makes_some : (arcs : List ArcView) (b : BlockValue) (k : ℕ) (l : Label) → k < length arcs → Makes b (arc_at arcs k) l → HasTightArc arcs b l
+makes_some arcs b k l inside makes = (makes.base, makes.known, record { arc = arc_at arcs k; present = Contains-get_or arcs k no_arc inside; from = makes.from; to = makes.to; adds = makes.adds })
+
+pub some_makes : (arcs : List ArcView) (b : BlockValue) (l : Label) → HasTightArc arcs b l → (k : ℕ) × (k < length arcs) × Makes b (arc_at arcs k) l
+some_makes arcs b l (base, known, arc) =
+    let (k, inside, at) = arc.present in
+    let same : arc.arc ≡ arc_at arcs k = sym at ∙ get_or_default arcs k arc.arc no_arc inside in
+    (k, inside, subst (λ (c : ArcView). Makes b c l) same (record { base = base; known = known; from = arc.from; to = arc.to; adds = arc.adds }))
 
 -- ---- one arc
 module _ (number : ℕ) (a : ArcView) (old : NodeTable Mark) where
@@ -291,6 +294,15 @@ module _ (number : ℕ) (a : ArcView) (old : NodeTable Mark) where
       preds = λ l has. (says_same l.id).pred ∙ are.preds l has;
     }
 
+    made_still : (v : ℕ) → (value_of old v).made ≡ true → (value_of new v).made ≡ true
+    made_still v m = elim (cases_eq v a.head) [
+      | inl same ↦ ap (λ w. (value_of new w).made) same ∙ passes.made.1 (inl (ap (λ w. (value_of old w).made) (sym same) ∙ m))
+      | inr off ↦ ap (λ (k : Mark). k.made) (passes.others v off) ∙ m
+    ]
+
+    pub marks_still : (b : BlockValue) (c : ArcView) → MarksMade b old c → MarksMade b new c
+    marks_still b c marks l has makes = made_still l.id (marks l has makes)
+
     module _ (arcs : List ArcView) (b : BlockValue) (i : ℕ) (here : slice_get arcs i ≡ Some a) (are : IsMarked number b old) where
       this_arc : arc_at arcs i ≡ a
       this_arc = get_or_from_slice_get arcs i a no_arc here
@@ -315,44 +327,23 @@ module _ (number : ℕ) (a : ArcView) (old : NodeTable Mark) where
         ap (λ v. (value_of old v).pred) makes.to ∙ (are.preds l has ∙ sym makes.from),
       )
 
-      -- one arc more makes what the arc makes
-      made_before : (these : ℕ → Type 0) (l : Label) → IsMadeAmong these arcs b l → IsMadeAmong (λ k. these k ⊎ (k ≡ i)) arcs b l
-      made_before these l (k, among, makes) = (k, inl among, makes)
-
-      made_split : (these : ℕ → Type 0) (l : Label) → IsMadeAmong (λ k. these k ⊎ (k ≡ i)) arcs b l → IsMadeAmong these arcs b l ⊎ Makes b a l
-      made_split these l (k, among, makes) = elim among [
-        | inl before ↦ inl (k, before, makes)
-        | inr same ↦ inr (subst (λ (c : ArcView). Makes b c l) (ap (arc_at arcs) same ∙ this_arc) makes)
+      pub alone_after : AreMadeAlone arcs b old → AreMadeAlone arcs b new
+      alone_after alone l has m = elim (cases_eq l.id a.head) [
+        | inl same ↦ elim (passes.made.0 (ap (λ v. (value_of new v).made) (sym same) ∙ m)) [
+          | inl before ↦ alone l has (ap (λ v. (value_of old v).made) same ∙ before)
+          | inr tight ↦ makes_some arcs b i l (slice_get_within arcs i a here) (subst (λ (c : ArcView). Makes b c l) (sym this_arc) (tight_makes l has same tight))
+        ]
+        | inr off ↦ alone l has (sym (ap (λ (k : Mark). k.made) (passes.others l.id off)) ∙ m)
       ]
 
-      pub made_with : (these : ℕ → Type 0) → AreMadeAmong these arcs b old → AreMadeAmong (λ k. these k ⊎ (k ≡ i)) arcs b new
-      made_with these made l has = elim (cases_eq l.id a.head) [
-        | inl same ↦ (
-          λ m. elim (passes.made.0 (ap (λ v. (value_of new v).made) (sym same) ∙ m)) [
-            | inl before ↦ made_before these l ((made l has).0 (ap (λ v. (value_of old v).made) same ∙ before))
-            | inr tight ↦ (i, inr refl, subst (λ (c : ArcView). Makes b c l) (sym this_arc) (tight_makes l has same tight))
-          ],
-          λ some. ap (λ v. (value_of new v).made) same ∙ passes.made.1 (elim (made_split these l some) [
-            | inl before ↦ inl (ap (λ v. (value_of old v).made) (sym same) ∙ (made l has).1 before)
-            | inr makes ↦ inr (makes_tight l has makes)
-          ]),
-        )
-        | inr off ↦ (
-            let e = ap (λ (m : Mark). m.made) (passes.others l.id off) in (
-              λ m. made_before these l ((made l has).0 (sym e ∙ m)),
-              λ some. e ∙ elim (made_split these l some) [
-                | inl before ↦ (made l has).1 before
-                | inr makes ↦ absurd (off (sym makes.to))
-              ],
-            )
-            )
-      ]
+      pub marks_this : MarksMade b new a
+      marks_this l has makes = ap (λ v. (value_of new v).made) (sym makes.to) ∙ passes.made.1 (inr (makes_tight l has makes))
 
       pub made_after : AreMadeBelow arcs b i old → AreMadeBelow arcs b (i + 1) new
-      made_after made = made_alike _ (λ k. k < i + 1) arcs b new
-          (λ k among. elim among [ inl less ↦ omega (arith, less) | inr same ↦ omega (arith, same) ])
-          (λ k less. elim (cases_eq k i) [ inl same ↦ inr same | inr off ↦ inl (omega (arith, less, off)) ])
-          (made_with (λ k. k < i) made)
+      made_after made k less = elim (cases_eq k i) [
+        | inl same ↦ subst (MarksMade b new) (sym (ap (arc_at arcs) same ∙ this_arc)) marks_this
+        | inr off ↦ marks_still b (arc_at arcs k) (made k (omega (arith, less, off)))
+      ]
 
       pub arc_passes : ((reason : Reason) → ¬ RelaxFails b.radius (marked_dist number (value_of old a.tail)) (marked_dist number (value_of old a.head)) a.cost reason) → (place : Where) (reason : Reason) → ¬ relax_row arcs b i place reason
       arc_passes passing place reason f = passing reason (rw (this_arc, ← are.labels a.tail, ← are.labels a.head) at f.2)
@@ -366,20 +357,13 @@ module _ (number : ℕ) (a : ArcView) (old : NodeTable Mark) where
       told_after (Ok done) (Some why) clear reason = relax_first arcs b i a here why clear (rw (are.labels a.tail, are.labels a.head) at reason)
 
 -- ---- no arc, and all arcs
-pub made_none : (arcs : List ArcView) (b : BlockValue) (marks : NodeTable Mark) → AreUnmade b marks → AreMadeBelow arcs b 0 marks
-made_none arcs b marks unmade l has = (λ m. absurd (let e = unmade l has in cc), λ some. absurd (omega (arith, some.1)))
+pub alone_unmade : (arcs : List ArcView) (b : BlockValue) (marks : NodeTable Mark) → AreUnmade b marks → AreMadeAlone arcs b marks
+alone_unmade arcs b marks unmade l has m = absurd (let e = unmade l has in cc)
 
-pub made_all : (arcs : List ArcView) (b : BlockValue) (n : ℕ) (marks : NodeTable Mark) → n ≡ length arcs → AreMadeBelow arcs b n marks → AreMade arcs b marks
-made_all arcs b n marks all made l has = (
-  λ m.
-      let (k, below, makes) = (made l has).0 m in
-      let inside : k < length arcs = omega (arith, below, all) in
-      (makes.base, makes.known, record { arc = arc_at arcs k; present = Contains-get_or arcs k no_arc inside; from = makes.from; to = makes.to; adds = makes.adds }),
-  λ tight.
-      let (base, known, arc) = tight in
-      let (k, inside, at) = arc.present in
-      let same : arc.arc ≡ arc_at arcs k = sym at ∙ get_or_default arcs k arc.arc no_arc inside in
-      (made l has).1 (k, omega (arith, inside, all), subst (λ (c : ArcView). Makes b c l) same (record { base = base; known = known; from = arc.from; to = arc.to; adds = arc.adds })),
+pub made_all : (arcs : List ArcView) (b : BlockValue) (marks : NodeTable Mark) → AreMadeAlone arcs b marks → AreMadeBelow arcs b (length arcs) marks → AreMade arcs b marks
+made_all arcs b marks alone all l has = (
+  alone l has,
+  λ tight. (let (k, inside, makes) = some_makes arcs b l tight in all k inside l has makes),
 )
 
 pub told_end : (arcs : List ArcView) (b : BlockValue) (n : ℕ) (told : Result Unit (Where × Reason)) → length arcs ≤ n → TellsBelow (relax_row arcs b) n told → TellsRow (relax_row arcs b) told

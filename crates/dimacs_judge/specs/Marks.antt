@@ -58,17 +58,17 @@ pub record Makes (b : BlockValue) (a : ArcView) (l : Label) : Type 0 where
   pub to : a.head ≡ l.id
   pub adds : (base +ℤ a.cost) ≡ l.dist
 
--- one of these arcs makes the label
-abbrev pub IsMadeAmong : (ℕ → Type 0) → List ArcView → BlockValue → Label → Type 0
-IsMadeAmong these arcs b l = (k : ℕ) × these k × Makes b (arc_at arcs k) l
+-- the labels that this arc makes are marked so
+abbrev pub MarksMade : BlockValue → NodeTable Mark → ArcView → Type 0
+MarksMade b marks a = (l : Label) → Contains b.labels l → Makes b a l → (value_of marks l.id).made ≡ true
 
--- the labels that one of these arcs makes are marked so, and no others
-abbrev pub AreMadeAmong : (ℕ → Type 0) → List ArcView → BlockValue → NodeTable Mark → Type 0
-AreMadeAmong these arcs b marks = (l : Label) → Contains b.labels l → ((value_of marks l.id).made ≡ true) ↔ IsMadeAmong these arcs b l
-
--- the labels that one of the first n arcs makes are marked so, and no others
+-- the labels that the first n arcs make are marked so
 abbrev pub AreMadeBelow : List ArcView → BlockValue → ℕ → NodeTable Mark → Type 0
-AreMadeBelow arcs b n marks = AreMadeAmong (λ k. k < n) arcs b marks
+AreMadeBelow arcs b n marks = (k : ℕ) → k < n → MarksMade b marks (arc_at arcs k)
+
+-- no label is marked so but those that an arc makes
+abbrev pub AreMadeAlone : List ArcView → BlockValue → NodeTable Mark → Type 0
+AreMadeAlone arcs b marks = (l : Label) → Contains b.labels l → (value_of marks l.id).made ≡ true → HasTightArc arcs b l
 
 -- the labels that an arc makes are marked so, and no others
 abbrev pub AreMade : List ArcView → BlockValue → NodeTable Mark → Type 0

@@ -17,6 +17,7 @@ mod infeasible;
 mod labels;
 mod laws;
 mod least;
+mod least_arcs;
 mod leaving;
 mod marks;
 mod maximum;

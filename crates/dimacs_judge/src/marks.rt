@@ -3,20 +3,20 @@
 
 ghost use Rattle.std.specs.Prelude.{◌≡◌, ◌<◌, ◌≤◌, ◌+◌, ◌⊎◌, ◌↔◌, ◌+ℤ◌, ℕ, List, IfSome, OnOk, IsTrue, false, true};
 ghost use Rattle.dimacs_instance.specs.declared.network.ArcView.{ArcView};
-ghost use Rattle.dimacs_instance.specs.Links.{AreLinksOf};
-ghost use Rattle.dimacs_instance.specs.declared.links.Side.TheVariants.{Tail};
 ghost use Rattle.dimacs_claims.specs.Labels.{AreLabels, BlockValue, IsBlock};
 ghost use Rattle.dimacs_nodes.specs.Tables.{blank_of, value_of};
 ghost use Rattle.dimacs_records.specs.Ranges.{IsWide};
 ghost use Rattle.dimacs_judge.specs.CertificateTests.{RelaxFails, distance_rows, label_rows, relax_row, support_row, weight_row};
-ghost use Rattle.dimacs_judge.specs.Marks.{AreAsTested, AreEarlier, AreMade, AreUnmade, AreWide, IsMarked, MarksArc, dist_of, first_told, marked_dist};
-ghost use Rattle.dimacs_judge.specs.Tests.{TellsAll, TellsReason, TellsRow};
+ghost use Rattle.dimacs_judge.specs.Leaving.{AreLeast};
+ghost use Rattle.dimacs_judge.specs.Marks.{AreAsTested, AreEarlier, AreMade, AreMadeAlone, AreUnmade, AreWide, IsMarked, MarksArc, dist_of, first_told, marked_dist};
+ghost use Rattle.dimacs_judge.specs.Tests.{Clear, TellsAll, TellsReason, TellsRow};
 
 use crate::labels::{escape_fault, is_beyond, weights_hold};
+use crate::least_arcs::LeastArcs;
 use crate::leaving::{labels_few, leaving_passed};
 use crate::verdict::{JudgeError, Where};
 use dimacs_claims::{Block, LabelList, Labels};
-use dimacs_instance::{ArcView, Links, Network, Side};
+use dimacs_instance::{ArcView, Network};
 use dimacs_lines::Memory;
 use dimacs_nodes::NodeTable;
 use dimacs_records::Reason;
@@ -107,13 +107,13 @@ pub(crate) fn marked_blocks_hold<N: Network>(
 {
     let mut marks = NodeTable::new(alloc, NO_MARK);
     let mut weights = Weights::Untested;
-    let mut links = None;
+    let mut least = None;
     let blocks = labels.blocks();
     for i in 0..blocks.len() {
         let block = &blocks[i];
         test_weights_for(network, block, &mut weights)?;
-        link_for(alloc, network, block, &mut links)?;
-        marked_block_holds(network, block, i as u32 + 1, &links, &mut marks)?;
+        link_for(alloc, network, block, &mut least)?;
+        marked_block_holds(network, block, i as u32 + 1, &least, &mut marks)?;
     }
     Ok(())
 }
@@ -141,18 +141,18 @@ fn test_weights_for<N: Network>(
     }
 }
 
-/// Links the arcs by their tails for the first block that labels few nodes.
+/// Links the least arcs by their tails for the first block that labels few nodes.
 fn link_for<N: Network>(
     alloc: Global,
     network: &N,
     block: &Block,
-    links: &mut Option<Links>,
+    least: &mut Option<LeastArcs>,
 ) -> Result<(), Memory>
-    requires { IfSome links.old (AreLinksOf Tail (N.list network.now)) }
-    ensures { IfSome links.new (AreLinksOf Tail (N.list network.now)) }
+    requires { IfSome least.old (AreLeast (N.list network.now)) }
+    ensures { IfSome least.new (AreLeast (N.list network.now)) }
 {
-    if links.is_none() && labels_few(block, network) {
-        *links = Some(Links::new(alloc, network, Side::Tail)?);
+    if least.is_none() && labels_few(block, network) {
+        *least = Some(LeastArcs::new(alloc, network)?);
     }
     Ok(())
 }
@@ -162,18 +162,18 @@ fn marked_block_holds<N: Network>(
     network: &N,
     block: &Block,
     number: u32,
-    links: &Option<Links>,
+    least: &Option<LeastArcs>,
     marks: &mut NodeTable<Mark>,
 ) -> Result<(), JudgeError>
     requires lawful { (nodes : ℕ) × IsBlock nodes block.now }
     requires number { 1 ≤ number }
-    requires links { IfSome links.now (AreLinksOf Tail (N.list network.now)) }
+    requires least { IfSome least.now (AreLeast (N.list network.now)) }
     requires earlier { AreEarlier number marks.old }
     ensures tests { TellsAll (distance_rows (N.list network.now) block.now) result }
     ensures earlier { OnOk result (AreEarlier (number + 1) marks.new) }
 {
     mark_labels(block, number, marks)?;
-    let relaxed = block_passed(network, block, number, links, marks);
+    let relaxed = block_passed(network, block, number, least, marks);
     labels_made(block.labels(), marks)?;
     relaxed?;
     Ok(())
@@ -195,29 +195,53 @@ fn mark_labels(block: &Block, number: u32, marks: &mut NodeTable<Mark>) -> Resul
     Ok(())
 }
 
-/// Marks the labels that arcs make, and tells the first arc that fails: by the arcs that leave labelled nodes where the
-/// block labels few, else by all.
+/// Marks the labels that arcs make, and tells the first arc that fails: by the least arcs that leave labelled nodes where
+/// the block labels few and none fails, else by all.
 fn block_passed<N: Network>(
     network: &N,
     block: &Block,
     number: u32,
-    links: &Option<Links>,
+    least: &Option<LeastArcs>,
     marks: &mut NodeTable<Mark>,
 ) -> Result<(), (Where, Reason)>
     requires lawful { (nodes : ℕ) × IsBlock nodes block.now }
     requires number { 1 ≤ number }
-    requires links { IfSome links.now (AreLinksOf Tail (N.list network.now)) }
+    requires least { IfSome least.now (AreLeast (N.list network.now)) }
     requires marked { IsMarked number block.now marks.old }
     requires unmade { AreUnmade block.now marks.old }
     ensures marked { IsMarked number block.now marks.new }
     ensures made { AreMade (N.list network.now) block.now marks.new }
     ensures relaxed { TellsRow (relax_row (N.list network.now) block.now) result }
 {
-    match links {
-        Some(links) if labels_few(block, network) => {
-            leaving_passed(network, block, number, links, marks)
+    if few_passed(network, block, number, least, marks) {
+        return Ok(());
+    }
+    arcs_passed(network, block, number, marks)
+}
+
+/// Whether the block labels few nodes, and none of the least arcs that leave them fails.
+fn few_passed<N: Network>(
+    network: &N,
+    block: &Block,
+    number: u32,
+    least: &Option<LeastArcs>,
+    marks: &mut NodeTable<Mark>,
+) -> bool
+    requires lawful { (nodes : ℕ) × IsBlock nodes block.now }
+    requires number { 1 ≤ number }
+    requires least { IfSome least.now (AreLeast (N.list network.now)) }
+    requires marked { IsMarked number block.now marks.old }
+    requires alone { AreMadeAlone (N.list network.now) block.now marks.old }
+    ensures marked { IsMarked number block.now marks.new }
+    ensures alone { AreMadeAlone (N.list network.now) block.now marks.new }
+    ensures made { IsTrue result → AreMade (N.list network.now) block.now marks.new }
+    ensures clear { IsTrue result → Clear (relax_row (N.list network.now) block.now) }
+{
+    match least {
+        Some(least) if labels_few(block, network) => {
+            leaving_passed(network, block, number, least, marks)
         }
-        _ => arcs_passed(network, block, number, marks),
+        _ => false,
     }
 }
 
@@ -232,7 +256,7 @@ fn arcs_passed<N: Network>(
     requires lawful { (nodes : ℕ) × IsBlock nodes block.now }
     requires number { 1 ≤ number }
     requires marked { IsMarked number block.now marks.old }
-    requires unmade { AreUnmade block.now marks.old }
+    requires alone { AreMadeAlone (N.list network.now) block.now marks.old }
     ensures marked { IsMarked number block.now marks.new }
     ensures made { AreMade (N.list network.now) block.now marks.new }
     ensures relaxed { TellsRow (relax_row (N.list network.now) block.now) result }

@@ -1,61 +1,113 @@
-use Rattle.std.proofs.Common.{◌≡◌, ◌+◌, ◌-◌, ◌<◌, length, slice_index, Option, ℤ, ap, arith, subst, sym}
+use Rattle.std.proofs.Common.{◌≡◌, ◌+◌, ◌-◌, ◌<◌, IfSome, Option, ℤ, ◌+ℤ◌, SFits, length, slice_index, ap, arith, rules, subst, sym, ◌∙◌}
+use Rattle.std.specs.Int.{w64, w128}
+use Rattle.std.proofs.lemmas.Int.{to_z-of_z}
+use Rattle.std.proofs.lemmas.Option.{get_or_from_slice_get}
+use Rattle.dimacs_nodes.specs.Tables.{value_of}
+use Rattle.dimacs_records.specs.Ranges.{IsWide}
+use Rattle.dimacs_instance.specs.declared.network.ArcView.{ArcView}
 use Rattle.dimacs_instance.specs.declared.links.Side.TheVariants.{Tail}
 use Rattle.dimacs_instance.specs.Links.{IsLast}
-use Rattle.dimacs_judge.specs.declared.marks.Mark.{Mark}
-use Rattle.dimacs_nodes.specs.Tables.{value_of}
+use Rattle.dimacs_claims.specs.Labels.{IsNear}
 use Rattle.dimacs_judge.specs.CertificateTests.{RelaxFails}
-use Rattle.dimacs_judge.specs.Leaving.{ArePassed, IsEarlier}
+use Rattle.dimacs_judge.specs.Leaving.{IsPassed, WeightsFall, arcs_in}
 use Rattle.dimacs_judge.specs.Marks.{marked_dist}
+use Rattle.dimacs_judge.specs.Rows.{arc_at, no_arc}
 use Rattle.dimacs_judge.specs.Tests.{TellsReason}
-use Rattle.dimacs_judge.specs.Rows.{arc_at}
-use Rattle.dimacs_judge.proofs.LeavingLemmas.{LeavesFrom, node_begun, node_done, node_more, passed_with}
-use Rattle.dimacs_judge.proofs.MarkLemmas.{wide_after}
+use Rattle.dimacs_judge.proofs.LeavingLemmas.{ArePassedOn, at_place, no_reason, node_beyond, node_done, node_more, passed_still, passed_this}
+use Rattle.dimacs_judge.proofs.MarkLemmas.{alone_after, label_wide, marked_after, marked_wide}
 use Rattle.dimacs_judge.proofs.leaving.node_passed.Goals as goal
 
 pub loop-next-init : goal.loop-next-init
 loop-next-init g c =
-    let arcs = g.N.Network.list c.args.network.now in
-    let last : IsLast Tail arcs (length arcs) c.args.node c.last-next.result = subst (IsLast Tail arcs (length arcs) c.args.node) (sym c.last-next.ensures) (c.requires.links.last_at c.args.node) in
+    let chosen = arcs_in (g.N.Network.list c.args.network.now) c.args.least.now.order.items in
+    let last : IsLast Tail chosen (length c.args.least.now.order.items) c.args.node c.last-next.result =
+    subst (IsLast Tail chosen (length c.args.least.now.order.items) c.args.node) (sym c.last-next.ensures) (c.requires.least.linked.last_at c.args.node) in
     record {
-      blank = c.requires.blank;
-      wide = c.requires.wide;
+      marked = c.requires.marked;
+      alone = c.requires.alone;
+      kept = λ a is. is;
       within = last.within;
       found = last.found;
-      passed = λ done passed. node_begun arcs c.args.number c.args.block.now done c.args.node c.args.marks.now c.args.told c.last-next.result last passed;
+      passed = λ p after there here. absurd {A = IsPassed c.args.block.now c.args.marks.now (arc_at chosen p)} (last.none_after p after there here);
     }
+
+pub leads_past-requires : goal.leads_past-requires
+leads_past-requires g c =
+    let wide : IsWide c.args.from = subst (λ claimed. IfSome claimed IsWide) c.requires.label (label_wide c.requires.lawful.0 c.args.block.now c.args.node c.requires.lawful.1) in
+    rw (to_z-of_z w128 c.args.from c.ranges.from) wide
+
+pub returns-then-leads_past-clause-passed : goal.returns-then-leads_past-clause-passed
+returns-then-leads_past-clause-passed g c = λ yes.
+    let arcs = g.N.Network.list c.args.network.now in
+    let order = c.args.least.now.order.items in
+    let number = c.args.number in
+    let b = c.args.block.now in
+    let is = c.loop-next.invariant in
+    let marks = c.loop-next.marks in
+    let node = c.args.node in
+    let place = c.loop-next.next - 1 in
+    let a = c.arc-arc.result in
+    let inside : place < length order = omega (arith, c.loop-next-test.true, is.within) in
+    let next_is : c.loop-next.next ≡ place + 1 = omega (arith, c.loop-next-test.true) in
+    let same : arc_at (arcs_in arcs order) place ≡ a = at_place arcs order place inside ∙ (ap (arc_at arcs) (sym c.arc_at.ensures) ∙ get_or_from_slice_get arcs c.arc_at.result a no_arc c.arc-arc.ensures) in
+    let fall : WeightsFall (arcs_in arcs order) = c.requires.least.fall (sym c.by_weight.ensures ∙ c.if-by_weight.true) in
+    let cost : SFits w64 a.cost = search rules in
+    let far : ¬ IsNear c.radius-radius.result (c.args.from +ℤ a.cost) = rw (to_z-of_z w128 c.args.from c.ranges.from, to_z-of_z w64 a.cost cost) at (c.leads_past.ensures c.if-leads_past.true) in
+    let beyond : ¬ IsNear b.radius (c.args.from +ℤ (arc_at (arcs_in arcs order) place).cost) =
+    subst (λ (z : ℤ). ¬ IsNear b.radius (c.args.from +ℤ z)) (ap (λ (c : ArcView). c.cost) (sym same)) (subst (λ (radius : Option ℤ). ¬ IsNear radius (c.args.from +ℤ a.cost)) c.radius-radius.ensures far) in
+    let on : ArePassedOn arcs order number b marks node (place + 1) = subst (ArePassedOn arcs order number b marks node) next_is is.passed in
+    node_done arcs order number b marks node is.marked c.requires.least.covering (node_beyond arcs order number b marks node c.requires.lawful.0 c.args.from place c.requires.lawful.1 is.marked c.requires.label fall inside beyond on)
+
+pub pass_arc-requires-clause-wide : goal.pass_arc-requires-clause-wide
+pass_arc-requires-clause-wide g c = marked_wide c.args.number c.requires.lawful.0 c.args.block.now c.loop-next.marks c.requires.lawful.1 c.loop-next.invariant.marked
+
+pub returns-then-is_some-clause-marked : goal.returns-then-is_some-clause-marked
+returns-then-is_some-clause-marked g c = marked_after c.args.number c.arc-arc.result c.loop-next.marks c.pass_arc.new.marks c.pass_arc.ensures.marks c.args.block.now c.loop-next.invariant.marked
+
+pub returns-then-is_some-clause-alone : goal.returns-then-is_some-clause-alone
+returns-then-is_some-clause-alone g c =
+    let is = c.loop-next.invariant in
+    alone_after c.args.number c.arc-arc.result c.loop-next.marks c.pass_arc.new.marks c.pass_arc.ensures.marks (g.N.Network.list c.args.network.now) c.args.block.now c.arc_at.result c.arc-arc.ensures is.marked is.alone
+
+pub returns-then-is_some-clause-kept : goal.returns-then-is_some-clause-kept
+returns-then-is_some-clause-kept g c = λ a passed. passed_still c.args.number c.arc-arc.result c.loop-next.marks c.pass_arc.new.marks c.pass_arc.ensures.marks c.args.block.now a (c.loop-next.invariant.kept a passed)
 
 pub loop-next-preserved : goal.loop-next-preserved
 loop-next-preserved g c =
     let arcs = g.N.Network.list c.args.network.now in
-    let is = c.loop-next.invariant in
+    let order = c.args.least.now.order.items in
+    let chosen = arcs_in arcs order in
     let number = c.args.number in
-    let node = c.args.node in
-    let old = c.loop-next.marks in
-    let new = c.pass_arc-fault.new.marks in
-    let e = c.pass_arc-fault.ensures in
-    let i = c.loop-next.next - 1 in
-    let result = c.earlier_fault-first.result in
-    let inside : i < length arcs = omega (arith, c.loop-next-test.true, is.within) in
-    let here : (arc_at arcs i).tail ≡ node = is.found c.loop-next-test.true in
     let b = c.args.block.now in
-    let told = subst (λ (radius : Option ℤ). TellsReason (RelaxFails radius (marked_dist number (value_of old c.arc.result.tail)) (marked_dist number (value_of old c.arc.result.head)) c.arc.result.cost) c.pass_arc-fault.result) c.radius-radius.ensures e.told in
-    let next_is : c.loop-next.next ≡ i + 1 = omega (arith, c.loop-next-test.true) in
-    let last : IsLast Tail arcs i node c.before-next.result = subst (IsLast Tail arcs i node) (sym c.before-next.ensures) (subst (λ v. IsLast Tail arcs i v (slice_index c.args.links.now.before.items i)) here (c.requires.links.last_before i inside)) in
-    let earlier : IsEarlier c.loop-next.first (i + 1) c.pass_arc-fault.result result = subst (λ n. IsEarlier c.loop-next.first n c.pass_arc-fault.result result) next_is c.earlier_fault-first.ensures in
+    let is = c.loop-next.invariant in
+    let old = c.loop-next.marks in
+    let new = c.pass_arc.new.marks in
+    let passes = c.pass_arc.ensures.marks in
+    let node = c.args.node in
+    let place = c.loop-next.next - 1 in
+    let i = c.arc_at.result in
+    let a = c.arc-arc.result in
+    let inside : place < length order = omega (arith, c.loop-next-test.true, is.within) in
+    let next_is : c.loop-next.next ≡ place + 1 = omega (arith, c.loop-next-test.true) in
+    let same : arc_at chosen place ≡ a = at_place arcs order place inside ∙ (ap (arc_at arcs) (sym c.arc_at.ensures) ∙ get_or_from_slice_get arcs i a no_arc c.arc-arc.ensures) in
+    let here : (arc_at chosen place).tail ≡ node = is.found c.loop-next-test.true in
+    let last : IsLast Tail chosen place node c.before-next.result = subst (IsLast Tail chosen place node) (sym c.before-next.ensures) (subst (λ v. IsLast Tail chosen place v (slice_index c.args.least.now.before.items place)) here (c.requires.least.linked.last_before place inside)) in
+    let told = subst (λ (radius : Option ℤ). TellsReason (RelaxFails radius (marked_dist number (value_of old a.tail)) (marked_dist number (value_of old a.head)) a.cost) c.pass_arc.result) c.radius-radius.ensures c.pass_arc.ensures.told in
+    let this = passed_this number a old new passes b arcs i c.arc-arc.ensures is.marked (no_reason _ c.pass_arc.result (sym c.is_some.ensures ∙ c.if-is_some.false) told) in
+    let on : ArePassedOn arcs order number b old node (place + 1) = subst (ArePassedOn arcs order number b old node) next_is is.passed in
     record {
-      blank = omega (arith, is.blank, ap (λ (m : Mark). m.block) e.marks.blank);
-      wide = wide_after number c.arc.result old new e.marks is.wide;
+      marked = marked_after number a old new passes b is.marked;
+      alone = alone_after number a old new passes arcs b i c.arc-arc.ensures is.marked is.alone;
+      kept = λ d passed. passed_still number a old new passes b d (is.kept d passed);
       within = omega (arith, last.within, inside);
       found = last.found;
-      passed = λ done before.
-          let so_far = is.passed done before in
-          let from : ArePassed (LeavesFrom arcs done node (i + 1)) arcs number b old c.loop-next.first = subst (λ n. ArePassed (LeavesFrom arcs done node n) arcs number b old c.loop-next.first) next_is so_far in
-          node_more arcs number b done node new result i c.before-next.result inside here last (passed_with number c.arc.result old new e.marks arcs b i c.arc.ensures so_far.marked (LeavesFrom arcs done node (i + 1)) c.loop-next.first c.pass_arc-fault.result result from told earlier);
+      passed = node_more arcs order number b new node place c.before-next.result last (subst (IsPassed b new) (sym same) this) (λ p after there at. passed_still number a old new passes b (arc_at chosen p) (on p after there at));
     }
 
-pub returns : goal.returns
-returns g c = λ done passed.
-    let b = c.args.block.now in
+pub returns-clause-passed : goal.returns-clause-passed
+returns-clause-passed g c = λ yes.
     let arcs = g.N.Network.list c.args.network.now in
+    let order = c.args.least.now.order.items in
+    let is = c.loop-next.invariant in
     let none : c.loop-next.next ≡ 0 = omega (arith, c.loop-next-test.false) in
-    node_done arcs c.args.number b done c.args.node c.loop-next.marks c.loop-next.first (subst (λ n. ArePassed (LeavesFrom arcs done c.args.node n) arcs c.args.number b c.loop-next.marks c.loop-next.first) none (c.loop-next.invariant.passed done passed))
+    node_done arcs order c.args.number c.args.block.now c.loop-next.marks c.args.node is.marked c.requires.least.covering (subst (ArePassedOn arcs order c.args.number c.args.block.now c.loop-next.marks c.args.node) none is.passed)

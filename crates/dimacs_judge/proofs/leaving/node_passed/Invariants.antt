@@ -1,19 +1,20 @@
-use Rattle.std.proofs.Common.{◌≡◌, ◌<◌, ◌≤◌, ◌-◌, ℕ, List, length}
-use Rattle.dimacs_nodes.specs.Tables.{blank_of}
-use Rattle.dimacs_judge.specs.Leaving.{ArePassed, Leaves}
-use Rattle.dimacs_judge.specs.Marks.{AreWide}
+use Rattle.std.proofs.Common.{◌≡◌, ◌<◌, ◌≤◌, ◌-◌, length}
+use Rattle.dimacs_instance.specs.declared.network.ArcView.{ArcView}
+use Rattle.dimacs_judge.specs.Leaving.{IsPassed, arcs_in}
+use Rattle.dimacs_judge.specs.Marks.{AreMadeAlone, IsMarked}
 use Rattle.dimacs_judge.specs.Rows.{arc_at}
-use Rattle.dimacs_judge.proofs.LeavingLemmas.{LeavesFrom}
+use Rattle.dimacs_judge.proofs.LeavingLemmas.{ArePassedOn}
 use Rattle.dimacs_judge.proofs.leaving.node_passed.Given as goal
 
 -- the arcs of the node from `next` on are passed
 abbrev pub invariant-loop-next : goal.invariant-loop-next
 invariant-loop-next g l = record {
-  blank : (blank_of l.marks).block < l.number;
-  wide : AreWide l.number l.marks;
-  within : l.next ≤ length (g.N.Network.list l.network);
-  found : 0 < l.next → (arc_at (g.N.Network.list l.network) (l.next - 1)).tail ≡ l.node;
-  passed : (done : List ℕ) → ArePassed (Leaves (g.N.Network.list l.network) done) (g.N.Network.list l.network) l.number l.block l.fn.marks l.fn.told → ArePassed (LeavesFrom (g.N.Network.list l.network) done l.node l.next) (g.N.Network.list l.network) l.number l.block l.marks l.first;
+  marked : IsMarked l.number l.block l.marks;
+  alone : AreMadeAlone (g.N.Network.list l.network) l.block l.marks;
+  kept : (a : ArcView) → IsPassed l.block l.fn.marks a → IsPassed l.block l.marks a;
+  within : l.next ≤ length l.least.order.items;
+  found : 0 < l.next → (arc_at (arcs_in (g.N.Network.list l.network) l.least.order.items) (l.next - 1)).tail ≡ l.node;
+  passed : ArePassedOn (g.N.Network.list l.network) l.least.order.items l.number l.block l.marks l.node l.next;
 }
 
 abbrev pub decreases-loop-next : goal.decreases-loop-next

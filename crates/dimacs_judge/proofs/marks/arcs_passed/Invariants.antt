@@ -1,7 +1,7 @@
 use Rattle.std.proofs.Common.{◌<◌}
 use Rattle.dimacs_nodes.specs.Tables.{blank_of}
 use Rattle.dimacs_judge.specs.CertificateTests.{relax_row}
-use Rattle.dimacs_judge.specs.Marks.{AreMadeBelow, AreWide, IsMarked, TellsBelow}
+use Rattle.dimacs_judge.specs.Marks.{AreMadeAlone, AreMadeBelow, AreWide, IsMarked, TellsBelow}
 use Rattle.dimacs_judge.proofs.marks.arcs_passed.Given as goal
 
 -- the marks tell what the arcs so far make, and the first of them that fails is told
@@ -10,6 +10,7 @@ invariant-loop-i g l = record {
   blank : (blank_of l.marks).block < l.number;
   wide : AreWide l.number l.marks;
   marked : IsMarked l.number l.block l.marks;
+  alone : AreMadeAlone (g.N.Network.list l.network) l.block l.marks;
   made : AreMadeBelow (g.N.Network.list l.network) l.block l.i l.marks;
   told : TellsBelow (relax_row (g.N.Network.list l.network) l.block) l.i l.told;
 }

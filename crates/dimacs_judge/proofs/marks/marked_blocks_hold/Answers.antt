@@ -43,5 +43,5 @@ loop-i-preserved g c =
       clear = blocks_more arcs blocks c.loop-i.i inside c.loop-i.invariant.clear (weights, distances);
       earlier = c.in_ok-marked_block_holds.ensures.earlier;
       tested = c.in_ok-test_weights_for.ensures.tested;
-      links = c.in_ok-link_for.ensures;
+      least = c.in_ok-link_for.ensures;
     }

@@ -1,7 +1,6 @@
 use Rattle.std.proofs.Common.{◌+◌, IfSome, take}
-use Rattle.dimacs_instance.specs.Links.{AreLinksOf}
-use Rattle.dimacs_instance.specs.declared.links.Side.TheVariants.{Tail}
 use Rattle.dimacs_judge.specs.CertificateTests.{label_rows}
+use Rattle.dimacs_judge.specs.Leaving.{AreLeast}
 use Rattle.dimacs_judge.specs.Marks.{AreAsTested, AreEarlier}
 use Rattle.dimacs_judge.specs.Tests.{AllClear}
 use Rattle.dimacs_judge.proofs.marks.marked_blocks_hold.Given as goal
@@ -12,5 +11,5 @@ invariant-loop-i g l = record {
   clear : AllClear (label_rows (g.N.Network.list l.network) (take l.i l.labels.blocks));
   earlier : AreEarlier (l.i + 1) l.marks;
   tested : AreAsTested (g.N.Network.list l.network) l.weights;
-  links : IfSome l.links (AreLinksOf Tail (g.N.Network.list l.network));
+  least : IfSome l.least (AreLeast (g.N.Network.list l.network));
 }
