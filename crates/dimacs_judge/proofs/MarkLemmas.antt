@@ -1,5 +1,5 @@
 -- Marks of the nodes that a block labels, and the arcs that make its labels.
-use Rattle.std.proofs.Common.{◌≡◌, ◌≢◌, ◌⊎◌, ◌↔◌, inl, inr, ℕ, suc, zero, ◌+◌, ◌<◌, ◌≤◌, Bool, true, false, not, List, [], ◌∷◌, ◌++◌, Contains, length, take, drop, get_or, slice_get, Option, Some, None, Result, Ok, Err, IfSome, ℤ, pos, ◌+ℤ◌, ◌<ℤ◌, refl, sym, ap, ap₂, subst, ◌∙◌, arith}
+use Rattle.std.proofs.Common.{◌≡◌, ◌≢◌, ◌⊎◌, ◌↔◌, inl, inr, ℕ, suc, zero, ◌+◌, ◌<◌, ◌≤◌, Bool, true, false, not, List, [], ◌∷◌, ◌++◌, Contains, length, take, drop, get_or, slice_get, Option, Some, None, IfSome, ℤ, pos, ◌+ℤ◌, ◌<ℤ◌, refl, sym, ap, ap₂, subst, ◌∙◌, arith}
 use Rattle.std.specs.Prelude.{◌==◌, if◌then◌else◌}
 use Rattle.std.proofs.Math.Seq.{drop-cons}
 use Rattle.std.proofs.lemmas.Int.{ints}
@@ -24,10 +24,10 @@ use Rattle.dimacs_judge.specs.declared.verdict.Where.{Where}
 use Rattle.dimacs_judge.specs.declared.verdict.Where.TheVariants.{Arc}
 use Rattle.dimacs_judge.specs.CertificateTests.{RelaxFails, relax_row}
 use Rattle.dimacs_judge.specs.Labels.{HasTightArc}
-use Rattle.dimacs_judge.specs.Marks.{AreEarlier, AreMade, AreMadeAlone, AreMadeBelow, AreUnmade, AreWide, IsMarked, IsTight, Makes, MarksArc, MarksMade, SaysSame, TellsBelow, dist_of, first_told, marked_dist}
+use Rattle.dimacs_judge.specs.Marks.{AreEarlier, AreMade, AreMadeAlone, AreMadeBelow, AreUnmade, AreWide, IsMarked, IsTight, Makes, MarksArc, MarksMade, SaysSame, dist_of, marked_dist}
 use Rattle.dimacs_judge.specs.Rows.{arc_at, no_arc}
-use Rattle.dimacs_judge.specs.Tests.{ClearBelow, TellsReason, TellsRow}
-use Rattle.dimacs_judge.proofs.RowLemmas.{arc_clear_end, relax_clear_more, relax_first}
+use Rattle.dimacs_judge.specs.Tests.{ClearBelow, FirstOfRow, TellsReason}
+use Rattle.dimacs_judge.proofs.RowLemmas.{relax_clear_more, relax_first}
 
 marked_here : (number : ℕ) (m : Mark) → m.block ≡ number → marked_dist number m ≡ Some (dist_of m)
 marked_here number m same = ap (λ t. if t then Some (dist_of m) else None) (eq-eqb m.block number same)
@@ -351,10 +351,11 @@ module _ (number : ℕ) (a : ArcView) (old : NodeTable Mark) where
       pub arc_fails : (reason : Reason) → RelaxFails b.radius (marked_dist number (value_of old a.tail)) (marked_dist number (value_of old a.head)) a.cost reason → relax_row arcs b i (Arc (i + 1)) reason
       arc_fails reason fails = (slice_get_within arcs i a here, refl, rw (this_arc, ← are.labels a.tail, ← are.labels a.head) fails)
 
-      pub told_after : (told : Result Unit (Where × Reason)) (fault : Option Reason) → TellsBelow (relax_row arcs b) i told → TellsReason (RelaxFails b.radius (marked_dist number (value_of old a.tail)) (marked_dist number (value_of old a.head)) a.cost) fault → TellsBelow (relax_row arcs b) (i + 1) (first_told told i fault)
-      told_after (Err refusal) fault first reason = first
-      told_after (Ok done) None clear reason = relax_clear_more arcs b i a here clear (rw (are.labels a.tail, are.labels a.head) at reason)
-      told_after (Ok done) (Some why) clear reason = relax_first arcs b i a here why clear (rw (are.labels a.tail, are.labels a.head) at reason)
+      pub clear_after : ClearBelow (relax_row arcs b) i → ((reason : Reason) → ¬ RelaxFails b.radius (marked_dist number (value_of old a.tail)) (marked_dist number (value_of old a.head)) a.cost reason) → ClearBelow (relax_row arcs b) (i + 1)
+      clear_after clear passing = relax_clear_more arcs b i a here clear (rw (are.labels a.tail, are.labels a.head) at passing)
+
+      pub first_after : (reason : Reason) → ClearBelow (relax_row arcs b) i → RelaxFails b.radius (marked_dist number (value_of old a.tail)) (marked_dist number (value_of old a.head)) a.cost reason → FirstOfRow (relax_row arcs b) (Arc (i + 1)) reason
+      first_after reason clear fails = relax_first arcs b i a here reason clear (rw (are.labels a.tail, are.labels a.head) at fails)
 
 -- ---- no arc, and all arcs
 pub alone_unmade : (arcs : List ArcView) (b : BlockValue) (marks : NodeTable Mark) → AreUnmade b marks → AreMadeAlone arcs b marks
@@ -365,13 +366,6 @@ made_all arcs b marks alone all l has = (
   alone l has,
   λ tight. (let (k, inside, makes) = some_makes arcs b l tight in all k inside l has makes),
 )
-
-pub told_end : (arcs : List ArcView) (b : BlockValue) (n : ℕ) (told : Result Unit (Where × Reason)) → length arcs ≤ n → TellsBelow (relax_row arcs b) n told → TellsRow (relax_row arcs b) told
-told_end arcs b n (Ok done) all clear = arc_clear_end arcs _ n all clear
-told_end arcs b n (Err refusal) all first = first
-
-pub told_none : (arcs : List ArcView) (b : BlockValue) → ClearBelow (relax_row arcs b) 0
-told_none arcs b k below place reason f = omega (arith, below)
 
 -- ---- labels
 pub label_made : (arcs : List ArcView) (b : BlockValue) (marks : NodeTable Mark) (k : ℕ) → k < length b.labels → AreMade arcs b marks → ((value_of marks (get_or b.labels k no_label).id).made ≡ true) ↔ HasTightArc arcs b (get_or b.labels k no_label)

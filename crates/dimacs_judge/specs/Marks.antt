@@ -1,8 +1,7 @@
 -- Marks of the nodes that a block labels.
-use Rattle.std.specs.Prelude.{ℕ, ◌≡◌, ◌≢◌, ◌<◌, ◌+◌, ◌*◌, ◌^◌, ◌⊎◌, ◌↔◌, ◌==◌, true, false, if◌then◌else◌, List, Contains, Option, Some, None, Result, Ok, Err, IfSome, ℤ, pos, ◌+ℤ◌, ◌-ℤ◌}
+use Rattle.std.specs.Prelude.{ℕ, ◌≡◌, ◌≢◌, ◌<◌, ◌+◌, ◌*◌, ◌^◌, ◌⊎◌, ◌↔◌, ◌==◌, true, false, if◌then◌else◌, List, Contains, Option, Some, None, IfSome, ℤ, pos, ◌+ℤ◌, ◌-ℤ◌}
 use Rattle.dimacs_nodes.specs.declared.node_table.NodeTable.{NodeTable}
 use Rattle.dimacs_nodes.specs.Tables.{blank_of, value_of}
-use Rattle.dimacs_records.specs.declared.reasons.Reason.{Reason}
 use Rattle.dimacs_records.specs.Ranges.{IsWide}
 use Rattle.dimacs_instance.specs.declared.network.ArcView.{ArcView}
 use Rattle.dimacs_claims.specs.declared.block.Label.{Label}
@@ -10,12 +9,10 @@ use Rattle.dimacs_claims.specs.Labels.{BlockValue, label}
 use Rattle.dimacs_judge.specs.declared.marks.Mark.{Mark}
 use Rattle.dimacs_judge.specs.declared.marks.Weights.{Weights}
 use Rattle.dimacs_judge.specs.declared.marks.Weights.TheVariants.{Untested, NotNegative}
-use Rattle.dimacs_judge.specs.declared.verdict.Where.{Where}
-use Rattle.dimacs_judge.specs.declared.verdict.Where.TheVariants.{Arc}
 use Rattle.dimacs_judge.specs.CertificateTests.{negative_row}
 use Rattle.dimacs_judge.specs.Rows.{arc_at}
 use Rattle.dimacs_judge.specs.Labels.{HasTightArc}
-use Rattle.dimacs_judge.specs.Tests.{Row, Clear, ClearBelow, FirstOfRow}
+use Rattle.dimacs_judge.specs.Tests.{Clear}
 
 -- what is known of the weights holds
 abbrev pub AreAsTested : List ArcView → Weights → Type 0
@@ -91,14 +88,3 @@ pub record MarksArc (number : ℕ) (a : ArcView) (old new : NodeTable Mark) : Ty
   pub others : (v : ℕ) → v ≢ a.head → value_of new v ≡ value_of old v
   pub head : SaysSame (value_of old a.head) (value_of new a.head)
   pub made : ((value_of new a.head).made ≡ true) ↔ (((value_of old a.head).made ≡ true) ⊎ IsTight number a old)
-
--- that no test below n fails, or the first that fails
-abbrev pub TellsBelow : Row → ℕ → Result Unit (Where × Reason) → Type 0
-TellsBelow row n (Ok done) = ClearBelow row n
-TellsBelow row n (Err refusal) = FirstOfRow row refusal.0 refusal.1
-
--- the first fault, where the arc of this index may have one
-abbrev pub first_told : Result Unit (Where × Reason) → ℕ → Option Reason → Result Unit (Where × Reason)
-first_told (Err refusal) i reason = Err refusal
-first_told (Ok done) i None = Ok done
-first_told (Ok done) i (Some reason) = Err (Arc (i + 1), reason)

@@ -8,7 +8,7 @@ ghost use Rattle.dimacs_nodes.specs.Tables.{blank_of, value_of};
 ghost use Rattle.dimacs_records.specs.Ranges.{IsWide};
 ghost use Rattle.dimacs_judge.specs.CertificateTests.{RelaxFails, distance_rows, label_rows, relax_row, support_row, weight_row};
 ghost use Rattle.dimacs_judge.specs.Leaving.{AreLeast};
-ghost use Rattle.dimacs_judge.specs.Marks.{AreAsTested, AreEarlier, AreMade, AreMadeAlone, AreUnmade, AreWide, IsMarked, MarksArc, dist_of, first_told, marked_dist};
+ghost use Rattle.dimacs_judge.specs.Marks.{AreAsTested, AreEarlier, AreMade, AreMadeAlone, AreMadeBelow, AreUnmade, AreWide, IsMarked, MarksArc, dist_of, marked_dist};
 ghost use Rattle.dimacs_judge.specs.Tests.{Clear, TellsAll, TellsReason, TellsRow};
 
 use crate::labels::{escape_fault, is_beyond, weights_hold};
@@ -262,30 +262,36 @@ fn arcs_passed<N: Network>(
     ensures relaxed { TellsRow (relax_row (N.list network.now) block.now) result }
 {
     let radius = block.radius();
-    let mut told = Ok(());
     for i in 0..network.arcs() {
-        let fault = pass_arc(network.arc(i), radius, number, marks);
-        told = first_fault(told, i, fault);
+        if let Some(reason) = pass_arc(network.arc(i), radius, number, marks) {
+            rest_passed(network, block, i + 1, number, marks);
+            return Err((Where::Arc(i + 1), reason));
+        }
     }
-    told
+    Ok(())
 }
 
-/// The fault that was told, or else that of the arc of this index.
-#[inline(always)]
-fn first_fault(
-    told: Result<(), (Where, Reason)>,
-    i: u32,
-    fault: Option<Reason>,
-) -> Result<(), (Where, Reason)>
-    requires { i < 4294967295 }
-    ensures { result ≡ first_told told i fault }
+/// Marks the labels that the arcs from this one on make, behind an arc that fails.
+#[cold]
+#[inline(never)]
+fn rest_passed<N: Network>(
+    network: &N,
+    block: &Block,
+    from: u32,
+    number: u32,
+    marks: &mut NodeTable<Mark>,
+)
+    requires lawful { (nodes : ℕ) × IsBlock nodes block.now }
+    requires number { 1 ≤ number }
+    requires marked { IsMarked number block.now marks.old }
+    requires alone { AreMadeAlone (N.list network.now) block.now marks.old }
+    requires made { AreMadeBelow (N.list network.now) block.now from marks.old }
+    ensures marked { IsMarked number block.now marks.new }
+    ensures made { AreMade (N.list network.now) block.now marks.new }
 {
-    match told {
-        Err(refusal) => Err(refusal),
-        Ok(()) => match fault {
-            Some(reason) => Err((Where::Arc(i + 1), reason)),
-            None => Ok(()),
-        },
+    let radius = block.radius();
+    for i in from..network.arcs() {
+        pass_arc(network.arc(i), radius, number, marks);
     }
 }
 

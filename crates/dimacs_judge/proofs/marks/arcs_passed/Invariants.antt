@@ -1,10 +1,11 @@
 use Rattle.std.proofs.Common.{◌<◌}
 use Rattle.dimacs_nodes.specs.Tables.{blank_of}
 use Rattle.dimacs_judge.specs.CertificateTests.{relax_row}
-use Rattle.dimacs_judge.specs.Marks.{AreMadeAlone, AreMadeBelow, AreWide, IsMarked, TellsBelow}
+use Rattle.dimacs_judge.specs.Marks.{AreMadeAlone, AreMadeBelow, AreWide, IsMarked}
+use Rattle.dimacs_judge.specs.Tests.{ClearBelow}
 use Rattle.dimacs_judge.proofs.marks.arcs_passed.Given as goal
 
--- the marks tell what the arcs so far make, and the first of them that fails is told
+-- the marks tell what the arcs so far make, and none of them fails
 abbrev pub invariant-loop-i : goal.invariant-loop-i
 invariant-loop-i g l = record {
   blank : (blank_of l.marks).block < l.number;
@@ -12,5 +13,5 @@ invariant-loop-i g l = record {
   marked : IsMarked l.number l.block l.marks;
   alone : AreMadeAlone (g.N.Network.list l.network) l.block l.marks;
   made : AreMadeBelow (g.N.Network.list l.network) l.block l.i l.marks;
-  told : TellsBelow (relax_row (g.N.Network.list l.network) l.block) l.i l.told;
+  clear : ClearBelow (relax_row (g.N.Network.list l.network) l.block) l.i;
 }
