@@ -9,7 +9,7 @@ use Rattle.dimacs_records.specs.Faults.{Fault}
 use Rattle.dimacs_records.specs.Texts.{Reads}
 use Rattle.dimacs_claims.specs.SolutionReading.{IsPlaced}
 use Rattle.dimacs_claims.specs.SolutionTexts.{IsLawful, SolutionValue, SpellsSolution}
-use Rattle.dimacs_claims.proofs.SolutionLemmas.{error_kept, kept_solution}
+use Rattle.dimacs_claims.proofs.SolutionLemmas.{error_kept, kept_in_range, kept_solution}
 use Rattle.dimacs_claims.proofs.solution.read_solution.Goals as goal
 
 pub returns-clause-reads : goal.returns-clause-reads
@@ -27,6 +27,12 @@ returns-clause-lawful g c = λ text coming.
     let read = c.in_ok-placed.ensures.reads text coming in
     let same = kept_solution (λ w. w.value) (λ w. w.value_line) (λ w. w.place.items) read.told placed read.alike in
     rw (to_z-of_z w128 placed.value fits) (subst (λ (told : Result SolutionValue ReadError). IfOk told IsLawful) same read.lawful)
+
+pub returns-clause-in_range : goal.returns-clause-in_range
+returns-clause-in_range g c =
+    let placed = c.in_ok-placed.placed in
+    let fits : SFits w128 placed.value = search rules in
+    rw (to_z-of_z w128 placed.value fits) (kept_in_range placed.value placed.value_line placed.place.items c.in_ok-placed.ensures.in_range)
 
 pub returns-in_err-placed-clause-reads : goal.returns-in_err-placed-clause-reads
 returns-in_err-placed-clause-reads g c = λ text coming.
