@@ -26,7 +26,7 @@ use Rattle.dimacs_records.proofs.SplitLemmas.{image_at, All-at}
 use Rattle.dimacs_claims.specs.Cuts.{CutValue, IsCut, AreNamed, GivesCut, SpellsCut, canonical_cut, cut_records, empty_cut, ids_in, is_id, with_node}
 use Rattle.dimacs_records.specs.Ranges.{IsNode}
 use Rattle.dimacs_records.specs.Tests.{Counts, Passes, PassesEnd, Tells, TellsEnd}
-use Rattle.dimacs_claims.specs.CutReading.{CutBegun, IsCutBegunBy, declared_by, earlier_lines, is_named, lines_of}
+use Rattle.dimacs_claims.specs.CutReading.{CutBegun, IsCutBegunBy, earlier_lines, is_named}
 use Rattle.dimacs_records.specs.Takings.{StandsFor}
 use Rattle.dimacs_claims.proofs.NodeLists.{passing, passing_once, passing_few, none_passing, All-passing, passing_below, passing_listed, passing_more}
 use Rattle.dimacs_records.proofs.CountLemmas.{once_before, once_more}
@@ -87,7 +87,7 @@ law_with_node c id law node = record { nodes_few = law.nodes_few; within = λ ot
     by_test other false apart e = law.within other (sym (ap (λ b. b || contains c.ids other) apart) ∙ e)
 
 -- what is told of the records is so
-counts : (o : Option CutBegun) (rs : List Record) → StandsFor IsCutBegunBy o rs → Counts (declared_by o) (lines_of o) rs
+counts : (o : Option CutBegun) (rs : List Record) → StandsFor IsCutBegunBy o rs → Counts (earlier_lines o).problem (earlier_lines o).counted rs
 counts None rs h = rw h (record { problem_is = refl; counted_is = refl })
 counts (Some b) rs h = rw h.records (record { problem_is = refl; counted_is = counted h.named ∙ sym h.count })
 

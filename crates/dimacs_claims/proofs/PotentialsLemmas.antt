@@ -29,7 +29,7 @@ use Rattle.dimacs_claims.specs.Cuts.{is_id}
 use Rattle.dimacs_records.specs.Ranges.{IsNode, IsWide}
 use Rattle.dimacs_claims.specs.Potentials.{PotentialsValue, ArePotentials, GivesPotentials, SpellsPotentials, canonical_potentials, node_line, nonzero_ids, potential_of, potentials_records, with_values, zero_potentials}
 use Rattle.dimacs_records.specs.NodeValues.{NameNodes, has_value, is_nonzero, is_of}
-use Rattle.dimacs_claims.specs.PotentialsReading.{PotentialsBegun, AreBegunBy, declared_by, earlier_lines, has_line, is_named, lines_of, with_line, with_value, with_zero}
+use Rattle.dimacs_claims.specs.PotentialsReading.{PotentialsBegun, AreBegunBy, earlier_lines, has_line, is_named, with_line, with_value, with_zero}
 use Rattle.dimacs_records.specs.Tests.{Counts, Passes, PassesEnd, Tells, TellsEnd}
 use Rattle.dimacs_records.specs.Takings.{StandsFor}
 use Rattle.dimacs_claims.proofs.NodeLists.{All-passing, count_map, passing, passing_below, passing_few, passing_listed, passing_once}
@@ -93,7 +93,7 @@ potential_at true v found some = ap not some
 potential_at false v found some = refl
 
 -- what is told of the records is so
-counts : (o : Option PotentialsBegun) (rs : List Record) → StandsFor AreBegunBy o rs → Counts (declared_by o) (lines_of o) rs
+counts : (o : Option PotentialsBegun) (rs : List Record) → StandsFor AreBegunBy o rs → Counts (earlier_lines o).problem (earlier_lines o).counted rs
 counts None rs h = rw h (record { problem_is = refl; counted_is = refl })
 counts (Some b) rs h = rw h.records (record { problem_is = refl; counted_is = counted h.named ∙ sym h.count })
 

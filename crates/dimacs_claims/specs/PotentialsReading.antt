@@ -1,5 +1,5 @@
 -- How far potentials have been read, and how such values are stored.
-use Rattle.std.specs.Prelude.{ℕ, ℤ, ◌≡◌, ◌≤◌, ◌+◌, ◌||◌, Bool, false, List, Option, None, Some, length, refl, pos, if◌then◌else◌, unwrap_or}
+use Rattle.std.specs.Prelude.{ℕ, ℤ, ◌≡◌, ◌≤◌, ◌+◌, ◌||◌, Bool, List, Option, Some, length, refl, pos, if◌then◌else◌, unwrap_or}
 use Rattle.std.specs.Coded.{Coded, code_by, coded×, coded_ℕ, coded_ℤ}
 use Rattle.std.specs.List.{filter, list_any}
 use Rattle.std.specs.Ordering.{nat_cmp, int_eq}
@@ -10,7 +10,7 @@ use Rattle.std.specs.FinSet as set
 use Rattle.dimacs_records.specs.declared.records.Record.{Record}
 use Rattle.dimacs_records.specs.declared.order.Declared.{Declared}
 use Rattle.dimacs_records.specs.declared.order.Earlier.{Earlier}
-use Rattle.dimacs_records.specs.Tests.{earlier_of}
+use Rattle.dimacs_records.specs.Tests.{earlier_begun, is_named_begun}
 use Rattle.dimacs_claims.specs.Potentials.{PotentialsValue, ArePotentials, potential_of, potentials_records}
 use Rattle.dimacs_records.specs.NodeValues.{NameNodes, has_value, is_nonzero, is_of}
 
@@ -49,21 +49,15 @@ with_value begun id value = record { declared = begun.declared; taken = begun.ta
 abbrev pub with_line : PotentialsBegun → ℕ → ℤ → PotentialsBegun
 with_line begun id value = if int_eq value (pos 0) then with_zero begun id else with_value begun id value
 
-abbrev pub declared_by : Option PotentialsBegun → Option Declared
-declared_by None = None
-declared_by (Some begun) = Some (record { nodes = Some begun.potentials.nodes; count = begun.declared })
-
-abbrev pub lines_of : Option PotentialsBegun → ℕ
-lines_of None = 0
-lines_of (Some begun) = begun.taken
+abbrev pub declared_by : PotentialsBegun → Declared
+declared_by begun = record { nodes = Some begun.potentials.nodes; count = begun.declared }
 
 -- what the records taken say of one that names no node
 abbrev pub earlier_lines : Option PotentialsBegun → Earlier
-earlier_lines begun = earlier_of (declared_by begun) (lines_of begun)
+earlier_lines = earlier_begun declared_by (λ (begun : PotentialsBegun). begun.taken)
 
 abbrev pub is_named : Option PotentialsBegun → ℕ → Bool
-is_named None id = false
-is_named (Some begun) id = has_line begun id
+is_named = is_named_begun has_line
 
 abbrev pub potentials_code : Coded PotentialsValue
 potentials_code = code_by (ℕ × FinMap nat_cmp ℤ) (coded× coded_ℕ (map.code coded_ℕ coded_ℤ)) (λ p. (p.nodes, p.values)) (λ p. record { nodes = p.0; values = p.1 }) (λ _. refl)

@@ -31,7 +31,7 @@ use Rattle.dimacs_instance.specs.Plain.{capacity_arc}
 use Rattle.dimacs_instance.specs.Arcs.{JoinsNodes}
 use Rattle.dimacs_instance.specs.MaxFlows.{HasCapacityAlone}
 use Rattle.dimacs_records.specs.Ranges.{IsNode, IsWhole}
-use Rattle.dimacs_instance.specs.MaxReading.{MaxBegun, IsMaxBegun, IsMaxBegunBy, arcs_by, declared_by, earlier_ends, earlier_lines, earlier_names, end_records, ends_by, max_begun_records, max_node, with_arc}
+use Rattle.dimacs_instance.specs.MaxReading.{MaxBegun, IsMaxBegun, IsMaxBegunBy, earlier_ends, earlier_lines, earlier_names, end_records, ends_by, max_begun_records, max_node, with_arc}
 
 none_of_arcs : (test : Record → Bool) → ((a : ArcView) → test (max_arc a) ≡ false) → (arcs : List ArcView) → list_any test (map max_arc arcs) ≡ false
 none_of_arcs test none [] = refl
@@ -123,7 +123,7 @@ pub first_problem : (n m : ℕ) → IsAllowed [] (MaxProblem n m)
 first_problem n m = is_allowed [] (MaxProblem n m) refl
 
 -- what is told of the records is so
-counts : (o : Option MaxBegun) (rs : List Record) → StandsFor IsMaxBegunBy o rs → Counts (declared_by o) (arcs_by o) rs
+counts : (o : Option MaxBegun) (rs : List Record) → StandsFor IsMaxBegunBy o rs → Counts (earlier_lines o).problem (earlier_lines o).counted rs
 counts None rs h = rw h (record { problem_is = refl; counted_is = refl })
 counts (Some b) rs h = rw h (record { problem_is = refl; counted_is = counted b.nodes b.declared b.ends b.arcs })
 

@@ -28,7 +28,7 @@ use Rattle.dimacs_records.specs.Ranges.{IsNode, IsWhole}
 use Rattle.dimacs_instance.specs.MinFlows.{IsSupply, HasBounds}
 use Rattle.dimacs_instance.specs.MinTexts.{GivesMin, min_node, min_arc, min_records}
 use Rattle.dimacs_records.specs.NodeValues.{NameNodes, is_of, has_value}
-use Rattle.dimacs_instance.specs.MinReading.{MinBegun, IsMinBegun, IsBegunBy, arcs_of, declared_by, earlier_lines, earlier_names, has_line, is_named, with_supply, with_arc}
+use Rattle.dimacs_instance.specs.MinReading.{MinBegun, IsMinBegun, IsBegunBy, earlier_lines, earlier_names, has_line, is_named, with_supply, with_arc}
 use Rattle.dimacs_records.specs.Takings.{StandsFor}
 use Rattle.dimacs_records.proofs.NameLemmas.{named_more, any_more, valued_more, zero_more}
 
@@ -76,11 +76,11 @@ pub allows_problem : (n m : ℕ) → IsAllowed [] (MinProblem n m)
 allows_problem n m = is_allowed [] (MinProblem n m) refl
 
 -- what is told of the records is so
-counts : (o : Option MinBegun) (rs : List Record) → StandsFor IsBegunBy o rs → Counts (declared_by o) (arcs_of o) rs
+counts : (o : Option MinBegun) (rs : List Record) → StandsFor IsBegunBy o rs → Counts (earlier_lines o).problem (earlier_lines o).counted rs
 counts None rs h = rw h (record { problem_is = refl; counted_is = refl })
 counts (Some b) rs h = rw h.records (record { problem_is = refl; counted_is = counted h.named b.arcs })
 
-arcs_told : (o : Option MinBegun) (rs : List Record) → StandsFor IsBegunBy o rs → list_any is_flow_arc rs ≡ nat_lt 0 (arcs_of o)
+arcs_told : (o : Option MinBegun) (rs : List Record) → StandsFor IsBegunBy o rs → list_any is_flow_arc rs ≡ nat_lt 0 (earlier_lines o).counted
 arcs_told None rs h = rw h refl
 arcs_told (Some b) rs h = rw h.records (any_flow_arc h.named b.arcs)
 

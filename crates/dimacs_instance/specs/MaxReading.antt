@@ -8,7 +8,7 @@ use Rattle.dimacs_records.specs.declared.records.Record.{Record}
 use Rattle.dimacs_records.specs.declared.records.Record.TheVariants.{MaxProblem, MaxNode}
 use Rattle.dimacs_records.specs.Conditions.{lacks_end}
 use Rattle.dimacs_records.specs.Earlier.{is_end, names}
-use Rattle.dimacs_records.specs.Tests.{earlier_of}
+use Rattle.dimacs_records.specs.Tests.{earlier_begun}
 use Rattle.dimacs_instance.specs.declared.network.ArcView.{ArcView}
 use Rattle.dimacs_instance.specs.declared.max.EndLine.{EndLine}
 use Rattle.dimacs_instance.specs.declared.max.EndLines.{EndLines}
@@ -66,13 +66,8 @@ max_begun_records begun = MaxProblem begun.nodes begun.declared ∷ (end_records
 abbrev pub IsMaxBegunBy : MaxBegun → List Record → Type 0
 IsMaxBegunBy begun rs = rs ≡ max_begun_records begun
 
-abbrev pub declared_by : Option MaxBegun → Option Declared
-declared_by None = None
-declared_by (Some begun) = Some (record { nodes = Some begun.nodes; count = begun.declared })
-
-abbrev pub arcs_by : Option MaxBegun → ℕ
-arcs_by None = 0
-arcs_by (Some begun) = length begun.arcs
+abbrev pub declared_by : MaxBegun → Declared
+declared_by begun = record { nodes = Some begun.nodes; count = begun.declared }
 
 abbrev pub ends_by : Option MaxBegun → EndLines
 ends_by None = Neither
@@ -80,12 +75,12 @@ ends_by (Some begun) = begun.ends
 
 -- what the records taken say of one that asks for no end
 abbrev pub earlier_lines : Option MaxBegun → Earlier
-earlier_lines begun = earlier_of (declared_by begun) (arcs_by begun)
+earlier_lines = earlier_begun declared_by (λ (begun : MaxBegun). length begun.arcs)
 
 -- what they say of a node line
 abbrev pub earlier_names : Option MaxBegun → ℕ → End → Earlier
 earlier_names begun id end = record (earlier_lines begun) {
-  misplaced = nat_lt 0 (arcs_by begun);
+  misplaced = nat_lt 0 (earlier_lines begun).counted;
   named = list_any (names id) (end_records (ends_by begun));
   end_named = list_any (is_end end) (end_records (ends_by begun));
 }

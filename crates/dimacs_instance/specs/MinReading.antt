@@ -1,5 +1,5 @@
 -- How far a minimum cost flow instance has been read.
-use Rattle.std.specs.Prelude.{ℕ, ℤ, ◌≡◌, ◌≤◌, ◌||◌, Bool, false, List, [], ◌∷◌, ◌++◌, Option, None, Some, length, is_some, nat_lt, pos, if◌then◌else◌}
+use Rattle.std.specs.Prelude.{ℕ, ℤ, ◌≡◌, ◌≤◌, ◌||◌, Bool, List, [], ◌∷◌, ◌++◌, Option, Some, length, is_some, nat_lt, pos, if◌then◌else◌}
 use Rattle.std.specs.List.{All, filter, list_any}
 use Rattle.std.specs.Ordering.{nat_cmp, int_eq}
 use Rattle.std.specs.FinMap.{FinMap, from_entries, entries}
@@ -9,7 +9,7 @@ use Rattle.std.specs.FinSet as set
 use Rattle.dimacs_records.specs.declared.order.Declared.{Declared}
 use Rattle.dimacs_records.specs.declared.order.Earlier.{Earlier}
 use Rattle.dimacs_records.specs.declared.records.Record.{Record}
-use Rattle.dimacs_records.specs.Tests.{earlier_of}
+use Rattle.dimacs_records.specs.Tests.{earlier_begun, is_named_begun}
 use Rattle.dimacs_instance.specs.declared.network.ArcView.{ArcView}
 use Rattle.dimacs_instance.specs.Arcs.{JoinsNodes}
 use Rattle.dimacs_instance.specs.MinFlows.{IsSupply, HasBounds}
@@ -52,22 +52,16 @@ with_supply begun id supply = if int_eq supply (pos 0) then record begun { zeros
 abbrev pub with_arc : MinBegun → ArcView → MinBegun
 with_arc begun arc = record begun { arcs = begun.arcs ++ arc ∷ [] }
 
-abbrev pub declared_by : Option MinBegun → Option Declared
-declared_by None = None
-declared_by (Some begun) = Some (record { nodes = Some begun.nodes; count = begun.declared })
-
-abbrev pub arcs_of : Option MinBegun → ℕ
-arcs_of None = 0
-arcs_of (Some begun) = length begun.arcs
+abbrev pub declared_by : MinBegun → Declared
+declared_by begun = record { nodes = Some begun.nodes; count = begun.declared }
 
 -- what the records taken say of one that names no node
 abbrev pub earlier_lines : Option MinBegun → Earlier
-earlier_lines begun = earlier_of (declared_by begun) (arcs_of begun)
+earlier_lines = earlier_begun declared_by (λ (begun : MinBegun). length begun.arcs)
 
 abbrev pub is_named : Option MinBegun → ℕ → Bool
-is_named None id = false
-is_named (Some begun) id = has_line begun id
+is_named = is_named_begun has_line
 
 -- what they say of a node line
 abbrev pub earlier_names : Option MinBegun → ℕ → Earlier
-earlier_names begun id = record (earlier_lines begun) { misplaced = nat_lt 0 (arcs_of begun); named = is_named begun id }
+earlier_names begun id = record (earlier_lines begun) { misplaced = nat_lt 0 (earlier_lines begun).counted; named = is_named begun id }

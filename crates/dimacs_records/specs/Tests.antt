@@ -1,6 +1,7 @@
 -- What is told of the earlier records, and what a record has that passes the tests. No public clause of a reader cites this file.
 use Rattle.std.specs.Prelude.{ℕ, ◌≡◌, ◌&&◌, ◌||◌, Bool, false, List, Option, Some, None, is_some, is_none, not}
 use Rattle.std.specs.List.{list_any}
+use Rattle.std.specs.Option.{option_map, option_map_or}
 use Rattle.dimacs_records.specs.declared.kinds.TextKind.{TextKind}
 use Rattle.dimacs_records.specs.declared.order.Declared.{Declared}
 use Rattle.dimacs_records.specs.declared.order.Earlier.{Earlier}
@@ -19,6 +20,14 @@ problem_told (Some p) = Some (record { nodes = p.nodes; count = p.count })
 -- after this problem line and so many lines that it counts
 abbrev pub earlier_of : Option Declared → ℕ → Earlier
 earlier_of problem counted = record { problem = problem; counted = counted; misplaced = false; named = false; end_named = false; lacks_end = false; block_full = false; block_short = false; valued = false; pred_unknown = false; past_radius = false }
+
+-- after what was begun with a problem line and the lines that it counts, or before any
+abbrev pub earlier_begun : {B : Type 0} → (B → Declared) → (B → ℕ) → Option B → Earlier
+earlier_begun declared counted begun = earlier_of (option_map declared begun) (option_map_or counted begun 0)
+
+-- whether what was begun has a line that names this node
+abbrev pub is_named_begun : {B : Type 0} → (B → ℕ → Bool) → Option B → ℕ → Bool
+is_named_begun has_line begun id = option_map_or (λ b. has_line b id) begun false
 
 -- an ID that there is, and that is above NODES
 abbrev pub is_above_found : Option Problem → Option ℕ → Bool
