@@ -5,8 +5,9 @@ use Rattle.std.specs.List.{All, list_any}
 use Rattle.std.specs.Result.{result_map_both}
 use Rattle.std.proofs.lemmas.Int.{ints}
 use Rattle.std.proofs.lemmas.List.{append-nil, length-append, length-map, map-append}
-use Rattle.std.proofs.lemmas.List.Elements.{All-nil, All-cons, All-head, All-tail, All-append}
+use Rattle.std.proofs.lemmas.List.Elements.{All-nil, All-cons, All-head, All-tail}
 use Rattle.dimacs_lines.specs.Lines.{lines}
+use Rattle.dimacs_lines.specs.Limits.{most_lines}
 use Rattle.dimacs_lines.specs.Number.{IsWithin}
 use Rattle.dimacs_records.specs.declared.kinds.TextKind.TheVariants as kinds
 use Rattle.dimacs_records.specs.declared.records.Record.{Record}
@@ -21,7 +22,7 @@ use Rattle.dimacs_records.specs.FieldReader.{fault_at}
 use Rattle.dimacs_records.specs.Spelling.{parts_of, texts_in}
 use Rattle.dimacs_records.specs.Forms.{form, Wide, Id, Whole}
 use Rattle.dimacs_records.specs.Canonical.{CanBeSpelled, FitAll, canonical_text}
-use Rattle.dimacs_records.specs.Readings.{LineRecord, AreBefore, IsOfKind, ReadsLines, IsAllowed, RefusesRecord, IsFirstCondition, IsComplete, on_line, records_of, numbered}
+use Rattle.dimacs_records.specs.Readings.{LineRecord, AreBefore, AreSpelledBefore, IsOfKind, ReadsLines, IsAllowed, RefusesRecord, IsFirstCondition, IsComplete, on_line, records_of, numbered}
 use Rattle.dimacs_records.specs.Texts.{AreFaultless, AreSpelled}
 use Rattle.dimacs_records.proofs.CanonicalLaws.{canonical_spelled}
 use Rattle.dimacs_records.proofs.ConditionLemmas.{is_first_condition, is_allowed, is_first_at_end, is_complete}
@@ -31,8 +32,8 @@ use Rattle.dimacs_records.proofs.SplitLemmas.{image_at}
 use Rattle.dimacs_claims.specs.declared.solution.Entry.{Entry}
 use Rattle.dimacs_claims.specs.declared.solution.Solution.{Solution}
 use Rattle.dimacs_claims.specs.declared.solution.ValueLine.{ValueLine}
-use Rattle.dimacs_claims.specs.SolutionTexts.{SolutionValue, StandsAmong, GivesSolution, SpellsSolution, IsInRange, IsLawful, IsLawfulEntry, canonical_solution, claimed, entry_line, entry_record, on_lines_from, renumbered, solution_records}
-use Rattle.dimacs_claims.specs.SolutionReading.{AreTaken, StandsFor, GivesPlaced, HoldsOfSpelled, IsPlaced, IsPlacedInRange, AnswersAlike, ReadsLike, TakesLine}
+use Rattle.dimacs_claims.specs.SolutionTexts.{SolutionValue, StandsAmong, GivesSolution, SpellsSolution, IsLawful, IsLawfulEntry, canonical_solution, claimed, entry_line, entry_record, on_lines_from, renumbered, solution_records}
+use Rattle.dimacs_claims.specs.SolutionReading.{AreTaken, StandsFor, GivesPlaced, IsPlaced, IsPlacedLawful, AnswersAlike, ReadsLike, TakesLine}
 
 abbrev IsSolutionLine : LineRecord → Type 0
 IsSolutionLine r = IsOfKind kinds.Solution r.says
@@ -182,7 +183,7 @@ solution_in-given rs s h = ap solution_in h.all_are ∙ solution_in-among s.entr
 pub one_solution : (rs : List LineRecord) (s t : SolutionValue) → GivesSolution rs s → GivesSolution rs t → s ≡ t
 one_solution rs s t a b = sym (solution_in-given rs s a) ∙ solution_in-given rs t b
 
-value_fits : (s : SolutionValue) → IsInRange s → CanBeSpelled kinds.Solution (value_record s.value)
+value_fits : (s : SolutionValue) → IsLawful s → CanBeSpelled kinds.Solution (value_record s.value)
 value_fits s is = record {
   form = form (codes "s") (Wide ∷ []);
   of_kind = (0, omega arith, refl);
@@ -212,7 +213,7 @@ numbered-entries line (e ∷ es) = ap (λ rs. on_line line (entry_record e) ∷ 
 -- the canonical text of a lawful solution spells it on lines of its own
 pub solution_round_trip : (s : SolutionValue) → IsLawful s → SpellsSolution (canonical_solution s) (renumbered s)
 solution_round_trip s is =
-    let fit : All (CanBeSpelled kinds.Solution) (solution_records s) = All-cons (CanBeSpelled kinds.Solution) (value_record s.value) (map entry_record s.entries) (value_fits s is.in_range) (entries_fit s.entries is.in_range.entries) in
+    let fit : All (CanBeSpelled kinds.Solution) (solution_records s) = All-cons (CanBeSpelled kinds.Solution) (value_record s.value) (map entry_record s.entries) (value_fits s is) (entries_fit s.entries is.entries) in
     record {
       said = map (λ (r : Record). Some r) (solution_records s);
       spelled = canonical_spelled kinds.Solution (solution_records s) fit (omega (arith, length-map s.entries entry_record, is.few));
@@ -266,20 +267,19 @@ all_others (b ∷ before) after r are =
     let rest = all_others before after r (All-tail IsSolutionLine b (before ++ r ∷ after) are) in
     (rest.0, All-cons IsSolutionLine b (before ++ after) (All-head IsSolutionLine b (before ++ r ∷ after) are) rest.1)
 
--- a solution that such records give is within its ranges
-in_range_given : (rs : List LineRecord) (s : SolutionValue) → All IsSolutionLine rs → GivesSolution rs s → IsInRange s
-in_range_given rs s are h =
+-- a solution that such records give is lawful
+lawful_of_records : (rs : List LineRecord) (s : SolutionValue) → All IsSolutionLine rs → length rs ≤ most_lines → GivesSolution rs s → IsLawful s
+lawful_of_records rs s are few h =
     let r = on_line s.value_line (value_record s.value) in
     let parted = all_others h.before h.after r (rw h.all_are at are) in
     let entries : All IsSolutionLine (map entry_line s.entries) = rw h.others_are parted.1 in
-    record { value = spelled_value s.value parted.0; entries = spelled_entries s.entries entries }
+    let count : length rs ≡ length s.entries + 1 = omega (arith, ap length h.all_are, length-append h.before (r ∷ h.after), ap length h.others_are, length-append h.before h.after, length-map s.entries entry_line) in
+    record { value = spelled_value s.value parted.0; entries = spelled_entries s.entries entries; few = omega (arith, count, few) }
 
 -- a solution that lines spell is lawful
 lawful_given : (all : List (List ℕ)) (said : List (Option Record)) (s : SolutionValue) → AreSpelled kinds.Solution all said → GivesSolution (numbered 1 said) s → IsLawful s
 lawful_given all said s spelled h =
-    let r = on_line s.value_line (value_record s.value) in
-    let count : length (numbered 1 said) ≡ length s.entries + 1 = omega (arith, ap length h.all_are, length-append h.before (r ∷ h.after), ap length h.others_are, length-append h.before h.after, length-map s.entries entry_line) in
-    record { in_range = in_range_given (numbered 1 said) s (all_of_kind all said 1 spelled.spell) h; few = omega (arith, count, one_a_line all said 1 spelled.spell, spelled.few) }
+    lawful_of_records (numbered 1 said) s (all_of_kind all said 1 spelled.spell) (omega (arith, one_a_line all said 1 spelled.spell, spelled.few)) h
 
 lawful_read : (all : List (List ℕ)) (told : Result SolutionValue ReadError) → ReadsLines kinds.Solution GivesSolution all told → IfOk told IsLawful
 lawful_read all (Ok s) h = lawful_given all h.said s (spelled_of_faultless kinds.Solution all h.said h.faultless) h.given
@@ -306,6 +306,12 @@ module _ {W : Type 0} (value : W → ℤ) (value_line : W → ℕ) (holds : W �
   reads_placed text (Err (read_errors.Refused place reason)) h = read_as text (Err (read_errors.Refused place reason)) (Err (read_errors.Refused place reason)) h refl
   reads_placed text (Err read_errors.Device) h = read_as text (Err read_errors.Device) (Err read_errors.Device) tt refl
   reads_placed text (Err read_errors.Memory) h = read_as text (Err read_errors.Memory) (Err read_errors.Memory) tt refl
+
+-- what was placed of records that lines may spell
+pub placed_lawful : (value : ℤ) (value_line : ℕ) (holds : List Entry → Type 0) (rs : List LineRecord) → GivesPlaced value value_line holds rs → AreSpelledBefore kinds.Solution (most_lines + 1) rs → IsPlacedLawful value value_line holds
+placed_lawful value value_line holds rs given are =
+    let s : SolutionValue = record { value = value; value_line = value_line; entries = given.0 } in
+    (s, record { value_is = refl; line_is = refl; entries = given.1 }, lawful_of_records rs s are.of_kind (omega (arith, are.few)) given.2)
 
 -- ---- what a reading that places entries stands for
 module _ (holds : List Entry → Type 0) (rs : List LineRecord) where
@@ -349,8 +355,8 @@ pub kept_solution : {W : Type 0} (value : W → ℤ) (value_line : W → ℕ) (e
 kept_solution value value_line entries (Ok s) w alike = rw (alike.value_is, alike.line_is, alike.entries) refl
 kept_solution value value_line entries (Err e) w alike = absurd alike
 
-pub kept_in_range : (value : ℤ) (line : ℕ) (entries : List Entry) → IsPlacedInRange value line (λ kept. entries ≡ kept) → IsInRange (record { value = value; value_line = line; entries = entries })
-kept_in_range value line entries (s, is, within) = rw (is.value_is, is.line_is, is.entries) within
+pub kept_lawful : (value : ℤ) (line : ℕ) (entries : List Entry) → IsPlacedLawful value line (λ kept. entries ≡ kept) → IsLawful (record { value = value; value_line = line; entries = entries })
+kept_lawful value line entries (s, is, lawful) = rw (is.value_is, is.line_is, is.entries) lawful
 
 -- and where none was read
 pub error_kept : {W : Type 0} (like : SolutionValue → W → Type 0) (told : Result SolutionValue ReadError) (e : ReadError) (result : Result Solution ReadError) → AnswersAlike like told (Err e) → IsErrAnd result (λ f. f ≡ e) → told ≡ result_map_both claimed (λ f. f) result
@@ -375,18 +381,3 @@ module _ (old new : List LineRecord → Type 0) (r : LineRecord) where
   pub line_unchanged : (result : Result Unit TakeError) → TakesLine old r result new → OnErr result ((rs : List LineRecord) → new rs ↔ old rs)
   line_unchanged (Ok done) takes = tt
   line_unchanged (Err error) takes = λ rs. (takes rs).0
-
-  -- where it held of records that lines spell, and a line spells this one
-  pub line_kept : (result : Result Unit TakeError) → TakesLine old r result new → IsSolutionLine r → HoldsOfSpelled old → HoldsOfSpelled new
-  line_kept (Ok done) takes is h = (h.0 ++ r ∷ [], (takes h.0 h.1).1, All-append IsSolutionLine h.0 (r ∷ []) h.2 (All-cons IsSolutionLine r [] is (All-nil IsSolutionLine)))
-  line_kept (Err error) takes is h = (h.0, (takes h.0).0.1 h.1, h.2)
-
--- what was placed of records that lines spell
-pub placed_in_range : (value : ℤ) (value_line : ℕ) (holds : List Entry → Type 0) → HoldsOfSpelled (GivesPlaced value value_line holds) → IsPlacedInRange value value_line holds
-placed_in_range value value_line holds h =
-    let s : SolutionValue = record { value = value; value_line = value_line; entries = h.1.0 } in
-    (s, record { value_is = refl; line_is = refl; entries = h.1.1 }, in_range_given h.0 s h.2 h.1.2)
-
--- before a line is read
-pub none_spelled : (holds : List LineRecord → Type 0) → holds [] → HoldsOfSpelled holds
-none_spelled holds h = ([], h, All-nil IsSolutionLine)

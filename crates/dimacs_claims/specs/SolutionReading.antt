@@ -1,17 +1,16 @@
 -- How far a solution has been read.
 use Rattle.std.specs.Prelude.{ℕ, ℤ, ◌≡◌, ◌↔◌, List, [], ◌∷◌, ◌++◌, map, Option, None, Some, Result, Ok, Err, IfOk}
-use Rattle.std.specs.List.{All}
 use Rattle.dimacs_lines.specs.Lines.{lines}
 use Rattle.dimacs_records.specs.declared.faults.ReadError.{ReadError}
 use Rattle.dimacs_records.specs.declared.faults.TakeError.{TakeError}
 use Rattle.dimacs_records.specs.declared.kinds.TextKind.TheVariants as kinds
 use Rattle.dimacs_records.specs.declared.records.Record.TheVariants.{SolutionValue}
 use Rattle.dimacs_records.specs.Faults.{Fault}
-use Rattle.dimacs_records.specs.Readings.{LineRecord, on_line, records_of, IsOfKind, IsAllowed, RefusesRecord}
+use Rattle.dimacs_records.specs.Readings.{LineRecord, on_line, records_of, IsAllowed, RefusesRecord}
 use Rattle.dimacs_records.specs.Texts.{Reads}
 use Rattle.dimacs_claims.specs.declared.solution.Entry.{Entry}
 use Rattle.dimacs_claims.specs.declared.solution.ValueLine.{ValueLine}
-use Rattle.dimacs_claims.specs.SolutionTexts.{StandsAmong, GivesSolution, SpellsSolution, IsInRange, IsLawful, entry_line}
+use Rattle.dimacs_claims.specs.SolutionTexts.{StandsAmong, GivesSolution, SpellsSolution, IsLawful, entry_line}
 use Rattle.dimacs_claims.specs.SolutionTexts as texts
 
 -- these are the records of the entries, and somewhere among them that of the value
@@ -38,13 +37,9 @@ pub record IsPlaced (value : ℤ) (value_line : ℕ) (holds : List Entry → Typ
   pub line_is : value_line ≡ s.value_line
   pub entries : holds s.entries
 
--- so it is of some solution whose numbers lie in their ranges
-abbrev pub IsPlacedInRange : ℤ → ℕ → (List Entry → Type 0) → Type 0
-IsPlacedInRange value value_line holds = (s : texts.SolutionValue) × IsPlaced value value_line holds s × IsInRange s
-
--- it holds of some records that lines of a solution spell
-abbrev pub HoldsOfSpelled : (List LineRecord → Type 0) → Type 0
-HoldsOfSpelled holds = (rs : List LineRecord) × holds rs × All (λ (r : LineRecord). IsOfKind kinds.Solution r.says) rs
+-- so it is of some lawful solution
+abbrev pub IsPlacedLawful : ℤ → ℕ → (List Entry → Type 0) → Type 0
+IsPlacedLawful value value_line holds = (s : texts.SolutionValue) × IsPlaced value value_line holds s × IsLawful s
 
 -- one answers what the other does, with values that are related
 abbrev pub AnswersAlike : {V W : Type 0} → (V → W → Type 0) → Result V ReadError → Result W ReadError → Type 0

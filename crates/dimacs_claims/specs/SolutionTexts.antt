@@ -50,14 +50,10 @@ pub record IsLawfulEntry (e : Entry) : Type 0 where
   pub head : IsId e.head
   pub flow : IsWhole e.flow
 
--- the numbers lie in their ranges
-pub record IsInRange (s : SolutionValue) : Type 0 where
-  pub value : IsWide s.value
-  pub entries : All IsLawfulEntry s.entries
-
 -- the numbers lie in their ranges, and a text has room for the lines
 pub record IsLawful (s : SolutionValue) : Type 0 where
-  pub in_range : IsInRange s
+  pub value : IsWide s.value
+  pub entries : All IsLawfulEntry s.entries
   pub few : length s.entries + 1 ≤ most_lines
 
 -- the value, and then the entries

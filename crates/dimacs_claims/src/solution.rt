@@ -11,8 +11,8 @@ ghost use Rattle.dimacs_records.specs.declared.records.Record.TheVariants as rec
 ghost use Rattle.dimacs_records.specs.Faults.{Fault};
 ghost use Rattle.dimacs_records.specs.Readings.{CountsRead, on_line};
 ghost use Rattle.dimacs_records.specs.Texts.{Reads};
-ghost use Rattle.dimacs_claims.specs.SolutionTexts.{SolutionValue, IsInRange, IsLawful, SpellsSolution, canonical_solution, claimed, entry_line, entry_record, renumbered};
-ghost use Rattle.dimacs_claims.specs.SolutionReading.{GivesPlaced, HoldsOfSpelled, IsPlaced, IsPlacedInRange, ReadsLike, StandsFor, TakesLine};
+ghost use Rattle.dimacs_claims.specs.SolutionTexts.{SolutionValue, IsLawful, SpellsSolution, canonical_solution, claimed, entry_line, entry_record, renumbered};
+ghost use Rattle.dimacs_claims.specs.SolutionReading.{GivesPlaced, IsPlaced, IsPlacedLawful, ReadsLike, StandsFor, TakesLine};
 
 use crate::place::{Place, Placed};
 use dimacs_lines::{DeviceFault, Page, Sink, Source};
@@ -21,9 +21,8 @@ use dimacs_records::{
 };
 use std::alloc::Global;
 
-/// A claimed flow: its value or its cost, and what arcs carry. The fields are open. The numbers that were read lie in
-/// their ranges, and from a source that tells its bytes no more entries come than a text has lines: `read_solution`
-/// says so.
+/// A claimed flow: its value or its cost, and what arcs carry. The fields are open: what was read is lawful, and
+/// `read_solution` says so.
 #[derive(Drop)]
 pub struct Solution {
     pub value: i128,
@@ -109,8 +108,7 @@ impl<P: Place> Reading for SolutionReading<P> {
 
     ghost gives = { λ rs placed. GivesPlaced placed.value placed.value_line (P.stands_for placed.place) rs };
 
-    ghost keeps = { λ reading placed. (P.fixed placed.place ≡ P.fixed reading.place)
-        × (HoldsOfSpelled (StandsFor reading.value (P.stands_for reading.place)) → HoldsOfSpelled (GivesPlaced placed.value placed.value_line (P.stands_for placed.place))) };
+    ghost keeps = { λ reading placed. P.fixed placed.place ≡ P.fixed reading.place };
 
     #[inline(always)]
     fn take(&mut self, line: u64, said: Record) -> Result<(), TakeError> {
@@ -141,8 +139,7 @@ impl<P: Place> Reading for SolutionReading<P> {
 /// Reads a text of a solution.
 pub fn read_solution<S: Source>(alloc: Global, source: &mut S) -> Result<Solution, ReadError>
     ensures reads { (text : List ℕ) → S.coming source.old ≡ Some text → Reads (SpellsSolution text) (Fault kinds.Solution (lines text)) (result_map_both claimed (λ e. e) result) }
-    ensures lawful { (text : List ℕ) → S.coming source.old ≡ Some text → IfOk result (λ solution. IsLawful (claimed solution)) }
-    ensures in_range { IfOk result (λ solution. IsInRange (claimed solution)) }
+    ensures lawful { IfOk result (λ solution. IsLawful (claimed solution)) }
     ensures device { CountsRead result (S.faults source.old) (S.faults source.new) }
 {
     let placed = read_solution_into(alloc, Vec::new(alloc), source)?;
@@ -162,7 +159,7 @@ pub fn read_solution_into<P: Place, S: Source>(
 ) -> Result<Placed<P>, ReadError>
     requires empty { P.stands_for place [] }
     ensures reads { (text : List ℕ) → S.coming source.old ≡ Some text → ReadsLike (λ solution placed. IsPlaced placed.value placed.value_line (P.stands_for placed.place) solution) text result }
-    ensures in_range { IfOk result (λ placed. IsPlacedInRange placed.value placed.value_line (P.stands_for placed.place)) }
+    ensures lawful { IfOk result (λ placed. IsPlacedLawful placed.value placed.value_line (P.stands_for placed.place)) }
     ensures fixed { IfOk result (λ placed. P.fixed placed.place ≡ P.fixed place) }
     ensures device { CountsRead result (S.faults source.old) (S.faults source.new) }
 {

@@ -13,7 +13,7 @@ use Rattle.dimacs_records.specs.declared.faults.TakeError.TheVariants as take_er
 use Rattle.dimacs_records.specs.declared.reasons.Reason.TheVariants.{LineTooLong, LineLimit}
 use Rattle.dimacs_records.specs.Order.{at, places, First}
 use Rattle.dimacs_records.specs.Faults.{Condition, IsClean, FaultyLine, records_in}
-use Rattle.dimacs_records.specs.Readings.{LineRecord, numbered}
+use Rattle.dimacs_records.specs.Readings.{LineRecord, numbered, AreSpelledBefore}
 
 -- so many lines were read and are clean, the reading stands for their records, and this text is left
 pub record IsReadSoFar (kind : TextKind) (all : List (List ℕ)) (count : ℕ) (left : Option (List ℕ)) (stands_for : List LineRecord → Type 0) : Type 0 where
@@ -25,6 +25,10 @@ pub record IsReadSoFar (kind : TextKind) (all : List (List ℕ)) (count : ℕ) (
   pub counted : count ≡ length before
   pub clean : IsClean kind before said
   pub stands : stands_for (numbered 1 said)
+
+-- the reading stands for some records that lines before this one may spell
+abbrev pub HasTaken : TextKind → ℕ → (List LineRecord → Type 0) → Type 0
+HasTaken kind line stands_for = (rs : List LineRecord) × stands_for rs × AreSpelledBefore kind line rs
 
 -- all lines were read
 pub record IsReadWhole (kind : TextKind) (all : List (List ℕ)) (count : ℕ) (stands_for : List LineRecord → Type 0) : Type 0 where

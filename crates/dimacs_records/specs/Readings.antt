@@ -1,7 +1,8 @@
 -- What a reading stands for, and what it answers.
-use Rattle.std.specs.Prelude.{ℕ, suc, ◌≡◌, ◌<◌, List, [], ◌∷◌, ◌++◌, map, Option, Some, None, Result, Ok, Err, IsTrue}
+use Rattle.std.specs.Prelude.{ℕ, suc, ◌+◌, ◌≡◌, ◌<◌, List, [], ◌∷◌, ◌++◌, length, map, Option, Some, None, Result, Ok, Err, IsTrue}
 use Rattle.std.specs.List.{All}
 use Rattle.dimacs_lines.specs.Devices.{one_more}
+use Rattle.dimacs_lines.specs.Limits.{most_lines}
 use Rattle.dimacs_records.specs.declared.kinds.TextKind.{TextKind}
 use Rattle.dimacs_records.specs.declared.records.Record.{Record}
 use Rattle.dimacs_records.specs.declared.reasons.Reason.{Reason}
@@ -40,6 +41,16 @@ AreBefore line rs = All (λ (r : LineRecord). r.line < line) rs
 pub record IsOfKind (kind : TextKind) (r : Record) : Type 0 where
   pub texts : List (List ℕ)
   pub spelled : SpellsRecord kind texts r
+
+-- records that lines before this one may spell
+pub record AreSpelledBefore (kind : TextKind) (line : ℕ) (rs : List LineRecord) : Type 0 where
+  pub of_kind : All (λ (r : LineRecord). IsOfKind kind r.says) rs
+  pub before : AreBefore line rs
+  pub few : length rs < line
+
+-- records that the lines of a text may spell give this value
+abbrev pub IsGivenByLines : {V : Type 0} → TextKind → (List LineRecord → V → Type 0) → V → Type 0
+IsGivenByLines kind gives v = (rs : List LineRecord) × gives rs v × AreSpelledBefore kind (most_lines + 1) rs
 
 -- no condition holds of a record behind the earlier ones
 abbrev pub IsAllowed : List Record → Record → Type 0

@@ -1,6 +1,7 @@
 //! Reading a whole text.
 
 ghost use Rattle.std.specs.Prelude.{◌≡◌, ◌≢◌, ◌+◌, ◌≤◌, ◌++◌, ◌∷◌, [], ℕ, List, Option, Some, IfOk, IfErr, IfSome, OnOk, length};
+ghost use Rattle.std.specs.Option.{option_len};
 ghost use Rattle.dimacs_lines.specs.Devices.{before_piece};
 ghost use Rattle.dimacs_lines.specs.Lines.{lines};
 ghost use Rattle.dimacs_lines.specs.Reader.{text_left};
@@ -8,9 +9,9 @@ ghost use Rattle.dimacs_lines.specs.declared.reader.Progress.TheVariants.{Open};
 ghost use Rattle.dimacs_lines.specs.Limits.{most_lines};
 ghost use Rattle.dimacs_records.specs.declared.faults.ReadError.TheVariants.{Device};
 ghost use Rattle.dimacs_records.specs.declared.records.Record.{Record};
-ghost use Rattle.dimacs_records.specs.Readings.{ReadsLines, CountsRead, numbered};
+ghost use Rattle.dimacs_records.specs.Readings.{ReadsLines, CountsRead, IsGivenByLines, numbered};
 ghost use Rattle.dimacs_records.specs.Plain.{TakesPlain};
-ghost use Rattle.dimacs_records.specs.Driver.{IsReadSoFar, IsBehind, ReadsOne, ReadsSome, ReadsAll, TakesLine, read_error, lines_error};
+ghost use Rattle.dimacs_records.specs.Driver.{HasTaken, IsReadSoFar, IsBehind, ReadsOne, ReadsSome, ReadsAll, TakesLine, read_error, lines_error};
 
 use crate::faults::{At, ReadError, TakeError};
 use crate::kinds::TextKind;
@@ -33,6 +34,7 @@ pub fn read_text<R: Reading, S: Source>(
     requires kind { R.kind reading ≡ kind }
     requires new { R.stands_for reading [] }
     ensures reads { (text : List ℕ) → S.coming source.old ≡ Some text → ReadsLines kind R.gives (lines text) result }
+    ensures spelled { IfOk result (λ value. IsGivenByLines kind R.gives value) }
     ensures kept { IfOk result (λ value. R.keeps reading value) }
     ensures device { CountsRead result (S.faults source.old) (S.faults source.new) }
 {
@@ -59,6 +61,7 @@ fn read_lines<R: Reading, S: Source>(
     ensures few { IfOk result (λ count. count ≤ most_lines) }
     ensures reads { (all : List (List ℕ)) → IsReadSoFar kind all lines.old.given (text_left lines.old (S.coming source.old)) (R.stands_for reading.old)
         → ReadsAll kind all (R.stands_for reading.new) result }
+    ensures spelled { IfOk result (λ count. HasTaken kind (lines.old.given + 1) (R.stands_for reading.old) → HasTaken kind (count + 1) (R.stands_for reading.new)) }
     ensures kept { (value : R.Value) → R.keeps reading.new value → R.keeps reading.old value }
     ensures device { CountsRead result (S.faults source.old) (S.faults source.new) }
 {
@@ -85,6 +88,7 @@ fn take_held<R: Reading>(
     ensures few { lines.old.given ≤ most_lines → lines.new.given ≤ most_lines }
     ensures reads { (all : List (List ℕ)) (coming : Option (List ℕ)) → IsReadSoFar kind all lines.old.given (text_left lines.old coming) (R.stands_for reading.old)
         → ReadsSome kind all lines.new.given (text_left lines.new coming) (R.stands_for reading.new) result }
+    ensures spelled { OnOk result (HasTaken kind (lines.old.given + 1) (R.stands_for reading.old) → HasTaken kind (lines.new.given + 1) (R.stands_for reading.new)) }
     ensures kept { (value : R.Value) → R.keeps reading.new value → R.keeps reading.old value }
     ensures undisturbed { IfErr result (λ error. error ≢ Device) }
 {
@@ -110,6 +114,7 @@ fn take_plain<R: Reading>(
     ensures within { IfOk result (λ taken. taken.bytes ≤ length held.now) }
     ensures few { IfOk result (λ taken. given + taken.lines ≤ most_lines) }
     ensures takes { (all : List (List ℕ)) (coming : Option (List ℕ)) → IsReadSoFar kind all given (before_piece held.now coming) (R.stands_for reading.old) → TakesPlain kind all given held.now coming (R.stands_for reading.new) result }
+    ensures spelled { IfOk result (λ taken. HasTaken kind (given + 1) (R.stands_for reading.old) → HasTaken kind (given + taken.lines + 1) (R.stands_for reading.new)) }
     ensures kept { (value : R.Value) → R.keeps reading.new value → R.keeps reading.old value }
     ensures undisturbed { IfErr result (λ error. error ≢ Device) }
 {
@@ -139,6 +144,7 @@ fn read_line<R: Reading, S: Source>(
     ensures next { IfOk result (λ answer. IfSome answer (λ number. (lines.new.progress ≡ Open) × (lines.new.given ≡ number) × (number ≡ lines.old.given + 1) × (number ≤ most_lines))) }
     ensures reads { (all : List (List ℕ)) → IsReadSoFar kind all lines.old.given (text_left lines.old (S.coming source.old)) (R.stands_for reading.old)
         → ReadsOne kind all lines.old.given (text_left lines.new (S.coming source.new)) (R.stands_for reading.new) result }
+    ensures spelled { IfOk result (λ answer. HasTaken kind (lines.old.given + 1) (R.stands_for reading.old) → HasTaken kind (lines.old.given + 1 + option_len answer) (R.stands_for reading.new)) }
     ensures kept { (value : R.Value) → R.keeps reading.new value → R.keeps reading.old value }
     ensures device { CountsRead result (S.faults source.old) (S.faults source.new) }
 {
@@ -164,6 +170,7 @@ fn take_line<R: Reading>(
     ensures kind { R.kind reading.new ≡ kind }
     ensures takes { (before : List (List ℕ)) (said : List (Option Record)) → IsBehind kind before said number line.now → R.stands_for reading.old (numbered 1 said)
         → TakesLine kind before said line.now (R.stands_for reading.new) result }
+    ensures spelled { OnOk result (HasTaken kind number (R.stands_for reading.old) → HasTaken kind (number + 1) (R.stands_for reading.new)) }
     ensures kept { (value : R.Value) → R.keeps reading.new value → R.keeps reading.old value }
 {
     match record(kind, line) {

@@ -1,6 +1,5 @@
 use Rattle.std.proofs.Common.{◌≡◌, SFits, Result, rules, subst}
 use Rattle.std.specs.Int.{w128}
-use Rattle.std.specs.Prelude.{IfOk}
 use Rattle.std.proofs.lemmas.Int.{to_z-of_z}
 use Rattle.dimacs_lines.specs.Lines.{lines}
 use Rattle.dimacs_records.specs.declared.faults.ReadError.{ReadError}
@@ -8,8 +7,8 @@ use Rattle.dimacs_records.specs.declared.kinds.TextKind.TheVariants.{Solution}
 use Rattle.dimacs_records.specs.Faults.{Fault}
 use Rattle.dimacs_records.specs.Texts.{Reads}
 use Rattle.dimacs_claims.specs.SolutionReading.{IsPlaced}
-use Rattle.dimacs_claims.specs.SolutionTexts.{IsLawful, SolutionValue, SpellsSolution}
-use Rattle.dimacs_claims.proofs.SolutionLemmas.{error_kept, kept_in_range, kept_solution}
+use Rattle.dimacs_claims.specs.SolutionTexts.{SolutionValue, SpellsSolution}
+use Rattle.dimacs_claims.proofs.SolutionLemmas.{error_kept, kept_lawful, kept_solution}
 use Rattle.dimacs_claims.proofs.solution.read_solution.Goals as goal
 
 pub returns-clause-reads : goal.returns-clause-reads
@@ -21,18 +20,10 @@ returns-clause-reads g c = λ text coming.
     rw (to_z-of_z w128 placed.value fits) (subst (λ (told : Result SolutionValue ReadError). Reads (SpellsSolution text) (Fault Solution (lines text)) told) same read.reads)
 
 pub returns-clause-lawful : goal.returns-clause-lawful
-returns-clause-lawful g c = λ text coming.
+returns-clause-lawful g c =
     let placed = c.in_ok-placed.placed in
     let fits : SFits w128 placed.value = search rules in
-    let read = c.in_ok-placed.ensures.reads text coming in
-    let same = kept_solution (λ w. w.value) (λ w. w.value_line) (λ w. w.place.items) read.told placed read.alike in
-    rw (to_z-of_z w128 placed.value fits) (subst (λ (told : Result SolutionValue ReadError). IfOk told IsLawful) same read.lawful)
-
-pub returns-clause-in_range : goal.returns-clause-in_range
-returns-clause-in_range g c =
-    let placed = c.in_ok-placed.placed in
-    let fits : SFits w128 placed.value = search rules in
-    rw (to_z-of_z w128 placed.value fits) (kept_in_range placed.value placed.value_line placed.place.items c.in_ok-placed.ensures.in_range)
+    rw (to_z-of_z w128 placed.value fits) (kept_lawful placed.value placed.value_line placed.place.items c.in_ok-placed.ensures.lawful)
 
 pub returns-in_err-placed-clause-reads : goal.returns-in_err-placed-clause-reads
 returns-in_err-placed-clause-reads g c = λ text coming.

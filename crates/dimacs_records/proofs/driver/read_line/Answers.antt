@@ -1,4 +1,4 @@
-use Rattle.std.proofs.Common.{Ok, Err, subst}
+use Rattle.std.proofs.Common.{◌≡◌, ◌+◌, Ok, Err, subst, arith}
 use Rattle.dimacs_lines.specs.Reader.{text_left, GivesLine, AtEnd}
 use Rattle.dimacs_records.specs.Driver.{TakesLine}
 use Rattle.dimacs_records.proofs.DriverLemmas.{read_end, behind, read_one, stopped}
@@ -51,3 +51,18 @@ returns-in-Err-take_line-clause-reads g c =
     let there = behind c.args.kind all old new left later number before_stands given h in
     let takes : TakesLine c.args.kind h.before h.said new.line stands (Err error) = subst (λ line. TakesLine c.args.kind h.before h.said line stands (Err error)) c.line.ensures (c.in-Err-take_line.ensures.takes h.before h.said (rw c.line.ensures there) h.stands) in
     rw c.at_line.ensures (read_one c.args.kind all old new left later number before_stands stands (Err error) given h takes)
+
+pub returns-in-Ok-None-clause-spelled : goal.returns-in-Ok-None-clause-spelled
+returns-in-Ok-None-clause-spelled g c = λ before.
+    let same : c.args.lines.now.given + 1 + 0 ≡ c.args.lines.now.given + 1 = omega arith in
+    rw same before
+
+pub returns-in-Ok-clause-spelled : goal.returns-in-Ok-clause-spelled
+returns-in-Ok-clause-spelled g c =
+    let old = c.args.lines.now in
+    let new = c.next_line.new.self in
+    let number = c.in-Ok-Some.number in
+    let left = text_left old (g.S.Source.coming c.args.source.now) in
+    let later = text_left new (g.S.Source.coming c.next_line.new.source) in
+    let given : GivesLine old new left later number = rw c.in-Ok-Some.field-0-is at (c.in-Ok-Some.ensures.answer c.requires.open) in
+    rw given.next at c.in-Ok.ensures.spelled

@@ -4,6 +4,7 @@ use Rattle.dimacs_lines.specs.Lines.{lines}
 use Rattle.dimacs_lines.specs.Reader.{State, text_left}
 use Rattle.dimacs_records.specs.Driver.{IsReadSoFar}
 use Rattle.dimacs_records.proofs.DriverLemmas.{read_nothing, read_value, read_end_fault, read_fault}
+use Rattle.dimacs_records.proofs.TakenLines.{given_by_lines, none_taken}
 use Rattle.dimacs_records.proofs.driver.read_text.Goals as goal
 
 pub returns-in_err-count-clause-reads : goal.returns-in_err-count-clause-reads
@@ -29,3 +30,9 @@ returns-clause-reads g c = λ text h.
     let given = ap (λ (s : State). s.given) c.in_ok-lines.ensures in
     let whole = c.in_ok-count.ensures.reads (lines text) (rw given begun) in
     rw c.at_line.ensures (read_end_fault c.args.kind g.R.Reading.gives (lines text) c.in_ok-count.count (g.R.Reading.stands_for c.read_lines.new.reading) c.in-Err.error whole (rw (← c.read_lines.ensures.kind) c.in-Err.ensures.refused))
+
+pub returns-in-Ok-clause-spelled : goal.returns-in-Ok-clause-spelled
+returns-in-Ok-clause-spelled g c =
+    let given = ap (λ (s : State). s.given) c.in_ok-lines.ensures in
+    let begun = none_taken c.args.kind (g.R.Reading.stands_for c.args.reading) c.requires.new in
+    given_by_lines c.args.kind g.R.Reading.gives c.in-Ok.value c.in_ok-count.count (g.R.Reading.stands_for c.read_lines.new.reading) c.in_ok-count.ensures.few c.in-Ok.ensures.given (c.in_ok-count.ensures.spelled (rw given begun))

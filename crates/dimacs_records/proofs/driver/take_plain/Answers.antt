@@ -5,7 +5,9 @@ use Rattle.dimacs_lines.specs.Devices.{before_piece}
 use Rattle.dimacs_lines.specs.Limits.{most_lines}
 use Rattle.dimacs_records.specs.Driver.{IsReadSoFar}
 use Rattle.dimacs_records.specs.Plain.{SaysFirst}
+use Rattle.dimacs_records.specs.Spelling.{texts_in}
 use Rattle.dimacs_records.proofs.HeldLines.{plain_step}
+use Rattle.dimacs_records.proofs.TakenLines.{one_taken}
 use Rattle.dimacs_records.proofs.driver.take_plain.Goals as goal
 
 pub returns-in-Err-clause-takes : goal.returns-in-Err-clause-takes
@@ -39,5 +41,8 @@ loop-line-preserved g c =
           let step = plain_step c.args.kind all bytes given line.size coming line.said (g.R.Reading.stands_for loop.reading) (g.R.Reading.stands_for c.take.new.self) (Ok c.in_default-take.field-0) says few (loop.invariant.read all coming h)
           c.in_default-take.ensures.allowed (rw next at c.in_default-take.ensures.taken) c.in_default-take.ensures.refused in
           rw (next, ← drop-drop line.size loop.bytes held) step;
+      spelled = λ before.
+          let there : c.args.given + loop.lines + 1 ≡ c.args.given + (loop.lines + 1) = omega arith in
+          one_taken c.args.kind (c.args.given + (loop.lines + 1)) line.said (g.R.Reading.stands_for loop.reading) (g.R.Reading.stands_for c.take.new.self) (record { texts = texts_in says.line; spelled = says.reads.1 }) c.in_default-take.ensures.taken (rw there at (loop.invariant.spelled before));
       kept = λ value keeps. loop.invariant.kept value (c.take.ensures.kept value keeps);
     }

@@ -1,6 +1,6 @@
 use Rattle.std.proofs.Common.{◌≡◌, ◌+◌, ◌-◌, ◌≤◌, ℕ, List, Option, length, drop}
 use Rattle.dimacs_lines.specs.Devices.{before_piece}
-use Rattle.dimacs_records.specs.Driver.{IsReadSoFar}
+use Rattle.dimacs_records.specs.Driver.{HasTaken, IsReadSoFar}
 use Rattle.dimacs_records.proofs.driver.take_plain.Given as goal
 
 -- so many lines were taken, and these bytes of what is held
@@ -11,6 +11,7 @@ invariant-loop-line g l = record {
   few : l.lines ≤ l.bytes;
   read : (all : List (List ℕ)) (coming : Option (List ℕ)) → IsReadSoFar l.kind all l.given (before_piece l.held coming) (g.R.Reading.stands_for l.fn.reading)
       → IsReadSoFar l.kind all (l.given + l.lines) (before_piece (drop l.bytes l.held) coming) (g.R.Reading.stands_for l.reading);
+  spelled : HasTaken l.kind (l.given + 1) (g.R.Reading.stands_for l.fn.reading) → HasTaken l.kind (l.given + l.lines + 1) (g.R.Reading.stands_for l.reading);
   kept : (value : _) → g.R.Reading.keeps l.reading value → g.R.Reading.keeps l.fn.reading value;
 }
 
