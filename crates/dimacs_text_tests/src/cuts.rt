@@ -2,32 +2,27 @@
 
 use crate::checks::{holds, same, same_at};
 use crate::texts::{
-    Converted, Line, Refused, answers_each, converts_each, is_written, refuses_each, spelled,
-    tells_each_failed_pull, tells_each_failed_put,
+    converts_each, is_written, read_each, refuses_each, spelled, tells_each_failed_pull,
+    tells_each_failed_put,
 };
 use dimacs_claims::{Cut, CutReading};
-use dimacs_records::{Reading, Reason, TextKind};
+use dimacs_records::TextKind;
 use std::test::Fail;
 
 const TWO_OF_FOUR: &str = "p cut 4 2\nu 1\nu 3\n";
 
 /// Texts, each with its canonical form.
-static CANONICAL_FORMS: [Converted; 6] = [
-    ("already canonical", TWO_OF_FOUR, TWO_OF_FOUR),
-    ("the nodes by ID", "p cut 4 2\nu 3\nu 1\n", TWO_OF_FOUR),
-    ("no node", "p cut 0 0", "p cut 0 0\n"),
-    ("the empty set", "p cut 4 0\n", "p cut 4 0\n"),
-    ("all nodes", "p cut 2 2\nu 2\nu 1", "p cut 2 2\nu 1\nu 2\n"),
-    (
-        "comments, blanks, CR, empty line, signs, zeros, no last line end",
-        "c x\n p  cut +4 01\r\n\ncu 1\n\tu +003",
-        "p cut 4 1\nu 3\n",
-    ),
-];
+static CANONICAL_FORMS: &str = "\
+already canonical | p cut 4 2;u 1;u 3; | p cut 4 2;u 1;u 3;
+the nodes by ID | p cut 4 2;u 3;u 1; | p cut 4 2;u 1;u 3;
+no node | p cut 0 0 | p cut 0 0;
+the empty set | p cut 4 0; | p cut 4 0;
+all nodes | p cut 2 2;u 2;u 1 | p cut 2 2;u 1;u 2;
+comments, blanks, CR, empty line, signs, zeros, no last line end | c x; p  cut +4 01\r;;cu 1;\tu +003 | p cut 4 1;u 3;";
 
 #[test]
 fn texts_get_their_canonical_form(rt: HostRuntime) -> Result<(), Fail> {
-    converts_each::<Cut>(&rt, rt.alloc(), &CANONICAL_FORMS)
+    converts_each::<Cut>(&rt, rt.alloc(), CANONICAL_FORMS, 6)
 }
 
 /// Nodes, and whether each is in the text.
@@ -70,179 +65,61 @@ fn nodes_are_put_in_one_by_one(rt: HostRuntime) -> Result<(), Fail> {
 }
 
 /// Texts that are refused for their first fault.
-static REFUSED_TEXTS: [Refused; 17] = [
-    ("empty text", "", 1, 0, Reason::ProblemMissing),
-    ("a comment alone", "c x\n", 2, 0, Reason::ProblemMissing),
-    (
-        "node before the problem",
-        "u 1\n",
-        1,
-        0,
-        Reason::ProblemMissing,
-    ),
-    (
-        "a second problem",
-        "p cut 1 0\n\np cut 1 0\n",
-        3,
-        0,
-        Reason::ProblemTwice,
-    ),
-    (
-        "an arc line",
-        "p cut 1 0\na 1 1\n",
-        2,
-        1,
-        Reason::UnknownLine,
-    ),
-    (
-        "two nodes at once",
-        "p cut 4 2\nu 1 3\n",
-        2,
-        0,
-        Reason::FieldCount,
-    ),
-    ("another problem", "p pot 4 2\n", 1, 2, Reason::BadWord),
-    (
-        "more nodes than may be",
-        "p cut 134217729 0\n",
-        1,
-        3,
-        Reason::NumberRange,
-    ),
-    (
-        "more lines than may be",
-        "p cut 4 268435457\n",
-        1,
-        4,
-        Reason::NumberRange,
-    ),
-    ("a node of 0", "p cut 4 1\nu 0\n", 2, 2, Reason::NumberRange),
-    (
-        "a node that isn't whole",
-        "p cut 4 1\nu 1.0\n",
-        2,
-        2,
-        Reason::BadNumber,
-    ),
-    (
-        "node out of range",
-        "p cut 4 1\nu 5\n",
-        2,
-        2,
-        Reason::NodeRange,
-    ),
-    (
-        "a node named twice",
-        "p cut 4 3\nu 3\nu 1\nu 3\n",
-        4,
-        2,
-        Reason::NodeTwice,
-    ),
-    (
-        "a node more",
-        "p cut 4 1\nu 3\nu 1\n",
-        3,
-        0,
-        Reason::TooMany,
-    ),
-    ("a node too few", "p cut 4 2\nu 3\n", 3, 0, Reason::TooFew),
-    (
-        "more lines than nodes",
-        "p cut 1 268435456\nu 1",
-        3,
-        0,
-        Reason::TooFew,
-    ),
-    (
-        "nothing behind a refused line matters",
-        "p cut 4 1\nu 5\nu 0\np\n",
-        2,
-        2,
-        Reason::NodeRange,
-    ),
-];
+static REFUSED_TEXTS: &str = "\
+empty text |  | 1 0 ProblemMissing
+a comment alone | c x; | 2 0 ProblemMissing
+node before the problem | u 1; | 1 0 ProblemMissing
+a second problem | p cut 1 0;;p cut 1 0; | 3 0 ProblemTwice
+an arc line | p cut 1 0;a 1 1; | 2 1 UnknownLine
+two nodes at once | p cut 4 2;u 1 3; | 2 0 FieldCount
+another problem | p pot 4 2; | 1 2 BadWord
+more nodes than may be | p cut 134217729 0; | 1 3 NumberRange
+more lines than may be | p cut 4 268435457; | 1 4 NumberRange
+a node of 0 | p cut 4 1;u 0; | 2 2 NumberRange
+a node that isn't whole | p cut 4 1;u 1.0; | 2 2 BadNumber
+node out of range | p cut 4 1;u 5; | 2 2 NodeRange
+a node named twice | p cut 4 3;u 3;u 1;u 3; | 4 2 NodeTwice
+a node more | p cut 4 1;u 3;u 1; | 3 0 TooMany
+a node too few | p cut 4 2;u 3; | 3 0 TooFew
+more lines than nodes | p cut 1 268435456;u 1 | 3 0 TooFew
+nothing behind a refused line matters | p cut 4 1;u 5;u 0;p; | 2 2 NodeRange";
 
 #[test]
 fn texts_are_refused_at_their_first_fault(rt: HostRuntime) -> Result<(), Fail> {
-    refuses_each::<Cut>(&rt, rt.alloc(), &REFUSED_TEXTS)
+    refuses_each::<Cut>(&rt, rt.alloc(), REFUSED_TEXTS, 17)
 }
 
 /// Texts with a line that has several faults.
-static REFUSED_LINES: [Refused; 8] = [
-    (
-        "the letter before the number of fields",
-        "U\n",
-        1,
-        1,
-        Reason::UnknownLine,
-    ),
-    (
-        "the number of fields before the word",
-        "p pot 4\n",
-        1,
-        0,
-        Reason::FieldCount,
-    ),
-    (
-        "the word before NODES",
-        "p pot x x\n",
-        1,
-        2,
-        Reason::BadWord,
-    ),
-    ("NODES before K", "p cut -1 x\n", 1, 3, Reason::NumberRange),
-    (
-        "the node's number before the missing problem",
-        "u x\n",
-        1,
-        2,
-        Reason::BadNumber,
-    ),
-    (
-        "the problem's numbers before a second problem",
-        "p cut 4 0\np cut 4 x\n",
-        2,
-        4,
-        Reason::BadNumber,
-    ),
-    (
-        "NODES before the count",
-        "p cut 4 0\nu 5\n",
-        2,
-        2,
-        Reason::NodeRange,
-    ),
-    (
-        "a node named twice before the count",
-        "p cut 4 1\nu 1\nu 1\n",
-        3,
-        2,
-        Reason::NodeTwice,
-    ),
-];
+static REFUSED_LINES: &str = "\
+the letter before the number of fields | U; | 1 1 UnknownLine
+the number of fields before the word | p pot 4; | 1 0 FieldCount
+the word before NODES | p pot x x; | 1 2 BadWord
+NODES before K | p cut -1 x; | 1 3 NumberRange
+the node's number before the missing problem | u x; | 1 2 BadNumber
+the problem's numbers before a second problem | p cut 4 0;p cut 4 x; | 2 4 BadNumber
+NODES before the count | p cut 4 0;u 5; | 2 2 NodeRange
+a node named twice before the count | p cut 4 1;u 1;u 1; | 3 2 NodeTwice";
 
 #[test]
 fn a_line_is_refused_for_its_first_reason(rt: HostRuntime) -> Result<(), Fail> {
-    refuses_each::<Cut>(&rt, rt.alloc(), &REFUSED_LINES)
+    refuses_each::<Cut>(&rt, rt.alloc(), REFUSED_LINES, 8)
 }
 
 /// Lines by number, and why each is refused, if it is.
-static RECORDS: [Line; 8] = [
-    (1, "u 1", Some((0, Reason::ProblemMissing))),
-    (2, "p cut 4 2", None),
-    (3, "p cut 9 9", Some((0, Reason::ProblemTwice))),
-    (4, "u 5", Some((2, Reason::NodeRange))),
-    (5, "u 3", None),
-    (6, "u 3", Some((2, Reason::NodeTwice))),
-    (7, "u 1", None),
-    (8, "u 2", Some((0, Reason::TooMany))),
-];
+static RECORDS: &str = "\
+1 | u 1 | 0 ProblemMissing
+2 | p cut 4 2 | taken
+3 | p cut 9 9 | 0 ProblemTwice
+4 | u 5 | 2 NodeRange
+5 | u 3 | taken
+6 | u 3 | 2 NodeTwice
+7 | u 1 | taken
+8 | u 2 | 0 TooMany";
 
 #[test]
 fn a_refused_record_leaves_the_reading_as_it_was(rt: HostRuntime) -> Result<(), Fail> {
-    let mut reading = CutReading::new(rt.alloc());
-    answers_each(&rt, &mut reading, TextKind::Cut, &RECORDS);
-    let cut = reading.finish()?;
+    let reading = CutReading::new(rt.alloc());
+    let cut = read_each(&rt, rt.alloc(), reading, TextKind::Cut, RECORDS, 8)?;
     same(&rt, "nodes", cut.nodes(), 4);
     same(&rt, "nodes inside", cut.len(), 2);
     holds(

@@ -2,8 +2,8 @@
 
 use crate::checks::{holds, same};
 use crate::texts::{
-    Arc, Converted, Text, Weights, becomes, converts_each, is_made_of, spelled,
-    tells_each_failed_pull, tells_each_failed_put, tells_failed_pulls,
+    Text, Weights, becomes, converts_each, is_made_of, spelled, tells_each_failed_pull,
+    tells_each_failed_put, tells_failed_pulls,
 };
 use dimacs_instance::Network;
 use dimacs_lines::{DeviceFault, FlakySink, FlakySource};
@@ -13,59 +13,33 @@ use std::test::Fail;
 const CYCLE: &str = "p sp 4 3\na 1 2 5\na 3 4 0\na 4 3 0\n";
 
 /// Texts, each with its canonical form.
-static CANONICAL_FORMS: [Converted; 11] = [
-    (
-        "comment, blanks, CR, empty line, sign, zeros, no last line end",
-        "c x\n  p  sp 2 1\r\n\na 1 2 +007",
-        "p sp 2 1\na 1 2 7\n",
-    ),
-    (
-        "the greatest weight",
-        "p sp 2 1\na 1 2 9223372036854775807\n",
-        "p sp 2 1\na 1 2 9223372036854775807\n",
-    ),
-    (
-        "the least weight",
-        "p sp 2 1\na 1 2 -9223372036854775808\n",
-        "p sp 2 1\na 1 2 -9223372036854775808\n",
-    ),
-    ("no node", "p sp 0 0\n", "p sp 0 0\n"),
-    ("nodes and no arc", "p sp 9 0", "p sp 9 0\n"),
-    ("already canonical", CYCLE, CYCLE),
-    (
-        "parallel arcs and loops keep their order",
-        "p sp 2 5\na 2 1 -3\na 1 1 0\na 2 1 -3\na 1 2 9\na 2 1 4\n",
-        "p sp 2 5\na 2 1 -3\na 1 1 0\na 2 1 -3\na 1 2 9\na 2 1 4\n",
-    ),
-    ("minus zero", "p sp 1 1\na 1 1 -0\n", "p sp 1 1\na 1 1 0\n"),
-    (
-        "tabs and blanks behind",
-        "p\tsp\t1\t1\t \na 1 1\t3 \r\n",
-        "p sp 1 1\na 1 1 3\n",
-    ),
-    (
-        "comments and empty lines behind the last arc",
-        "p sp 1 1\na 1 1 3\n\n \nc x\nc a 1 1 4",
-        "p sp 1 1\na 1 1 3\n",
-    ),
-    (
-        "comment that looks like a problem line",
-        "cp sp 7 7\np sp 1 0\n",
-        "p sp 1 0\n",
-    ),
-];
+static CANONICAL_FORMS: &str = "\
+comment, blanks, CR, empty line, sign, zeros, no last line end | c x;  p  sp 2 1\r;;a 1 2 +007 | p sp 2 1;a 1 2 7;
+the greatest weight | p sp 2 1;a 1 2 9223372036854775807; | p sp 2 1;a 1 2 9223372036854775807;
+the least weight | p sp 2 1;a 1 2 -9223372036854775808; | p sp 2 1;a 1 2 -9223372036854775808;
+no node | p sp 0 0; | p sp 0 0;
+nodes and no arc | p sp 9 0 | p sp 9 0;
+already canonical | p sp 4 3;a 1 2 5;a 3 4 0;a 4 3 0; | p sp 4 3;a 1 2 5;a 3 4 0;a 4 3 0;
+parallel arcs and loops keep their order | p sp 2 5;a 2 1 -3;a 1 1 0;a 2 1 -3;a 1 2 9;a 2 1 4; | p sp 2 5;a 2 1 -3;a 1 1 0;a 2 1 -3;a 1 2 9;a 2 1 4;
+minus zero | p sp 1 1;a 1 1 -0; | p sp 1 1;a 1 1 0;
+tabs and blanks behind | p\tsp\t1\t1\t ;a 1 1\t3 \r; | p sp 1 1;a 1 1 3;
+comments and empty lines behind the last arc | p sp 1 1;a 1 1 3;; ;c x;c a 1 1 4 | p sp 1 1;a 1 1 3;
+comment that looks like a problem line | cp sp 7 7;p sp 1 0; | p sp 1 0;";
 
 #[test]
 fn texts_get_their_canonical_form(rt: HostRuntime) -> Result<(), Fail> {
-    converts_each::<Weights>(&rt, rt.alloc(), &CANONICAL_FORMS)
+    converts_each::<Weights>(&rt, rt.alloc(), CANONICAL_FORMS, 11)
 }
 
-static ARCS: [Arc; 3] = [(1, 2, 0, 0, 5), (3, 4, 0, 0, 0), (4, 3, 0, 0, 0)];
+static ARCS: &str = "\
+1 2 0 0 5
+3 4 0 0 0
+4 3 0 0 0";
 
 #[test]
 fn a_graph_has_the_arcs_of_its_text(rt: HostRuntime) -> Result<(), Fail> {
     let graph: Weights = spelled(rt.alloc(), CYCLE)?;
-    is_made_of(&rt, graph.network(), 4, &ARCS);
+    is_made_of(&rt, rt.alloc(), graph.network(), 4, ARCS, 3)?;
     same(&rt, "the last arc", graph.network().find(4, 3, 0), Some(2));
     Ok(())
 }

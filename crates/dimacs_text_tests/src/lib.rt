@@ -27,8 +27,6 @@ mod radii;
 #[cfg(test)]
 mod readings;
 #[cfg(test)]
-mod reasons;
-#[cfg(test)]
 mod records;
 #[cfg(test)]
 mod refusals;
@@ -36,5 +34,7 @@ mod refusals;
 mod refused_growths;
 #[cfg(test)]
 mod solutions;
+#[cfg(test)]
+mod tables;
 #[cfg(test)]
 mod texts;

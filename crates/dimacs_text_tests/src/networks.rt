@@ -1,7 +1,7 @@
 //! Networks: arcs in their order, and the search for them.
 
 use crate::checks::same;
-use crate::texts::{Arc, is_made_of};
+use crate::texts::is_made_of;
 use dimacs_instance::{ForwardStar, MAX_ARCS, Network, PlainArcs, WeightArc};
 use dimacs_lines::Memory;
 use std::alloc::Global;
@@ -58,20 +58,18 @@ fn a_network_starts_without_arcs(rt: HostRuntime) {
 }
 
 /// The same, as a network tells them.
-static TOLD: [Arc; 6] = [
-    (1, 2, 0, 0, 10),
-    (2, 1, 0, 0, 11),
-    (1, 2, 0, 0, -12),
-    (3, 3, 0, 0, 0),
-    (1, 2, 0, 0, 10),
-    (3, 3, 0, 0, 9),
-];
+static TOLD: &str = "\
+1 2 0 0 10
+2 1 0 0 11
+1 2 0 0 -12
+3 3 0 0 0
+1 2 0 0 10
+3 3 0 0 9";
 
 #[test]
 fn arcs_keep_their_order_and_weights(rt: HostRuntime) -> Result<(), Fail> {
     let network = sample(&rt, rt.alloc())?;
-    is_made_of(&rt, &network, 4, &TOLD);
-    Ok(())
+    is_made_of(&rt, rt.alloc(), &network, 4, TOLD, 6)
 }
 
 /// Two nodes, how many arcs between them are passed over, and the arc that is found.
@@ -196,9 +194,8 @@ fn an_index_finds_each_arc(rt: HostRuntime) -> Result<(), Fail> {
 #[test]
 fn arcs_come_back_without_their_index(rt: HostRuntime) -> Result<(), Fail> {
     let star = indexed(rt.alloc(), sample(&rt, rt.alloc())?)?;
-    is_made_of(&rt, &star, 4, &TOLD);
-    is_made_of(&rt, &star.into_plain(), 4, &TOLD);
-    Ok(())
+    is_made_of(&rt, rt.alloc(), &star, 4, TOLD, 6)?;
+    is_made_of(&rt, rt.alloc(), &star.into_plain(), 4, TOLD, 6)
 }
 
 #[test]

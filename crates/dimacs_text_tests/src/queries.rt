@@ -1,93 +1,61 @@
 //! Queries: texts that are read and written again, and texts that are refused.
 
-use crate::checks::{holds, same};
+use crate::checks::same;
 use crate::texts::{
-    Converted, Line, Refused, answers_each, converts_each, is_written, refuses_each, spelled,
-    tells_each_failed_pull, tells_each_failed_put,
+    converts_each, is_written, read_each, refuses_each, spelled, tells_each_failed_pull,
+    tells_each_failed_put,
 };
 use dimacs_instance::{Queries, QueriesReading};
-use dimacs_records::{QueryKind, Reading, Reason, TextKind};
+use dimacs_records::TextKind;
+use std::alloc::{AllocError, Global};
 use std::test::Fail;
 
 const TWO_PAIRS: &str = "p aux sp p2p 2\nq 1 2\nq 1 4\n";
 
 /// Texts, each with its canonical form.
-static CANONICAL_FORMS: [Converted; 9] = [
-    ("a source", "p aux sp ss 1\ns 1\n", "p aux sp ss 1\ns 1\n"),
-    (
-        "a source that is repeated",
-        "p aux sp ss 2\ns 1\ns 1",
-        "p aux sp ss 2\ns 1\ns 1\n",
-    ),
-    ("pairs", TWO_PAIRS, TWO_PAIRS),
-    (
-        "pairs keep their order and their direction",
-        "p aux sp p2p 4\nq 2 1\nq 1 2\nq 3 3\nq 2 1\n",
-        "p aux sp p2p 4\nq 2 1\nq 1 2\nq 3 3\nq 2 1\n",
-    ),
-    ("no source", "p aux sp ss 0", "p aux sp ss 0\n"),
-    ("no pair", "p aux sp p2p 0\n", "p aux sp p2p 0\n"),
-    (
-        "comment, blanks, CR, empty line, sign, zeros, no last line end",
-        "c x\n  p  aux sp\tp2p +01\r\n\nq 007 +4 ",
-        "p aux sp p2p 1\nq 7 4\n",
-    ),
-    (
-        "the greatest ID",
-        "p aux sp ss 1\ns 134217728\n",
-        "p aux sp ss 1\ns 134217728\n",
-    ),
-    (
-        "comments that look like queries",
-        "p aux sp ss 1\ncs 1\ns 2\nc s 3\n",
-        "p aux sp ss 1\ns 2\n",
-    ),
-];
+static CANONICAL_FORMS: &str = "\
+a source | p aux sp ss 1;s 1; | p aux sp ss 1;s 1;
+a source that is repeated | p aux sp ss 2;s 1;s 1 | p aux sp ss 2;s 1;s 1;
+pairs | p aux sp p2p 2;q 1 2;q 1 4; | p aux sp p2p 2;q 1 2;q 1 4;
+pairs keep their order and their direction | p aux sp p2p 4;q 2 1;q 1 2;q 3 3;q 2 1; | p aux sp p2p 4;q 2 1;q 1 2;q 3 3;q 2 1;
+no source | p aux sp ss 0 | p aux sp ss 0;
+no pair | p aux sp p2p 0; | p aux sp p2p 0;
+comment, blanks, CR, empty line, sign, zeros, no last line end | c x;  p  aux sp\tp2p +01\r;;q 007 +4  | p aux sp p2p 1;q 7 4;
+the greatest ID | p aux sp ss 1;s 134217728; | p aux sp ss 1;s 134217728;
+comments that look like queries | p aux sp ss 1;cs 1;s 2;c s 3; | p aux sp ss 1;s 2;";
 
 #[test]
 fn texts_get_their_canonical_form(rt: HostRuntime) -> Result<(), Fail> {
-    converts_each::<Queries>(&rt, rt.alloc(), &CANONICAL_FORMS)
+    converts_each::<Queries>(&rt, rt.alloc(), CANONICAL_FORMS, 9)
 }
 
-fn sources(queries: &Queries) -> &[u32] {
+/// What is told of queries: their kind, how many there are, and each of them.
+fn told(alloc: Global, queries: &Queries) -> Result<String, AllocError> {
+    let (kind, count) = (queries.kind(), queries.len());
     match queries {
-        Queries::Sources(ids) => ids.as_slice(),
-        Queries::Pairs(_) => &[],
-    }
-}
-
-fn pairs(queries: &Queries) -> &[(u32, u32)] {
-    match queries {
-        Queries::Sources(_) => &[],
-        Queries::Pairs(pairs) => pairs.as_slice(),
+        Queries::Sources(ids) => format!(in alloc; "{kind:?} {count} {:?}", ids.as_slice()),
+        Queries::Pairs(pairs) => format!(in alloc; "{kind:?} {count} {:?}", pairs.as_slice()),
     }
 }
 
 #[test]
 fn sources_are_those_of_their_text(rt: HostRuntime) -> Result<(), Fail> {
     let queries: Queries = spelled(rt.alloc(), "p aux sp ss 3\ns 5\ns 1\ns 5\n")?;
-    same(
-        &rt,
-        "kind and number of queries",
-        (queries.kind(), queries.len()),
-        (QueryKind::Sources, 3),
-    );
-    same(&rt, "sources", sources(&queries), [5, 1, 5].as_slice());
-    holds(&rt, "no pair", pairs(&queries).is_empty());
+    let said = told(rt.alloc(), &queries)?;
+    same(&rt, "the queries", said.as_str(), "Sources 3 [5, 1, 5]");
     Ok(())
 }
 
 #[test]
 fn pairs_are_those_of_their_text(rt: HostRuntime) -> Result<(), Fail> {
     let queries: Queries = spelled(rt.alloc(), TWO_PAIRS)?;
+    let said = told(rt.alloc(), &queries)?;
     same(
         &rt,
-        "kind and number of queries",
-        (queries.kind(), queries.len()),
-        (QueryKind::Pairs, 2),
+        "the queries",
+        said.as_str(),
+        "Pairs 2 [(1, 2), (1, 4)]",
     );
-    same(&rt, "pairs", pairs(&queries), [(1, 2), (1, 4)].as_slice());
-    holds(&rt, "no source", sources(&queries).is_empty());
     Ok(())
 }
 
@@ -103,234 +71,71 @@ fn open_lists_are_written_as_they_are(rt: HostRuntime) -> Result<(), Fail> {
 }
 
 /// Texts that are refused for their first fault.
-static REFUSED_TEXTS: [Refused; 33] = [
-    ("empty text", "", 1, 0, Reason::ProblemMissing),
-    (
-        "comments alone",
-        "c x\n\nc y\n",
-        4,
-        0,
-        Reason::ProblemMissing,
-    ),
-    (
-        "source before the problem",
-        "s 1\np aux sp ss 1\n",
-        1,
-        0,
-        Reason::ProblemMissing,
-    ),
-    (
-        "pair before the problem",
-        "c\nq 1 2\n",
-        2,
-        0,
-        Reason::ProblemMissing,
-    ),
-    (
-        "a field before the problem",
-        "s 0\n",
-        1,
-        2,
-        Reason::NumberRange,
-    ),
-    (
-        "problem twice",
-        "p aux sp ss 1\np aux sp ss 1\n",
-        2,
-        0,
-        Reason::ProblemTwice,
-    ),
-    (
-        "problems of both forms",
-        "p aux sp ss 0\n\np aux sp p2p 0\n",
-        3,
-        0,
-        Reason::ProblemTwice,
-    ),
-    (
-        "the second problem's own fault comes first",
-        "p aux sp ss 0\np aux sp ss -1\n",
-        2,
-        5,
-        Reason::NumberRange,
-    ),
-    (
-        "problem without count",
-        "p aux sp ss\n",
-        1,
-        0,
-        Reason::FieldCount,
-    ),
-    ("another form", "p aux sp foo 1\n", 1, 4, Reason::BadWord),
-    (
-        "a form that goes on",
-        "p aux sp sss 1\n",
-        1,
-        4,
-        Reason::BadWord,
-    ),
-    ("another word", "p aux max ss 1\n", 1, 3, Reason::BadWord),
-    ("problem of a graph", "p sp 4 3\n", 1, 0, Reason::FieldCount),
-    (
-        "word before count",
-        "p aux sp foo x\n",
-        1,
-        4,
-        Reason::BadWord,
-    ),
-    (
-        "count past the range",
-        "p aux sp ss 268435457\n",
-        1,
-        5,
-        Reason::NumberRange,
-    ),
-    (
-        "count that is no number",
-        "p aux sp p2p 1x\n",
-        1,
-        5,
-        Reason::BadNumber,
-    ),
-    (
-        "unknown letter",
-        "p aux sp ss 1\nt 1\n",
-        2,
-        1,
-        Reason::UnknownLine,
-    ),
-    (
-        "field missing",
-        "p aux sp p2p 1\nq 1\n",
-        2,
-        0,
-        Reason::FieldCount,
-    ),
-    (
-        "field too many",
-        "p aux sp ss 1\ns 1 2\n",
-        2,
-        0,
-        Reason::FieldCount,
-    ),
-    ("ID zero", "p aux sp ss 1\ns 0\n", 2, 2, Reason::NumberRange),
-    (
-        "ID past the range",
-        "p aux sp p2p 1\nq 1 134217729\n",
-        2,
-        3,
-        Reason::NumberRange,
-    ),
-    (
-        "FROM before TO",
-        "p aux sp p2p 1\nq x 0\n",
-        2,
-        2,
-        Reason::BadNumber,
-    ),
-    (
-        "source among pairs",
-        "p aux sp p2p 1\ns 1\n",
-        2,
-        0,
-        Reason::RecordOrder,
-    ),
-    (
-        "pair among sources",
-        "p aux sp ss 1\nq 1 2\n",
-        2,
-        0,
-        Reason::RecordOrder,
-    ),
-    (
-        "field before form",
-        "p aux sp p2p 1\ns 0\n",
-        2,
-        2,
-        Reason::NumberRange,
-    ),
-    (
-        "form before count, sources",
-        "p aux sp ss 0\nq 1 2\n",
-        2,
-        0,
-        Reason::RecordOrder,
-    ),
-    (
-        "form before count, pairs",
-        "p aux sp p2p 1\nq 1 2\ns 1\n",
-        3,
-        0,
-        Reason::RecordOrder,
-    ),
-    (
-        "more sources than declared",
-        "p aux sp ss 0\ns 1\n",
-        2,
-        0,
-        Reason::TooMany,
-    ),
-    (
-        "one more pair than declared",
-        "p aux sp p2p 1\nq 1 2\nc\nq 1 2\n",
-        4,
-        0,
-        Reason::TooMany,
-    ),
-    (
-        "fewer sources than declared",
-        "p aux sp ss 2\ns 1\n",
-        3,
-        0,
-        Reason::TooFew,
-    ),
-    (
-        "no pair, without line end",
-        "c\np aux sp p2p 1",
-        3,
-        0,
-        Reason::TooFew,
-    ),
-    (
-        "the most that may be declared",
-        "p aux sp ss 268435456\ns 1\n",
-        3,
-        0,
-        Reason::TooFew,
-    ),
-    (
-        "nothing behind a refused line matters",
-        "p aux sp ss 2\nq 1 2\ns 0\np aux sp ss 2\n",
-        2,
-        0,
-        Reason::RecordOrder,
-    ),
-];
+static REFUSED_TEXTS: &str = "\
+empty text |  | 1 0 ProblemMissing
+comments alone | c x;;c y; | 4 0 ProblemMissing
+source before the problem | s 1;p aux sp ss 1; | 1 0 ProblemMissing
+pair before the problem | c;q 1 2; | 2 0 ProblemMissing
+a field before the problem | s 0; | 1 2 NumberRange
+problem twice | p aux sp ss 1;p aux sp ss 1; | 2 0 ProblemTwice
+problems of both forms | p aux sp ss 0;;p aux sp p2p 0; | 3 0 ProblemTwice
+the second problem's own fault comes first | p aux sp ss 0;p aux sp ss -1; | 2 5 NumberRange
+problem without count | p aux sp ss; | 1 0 FieldCount
+another form | p aux sp foo 1; | 1 4 BadWord
+a form that goes on | p aux sp sss 1; | 1 4 BadWord
+another word | p aux max ss 1; | 1 3 BadWord
+problem of a graph | p sp 4 3; | 1 0 FieldCount
+word before count | p aux sp foo x; | 1 4 BadWord
+count past the range | p aux sp ss 268435457; | 1 5 NumberRange
+count that is no number | p aux sp p2p 1x; | 1 5 BadNumber
+unknown letter | p aux sp ss 1;t 1; | 2 1 UnknownLine
+field missing | p aux sp p2p 1;q 1; | 2 0 FieldCount
+field too many | p aux sp ss 1;s 1 2; | 2 0 FieldCount
+ID zero | p aux sp ss 1;s 0; | 2 2 NumberRange
+ID past the range | p aux sp p2p 1;q 1 134217729; | 2 3 NumberRange
+FROM before TO | p aux sp p2p 1;q x 0; | 2 2 BadNumber
+source among pairs | p aux sp p2p 1;s 1; | 2 0 RecordOrder
+pair among sources | p aux sp ss 1;q 1 2; | 2 0 RecordOrder
+field before form | p aux sp p2p 1;s 0; | 2 2 NumberRange
+form before count, sources | p aux sp ss 0;q 1 2; | 2 0 RecordOrder
+form before count, pairs | p aux sp p2p 1;q 1 2;s 1; | 3 0 RecordOrder
+more sources than declared | p aux sp ss 0;s 1; | 2 0 TooMany
+one more pair than declared | p aux sp p2p 1;q 1 2;c;q 1 2; | 4 0 TooMany
+fewer sources than declared | p aux sp ss 2;s 1; | 3 0 TooFew
+no pair, without line end | c;p aux sp p2p 1 | 3 0 TooFew
+the most that may be declared | p aux sp ss 268435456;s 1; | 3 0 TooFew
+nothing behind a refused line matters | p aux sp ss 2;q 1 2;s 0;p aux sp ss 2; | 2 0 RecordOrder";
 
 #[test]
 fn texts_are_refused_at_their_first_fault(rt: HostRuntime) -> Result<(), Fail> {
-    refuses_each::<Queries>(&rt, rt.alloc(), &REFUSED_TEXTS)
+    refuses_each::<Queries>(&rt, rt.alloc(), REFUSED_TEXTS, 33)
 }
 
 /// Lines by number, and why each is refused, if it is.
-static RECORDS: [Line; 9] = [
-    (1, "q 1 2", Some((0, Reason::ProblemMissing))),
-    (2, "s 1", Some((0, Reason::ProblemMissing))),
-    (3, "p aux sp ss 2", None),
-    (4, "p aux sp p2p 2", Some((0, Reason::ProblemTwice))),
-    (5, "s 3", None),
-    (6, "q 1 2", Some((0, Reason::RecordOrder))),
-    (7, "s 1", None),
-    (8, "s 2", Some((0, Reason::TooMany))),
-    (9, "q 1 2", Some((0, Reason::RecordOrder))),
-];
+static RECORDS: &str = "\
+1 | q 1 2 | 0 ProblemMissing
+2 | s 1 | 0 ProblemMissing
+3 | p aux sp ss 2 | taken
+4 | p aux sp p2p 2 | 0 ProblemTwice
+5 | s 3 | taken
+6 | q 1 2 | 0 RecordOrder
+7 | s 1 | taken
+8 | s 2 | 0 TooMany
+9 | q 1 2 | 0 RecordOrder";
 
 #[test]
 fn a_refused_record_leaves_the_reading_as_it_was(rt: HostRuntime) -> Result<(), Fail> {
-    let mut reading = QueriesReading::new(rt.alloc());
-    answers_each(&rt, &mut reading, TextKind::Queries, &RECORDS);
-    let queries = reading.finish()?.into_queries();
-    same(&rt, "sources", sources(&queries), [3, 1].as_slice());
+    let reading = QueriesReading::new(rt.alloc());
+    let queries = read_each(
+        &rt,
+        rt.alloc(),
+        reading,
+        TextKind::Queries,
+        RECORDS,
+        9,
+    )?.into_queries();
+    let said = told(rt.alloc(), &queries)?;
+    same(&rt, "the queries", said.as_str(), "Sources 2 [3, 1]");
     Ok(())
 }
 

@@ -4,6 +4,7 @@
 ghost use Rattle.std.specs.Prelude.{◌≡◌, None};
 
 use crate::checks::{holds, same_at};
+use crate::tables::rows;
 use crate::texts::take_line;
 use dimacs_claims::{LabelsReading, write_labels};
 use dimacs_instance::{MinReading, write_min};
@@ -65,39 +66,39 @@ fn take_at_last<R: Reading>(
     same_at(rt, "line", number, answer, Ok(()));
 }
 
-/// Gives a reading the lines of a text, each once more where there was no memory for it.
+/// Gives a reading these lines, each once more where there was no memory for it.
 fn take_lines<R: Reading>(
     rt: &impl Abort,
     reading: &mut R,
     kind: TextKind,
-    lines: &[(u64, &'static str)],
+    lines: &str,
+    count: usize,
 )
     requires { R.kind reading.old ≡ kind }
 {
-    for line in lines {
-        take_at_last(rt, reading, kind, line.0, line.1);
+    for (line, number) in rows(rt, lines, count).zip(1..=u64::MAX) {
+        take_at_last(rt, reading, kind, number, line);
     }
 }
 
-static SHIPPING: [(u64, &str); 12] = [
-    (1, "p min 134217728 8"),
-    (2, "n 134217728 -3"),
-    (3, "n 1 2"),
-    (4, "n 700 1"),
-    (5, "a 1 700 0 4 5"),
-    (6, "a 700 134217728 0 4 -5"),
-    (7, "a 700 1 0 4 0"),
-    (8, "a 1 1 1 4 0"),
-    (9, "a 134217728 1 0 4 0"),
-    (10, "a 1 700 0 4 0"),
-    (11, "a 3000 700 0 4 0"),
-    (12, "a 1 9000 0 4 0"),
-];
+static SHIPPING: &str = "\
+p min 134217728 8
+n 134217728 -3
+n 1 2
+n 700 1
+a 1 700 0 4 5
+a 700 134217728 0 4 -5
+a 700 1 0 4 0
+a 1 1 1 4 0
+a 134217728 1 0 4 0
+a 1 700 0 4 0
+a 3000 700 0 4 0
+a 1 9000 0 4 0";
 
 #[test]
 fn an_instance_comes_whole_after_a_refused_growth(rt: HostRuntime) -> Result<(), Fail> {
     let mut reading = MinReading::new(rt.alloc());
-    take_lines(&rt, &mut reading, TextKind::Min, &SHIPPING);
+    take_lines(&rt, &mut reading, TextKind::Min, SHIPPING, 12);
     let Ok(instance) = reading.finish() else {
         return Ok(());
     };
@@ -109,26 +110,25 @@ fn an_instance_comes_whole_after_a_refused_growth(rt: HostRuntime) -> Result<(),
     Ok(())
 }
 
-static BLOCKS: [(u64, &str); 13] = [
-    (1, "p dist 134217728 3"),
-    (2, "t 134217728 2 9"),
-    (3, "d 1 5 134217728"),
-    (4, "d 700 6 1"),
-    (5, "t 1 0"),
-    (6, "t 2 7"),
-    (7, "d 3 1 2"),
-    (8, "d 300 1 2"),
-    (9, "d 600 1 2"),
-    (10, "d 900 1 2"),
-    (11, "d 1200 1 2"),
-    (12, "d 1500 1 2"),
-    (13, "d 134217728 1 2"),
-];
+static BLOCKS: &str = "\
+p dist 134217728 3
+t 134217728 2 9
+d 1 5 134217728
+d 700 6 1
+t 1 0
+t 2 7
+d 3 1 2
+d 300 1 2
+d 600 1 2
+d 900 1 2
+d 1200 1 2
+d 1500 1 2
+d 134217728 1 2";
 
 #[test]
 fn labels_come_whole_after_a_refused_growth(rt: HostRuntime) -> Result<(), Fail> {
     let mut reading = LabelsReading::new(rt.alloc());
-    take_lines(&rt, &mut reading, TextKind::Labels, &BLOCKS);
+    take_lines(&rt, &mut reading, TextKind::Labels, BLOCKS, 13);
     let Ok(labels) = reading.finish() else {
         return Ok(());
     };

@@ -2,60 +2,31 @@
 
 use crate::checks::same;
 use crate::texts::{
-    Converted, Line, Refused, Text, answers_each, converts_each, is_written, refuses_each, spelled,
-    take_line, tells_each_failed_pull, tells_each_failed_put,
+    Text, converts_each, ends_with, is_written, read_each, refuses_each, spelled, take_line,
+    tells_each_failed_pull, tells_each_failed_put,
 };
 use dimacs_claims::{Entry, Solution, SolutionReading};
 use dimacs_lines::{FlakySink, FlakySource};
-use dimacs_records::{Reading, Reason, TakeError, TextKind};
+use dimacs_records::TextKind;
 use std::test::Fail;
 
 const FLOW: &str = "s 6\nf 1 2 4\nf 1 3 2\nf 2 3 1\nf 2 4 3\nf 3 4 3\n";
 
 /// Texts, each with its canonical form.
-static CANONICAL_FORMS: [Converted; 9] = [
-    ("already canonical", FLOW, FLOW),
-    ("a value alone", "s 0", "s 0\n"),
-    (
-        "the value in the middle",
-        "f 1 2 4\ns 6\nf 1 3 2\n",
-        "s 6\nf 1 2 4\nf 1 3 2\n",
-    ),
-    (
-        "the value behind the entries",
-        "f 2 1 4\nf 1 2 -4\ns -9",
-        "s -9\nf 2 1 4\nf 1 2 -4\n",
-    ),
-    (
-        "comment, blanks, CR, empty line, signs, zeros, no last line end",
-        "c x\n  f 01\t+2  -0\r\n\ns +007",
-        "s 7\nf 1 2 0\n",
-    ),
-    (
-        "entries that are repeated, and loops",
-        "s 1\nf 2 2 0\nf 1 2 3\nf 1 2 3\nf 1 2 4\n",
-        "s 1\nf 2 2 0\nf 1 2 3\nf 1 2 3\nf 1 2 4\n",
-    ),
-    (
-        "the greatest numbers",
-        "s 1000000000000000000000000000000\nf 134217728 134217728 9223372036854775807\n",
-        "s 1000000000000000000000000000000\nf 134217728 134217728 9223372036854775807\n",
-    ),
-    (
-        "the least numbers",
-        "s -1000000000000000000000000000000\nf 1 1 -9223372036854775808\n",
-        "s -1000000000000000000000000000000\nf 1 1 -9223372036854775808\n",
-    ),
-    (
-        "comments that look like lines of a solution",
-        "cs 2\ns 1\nc s 3\ncf 1 2 3\n",
-        "s 1\n",
-    ),
-];
+static CANONICAL_FORMS: &str = "\
+already canonical | s 6;f 1 2 4;f 1 3 2;f 2 3 1;f 2 4 3;f 3 4 3; | s 6;f 1 2 4;f 1 3 2;f 2 3 1;f 2 4 3;f 3 4 3;
+a value alone | s 0 | s 0;
+the value in the middle | f 1 2 4;s 6;f 1 3 2; | s 6;f 1 2 4;f 1 3 2;
+the value behind the entries | f 2 1 4;f 1 2 -4;s -9 | s -9;f 2 1 4;f 1 2 -4;
+comment, blanks, CR, empty line, signs, zeros, no last line end | c x;  f 01\t+2  -0\r;;s +007 | s 7;f 1 2 0;
+entries that are repeated, and loops | s 1;f 2 2 0;f 1 2 3;f 1 2 3;f 1 2 4; | s 1;f 2 2 0;f 1 2 3;f 1 2 3;f 1 2 4;
+the greatest numbers | s 1000000000000000000000000000000;f 134217728 134217728 9223372036854775807; | s 1000000000000000000000000000000;f 134217728 134217728 9223372036854775807;
+the least numbers | s -1000000000000000000000000000000;f 1 1 -9223372036854775808; | s -1000000000000000000000000000000;f 1 1 -9223372036854775808;
+comments that look like lines of a solution | cs 2;s 1;c s 3;cf 1 2 3; | s 1;";
 
 #[test]
 fn texts_get_their_canonical_form(rt: HostRuntime) -> Result<(), Fail> {
-    converts_each::<Solution>(&rt, rt.alloc(), &CANONICAL_FORMS)
+    converts_each::<Solution>(&rt, rt.alloc(), CANONICAL_FORMS, 9)
 }
 
 /// The value behind an entry, with comments and empty lines between.
@@ -125,136 +96,54 @@ fn open_solutions_are_written_as_they_are(rt: HostRuntime) -> Result<(), Fail> {
 }
 
 /// Texts that are refused for their first fault.
-static REFUSED_TEXTS: [Refused; 16] = [
-    ("empty text", "", 1, 0, Reason::SolutionMissing),
-    ("comments alone", "c x\n\n", 3, 0, Reason::SolutionMissing),
-    (
-        "entries alone",
-        "f 1 2 3\nf 1 2 4",
-        3,
-        0,
-        Reason::SolutionMissing,
-    ),
-    ("a second value", "s 1\ns 2\n", 2, 0, Reason::SolutionTwice),
-    (
-        "the same value twice",
-        "s 1\nf 1 2 3\nc\ns 1\n",
-        4,
-        0,
-        Reason::SolutionTwice,
-    ),
-    (
-        "the greatest value and one",
-        "s 1000000000000000000000000000001\n",
-        1,
-        2,
-        Reason::NumberRange,
-    ),
-    (
-        "the least value less one",
-        "f 1 2 3\ns -1000000000000000000000000000001\n",
-        2,
-        2,
-        Reason::NumberRange,
-    ),
-    ("a problem line", "p max 1 0\n", 1, 1, Reason::UnknownLine),
-    ("an arc line", "s 1\na 1 2 3\n", 2, 1, Reason::UnknownLine),
-    ("value without number", "s\n", 1, 0, Reason::FieldCount),
-    ("value and more", "s 1 2\n", 1, 0, Reason::FieldCount),
-    (
-        "entry without flow",
-        "s 1\nf 1 2\n",
-        2,
-        0,
-        Reason::FieldCount,
-    ),
-    (
-        "entry and more",
-        "s 1\nf 1 2 3 4\n",
-        2,
-        0,
-        Reason::FieldCount,
-    ),
-    (
-        "flow past the range",
-        "s 1\nf 1 2 9223372036854775808\n",
-        2,
-        4,
-        Reason::NumberRange,
-    ),
-    ("flow no number", "f 1 2 1.5\n", 1, 4, Reason::BadNumber),
-    (
-        "nothing behind a refused line matters",
-        "s 1\ns 2\ns x\np\n",
-        2,
-        0,
-        Reason::SolutionTwice,
-    ),
-];
+static REFUSED_TEXTS: &str = "\
+empty text |  | 1 0 SolutionMissing
+comments alone | c x;; | 3 0 SolutionMissing
+entries alone | f 1 2 3;f 1 2 4 | 3 0 SolutionMissing
+a second value | s 1;s 2; | 2 0 SolutionTwice
+the same value twice | s 1;f 1 2 3;c;s 1; | 4 0 SolutionTwice
+the greatest value and one | s 1000000000000000000000000000001; | 1 2 NumberRange
+the least value less one | f 1 2 3;s -1000000000000000000000000000001; | 2 2 NumberRange
+a problem line | p max 1 0; | 1 1 UnknownLine
+an arc line | s 1;a 1 2 3; | 2 1 UnknownLine
+value without number | s; | 1 0 FieldCount
+value and more | s 1 2; | 1 0 FieldCount
+entry without flow | s 1;f 1 2; | 2 0 FieldCount
+entry and more | s 1;f 1 2 3 4; | 2 0 FieldCount
+flow past the range | s 1;f 1 2 9223372036854775808; | 2 4 NumberRange
+flow no number | f 1 2 1.5; | 1 4 BadNumber
+nothing behind a refused line matters | s 1;s 2;s x;p; | 2 0 SolutionTwice";
 
 #[test]
 fn texts_are_refused_at_their_first_fault(rt: HostRuntime) -> Result<(), Fail> {
-    refuses_each::<Solution>(&rt, rt.alloc(), &REFUSED_TEXTS)
+    refuses_each::<Solution>(&rt, rt.alloc(), REFUSED_TEXTS, 16)
 }
 
 /// Texts with a line that has several faults.
-static REFUSED_LINES: [Refused; 5] = [
-    (
-        "the letter before the number of fields",
-        "S\n",
-        1,
-        1,
-        Reason::UnknownLine,
-    ),
-    (
-        "the number of fields before the fields",
-        "f 0 x\n",
-        1,
-        0,
-        Reason::FieldCount,
-    ),
-    (
-        "the tail before the head and the flow",
-        "s 1\nf 0 0 x\n",
-        2,
-        2,
-        Reason::NumberRange,
-    ),
-    (
-        "the head before the flow",
-        "f 1 134217729 x\n",
-        1,
-        3,
-        Reason::NumberRange,
-    ),
-    (
-        "a value's own fault before a second value",
-        "s 1\ns x\n",
-        2,
-        2,
-        Reason::BadNumber,
-    ),
-];
+static REFUSED_LINES: &str = "\
+the letter before the number of fields | S; | 1 1 UnknownLine
+the number of fields before the fields | f 0 x; | 1 0 FieldCount
+the tail before the head and the flow | s 1;f 0 0 x; | 2 2 NumberRange
+the head before the flow | f 1 134217729 x; | 1 3 NumberRange
+a value's own fault before a second value | s 1;s x; | 2 2 BadNumber";
 
 #[test]
 fn a_line_is_refused_for_its_first_reason(rt: HostRuntime) -> Result<(), Fail> {
-    refuses_each::<Solution>(&rt, rt.alloc(), &REFUSED_LINES)
+    refuses_each::<Solution>(&rt, rt.alloc(), REFUSED_LINES, 5)
 }
 
 /// Lines by number, and why each is refused, if it is.
-static RECORDS: [Line; 5] = [
-    (1, "f 1 2 3", None),
-    (3, "s 5", None),
-    (4, "s 5", Some((0, Reason::SolutionTwice))),
-    (7, "f 2 1 0", None),
-    (8, "s 6", Some((0, Reason::SolutionTwice))),
-];
+static RECORDS: &str = "\
+1 | f 1 2 3 | taken
+3 | s 5 | taken
+4 | s 5 | 0 SolutionTwice
+7 | f 2 1 0 | taken
+8 | s 6 | 0 SolutionTwice";
 
 #[test]
 fn a_refused_record_leaves_the_reading_as_it_was(rt: HostRuntime) -> Result<(), Fail> {
-    let mut reading = SolutionReading::new(Vec::new(rt.alloc()));
-    answers_each(&rt, &mut reading, TextKind::Solution, &RECORDS);
-    let placed = reading.finish()?;
+    let reading = SolutionReading::new(Vec::new(rt.alloc()));
+    let placed = read_each(&rt, rt.alloc(), reading, TextKind::Solution, RECORDS, 5)?;
     same(&rt, "value", placed.value, 5);
     same(&rt, "line of the value", placed.value_line, 3);
     same(
@@ -268,14 +157,11 @@ fn a_refused_record_leaves_the_reading_as_it_was(rt: HostRuntime) -> Result<(), 
 
 #[test]
 fn a_reading_without_a_value_is_refused_at_its_end(rt: HostRuntime) -> Result<(), Fail> {
-    let missing = Some(TakeError::refused(0, Reason::SolutionMissing));
     let reading = SolutionReading::new(Vec::new(rt.alloc()));
-    same(&rt, "no record", reading.finish().err(), missing);
-
+    ends_with(&rt, rt.alloc(), reading, "0 SolutionMissing")?;
     let mut reading = SolutionReading::new(Vec::new(rt.alloc()));
     take_line(&mut reading, TextKind::Solution, 1, "f 1 2 3")?;
-    same(&rt, "an entry", reading.finish().err(), missing);
-    Ok(())
+    ends_with(&rt, rt.alloc(), reading, "0 SolutionMissing")
 }
 
 #[test]

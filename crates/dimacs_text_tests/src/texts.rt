@@ -3,6 +3,7 @@
 ghost use Rattle.std.specs.Prelude.{◌≡◌};
 
 use crate::checks::{holds, holds_at, same, same_at};
+use crate::tables::{case, cell, number, rows};
 use dimacs_claims::{
     Cut, Labels, Potentials, Solution, read_cut, read_labels, read_potentials, read_solution,
     write_cut, write_labels, write_potentials, write_solution,
@@ -13,8 +14,8 @@ use dimacs_instance::{
     write_queries,
 };
 use dimacs_lines::{DeviceFault, FlakySink, FlakySource};
-use dimacs_records::{At, ReadError, Reading, Reason, TakeError, TextKind, record};
-use std::alloc::Global;
+use dimacs_records::{ReadError, Reading, TakeError, TextKind, record};
+use std::alloc::{AllocError, Global};
 use std::process::Abort;
 use std::test::Fail;
 
@@ -133,18 +134,33 @@ pub fn is_written<T: Text>(
     Ok(())
 }
 
-/// An arc: its tail, its head, its lower bound, its capacity and its cost.
-pub type Arc = (u32, u32, i64, i64, i64);
-
-/// Whether a network has so many nodes, and just these arcs.
-pub fn is_made_of<N: Network>(rt: &impl Abort, network: &N, nodes: u32, arcs: &[Arc]) {
+/// Whether a network has so many nodes, and just the arcs of a table: the tail, the head, the lower bound, the capacity and the
+/// cost of each.
+pub fn is_made_of<N: Network>(
+    rt: &impl Abort,
+    alloc: Global,
+    network: &N,
+    nodes: u32,
+    table: &str,
+    count: usize,
+) -> Result<(), Fail> {
     same(rt, "nodes", network.nodes(), nodes);
-    same(rt, "arcs", network.arcs() as usize, arcs.len());
+    same(rt, "arcs", network.arcs() as usize, count);
+    let mut lines = rows(rt, table, count);
     for i in 0..network.arcs() {
-        let arc = network.arc(i);
-        let said = (arc.tail, arc.head, arc.low, arc.cap, arc.cost);
-        same_at(rt, "arc", i as u64, arcs.get(i as usize), Some(&said));
+        let said = arc_told(alloc, &network.arc(i))?;
+        let wanted = lines.next().unwrap_or_default();
+        same(rt, wanted, said.as_str(), wanted);
     }
+    Ok(())
+}
+
+/// The tail, the head, the lower bound, the capacity and the cost of an arc.
+fn arc_told(alloc: Global, arc: &ArcView) -> Result<String, AllocError> {
+    format!(in alloc;
+        "{} {} {} {} {}",
+        arc.tail, arc.head, arc.low, arc.cap, arc.cost
+    )
 }
 
 /// Whether what a source gives gets this canonical form.
@@ -178,50 +194,73 @@ fn converts<T: Text>(
     becomes::<T>(rt, alloc, name, wanted, &[], wanted)
 }
 
-/// A text and its canonical form: its name, the text, the form.
-pub type Converted = (&'static str, &'static str, &'static str);
-
-/// Converts each text.
+/// Converts the text of each line of a table: its name, the text, its canonical form.
 pub fn converts_each<T: Text>(
     rt: &impl Abort,
     alloc: Global,
-    texts: &[Converted],
+    table: &str,
+    count: usize,
 ) -> Result<(), Fail> {
-    for &(name, text, canonical) in texts {
+    for line in rows(rt, table, count) {
+        let case = case(alloc, line)?;
+        let (name, rest) = cell(rt, &case);
+        let (text, canonical) = cell(rt, rest);
         converts::<T>(rt, alloc, name, text, canonical)?;
     }
     Ok(())
 }
 
-/// Reads a text in one piece, and byte by byte.
+/// What is told of an error: of a refusal its line, its field and its reason.
+pub fn told(alloc: Global, error: Option<ReadError>) -> Result<String, AllocError> {
+    match error {
+        Some(ReadError::Refused(at, reason)) => {
+            format!(in alloc; "{} {} {}", at.line, at.field, reason.name())
+        }
+        Some(error) => format!(in alloc; "{error:?}"),
+        None => format!(in alloc; "nothing"),
+    }
+}
+
+/// Whether a text that comes in pieces of these sizes is refused so.
+fn refuses_pieces<T: Text>(
+    rt: &impl Abort,
+    alloc: Global,
+    name: &str,
+    text: &[u8],
+    sizes: &[usize],
+    refusal: &str,
+) -> Result<(), Fail> {
+    let error = T::read(alloc, &mut FlakySource::new(text, sizes, &[])).err();
+    let said = told(alloc, error)?;
+    same(rt, name, said.as_str(), refusal);
+    Ok(())
+}
+
+/// Whether a text is refused so, in one piece and byte by byte.
 pub fn refuses<T: Text>(
     rt: &impl Abort,
     alloc: Global,
     name: &str,
     text: &[u8],
-    at: At,
-    reason: Reason,
+    refusal: &str,
 ) -> Result<(), Fail> {
-    let want = Some(ReadError::Refused(at, reason));
-    let whole = T::read(alloc, &mut FlakySource::new(text, &[], &[])).err();
-    same(rt, name, whole, want);
     let ones = Vec::from_elem(alloc, 1, text.len())?;
-    let pieces = T::read(alloc, &mut FlakySource::new(text, &ones, &[])).err();
-    same(rt, name, pieces, want);
-    Ok(())
+    refuses_pieces::<T>(rt, alloc, name, text, &[], refusal)?;
+    refuses_pieces::<T>(rt, alloc, name, text, &ones, refusal)
 }
 
-/// A text that is refused: its name, the text, the line, the field and the reason.
-pub type Refused = (&'static str, &'static str, u64, u32, Reason);
-
-/// Reads each text in one piece, and byte by byte.
+/// Reads the text of each line of a table: its name, the text, its refusal.
 pub fn refuses_each<T: Text>(
     rt: &impl Abort,
     alloc: Global,
-    texts: &[Refused],
+    table: &str,
+    count: usize,
 ) -> Result<(), Fail> {
-    for &(name, text, line, field, reason) in texts {
-        refuses::<T>(rt, alloc, name, text.as_bytes(), At { line, field }, reason)?;
+    for line in rows(rt, table, count) {
+        let case = case(alloc, line)?;
+        let (name, rest) = cell(rt, &case);
+        let (text, refusal) = cell(rt, rest);
+        refuses::<T>(rt, alloc, name, text.as_bytes(), refusal)?;
     }
     Ok(())
 }
@@ -306,37 +345,85 @@ pub fn take_line<R: Reading>(
     }
 }
 
-/// What a reading answers to a record that it refuses so, or takes.
-fn answer(refusal: Option<(u32, Reason)>) -> Result<(), TakeError> {
-    match refusal {
-        Some((field, reason)) => Err(TakeError::refused(field, reason)),
-        None => Ok(()),
+/// What is told of an answer: `taken`, or the field and the reason.
+fn told_answer(alloc: Global, answer: Result<(), TakeError>) -> Result<String, AllocError> {
+    match answer {
+        Ok(()) => format!(in alloc; "taken"),
+        Err(TakeError::Refused(fault)) => {
+            format!(in alloc; "{} {}", fault.field, fault.reason.name())
+        }
+        Err(error) => format!(in alloc; "{error:?}"),
     }
 }
 
-/// A line by its number, and why it is refused, if it is.
-pub type Line = (u64, &'static str, Option<(u32, Reason)>);
+/// Whether a reading is refused so at its end.
+pub fn ends_with<R: Reading>(
+    rt: &impl Abort,
+    alloc: Global,
+    reading: R,
+    refusal: &str,
+) -> Result<(), Fail>
+where
+    R::Value: Drop,
+{
+    let said = match reading.finish() {
+        Ok(_) => told_answer(alloc, Ok(()))?,
+        Err(error) => told_answer(alloc, Err(error))?,
+    };
+    same(rt, "the refusal", said.as_str(), refusal);
+    Ok(())
+}
 
-/// Gives a reading a line, and once more where it is refused.
-fn answers<R: Reading>(rt: &impl Abort, reading: &mut R, kind: TextKind, line: &Line)
+/// Gives a reading the line in a line of a table: its number, the line, the answer.
+fn answers<R: Reading>(
+    rt: &impl Abort,
+    alloc: Global,
+    reading: &mut R,
+    kind: TextKind,
+    row: &str,
+) -> Result<(), Fail>
     requires { R.kind reading.old ≡ kind }
     ensures { R.kind reading.new ≡ kind }
 {
-    let (number, text, refusal) = *line;
-    let wanted = answer(refusal);
-    let answered = take_line(reading, kind, number, text);
-    same_at(rt, "line", number, answered, wanted);
-    if refusal.is_some() {
-        let again = take_line(reading, kind, number, text);
-        same_at(rt, "once more line", number, again, wanted);
-    }
+    let (digits, rest) = cell(rt, row);
+    let (line, wanted) = cell(rt, rest);
+    let answer = take_line(reading, kind, number(rt, digits), line);
+    let said = told_answer(alloc, answer)?;
+    same(rt, row, said.as_str(), wanted);
+    Ok(())
 }
 
-/// Gives a reading of texts of this kind each line, and once more where it is refused.
-pub fn answers_each<R: Reading>(rt: &impl Abort, reading: &mut R, kind: TextKind, lines: &[Line])
+/// Gives a reading of texts of this kind the line in each line of a table, and once more where it is refused.
+fn answers_each<R: Reading>(
+    rt: &impl Abort,
+    alloc: Global,
+    reading: &mut R,
+    kind: TextKind,
+    table: &str,
+    count: usize,
+) -> Result<(), Fail>
     requires { R.kind reading.old ≡ kind }
 {
-    for line in lines {
-        answers(rt, reading, kind, line);
+    for line in rows(rt, table, count) {
+        answers(rt, alloc, reading, kind, line)?;
+        if !line.ends_with(" | taken") {
+            answers(rt, alloc, reading, kind, line)?;
+        }
     }
+    Ok(())
+}
+
+/// The value of a reading that is given the line in each line of a table, and once more where it is refused.
+pub fn read_each<R: Reading>(
+    rt: &impl Abort,
+    alloc: Global,
+    mut reading: R,
+    kind: TextKind,
+    table: &str,
+    count: usize,
+) -> Result<R::Value, Fail>
+    requires { R.kind reading ≡ kind }
+{
+    answers_each(rt, alloc, &mut reading, kind, table, count)?;
+    Ok(reading.finish()?)
 }
