@@ -16,11 +16,12 @@ two blocks | p dist 4 2;t 1 2;d 2 5 1;d 3 -7 2;t 4 0; | p dist 4 2;t 1 2;d 2 5 1
 no block | p dist 0 0 | p dist 0 0;
 blocks and labels keep their order | p dist 3 2;t 3 2;d 2 0 3;d 1 0 2;t 1 1;d 3 1 1; | p dist 3 2;t 3 2;d 2 0 3;d 1 0 2;t 1 1;d 3 1 1;
 comment, blanks, CR, sign, zeros | c x; p dist 02 +1\r;t 1 1;d 2 -0 01 | p dist 2 1;t 1 1;d 2 0 1;
-the greatest and the least distance, the greatest ID | p dist 134217728 1;t 1 2;d 134217728 1000000000000000000000000000000 1;d 2 -1000000000000000000000000000000 134217728; | p dist 134217728 1;t 1 2;d 134217728 1000000000000000000000000000000 1;d 2 -1000000000000000000000000000000 134217728;";
+the greatest and the least distance, the greatest ID | p dist 134217728 1;t 1 2;d 134217728 1000000000000000000000000000000 1;d 2 -1000000000000000000000000000000 134217728; | p dist 134217728 1;t 1 2;d 134217728 1000000000000000000000000000000 1;d 2 -1000000000000000000000000000000 134217728;
+distances about the ends of 64 bits, a short one first | p dist 5 1;t 1 4;d 2 -9223372036854775808 1;d 3 9223372036854775808 2;d 4 9223372036854775807 3;d 5 -9223372036854775809 4; | p dist 5 1;t 1 4;d 2 -9223372036854775808 1;d 3 9223372036854775808 2;d 4 9223372036854775807 3;d 5 -9223372036854775809 4;";
 
 #[test]
 fn texts_get_their_canonical_form(rt: HostRuntime) -> Result<(), Fail> {
-    converts_each::<Labels>(&rt, rt.alloc(), CANONICAL_FORMS, 5)
+    converts_each::<Labels>(&rt, rt.alloc(), CANONICAL_FORMS, 6)
 }
 
 #[test]
