@@ -4,6 +4,8 @@ ghost use Rattle.std.specs.Prelude.{◌≡◌, ◌≢◌, ◌+◌, ◌%◌, ◌^
 ghost use Rattle.dimacs_runs.specs.declared.outcome.RunError.TheVariants.{Device};
 
 use crate::checks::{holds, same};
+use crate::tables::{case, cell, rows};
+use crate::words::words;
 use dimacs_lines::{DeviceFault, FlakySink, FlakySource, MemorySink, Sink, Source};
 use dimacs_runs::{Counted, Files, RunError, run_command};
 use std::alloc::Global;
@@ -155,139 +157,62 @@ impl Files for MemoryFiles {
     }
 }
 
-/// Command lines, each with its exit status, what it prints, and what is done with files, as far as it is written here.
-static COMMANDS: [(&str, u8, &str, &str); 29] = [
-    ("convert gr road", 0, "p sp 2 1\na 1 2 7\n", "< road\n"),
-    (
-        "convert gr nothing",
-        1,
-        "x instance 1 0 ProblemMissing\n",
-        "< nothing\n",
-    ),
-    ("show max max", 0, "i max 4 5 1 4\n", "< max\n"),
-    ("show cut cut", 0, "i cut 4 1\n", "< cut\n"),
-    (
-        "judge-max max flow cut",
-        0,
-        "v max 6\n",
-        "< max\n< flow\n< cut\n",
-    ),
-    (
-        "judge-max max cut flow",
-        1,
-        "x solution 1 1 UnknownLine\n",
-        "< max\n< cut\n< flow\n",
-    ),
-    (
-        "judge-min min least pot",
-        0,
-        "v min 14\n",
-        "< min\n< least\n< pot\n",
-    ),
-    (
-        "judge-infeasible unmet set",
-        0,
-        "v infeasible\n",
-        "< unmet\n< set\n",
-    ),
-    (
-        "judge-paths cycle pairs labels",
-        0,
-        "v 1 2 5\nv 1 4 unreachable\n",
-        "< cycle\n< pairs\n< labels\n",
-    ),
-    (
-        "solve-max pipe a b",
-        0,
-        "v max 3\n",
-        "< pipe\n> a\n> b\n= a\ns 3\nf 1 2 3\n= b\np cut 2 1\nu 1\n",
-    ),
-    (
-        "solve-max pipe a b --limit 0",
-        5,
-        "g limit\n",
-        "< pipe\n> a\n> b\n= a\n= b\n",
-    ),
-    (
-        "solve-min supply a b",
-        0,
-        "v min 3\n",
-        "< supply\n> a\n> b\n= a\ns 3\nf 1 2 1\n= b\np pot 2 ",
-    ),
-    (
-        "solve-min unmet a b",
-        0,
-        "v infeasible\n",
-        "< unmet\n> a\n> b\n= a\n= b\np cut 2 ",
-    ),
-    (
-        "solve-paths cycle source a",
-        0,
-        "v sp ss 1\n",
-        "< cycle\n< source\n> a\n= a\np dist 4 1\nt 1 1\nd 2 5 1\n",
-    ),
-    (
-        "solve-paths negative source a",
-        1,
-        "x arc 1 NegativeWeight\n",
-        "< negative\n< source\n> a\n= a\n",
-    ),
-    ("convert gr absent", 3, "", ""),
-    ("convert gr broken", 3, "", "< broken\n"),
-    ("convert gr greedy", 4, "", ""),
-    ("show max absent", 3, "", ""),
-    ("judge-max max absent cut", 3, "", "< max\n"),
-    ("judge-max absent flow cut", 3, "", ""),
-    ("judge-infeasible unmet absent", 3, "", "< unmet\n"),
-    ("solve-max absent a b", 3, "", ""),
-    ("solve-max pipe a denied", 3, "", "< pipe\n> a\n"),
-    (
-        "solve-max pipe full b",
-        3,
-        "",
-        "< pipe\n> full\n> b\n= full\n= b\n",
-    ),
-    (
-        "solve-paths cycle source denied",
-        3,
-        "",
-        "< cycle\n< source\n",
-    ),
-    ("judge-max max flow", 2, "", ""),
-    ("--help", 2, "", ""),
-    ("solve-max pipe a b --limit", 2, "", ""),
-];
+/// Command lines, each with what is done with files, as far as it is written here, what it prints, and its exit status.
+static COMMANDS: &str = "\
+convert gr road | < road; | p sp 2 1;a 1 2 7; | 0
+convert gr nothing | < nothing; | x instance 1 0 ProblemMissing; | 1
+show max max | < max; | i max 4 5 1 4; | 0
+show cut cut | < cut; | i cut 4 1; | 0
+judge-max max flow cut | < max;< flow;< cut; | v max 6; | 0
+judge-max max cut flow | < max;< cut;< flow; | x solution 1 1 UnknownLine; | 1
+judge-min min least pot | < min;< least;< pot; | v min 14; | 0
+judge-infeasible unmet set | < unmet;< set; | v infeasible; | 0
+judge-paths cycle pairs labels | < cycle;< pairs;< labels; | v 1 2 5;v 1 4 unreachable; | 0
+solve-max pipe a b | < pipe;> a;> b;= a;s 3;f 1 2 3;= b;p cut 2 1;u 1; | v max 3; | 0
+solve-max pipe a b --limit 0 | < pipe;> a;> b;= a;= b; | g limit; | 5
+solve-min supply a b | < supply;> a;> b;= a;s 3;f 1 2 1;= b;p pot 2  | v min 3; | 0
+solve-min unmet a b | < unmet;> a;> b;= a;= b;p cut 2  | v infeasible; | 0
+solve-paths cycle source a | < cycle;< source;> a;= a;p dist 4 1;t 1 1;d 2 5 1; | v sp ss 1; | 0
+solve-paths negative source a | < negative;< source;> a;= a; | x arc 1 NegativeWeight; | 1
+convert gr absent |  |  | 3
+convert gr broken | < broken; |  | 3
+convert gr greedy |  |  | 4
+show max absent |  |  | 3
+judge-max max absent cut | < max; |  | 3
+judge-max absent flow cut |  |  | 3
+judge-infeasible unmet absent | < unmet; |  | 3
+solve-max absent a b |  |  | 3
+solve-max pipe a denied | < pipe;> a; |  | 3
+solve-max pipe full b | < pipe;> full;> b;= full;= b; |  | 3
+solve-paths cycle source denied | < cycle;< source; |  | 3
+judge-max max flow |  |  | 2
+--help |  |  | 2
+solve-max pipe a b --limit |  |  | 2";
 
-/// Whether a command line ends so.
-fn ends(
-    rt: &impl Abort,
-    alloc: Global,
-    line: &str,
-    status: u8,
-    output: &str,
-    done: &str,
-) -> Result<(), Fail> {
-    let mut words = Vec::new(alloc);
-    for word in line.split(' ') {
-        words.push(String::from_str(alloc, word)?)?;
-    }
+/// Whether the command line of a case ends as the case says.
+fn ends(rt: &impl Abort, alloc: Global, line: &str) -> Result<(), Fail> {
+    let case = case(alloc, line)?;
+    let (command, rest) = cell(rt, &case);
+    let (done, rest) = cell(rt, rest);
+    let (output, status) = cell(rt, rest);
     let mut files = MemoryFiles {
         alloc,
         done: String::new(alloc),
         faults: 0,
     };
     let mut printed = MemorySink::new(alloc);
-    let ended = run_command(alloc, &words, &mut files, &mut printed);
-    same(rt, line, ended, status);
-    holds(rt, line, printed.bytes() == output.as_bytes());
-    holds(rt, line, files.done.as_str().starts_with(done));
+    let given = words(alloc, command)?;
+    let ended = run_command(alloc, &given, &mut files, &mut printed);
+    same(rt, command, ended, status.parse::<u8>().expect(rt, command));
+    holds(rt, command, printed.bytes() == output.as_bytes());
+    holds(rt, command, files.done.as_str().starts_with(done));
     Ok(())
 }
 
 #[test]
 fn commands_end_with_their_statuses(rt: HostRuntime) -> Result<(), Fail> {
-    for &(line, status, output, done) in &COMMANDS {
-        ends(&rt, rt.alloc(), line, status, output, done)?;
+    for line in rows(&rt, COMMANDS, 29) {
+        ends(&rt, rt.alloc(), line)?;
     }
     Ok(())
 }

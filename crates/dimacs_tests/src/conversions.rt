@@ -1,6 +1,8 @@
 //! Texts that are converted: what is put, and how the run ends.
 
 use crate::checks::{holds, holds_at, same, same_at};
+use crate::tables::{case, cell, rows};
+use crate::words::{kind, status};
 use dimacs_lines::{FlakySink, FlakySource};
 use dimacs_records::TextKind;
 use dimacs_runs::{RunError, Status, run_convert};
@@ -58,231 +60,85 @@ fn converts_in_pieces(
     Ok(())
 }
 
-/// A text that is converted: its name, its kind, the text, and what is put.
-type Case = (&'static str, TextKind, &'static str, &'static str);
-
-/// Converts each text in one piece, and in pieces of 1, 2 and 7 bytes.
+/// Converts the text of each case of a table in one piece, and in pieces of 1, 2 and 7 bytes: its name, its kind, the text
+/// and what is put.
 fn converts_each(
     rt: &impl Abort,
     alloc: Global,
     status: Status,
-    cases: &[Case],
+    table: &str,
+    count: usize,
 ) -> Result<(), Fail> {
-    for &(name, kind, text, output) in cases {
-        converts_in_pieces(rt, alloc, kind, name, text.as_bytes(), status, output)?;
+    for line in rows(rt, table, count) {
+        let case = case(alloc, line)?;
+        let (name, rest) = cell(rt, &case);
+        let (word, rest) = cell(rt, rest);
+        let (text, output) = cell(rt, rest);
+        let text = text.as_bytes();
+        converts_in_pieces(rt, alloc, kind(rt, word), name, text, status, output)?;
     }
     Ok(())
 }
 
-static GRAPHS: [Case; 4] = [
-    (
-        "CR, comment, empty line, zeros in front, no last line end",
-        TextKind::Graph,
-        "c x\n  p  sp 2 1\r\n\na 1 2 +007",
-        "p sp 2 1\na 1 2 7\n",
-    ),
-    (
-        "the greatest weight",
-        TextKind::Graph,
-        "p sp 2 1\na 1 2 9223372036854775807\n",
-        "p sp 2 1\na 1 2 9223372036854775807\n",
-    ),
-    ("no node", TextKind::Graph, "p sp 0 0\n", "p sp 0 0\n"),
-    (
-        "loops, parallel arcs and a negative weight",
-        TextKind::Graph,
-        "p sp 2 3\na 1 1 0\na 2 1 -5\na 2 1 -5\n",
-        "p sp 2 3\na 1 1 0\na 2 1 -5\na 2 1 -5\n",
-    ),
-];
+static GRAPHS: &str = "\
+CR, comment, empty line, zeros in front, no last line end | gr | c x;  p  sp 2 1\r;;a 1 2 +007 | p sp 2 1;a 1 2 7;
+the greatest weight | gr | p sp 2 1;a 1 2 9223372036854775807; | p sp 2 1;a 1 2 9223372036854775807;
+no node | gr | p sp 0 0; | p sp 0 0;
+loops, parallel arcs and a negative weight | gr | p sp 2 3;a 1 1 0;a 2 1 -5;a 2 1 -5; | p sp 2 3;a 1 1 0;a 2 1 -5;a 2 1 -5;";
 
 #[test]
 fn graphs_get_their_canonical_text(rt: HostRuntime) -> Result<(), Fail> {
-    converts_each(&rt, rt.alloc(), Status::Done, &GRAPHS)
+    converts_each(&rt, rt.alloc(), Status::Done, GRAPHS, 4)
 }
 
-static FAULTY_GRAPHS: [Case; 9] = [
-    (
-        "the empty text",
-        TextKind::Graph,
-        "",
-        "x instance 1 0 ProblemMissing\n",
-    ),
-    (
-        "a weight one past the greatest",
-        TextKind::Graph,
-        "p sp 2 1\na 1 2 9223372036854775808\n",
-        "x instance 2 4 NumberRange\n",
-    ),
-    (
-        "an arc too few",
-        TextKind::Graph,
-        "p sp 3 2\na 1 2 5\n",
-        "x instance 3 0 TooFew\n",
-    ),
-    (
-        "an arc too many",
-        TextKind::Graph,
-        "p sp 3 0\na 1 2 5\n",
-        "x instance 2 0 TooMany\n",
-    ),
-    (
-        "a letter of no graph",
-        TextKind::Graph,
-        "p sp 1 1\ne 1 1 0\n",
-        "x instance 2 1 UnknownLine\n",
-    ),
-    (
-        "a field too few",
-        TextKind::Graph,
-        "p sp 1 1\na 1 1\n",
-        "x instance 2 0 FieldCount\n",
-    ),
-    (
-        "a head above NODES",
-        TextKind::Graph,
-        "p sp 1 1\na 1 2 0\n",
-        "x instance 2 3 NodeRange\n",
-    ),
-    (
-        "a tail of 0",
-        TextKind::Graph,
-        "p sp 1 1\na 0 1 0\n",
-        "x instance 2 2 NumberRange\n",
-    ),
-    (
-        "a weight that isn't whole",
-        TextKind::Graph,
-        "p sp 1 1\na 1 1 1.0\n",
-        "x instance 2 4 BadNumber\n",
-    ),
-];
+static FAULTY_GRAPHS: &str = "\
+the empty text | gr |  | x instance 1 0 ProblemMissing;
+a weight one past the greatest | gr | p sp 2 1;a 1 2 9223372036854775808; | x instance 2 4 NumberRange;
+an arc too few | gr | p sp 3 2;a 1 2 5; | x instance 3 0 TooFew;
+an arc too many | gr | p sp 3 0;a 1 2 5; | x instance 2 0 TooMany;
+a letter of no graph | gr | p sp 1 1;e 1 1 0; | x instance 2 1 UnknownLine;
+a field too few | gr | p sp 1 1;a 1 1; | x instance 2 0 FieldCount;
+a head above NODES | gr | p sp 1 1;a 1 2 0; | x instance 2 3 NodeRange;
+a tail of 0 | gr | p sp 1 1;a 0 1 0; | x instance 2 2 NumberRange;
+a weight that isn't whole | gr | p sp 1 1;a 1 1 1.0; | x instance 2 4 BadNumber;";
 
 #[test]
 fn faulty_graphs_get_one_line(rt: HostRuntime) -> Result<(), Fail> {
-    converts_each(&rt, rt.alloc(), Status::Refused, &FAULTY_GRAPHS)
+    converts_each(&rt, rt.alloc(), Status::Refused, FAULTY_GRAPHS, 9)
 }
 
-static FLOW_INSTANCES: [Case; 5] = [
-    (
-        "two arcs between two nodes",
-        TextKind::Max,
-        "p max 2 2\nn 1 s\nn 2 t\na 1 2 1\na 1 2 1\n",
-        "p max 2 2\nn 1 s\nn 2 t\na 1 2 1\na 1 2 1\n",
-    ),
-    (
-        "the node lines by ID",
-        TextKind::Max,
-        "p max 3 2\nn 3 s\nn 1 t\na 3 2 5\na 2 1 +05\n",
-        "p max 3 2\nn 1 t\nn 3 s\na 3 2 5\na 2 1 5\n",
-    ),
-    (
-        "no arc",
-        TextKind::Max,
-        "p max 2 0\nn 1 s\nn 2 t",
-        "p max 2 0\nn 1 s\nn 2 t\n",
-    ),
-    (
-        "a supply of 0 left out",
-        TextKind::Min,
-        "p min 2 1\nn 2 -5\nn 1 0\na 1 2 0 2 -7\n",
-        "p min 2 1\nn 2 -5\na 1 2 0 2 -7\n",
-    ),
-    (
-        "the supplies by ID, the arcs in their order",
-        TextKind::Min,
-        "p min 4 2\nn 4 -3\nn 1 3\na 3 4 0 1 1\na 1 3 1 1 -1\n",
-        "p min 4 2\nn 1 3\nn 4 -3\na 3 4 0 1 1\na 1 3 1 1 -1\n",
-    ),
-];
+static FLOW_INSTANCES: &str = "\
+two arcs between two nodes | max | p max 2 2;n 1 s;n 2 t;a 1 2 1;a 1 2 1; | p max 2 2;n 1 s;n 2 t;a 1 2 1;a 1 2 1;
+the node lines by ID | max | p max 3 2;n 3 s;n 1 t;a 3 2 5;a 2 1 +05; | p max 3 2;n 1 t;n 3 s;a 3 2 5;a 2 1 5;
+no arc | max | p max 2 0;n 1 s;n 2 t | p max 2 0;n 1 s;n 2 t;
+a supply of 0 left out | min | p min 2 1;n 2 -5;n 1 0;a 1 2 0 2 -7; | p min 2 1;n 2 -5;a 1 2 0 2 -7;
+the supplies by ID, the arcs in their order | min | p min 4 2;n 4 -3;n 1 3;a 3 4 0 1 1;a 1 3 1 1 -1; | p min 4 2;n 1 3;n 4 -3;a 3 4 0 1 1;a 1 3 1 1 -1;";
 
 #[test]
 fn flow_instances_get_their_canonical_text(rt: HostRuntime) -> Result<(), Fail> {
-    converts_each(&rt, rt.alloc(), Status::Done, &FLOW_INSTANCES)
+    converts_each(&rt, rt.alloc(), Status::Done, FLOW_INSTANCES, 5)
 }
 
-static QUERIES: [Case; 3] = [
-    (
-        "sources, one of them twice",
-        TextKind::Queries,
-        "p aux sp ss 2\ns 1\n s  1\n",
-        "p aux sp ss 2\ns 1\ns 1\n",
-    ),
-    (
-        "pairs",
-        TextKind::Queries,
-        "c\np aux sp p2p 2\nq 1 02\nq 2 1",
-        "p aux sp p2p 2\nq 1 2\nq 2 1\n",
-    ),
-    (
-        "no query",
-        TextKind::Queries,
-        "p aux sp p2p 0\n",
-        "p aux sp p2p 0\n",
-    ),
-];
+static QUERIES: &str = "\
+sources, one of them twice | query | p aux sp ss 2;s 1; s  1; | p aux sp ss 2;s 1;s 1;
+pairs | query | c;p aux sp p2p 2;q 1 02;q 2 1 | p aux sp p2p 2;q 1 2;q 2 1;
+no query | query | p aux sp p2p 0; | p aux sp p2p 0;";
 
 #[test]
 fn queries_get_their_canonical_text(rt: HostRuntime) -> Result<(), Fail> {
-    converts_each(&rt, rt.alloc(), Status::Done, &QUERIES)
+    converts_each(&rt, rt.alloc(), Status::Done, QUERIES, 3)
 }
 
-static FAULTY_INSTANCES_AND_QUERIES: [Case; 9] = [
-    (
-        "a node named twice",
-        TextKind::Max,
-        "p max 2 1\nn 1 s\nn 1 t\n",
-        "x instance 3 2 NodeTwice\n",
-    ),
-    (
-        "two sources",
-        TextKind::Max,
-        "p max 2 1\nn 1 s\nn 2 s\n",
-        "x instance 3 3 EndTwice\n",
-    ),
-    (
-        "an arc before the sink",
-        TextKind::Max,
-        "p max 2 1\nn 1 s\na 1 2 1\n",
-        "x instance 3 0 EndMissing\n",
-    ),
-    (
-        "a capacity below the lower bound",
-        TextKind::Min,
-        "p min 2 1\nn 1 0\na 1 2 3 2 0\n",
-        "x instance 3 5 BoundOrder\n",
-    ),
-    (
-        "a negative lower bound",
-        TextKind::Min,
-        "p min 2 1\nn 1 0\na 1 2 -3 2 0\n",
-        "x instance 3 4 BoundOrder\n",
-    ),
-    (
-        "a node line behind an arc",
-        TextKind::Min,
-        "p min 2 1\na 1 2 0 1 0\nn 1 1\n",
-        "x instance 3 0 RecordOrder\n",
-    ),
-    (
-        "a source in a point-to-point text",
-        TextKind::Queries,
-        "p aux sp p2p 1\ns 1\n",
-        "x query 2 0 RecordOrder\n",
-    ),
-    (
-        "neither ss nor p2p",
-        TextKind::Queries,
-        "p aux sp foo 1\n",
-        "x query 1 4 BadWord\n",
-    ),
-    (
-        "no count",
-        TextKind::Queries,
-        "p aux sp ss\n",
-        "x query 1 0 FieldCount\n",
-    ),
-];
+static FAULTY_INSTANCES_AND_QUERIES: &str = "\
+a node named twice | max | p max 2 1;n 1 s;n 1 t; | x instance 3 2 NodeTwice;
+two sources | max | p max 2 1;n 1 s;n 2 s; | x instance 3 3 EndTwice;
+an arc before the sink | max | p max 2 1;n 1 s;a 1 2 1; | x instance 3 0 EndMissing;
+a capacity below the lower bound | min | p min 2 1;n 1 0;a 1 2 3 2 0; | x instance 3 5 BoundOrder;
+a negative lower bound | min | p min 2 1;n 1 0;a 1 2 -3 2 0; | x instance 3 4 BoundOrder;
+a node line behind an arc | min | p min 2 1;a 1 2 0 1 0;n 1 1; | x instance 3 0 RecordOrder;
+a source in a point-to-point text | query | p aux sp p2p 1;s 1; | x query 2 0 RecordOrder;
+neither ss nor p2p | query | p aux sp foo 1; | x query 1 4 BadWord;
+no count | query | p aux sp ss; | x query 1 0 FieldCount;";
 
 #[test]
 fn faulty_instances_and_queries_get_one_line(rt: HostRuntime) -> Result<(), Fail> {
@@ -290,122 +146,36 @@ fn faulty_instances_and_queries_get_one_line(rt: HostRuntime) -> Result<(), Fail
         &rt,
         rt.alloc(),
         Status::Refused,
-        &FAULTY_INSTANCES_AND_QUERIES,
+        FAULTY_INSTANCES_AND_QUERIES,
+        9,
     )
 }
 
-static CLAIMS_AND_CERTIFICATES: [Case; 5] = [
-    (
-        "a value behind an entry",
-        TextKind::Solution,
-        "f 1 2 3\ns 5\n",
-        "s 5\nf 1 2 3\n",
-    ),
-    (
-        "the greatest value",
-        TextKind::Solution,
-        "s 1000000000000000000000000000000\n",
-        "s 1000000000000000000000000000000\n",
-    ),
-    (
-        "the nodes of a cut by ID",
-        TextKind::Cut,
-        "p cut 4 2\nu 3\nu 1\n",
-        "p cut 4 2\nu 1\nu 3\n",
-    ),
-    (
-        "a potential of 0 left out",
-        TextKind::Potentials,
-        "p pot 2 2\ny 2 -0\ny 1 +05\n",
-        "p pot 2 1\ny 1 5\n",
-    ),
-    (
-        "blocks and labels in their order",
-        TextKind::Labels,
-        "p dist 4 2\nt 4 2\nd 2 5 4\nd 1 -1 02\nt 1 0",
-        "p dist 4 2\nt 4 2\nd 2 5 4\nd 1 -1 2\nt 1 0\n",
-    ),
-];
+static CLAIMS_AND_CERTIFICATES: &str = "\
+a value behind an entry | solution | f 1 2 3;s 5; | s 5;f 1 2 3;
+the greatest value | solution | s 1000000000000000000000000000000; | s 1000000000000000000000000000000;
+the nodes of a cut by ID | cut | p cut 4 2;u 3;u 1; | p cut 4 2;u 1;u 3;
+a potential of 0 left out | pot | p pot 2 2;y 2 -0;y 1 +05; | p pot 2 1;y 1 5;
+blocks and labels in their order | dist | p dist 4 2;t 4 2;d 2 5 4;d 1 -1 02;t 1 0 | p dist 4 2;t 4 2;d 2 5 4;d 1 -1 2;t 1 0;";
 
 #[test]
 fn claims_and_certificates_get_their_canonical_text(rt: HostRuntime) -> Result<(), Fail> {
-    converts_each(&rt, rt.alloc(), Status::Done, &CLAIMS_AND_CERTIFICATES)
+    converts_each(&rt, rt.alloc(), Status::Done, CLAIMS_AND_CERTIFICATES, 5)
 }
 
-static FAULTY_CLAIMS_AND_CERTIFICATES: [Case; 12] = [
-    (
-        "no value",
-        TextKind::Solution,
-        "f 1 2 3\n",
-        "x solution 2 0 SolutionMissing\n",
-    ),
-    (
-        "two values",
-        TextKind::Solution,
-        "s 1\ns 1\n",
-        "x solution 2 0 SolutionTwice\n",
-    ),
-    (
-        "a value one past the greatest",
-        TextKind::Solution,
-        "s 1000000000000000000000000000001\n",
-        "x solution 1 2 NumberRange\n",
-    ),
-    (
-        "a node of a cut too few",
-        TextKind::Cut,
-        "p cut 4 1\n",
-        "x certificate 2 0 TooFew\n",
-    ),
-    (
-        "a potential set twice",
-        TextKind::Potentials,
-        "p pot 2 2\ny 2 0\ny 2 1\n",
-        "x certificate 3 2 NodeTwice\n",
-    ),
-    (
-        "a label too few",
-        TextKind::Labels,
-        "p dist 3 1\nt 1 2\nd 2 5 1\n",
-        "x certificate 4 0 TooFew\n",
-    ),
-    (
-        "a block behind an unfinished one",
-        TextKind::Labels,
-        "p dist 3 2\nt 1 1\nt 2 0\n",
-        "x certificate 3 0 TooFew\n",
-    ),
-    (
-        "a block too many behind an unfinished one",
-        TextKind::Labels,
-        "p dist 3 1\nt 1 1\nt 2 0\n",
-        "x certificate 3 0 TooMany\n",
-    ),
-    (
-        "a label before the first block",
-        TextKind::Labels,
-        "p dist 3 1\nd 2 5 1\n",
-        "x certificate 2 0 RecordOrder\n",
-    ),
-    (
-        "a label of the source",
-        TextKind::Labels,
-        "p dist 3 1\nt 1 1\nd 1 0 1\n",
-        "x certificate 3 2 NodeTwice\n",
-    ),
-    (
-        "a predecessor without a label",
-        TextKind::Labels,
-        "p dist 3 1\nt 1 1\nd 2 5 3\n",
-        "x certificate 3 0 PredUnknown\n",
-    ),
-    (
-        "two nodes that are each other's predecessor",
-        TextKind::Labels,
-        "p dist 4 1\nt 1 3\nd 2 5 1\nd 3 0 4\nd 4 0 3\n",
-        "x certificate 4 0 PredUnknown\n",
-    ),
-];
+static FAULTY_CLAIMS_AND_CERTIFICATES: &str = "\
+no value | solution | f 1 2 3; | x solution 2 0 SolutionMissing;
+two values | solution | s 1;s 1; | x solution 2 0 SolutionTwice;
+a value one past the greatest | solution | s 1000000000000000000000000000001; | x solution 1 2 NumberRange;
+a node of a cut too few | cut | p cut 4 1; | x certificate 2 0 TooFew;
+a potential set twice | pot | p pot 2 2;y 2 0;y 2 1; | x certificate 3 2 NodeTwice;
+a label too few | dist | p dist 3 1;t 1 2;d 2 5 1; | x certificate 4 0 TooFew;
+a block behind an unfinished one | dist | p dist 3 2;t 1 1;t 2 0; | x certificate 3 0 TooFew;
+a block too many behind an unfinished one | dist | p dist 3 1;t 1 1;t 2 0; | x certificate 3 0 TooMany;
+a label before the first block | dist | p dist 3 1;d 2 5 1; | x certificate 2 0 RecordOrder;
+a label of the source | dist | p dist 3 1;t 1 1;d 1 0 1; | x certificate 3 2 NodeTwice;
+a predecessor without a label | dist | p dist 3 1;t 1 1;d 2 5 3; | x certificate 3 0 PredUnknown;
+two nodes that are each other's predecessor | dist | p dist 4 1;t 1 3;d 2 5 1;d 3 0 4;d 4 0 3; | x certificate 4 0 PredUnknown;";
 
 #[test]
 fn faulty_claims_and_certificates_get_one_line(rt: HostRuntime) -> Result<(), Fail> {
@@ -413,90 +183,65 @@ fn faulty_claims_and_certificates_get_one_line(rt: HostRuntime) -> Result<(), Fa
         &rt,
         rt.alloc(),
         Status::Refused,
-        &FAULTY_CLAIMS_AND_CERTIFICATES,
+        FAULTY_CLAIMS_AND_CERTIFICATES,
+        12,
     )
 }
 
-/// Texts made to be misread: their names, their kinds, the texts, how the run ends and what is put.
-static HOSTILE: [(&str, TextKind, &[u8], Status, &str); 10] = [
-    (
-        "the greatest counts and nothing more",
-        TextKind::Graph,
-        b"p sp 134217728 268435456\n",
-        Status::Refused,
-        "x instance 2 0 TooFew\n",
-    ),
-    (
-        "a node more than there may be",
-        TextKind::Graph,
-        b"p sp 134217729 268435456\n",
-        Status::Refused,
-        "x instance 1 3 NumberRange\n",
-    ),
-    (
-        "the greatest counts of labels and nothing more",
-        TextKind::Labels,
-        b"p dist 134217728 268435456\nt 1 268435456\n",
-        Status::Refused,
-        "x certificate 3 0 TooFew\n",
-    ),
-    (
-        "a blank of another kind",
-        TextKind::Graph,
-        b"p sp 2 1\na 1\xa02 5\n",
-        Status::Refused,
-        "x instance 2 0 FieldCount\n",
-    ),
-    (
-        "a line that begins with byte 0",
-        TextKind::Graph,
-        b"p sp 2 1\n\x00a 1 2 5\n",
-        Status::Refused,
-        "x instance 2 1 UnknownLine\n",
-    ),
-    (
-        "byte 255 in a comment",
-        TextKind::Graph,
-        b"p sp 2 1\nc\xff\na 1 2 5\n",
-        Status::Done,
-        "p sp 2 1\na 1 2 5\n",
-    ),
-    (
-        "a sign alone",
-        TextKind::Graph,
-        b"p sp 2 1\na 1 2 +\n",
-        Status::Refused,
-        "x instance 2 4 BadNumber\n",
-    ),
-    (
-        "two signs",
-        TextKind::Graph,
-        b"p sp 2 1\na 1 2 --1\n",
-        Status::Refused,
-        "x instance 2 4 BadNumber\n",
-    ),
-    (
-        "nought with a sign",
-        TextKind::Graph,
-        b"p sp 2 1\na -0 2 1\n",
-        Status::Refused,
-        "x instance 2 2 NumberRange\n",
-    ),
-    (
-        "the bytes of a wide blank",
-        TextKind::Graph,
-        b"p sp 2 1\na 1 2\xe3\x80\x80 5\n",
-        Status::Refused,
-        "x instance 2 3 BadNumber\n",
-    ),
-];
+/// Texts made to be misread.
+static HOSTILE: &str = "\
+the greatest counts and nothing more | gr | p sp 134217728 268435456; | Refused | x instance 2 0 TooFew;
+a node more than there may be | gr | p sp 134217729 268435456; | Refused | x instance 1 3 NumberRange;
+the greatest counts of labels and nothing more | dist | p dist 134217728 268435456;t 1 268435456; | Refused | x certificate 3 0 TooFew;
+a line that begins with byte 0 | gr | p sp 2 1;\0a 1 2 5; | Refused | x instance 2 1 UnknownLine;
+a sign alone | gr | p sp 2 1;a 1 2 +; | Refused | x instance 2 4 BadNumber;
+two signs | gr | p sp 2 1;a 1 2 --1; | Refused | x instance 2 4 BadNumber;
+nought with a sign | gr | p sp 2 1;a -0 2 1; | Refused | x instance 2 2 NumberRange;
+the bytes of a wide blank | gr | p sp 2 1;a 1 2\u{3000} 5; | Refused | x instance 2 3 BadNumber;";
+
+/// Whether the text of a case ends its run as the case says: its name, its kind, the text, how the run ends and what is put.
+fn ends(rt: &impl Abort, alloc: Global, line: &str) -> Result<(), Fail> {
+    let case = case(alloc, line)?;
+    let (name, rest) = cell(rt, &case);
+    let (word, rest) = cell(rt, rest);
+    let (text, rest) = cell(rt, rest);
+    let (ended, output) = cell(rt, rest);
+    let (kind, status) = (kind(rt, word), status(rt, ended));
+    converts_in_pieces(rt, alloc, kind, name, text.as_bytes(), status, output)
+}
 
 #[test]
 fn texts_made_to_be_misread_are_read_by_the_rules(rt: HostRuntime) -> Result<(), Fail> {
-    for &(name, kind, text, status, output) in &HOSTILE {
-        converts_in_pieces(&rt, rt.alloc(), kind, name, text, status, output)?;
+    for line in rows(&rt, HOSTILE, 8) {
+        ends(&rt, rt.alloc(), line)?;
     }
     Ok(())
+}
+
+#[test]
+fn a_blank_of_another_kind_parts_no_fields(rt: HostRuntime) -> Result<(), Fail> {
+    converts_in_pieces(
+        &rt,
+        rt.alloc(),
+        TextKind::Graph,
+        "a blank of another kind",
+        b"p sp 2 1\na 1\xa02 5\n",
+        Status::Refused,
+        "x instance 2 0 FieldCount\n",
+    )
+}
+
+#[test]
+fn a_comment_may_have_any_byte(rt: HostRuntime) -> Result<(), Fail> {
+    converts_in_pieces(
+        &rt,
+        rt.alloc(),
+        TextKind::Graph,
+        "byte 255 in a comment",
+        b"p sp 2 1\nc\xff\na 1 2 5\n",
+        Status::Done,
+        "p sp 2 1\na 1 2 5\n",
+    )
 }
 
 #[test]

@@ -1,6 +1,8 @@
 //! What the tests of judges share.
 
 use crate::checks::{holds, same};
+use crate::tables::{case, cell, rows};
+use crate::words::status;
 use dimacs_claims::{read_cut, read_labels, read_potentials, read_solution};
 use dimacs_instance::{read_plain_graph, read_plain_max, read_plain_min, read_queries};
 use dimacs_judge::{judge_infeasible, judge_max, judge_min, judge_paths};
@@ -18,16 +20,6 @@ pub struct Texts<'a> {
     pub claim: &'a str,
     pub certificate: &'a str,
 }
-
-/// A case: its name, the instance, the claim, the certificate, how the run ends and what it puts.
-pub type Case = (
-    &'static str,
-    &'static str,
-    &'static str,
-    &'static str,
-    Status,
-    &'static str,
-);
 
 /// Judges what sources give.
 pub fn judge(
@@ -182,9 +174,15 @@ fn judges_alike(rt: &impl Abort, alloc: Global, name: &str, texts: Texts<'_>) ->
     }
 }
 
-/// Whether a case of this kind is judged as it says, by both networks.
-fn judges_case(rt: &impl Abort, alloc: Global, kind: JudgeKind, case: &Case) -> Result<(), Fail> {
-    let (name, instance, claim, certificate, status, output) = *case;
+/// Whether the case in a line of a table is judged as it says, by both networks: its name, the instance, the claim, the
+/// certificate, how the run ends and what it puts.
+fn judges_case(rt: &impl Abort, alloc: Global, kind: JudgeKind, line: &str) -> Result<(), Fail> {
+    let case = case(alloc, line)?;
+    let (name, rest) = cell(rt, &case);
+    let (instance, rest) = cell(rt, rest);
+    let (claim, rest) = cell(rt, rest);
+    let (certificate, rest) = cell(rt, rest);
+    let (ended, output) = cell(rt, rest);
     let texts = Texts {
         kind,
         instance,
@@ -192,18 +190,19 @@ fn judges_case(rt: &impl Abort, alloc: Global, kind: JudgeKind, case: &Case) -> 
         certificate,
     };
     judges_alike(rt, alloc, name, texts)?;
-    judges(rt, alloc, name, texts, status, output)
+    judges(rt, alloc, name, texts, status(rt, ended), output)
 }
 
-/// Whether each case of this kind is judged as it says.
+/// Whether each case of a table is judged as it says.
 pub fn judges_each(
     rt: &impl Abort,
     alloc: Global,
     kind: JudgeKind,
-    cases: &[Case],
+    table: &str,
+    count: usize,
 ) -> Result<(), Fail> {
-    for case in cases {
-        judges_case(rt, alloc, kind, case)?;
+    for line in rows(rt, table, count) {
+        judges_case(rt, alloc, kind, line)?;
     }
     Ok(())
 }

@@ -26,6 +26,8 @@ mod shown;
 #[cfg(test)]
 mod solving;
 #[cfg(test)]
+mod tables;
+#[cfg(test)]
 mod truncations;
 #[cfg(test)]
 mod words;

@@ -1,6 +1,8 @@
 //! The lines that tell what a text is.
 
 use crate::checks::{holds, same};
+use crate::tables::{case, cell, rows};
+use crate::words::{kind, status};
 use dimacs_lines::{FlakySink, FlakySource};
 use dimacs_records::TextKind;
 use dimacs_runs::{RunError, Status, run_show};
@@ -36,107 +38,41 @@ fn shows(
     holds(rt, name, sink.bytes() == line.as_bytes());
 }
 
-/// Texts, each with how the run ends and the line that is put.
-static SHOWN: [(&str, TextKind, &str, Status, &str); 13] = [
-    (
-        "two arcs between two nodes",
-        TextKind::Max,
-        "p max 2 2\nn 1 s\nn 2 t\na 1 2 1\na 1 2 1\n",
-        Status::Done,
-        "i max 2 2 1 2\n",
-    ),
-    (
-        "a maximum flow instance",
-        TextKind::Max,
-        "p max 4 5\nn 1 s\nn 4 t\na 1 2 4\na 1 3 2\na 2 3 2\na 2 4 3\na 3 4 5\n",
-        Status::Done,
-        "i max 4 5 1 4\n",
-    ),
-    (
-        "a minimum cost flow instance",
-        TextKind::Min,
-        "p min 4 5\nn 1 4\nn 4 -4\na 1 2 0 4 2\na 1 3 0 2 2\na 2 3 0 2 1\na 2 4 0 3 3\na 3 4 0 5 1\n",
-        Status::Done,
-        "i min 4 5 4 4\n",
-    ),
-    (
-        "sums past 64 bits",
-        TextKind::Min,
-        "p min 4 0\nn 1 9223372036854775807\nn 2 9223372036854775807\nn 3 -9223372036854775808\nn 4 -9223372036854775808\n",
-        Status::Done,
-        "i min 4 0 18446744073709551614 18446744073709551616\n",
-    ),
-    (
-        "a graph",
-        TextKind::Graph,
-        "p sp 4 3\na 1 2 5\na 3 4 0\na 4 3 0\n",
-        Status::Done,
-        "i sp 4 3\n",
-    ),
-    (
-        "a source asked for twice",
-        TextKind::Queries,
-        "p aux sp ss 2\ns 1\ns 1\n",
-        Status::Done,
-        "i ss 2\n",
-    ),
-    (
-        "pairs",
-        TextKind::Queries,
-        "p aux sp p2p 1\nq 1 2\n",
-        Status::Done,
-        "i p2p 1\n",
-    ),
-    (
-        "a solution",
-        TextKind::Solution,
-        "s 6\nf 1 2 4\nf 1 3 2\nf 2 3 1\nf 2 4 3\nf 3 4 3\n",
-        Status::Done,
-        "i solution 6 5\n",
-    ),
-    (
-        "a cut",
-        TextKind::Cut,
-        "p cut 4 2\nu 3\nu 1\n",
-        Status::Done,
-        "i cut 4 2\n",
-    ),
-    (
-        "potentials, one of them 0",
-        TextKind::Potentials,
-        "p pot 2 2\ny 2 -0\ny 1 +05\n",
-        Status::Done,
-        "i pot 2 1\n",
-    ),
-    (
-        "labels",
-        TextKind::Labels,
-        "p dist 4 1\nt 1 1\nd 2 5 1\n",
-        Status::Done,
-        "i dist 4 1\n",
-    ),
-    (
-        "a faulty graph",
-        TextKind::Graph,
-        "p sp 3 2\na 1 2 5\n",
-        Status::Refused,
-        "x instance 3 0 TooFew\n",
-    ),
-    (
-        "faulty queries",
-        TextKind::Queries,
-        "",
-        Status::Refused,
-        "x query 1 0 ProblemMissing\n",
-    ),
-];
+/// Texts, each with its line.
+static SHOWN: &str = "\
+two arcs between two nodes | max | p max 2 2;n 1 s;n 2 t;a 1 2 1;a 1 2 1; | Done | i max 2 2 1 2;
+a maximum flow instance | max | p max 4 5;n 1 s;n 4 t;a 1 2 4;a 1 3 2;a 2 3 2;a 2 4 3;a 3 4 5; | Done | i max 4 5 1 4;
+a minimum cost flow instance | min | p min 4 5;n 1 4;n 4 -4;a 1 2 0 4 2;a 1 3 0 2 2;a 2 3 0 2 1;a 2 4 0 3 3;a 3 4 0 5 1; | Done | i min 4 5 4 4;
+sums past 64 bits | min | p min 4 0;n 1 9223372036854775807;n 2 9223372036854775807;n 3 -9223372036854775808;n 4 -9223372036854775808; | Done | i min 4 0 18446744073709551614 18446744073709551616;
+a graph | gr | p sp 4 3;a 1 2 5;a 3 4 0;a 4 3 0; | Done | i sp 4 3;
+a source asked for twice | query | p aux sp ss 2;s 1;s 1; | Done | i ss 2;
+pairs | query | p aux sp p2p 1;q 1 2; | Done | i p2p 1;
+a solution | solution | s 6;f 1 2 4;f 1 3 2;f 2 3 1;f 2 4 3;f 3 4 3; | Done | i solution 6 5;
+a cut | cut | p cut 4 2;u 3;u 1; | Done | i cut 4 2;
+potentials, one of them 0 | pot | p pot 2 2;y 2 -0;y 1 +05; | Done | i pot 2 1;
+labels | dist | p dist 4 1;t 1 1;d 2 5 1; | Done | i dist 4 1;
+a faulty graph | gr | p sp 3 2;a 1 2 5; | Refused | x instance 3 0 TooFew;
+faulty queries | query |  | Refused | x query 1 0 ProblemMissing;";
+
+/// Whether the text of a case is shown as the case says, in one piece and byte by byte: its name, its kind, the text, how the
+/// run ends and the line that is put.
+fn shows_case(rt: &impl Abort, alloc: Global, line: &str) -> Result<(), Fail> {
+    let case = case(alloc, line)?;
+    let (name, rest) = cell(rt, &case);
+    let (word, rest) = cell(rt, rest);
+    let (text, rest) = cell(rt, rest);
+    let (ended, shown) = cell(rt, rest);
+    let (kind, status) = (kind(rt, word), status(rt, ended));
+    let ones = Vec::from_elem(alloc, 1, text.len())?;
+    shows(rt, alloc, name, kind, text, &[], status, shown);
+    shows(rt, alloc, name, kind, text, &ones, status, shown);
+    Ok(())
+}
 
 #[test]
 fn texts_are_shown_in_one_line(rt: HostRuntime) -> Result<(), Fail> {
-    for &(name, kind, text, status, line) in &SHOWN {
-        shows(&rt, rt.alloc(), name, kind, text, &[], status, line);
-        let ones = Vec::from_elem(rt.alloc(), 1, text.len())?;
-        shows(&rt, rt.alloc(), name, kind, text, &ones, status, line);
+    for line in rows(&rt, SHOWN, 13) {
+        shows_case(&rt, rt.alloc(), line)?;
     }
     Ok(())
 }

@@ -2,6 +2,8 @@
 
 use crate::checks::{holds, holds_at, same};
 use crate::judging::judge;
+use crate::tables::{case, cell, rows};
+use crate::words::status;
 use dimacs_lines::{FlakySink, FlakySource};
 use dimacs_runs::{JudgeKind, RunError, SolveJob, Status, run_solve};
 use std::alloc::Global;
@@ -10,12 +12,6 @@ use std::test::Fail;
 
 /// A network of four nodes.
 pub const MAX: &str = "p max 4 5\nn 1 s\nn 4 t\na 1 2 4\na 1 3 2\na 2 3 2\na 2 4 3\na 3 4 5\n";
-
-/// A network whose flow from 1 by 2 and 3 to 4 has to be taken back.
-const BACK: &str = "p max 4 5\nn 1 s\nn 4 t\na 1 2 1\na 1 3 1\na 2 3 1\na 2 4 1\na 3 4 1\n";
-
-/// A network without arcs.
-const ARCLESS: &str = "p max 2 0\nn 1 s\nn 2 t\n";
 
 /// The first network with costs, and supplies at its ends.
 pub const MIN: &str =
@@ -125,175 +121,88 @@ fn puts_pieces(
     holds(rt, name, sinks.report.bytes() == report.as_bytes());
 }
 
-/// A case with one answer: its name, the graph, the queries, how the run ends, the labels and the report.
-type PathsCase = (
-    &'static str,
-    &'static str,
-    &'static str,
-    Status,
-    &'static str,
-    &'static str,
-);
-
 /// Queries that are answered, or refused.
-static PATHS: [PathsCase; 11] = [
-    (
-        "one source",
-        CYCLE,
-        SOURCE,
-        Status::Done,
-        "p dist 4 1\nt 1 1\nd 2 5 1\n",
-        "v sp ss 1\n",
-    ),
-    (
-        "pairs of one source",
-        CYCLE,
-        "p aux sp p2p 2\nq 1 2\nq 1 4\n",
-        Status::Done,
-        "p dist 4 1\nt 1 1\nd 2 5 1\n",
-        "v 1 2 5\nv 1 4 unreachable\n",
-    ),
-    (
-        "a source that is asked for again",
-        CYCLE,
-        "p aux sp ss 3\ns 2\ns 1\ns 2\n",
-        Status::Done,
-        "p dist 4 2\nt 2 0\nt 1 1\nd 2 5 1\n",
-        "v sp ss 3\n",
-    ),
-    (
-        "no query",
-        CYCLE,
-        "p aux sp p2p 0\n",
-        Status::Done,
-        "p dist 4 0\n",
-        "",
-    ),
-    (
-        "the nearest first, by the lighter of two arcs",
-        "p sp 4 5\na 1 2 9\na 1 2 7\na 1 3 2\na 3 2 4\na 3 4 5\n",
-        SOURCE,
-        Status::Done,
-        "p dist 4 1\nt 1 3\nd 3 2 1\nd 2 6 3\nd 4 7 3\n",
-        "v sp ss 1\n",
-    ),
-    (
-        "a node that is none",
-        CYCLE,
-        "p aux sp ss 1\ns 5\n",
-        Status::Refused,
-        "",
-        "x node 5 QueryNode\n",
-    ),
-    (
-        "a negative weight",
-        "p sp 2 2\na 1 2 -4\na 2 1 4\n",
-        SOURCE,
-        Status::Refused,
-        "",
-        "x arc 1 NegativeWeight\n",
-    ),
-    (
-        "a negative weight after one of 0",
-        "p sp 2 3\na 1 2 0\na 2 1 -1\na 1 1 -2\n",
-        SOURCE,
-        Status::Refused,
-        "",
-        "x arc 2 NegativeWeight\n",
-    ),
-    (
-        "a target that is none, and a negative weight",
-        "p sp 2 1\na 1 2 -4\n",
-        "p aux sp p2p 2\nq 1 2\nq 2 3\n",
-        Status::Refused,
-        "",
-        "x node 3 QueryNode\n",
-    ),
-    (
-        "a faulty graph and faulty queries",
-        "p sp 2 1\n",
-        "p aux sp foo 1\n",
-        Status::Refused,
-        "",
-        "x instance 2 0 TooFew\n",
-    ),
-    (
-        "faulty queries of a graph with a negative weight",
-        "p sp 2 1\na 1 2 -4\n",
-        "p aux sp foo 1\n",
-        Status::Refused,
-        "",
-        "x query 1 4 BadWord\n",
-    ),
-];
+static PATHS: &str = "\
+one source | p sp 4 3;a 1 2 5;a 3 4 0;a 4 3 0; | p aux sp ss 1;s 1; | Done | p dist 4 1;t 1 1;d 2 5 1; | v sp ss 1;
+pairs of one source | p sp 4 3;a 1 2 5;a 3 4 0;a 4 3 0; | p aux sp p2p 2;q 1 2;q 1 4; | Done | p dist 4 1;t 1 1;d 2 5 1; | v 1 2 5;v 1 4 unreachable;
+a source that is asked for again | p sp 4 3;a 1 2 5;a 3 4 0;a 4 3 0; | p aux sp ss 3;s 2;s 1;s 2; | Done | p dist 4 2;t 2 0;t 1 1;d 2 5 1; | v sp ss 3;
+no query | p sp 4 3;a 1 2 5;a 3 4 0;a 4 3 0; | p aux sp p2p 0; | Done | p dist 4 0; |\x20
+the nearest first, by the lighter of two arcs | p sp 4 5;a 1 2 9;a 1 2 7;a 1 3 2;a 3 2 4;a 3 4 5; | p aux sp ss 1;s 1; | Done | p dist 4 1;t 1 3;d 3 2 1;d 2 6 3;d 4 7 3; | v sp ss 1;
+a node that is none | p sp 4 3;a 1 2 5;a 3 4 0;a 4 3 0; | p aux sp ss 1;s 5; | Refused |  | x node 5 QueryNode;
+a negative weight | p sp 2 2;a 1 2 -4;a 2 1 4; | p aux sp ss 1;s 1; | Refused |  | x arc 1 NegativeWeight;
+a negative weight after one of 0 | p sp 2 3;a 1 2 0;a 2 1 -1;a 1 1 -2; | p aux sp ss 1;s 1; | Refused |  | x arc 2 NegativeWeight;
+a target that is none, and a negative weight | p sp 2 1;a 1 2 -4; | p aux sp p2p 2;q 1 2;q 2 3; | Refused |  | x node 3 QueryNode;
+a faulty graph and faulty queries | p sp 2 1; | p aux sp foo 1; | Refused |  | x instance 2 0 TooFew;
+faulty queries of a graph with a negative weight | p sp 2 1;a 1 2 -4; | p aux sp foo 1; | Refused |  | x query 1 4 BadWord;";
+
+/// Whether a case is answered as it says: its name, the graph, the queries, how the run ends, the labels and the report.
+fn answers(rt: &impl Abort, alloc: Global, line: &str) -> Result<(), Fail> {
+    let case = case(alloc, line)?;
+    let (name, rest) = cell(rt, &case);
+    let (instance, rest) = cell(rt, rest);
+    let (queries, rest) = cell(rt, rest);
+    let (ended, rest) = cell(rt, rest);
+    let (labels, report) = cell(rt, rest);
+    let given = Given {
+        job: SolveJob::Paths,
+        instance,
+        queries,
+    };
+    let texts = ["", labels, report];
+    puts(rt, alloc, name, given, status(rt, ended), texts)
+}
 
 #[test]
 fn labels_are_made_of_queries(rt: HostRuntime) -> Result<(), Fail> {
-    for &(name, instance, queries, status, labels, report) in &PATHS {
-        let given = Given {
-            job: SolveJob::Paths,
-            instance,
-            queries,
-        };
-        puts(&rt, rt.alloc(), name, given, status, ["", labels, report])?;
+    for line in rows(&rt, PATHS, 11) {
+        answers(&rt, rt.alloc(), line)?;
     }
     Ok(())
 }
 
-/// Runs that make no flow: what is made, the instance, how the run ends and the report.
-static FLOWLESS: [(SolveJob, &str, Status, &str); 11] = [
-    (SolveJob::Max(0), MAX, Status::GaveUp, "g limit\n"),
-    (SolveJob::Max(1), MAX, Status::GaveUp, "g limit\n"),
-    (SolveJob::Max(0), BACK, Status::GaveUp, "g limit\n"),
-    (SolveJob::Max(0), ARCLESS, Status::GaveUp, "g limit\n"),
-    (
-        SolveJob::Max(0),
-        "p max 2 1\nn 1 s\n",
-        Status::Refused,
-        "x instance 3 0 EndMissing\n",
-    ),
-    (
-        SolveJob::Max(10),
-        "",
-        Status::Refused,
-        "x instance 1 0 ProblemMissing\n",
-    ),
-    (SolveJob::Min(0), MIN, Status::GaveUp, "g limit\n"),
-    (
-        SolveJob::Min(10),
-        "p min 1 1\na 1 1 0 9000000000000000000 -9000000000000000000\n",
-        Status::GaveUp,
-        "g limit\n",
-    ),
-    (
-        SolveJob::Min(0),
-        "p min 2 1\na 1 2 3 2 0\n",
-        Status::Refused,
-        "x instance 2 5 BoundOrder\n",
-    ),
-    (
-        SolveJob::Min(10),
-        MAX,
-        Status::Refused,
-        "x instance 1 2 BadWord\n",
-    ),
-    (
-        SolveJob::Max(10),
-        MIN,
-        Status::Refused,
-        "x instance 1 2 BadWord\n",
-    ),
-];
+/// The producer of flows that a case names, with its limit.
+fn producer(rt: &impl Abort, named: &str) -> SolveJob {
+    let (word, digits) = named.split_once(' ').expect(rt, named);
+    let limit = digits.parse::<u64>().expect(rt, named);
+    if word == "max" {
+        return SolveJob::Max(limit);
+    }
+    same(rt, "a producer", word, "min");
+    SolveJob::Min(limit)
+}
+
+/// Runs that make no flow.
+static FLOWLESS: &str = "\
+max 0 | p max 4 5;n 1 s;n 4 t;a 1 2 4;a 1 3 2;a 2 3 2;a 2 4 3;a 3 4 5; | GaveUp | g limit;
+max 1 | p max 4 5;n 1 s;n 4 t;a 1 2 4;a 1 3 2;a 2 3 2;a 2 4 3;a 3 4 5; | GaveUp | g limit;
+max 0 | p max 4 5;n 1 s;n 4 t;a 1 2 1;a 1 3 1;a 2 3 1;a 2 4 1;a 3 4 1; | GaveUp | g limit;
+max 0 | p max 2 0;n 1 s;n 2 t; | GaveUp | g limit;
+max 0 | p max 2 1;n 1 s; | Refused | x instance 3 0 EndMissing;
+max 10 |  | Refused | x instance 1 0 ProblemMissing;
+min 0 | p min 4 5;n 1 4;n 4 -4;a 1 2 0 4 2;a 1 3 0 2 2;a 2 3 0 2 1;a 2 4 0 3 3;a 3 4 0 5 1; | GaveUp | g limit;
+min 10 | p min 1 1;a 1 1 0 9000000000000000000 -9000000000000000000; | GaveUp | g limit;
+min 0 | p min 2 1;a 1 2 3 2 0; | Refused | x instance 2 5 BoundOrder;
+min 10 | p max 4 5;n 1 s;n 4 t;a 1 2 4;a 1 3 2;a 2 3 2;a 2 4 3;a 3 4 5; | Refused | x instance 1 2 BadWord;
+max 10 | p min 4 5;n 1 4;n 4 -4;a 1 2 0 4 2;a 1 3 0 2 2;a 2 3 0 2 1;a 2 4 0 3 3;a 3 4 0 5 1; | Refused | x instance 1 2 BadWord;";
+
+/// Whether no flow is made in a case: the producer, the instance, how the run ends and the report.
+fn makes_no_flow(rt: &impl Abort, alloc: Global, line: &str) -> Result<(), Fail> {
+    let case = case(alloc, line)?;
+    let (named, rest) = cell(rt, &case);
+    let (instance, rest) = cell(rt, rest);
+    let (ended, report) = cell(rt, rest);
+    let given = Given {
+        job: producer(rt, named),
+        instance,
+        queries: SOURCE,
+    };
+    puts(rt, alloc, line, given, status(rt, ended), ["", "", report])
+}
 
 #[test]
 fn no_flow_is_made_within_a_limit_or_of_a_faulty_instance(rt: HostRuntime) -> Result<(), Fail> {
-    for &(job, instance, status, report) in &FLOWLESS {
-        let given = Given {
-            job,
-            instance,
-            queries: SOURCE,
-        };
-        puts(&rt, rt.alloc(), instance, given, status, ["", "", report])?;
+    for line in rows(&rt, FLOWLESS, 11) {
+        makes_no_flow(&rt, rt.alloc(), line)?;
     }
     Ok(())
 }
@@ -337,99 +246,83 @@ fn is_made(rt: &impl Abort, alloc: Global, kind: JudgeKind, given: Given<'_>, re
     holds(rt, name, verdict.bytes() == report.as_bytes());
 }
 
-/// Flows and sets that are made: how they are judged, what is made, the instance and the verdict.
-static MADE: [(JudgeKind, SolveJob, &str, &str); 12] = [
-    (JudgeKind::Max, SolveJob::Max(7), MAX, "v max 6\n"),
-    (JudgeKind::Max, SolveJob::Max(10), MAX, "v max 6\n"),
-    (JudgeKind::Max, SolveJob::Max(1_000_000), MAX, "v max 6\n"),
-    (JudgeKind::Max, SolveJob::Max(3), BACK, "v max 2\n"),
-    (JudgeKind::Max, SolveJob::Max(1), ARCLESS, "v max 0\n"),
-    (
-        JudgeKind::Max,
-        SolveJob::Max(4),
-        "p max 2 2\nn 1 s\nn 2 t\na 1 1 5\na 1 2 3\n",
-        "v max 3\n",
-    ),
-    // three to three, where the first choice takes the second's only partner
-    (
-        JudgeKind::Max,
-        SolveJob::Max(4),
-        "p max 8 11\nn 1 s\nn 8 t\na 1 2 1\na 1 3 1\na 1 4 1\na 2 5 1\na 2 6 1\na 3 5 1\na 4 6 1\na 4 7 1\na 5 8 1\na 6 8 1\na 7 8 1\n",
-        "v max 3\n",
-    ),
-    (JudgeKind::Min, SolveJob::Min(10), MIN, "v min 14\n"),
-    (
-        JudgeKind::Min,
-        SolveJob::Min(10),
-        "p min 1 1\na 1 1 0 9000000000000000000 9000000000000000000\n",
-        "v min 0\n",
-    ),
-    (
-        JudgeKind::Min,
-        SolveJob::Min(10),
-        "p min 2 2\nn 1 2\nn 2 -2\na 1 2 0 1 5\na 1 2 0 2 3\n",
-        "v min 6\n",
-    ),
-    (
-        JudgeKind::Infeasible,
-        SolveJob::Min(10),
-        "p min 2 1\nn 1 1\na 1 2 0 5 1\n",
-        "v infeasible\n",
-    ),
-    (
-        JudgeKind::Infeasible,
-        SolveJob::Min(10),
-        "p min 2 1\nn 1 -1\na 1 2 0 5 1\n",
-        "v infeasible\n",
-    ),
-];
+/// Flows and sets that are made. In the seventh case the first choice takes the only partner of the second.
+static MADE: &str = "\
+max | max 7 | p max 4 5;n 1 s;n 4 t;a 1 2 4;a 1 3 2;a 2 3 2;a 2 4 3;a 3 4 5; | v max 6;
+max | max 10 | p max 4 5;n 1 s;n 4 t;a 1 2 4;a 1 3 2;a 2 3 2;a 2 4 3;a 3 4 5; | v max 6;
+max | max 1000000 | p max 4 5;n 1 s;n 4 t;a 1 2 4;a 1 3 2;a 2 3 2;a 2 4 3;a 3 4 5; | v max 6;
+max | max 3 | p max 4 5;n 1 s;n 4 t;a 1 2 1;a 1 3 1;a 2 3 1;a 2 4 1;a 3 4 1; | v max 2;
+max | max 1 | p max 2 0;n 1 s;n 2 t; | v max 0;
+max | max 4 | p max 2 2;n 1 s;n 2 t;a 1 1 5;a 1 2 3; | v max 3;
+max | max 4 | p max 8 11;n 1 s;n 8 t;a 1 2 1;a 1 3 1;a 1 4 1;a 2 5 1;a 2 6 1;a 3 5 1;a 4 6 1;a 4 7 1;a 5 8 1;a 6 8 1;a 7 8 1; | v max 3;
+min | min 10 | p min 4 5;n 1 4;n 4 -4;a 1 2 0 4 2;a 1 3 0 2 2;a 2 3 0 2 1;a 2 4 0 3 3;a 3 4 0 5 1; | v min 14;
+min | min 10 | p min 1 1;a 1 1 0 9000000000000000000 9000000000000000000; | v min 0;
+min | min 10 | p min 2 2;n 1 2;n 2 -2;a 1 2 0 1 5;a 1 2 0 2 3; | v min 6;
+infeasible | min 10 | p min 2 1;n 1 1;a 1 2 0 5 1; | v infeasible;
+infeasible | min 10 | p min 2 1;n 1 -1;a 1 2 0 5 1; | v infeasible;";
 
-#[test]
-fn flows_and_sets_that_are_made_are_judged_with_a_yes(rt: HostRuntime) {
-    for &(kind, job, instance, report) in &MADE {
-        let given = Given {
-            job,
-            instance,
-            queries: "",
-        };
-        is_made(&rt, rt.alloc(), kind, given, report);
+/// The judge that a case names.
+fn judge_named(rt: &impl Abort, word: &str) -> JudgeKind {
+    match word {
+        "max" => JudgeKind::Max,
+        "min" => JudgeKind::Min,
+        _ => {
+            same(rt, "a judge", word, "infeasible");
+            JudgeKind::Infeasible
+        }
     }
 }
 
-/// Graphs, each with queries and the verdict. Nodes of one distance may stand in any order.
-static ANSWERS: [(&str, &str, &str); 4] = [
-    (
-        CYCLE,
-        "p aux sp p2p 3\nq 3 4\nq 1 2\nq 4 3\n",
-        "v 3 4 0\nv 1 2 5\nv 4 3 0\n",
-    ),
-    (
-        "p sp 4 4\na 1 2 1\na 1 3 1\na 2 4 1\na 3 4 1\n",
-        "p aux sp p2p 2\nq 1 4\nq 2 3\n",
-        "v 1 4 2\nv 2 3 unreachable\n",
-    ),
-    (
-        "p sp 3 3\na 1 2 9223372036854775807\na 2 3 9223372036854775807\na 1 3 9223372036854775807\n",
-        "p aux sp p2p 2\nq 1 3\nq 1 2\n",
-        "v 1 3 9223372036854775807\nv 1 2 9223372036854775807\n",
-    ),
-    (
-        "p sp 3 2\na 1 2 9223372036854775807\na 2 3 9223372036854775807\n",
-        "p aux sp p2p 1\nq 1 3\n",
-        "v 1 3 18446744073709551614\n",
-    ),
-];
+/// Whether what is made in a case is judged as the case says: the judge, the producer, the instance and the verdict.
+fn makes(rt: &impl Abort, alloc: Global, line: &str) -> Result<(), Fail> {
+    let case = case(alloc, line)?;
+    let (judge, rest) = cell(rt, &case);
+    let (named, rest) = cell(rt, rest);
+    let (instance, report) = cell(rt, rest);
+    let given = Given {
+        job: producer(rt, named),
+        instance,
+        queries: "",
+    };
+    is_made(rt, alloc, judge_named(rt, judge), given, report);
+    Ok(())
+}
 
 #[test]
-fn labels_that_are_made_are_distances(rt: HostRuntime) {
-    for &(instance, queries, report) in &ANSWERS {
-        let given = Given {
-            job: SolveJob::Paths,
-            instance,
-            queries,
-        };
-        is_made(&rt, rt.alloc(), JudgeKind::Paths, given, report);
+fn flows_and_sets_that_are_made_are_judged_with_a_yes(rt: HostRuntime) -> Result<(), Fail> {
+    for line in rows(&rt, MADE, 12) {
+        makes(&rt, rt.alloc(), line)?;
     }
+    Ok(())
+}
+
+/// Graphs, each with queries and the verdict. Nodes of one distance may stand in any order.
+static ANSWERS: &str = "\
+p sp 4 3;a 1 2 5;a 3 4 0;a 4 3 0; | p aux sp p2p 3;q 3 4;q 1 2;q 4 3; | v 3 4 0;v 1 2 5;v 4 3 0;
+p sp 4 4;a 1 2 1;a 1 3 1;a 2 4 1;a 3 4 1; | p aux sp p2p 2;q 1 4;q 2 3; | v 1 4 2;v 2 3 unreachable;
+p sp 3 3;a 1 2 9223372036854775807;a 2 3 9223372036854775807;a 1 3 9223372036854775807; | p aux sp p2p 2;q 1 3;q 1 2; | v 1 3 9223372036854775807;v 1 2 9223372036854775807;
+p sp 3 2;a 1 2 9223372036854775807;a 2 3 9223372036854775807; | p aux sp p2p 1;q 1 3; | v 1 3 18446744073709551614;";
+
+/// Whether labels that are made in a case are judged as the case says: the graph, the queries and the verdict.
+fn makes_distances(rt: &impl Abort, alloc: Global, line: &str) -> Result<(), Fail> {
+    let case = case(alloc, line)?;
+    let (instance, rest) = cell(rt, &case);
+    let (queries, report) = cell(rt, rest);
+    let given = Given {
+        job: SolveJob::Paths,
+        instance,
+        queries,
+    };
+    is_made(rt, alloc, JudgeKind::Paths, given, report);
+    Ok(())
+}
+
+#[test]
+fn labels_that_are_made_are_distances(rt: HostRuntime) -> Result<(), Fail> {
+    for line in rows(&rt, ANSWERS, 4) {
+        makes_distances(&rt, rt.alloc(), line)?;
+    }
+    Ok(())
 }
 
 /// A maximum flow, in ten steps.

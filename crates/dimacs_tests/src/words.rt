@@ -4,10 +4,29 @@ use crate::checks::same;
 use dimacs_records::TextKind;
 use dimacs_runs::{Job, JudgeKind, RunError, SolveJob, Status, exit_status, job};
 use std::alloc::Global;
+use std::process::Abort;
 use std::test::Fail;
 
+/// The status of this name.
+pub fn status(rt: &impl Abort, name: &str) -> Status {
+    match name {
+        "Done" => Status::Done,
+        "Refused" => Status::Refused,
+        _ => {
+            same(rt, "a status", name, "GaveUp");
+            Status::GaveUp
+        }
+    }
+}
+
+/// The kind of texts that this word stands for.
+pub fn kind(rt: &impl Abort, word: &str) -> TextKind {
+    let named = KINDS.iter().find(|named| named.0 == word);
+    named.expect(rt, word).1
+}
+
 /// The words of a line, parted by one blank.
-fn words(alloc: Global, line: &str) -> Result<Vec<String>, Fail> {
+pub fn words(alloc: Global, line: &str) -> Result<Vec<String>, Fail> {
     let mut words = Vec::new(alloc);
     for word in line.split(' ') {
         words.push(String::from_str(alloc, word)?)?;
