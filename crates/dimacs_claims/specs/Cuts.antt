@@ -3,6 +3,7 @@ use Rattle.std.specs.Prelude.{ℕ, ◌≡◌, ◌==◌, ◌≤◌, Bool, true, L
 use Rattle.std.specs.List.{All, filter, range_with_len}
 use Rattle.std.specs.Ordering.{nat_cmp}
 use Rattle.std.specs.FinSet.{FinSet, contains, empty, insert, from_list}
+use Rattle.dimacs_lines.specs.Limits.{most_nodes}
 use Rattle.dimacs_lines.specs.Lines.{lines}
 use Rattle.dimacs_records.specs.declared.kinds.TextKind.TheVariants as kinds
 use Rattle.dimacs_records.specs.declared.records.Record.{Record}
@@ -19,7 +20,7 @@ pub record CutValue : Type 0 where
 
 -- the IDs are those of nodes
 pub record IsCut (c : CutValue) : Type 0 where
-  pub nodes_few : c.nodes ≤ 134217728
+  pub nodes_few : c.nodes ≤ most_nodes
   pub within : (id : ℕ) → contains c.ids id ≡ true → IsNode c.nodes id
 
 abbrev pub empty_cut : ℕ → CutValue

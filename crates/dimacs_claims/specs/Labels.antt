@@ -3,6 +3,7 @@ use Rattle.std.specs.Prelude.{ℕ, ◌≡◌, ◌≢◌, ◌≤◌, ◌⊎◌, �
 use Rattle.std.specs.List.{All, Contains, list_any}
 use Rattle.std.specs.Ordering.{nat_cmp}
 use Rattle.std.specs.FinSet as set
+use Rattle.dimacs_lines.specs.Limits.{most_count, most_nodes}
 use Rattle.dimacs_records.specs.Ranges.{IsNode, IsRadius, IsWide}
 use Rattle.dimacs_claims.specs.declared.block.Label.{Label}
 
@@ -69,7 +70,7 @@ IsNear radius dist = IfSome radius (λ r. dist ≤ℤ r)
 pub record IsBlock (nodes : ℕ) (b : BlockValue) : Type 0 where
   pub source_within : IsNode nodes b.source
   pub radius_within : IfSome b.radius IsRadius
-  pub few : length b.labels ≤ 268435456
+  pub few : length b.labels ≤ most_count
   pub within : All (IsLabel nodes) b.labels
   pub near : All (λ (l : Label). IsNear b.radius l.dist) b.labels
   pub fresh : EachBehind (IsFresh b.source) b.labels
@@ -91,7 +92,7 @@ abbrev pub with_block : LabelsValue → BlockValue → LabelsValue
 with_block labels b = record { nodes = labels.nodes; blocks = labels.blocks ++ b ∷ [] }
 
 pub record AreLabels (labels : LabelsValue) : Type 0 where
-  pub nodes_few : labels.nodes ≤ 134217728
-  pub blocks_few : length labels.blocks ≤ 268435456
+  pub nodes_few : labels.nodes ≤ most_nodes
+  pub blocks_few : length labels.blocks ≤ most_count
   pub blocks : All (IsBlock labels.nodes) labels.blocks
   pub sources : EachBehind IsNewSource labels.blocks

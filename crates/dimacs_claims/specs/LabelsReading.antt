@@ -1,6 +1,7 @@
 -- How far labels have been read.
 use Rattle.std.specs.Prelude.{ℕ, ◌≡◌, ◌≤◌, ◌+◌, List, [], ◌∷◌, ◌++◌, map, length, Option, None, Some, is_some, ◌==◌, ℤ}
 use Rattle.std.specs.List.{All}
+use Rattle.dimacs_lines.specs.Limits.{most_count, most_nodes}
 use Rattle.dimacs_nodes.specs.declared.node_table.NodeTable.{NodeTable}
 use Rattle.dimacs_nodes.specs.Tables.{value_of}
 use Rattle.dimacs_records.specs.declared.records.Record.{Record}
@@ -39,12 +40,12 @@ label_records_so_far (Some begun) = labels_begun_records begun
 
 -- the last block declared no more labels than may be
 abbrev pub LastIsFew : LabelsBegun → Type 0
-LastIsFew begun = (front : List BlockValue) (b : BlockValue) → begun.blocks ≡ front ++ b ∷ [] → length b.labels + begun.missing ≤ 268435456
+LastIsFew begun = (front : List BlockValue) (b : BlockValue) → begun.blocks ≡ front ++ b ∷ [] → length b.labels + begun.missing ≤ most_count
 
 -- a beginning of labels
 pub record AreLabelsBegun (begun : LabelsBegun) : Type 0 where
-  pub nodes_few : begun.nodes ≤ 134217728
-  pub blocks_few : begun.declared ≤ 268435456
+  pub nodes_few : begun.nodes ≤ most_nodes
+  pub blocks_few : begun.declared ≤ most_count
   pub no_more : length begun.blocks ≤ begun.declared
   pub last_few : LastIsFew begun
   pub none_lack : begun.blocks ≡ [] → begun.missing ≡ 0

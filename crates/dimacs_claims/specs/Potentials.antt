@@ -3,6 +3,7 @@ use Rattle.std.specs.Prelude.{ℕ, ℤ, ◌≡◌, ◌≢◌, ◌≤◌, List, �
 use Rattle.std.specs.List.{filter, range_with_len}
 use Rattle.std.specs.Ordering.{nat_cmp, int_eq}
 use Rattle.std.specs.FinMap.{FinMap, empty, get, insert, remove, from_entries}
+use Rattle.dimacs_lines.specs.Limits.{most_nodes}
 use Rattle.dimacs_lines.specs.Lines.{lines}
 use Rattle.dimacs_records.specs.declared.kinds.TextKind.TheVariants as kinds
 use Rattle.dimacs_records.specs.declared.records.Record.{Record}
@@ -27,7 +28,7 @@ abbrev pub IsPotential : ℕ → ℕ → ℤ → Type 0
 IsPotential nodes id value = IsNode nodes id × (value ≢ pos 0) × IsWide value
 
 pub record ArePotentials (p : PotentialsValue) : Type 0 where
-  pub nodes_few : p.nodes ≤ 134217728
+  pub nodes_few : p.nodes ≤ most_nodes
   pub within : (id : ℕ) (value : ℤ) → get p.values id ≡ Some value → IsPotential p.nodes id value
 
 abbrev pub zero_potentials : ℕ → PotentialsValue

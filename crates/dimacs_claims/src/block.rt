@@ -1,6 +1,7 @@
 //! The labels of one source.
 
 ghost use Rattle.std.specs.Prelude.{◌≡◌, ◌==◌, ◌<◌, if◌then◌else◌, ℕ, [], length, OnOk, OnErr, IsSome, Option, Some, None};
+ghost use Rattle.dimacs_lines.specs.Limits.{most_count};
 ghost use Rattle.dimacs_records.specs.Blocks.{is_past};
 ghost use Rattle.dimacs_records.specs.Ranges.{IsNode};
 ghost use Rattle.dimacs_claims.specs.Labels.{BlockValue, IsBlock, IsLabel, IsNear, with_label};
@@ -60,7 +61,7 @@ impl Block {
         requires { claims.label self.old label.id ≡ None }
         ensures added { OnOk result (self.new ≡ with_label self.old label) }
         ensures labels { OnOk result ((id : ℕ) → claims.label self.new id ≡ (if label.id == id then Some label.dist else claims.label self.old id)) }
-        ensures lawful { OnOk result ((nodes : ℕ) → IsBlock nodes self.old → IsLabel nodes label → length self.old.labels < 268435456 → IsSome (claims.label self.old label.pred) → IsNear self.old.radius label.dist → IsBlock nodes self.new) }
+        ensures lawful { OnOk result ((nodes : ℕ) → IsBlock nodes self.old → IsLabel nodes label → length self.old.labels < most_count → IsSome (claims.label self.old label.pred) → IsNear self.old.radius label.dist → IsBlock nodes self.new) }
         ensures unchanged { OnErr result (self.new ≡ self.old) }
     {
         self.labels.push(label)?;

@@ -3,6 +3,7 @@
 ghost use Rattle.std.specs.Prelude.{◌≡◌, ◌≤◌, ◌++◌, ◌∷◌, [], ℕ, List, Option, None, Some, OnOk, OnErr, length, map};
 ghost use Rattle.std.specs.List.{filter};
 ghost use Rattle.std.specs.FinSet as set;
+ghost use Rattle.dimacs_lines.specs.Limits.{most_nodes};
 ghost use Rattle.dimacs_lines.specs.Devices.{CountsFault};
 ghost use Rattle.dimacs_lines.specs.Lines.{lines};
 ghost use Rattle.dimacs_lines.specs.Pages.{Appends, CountsOn};
@@ -52,7 +53,7 @@ impl Model for Cut {
 impl Cut {
     /// The empty set, of so many nodes. Takes no memory.
     pub fn new(alloc: Global, nodes: u32) -> Cut
-        requires { nodes ≤ 134217728 }
+        requires { nodes ≤ most_nodes }
         ensures { result ≡ empty_cut nodes }
     {
         Cut {
@@ -171,7 +172,7 @@ impl CutReading {
     }
 
     fn start(&mut self, nodes: u32, count: u32) -> Result<(), TakeError>
-        requires { nodes ≤ 134217728 }
+        requires { nodes ≤ most_nodes }
         ensures { Takes IsCutBegunBy self.old (CutProblem nodes count) result self.new }
     {
         test_record(self.earlier(), Record::CutProblem { nodes, count })?;

@@ -1,6 +1,7 @@
 //! Labels: claimed distances from sources.
 
 ghost use Rattle.std.specs.Prelude.{◌≡◌, ◌<◌, ◌≤◌, ◌++◌, ◌∷◌, [], ℕ, List, Option, Some, None, OnOk, OnErr, IfOk, IfSome, is_some, length};
+ghost use Rattle.dimacs_lines.specs.Limits.{most_count, most_nodes};
 ghost use Rattle.dimacs_lines.specs.Devices.{CountsFault};
 ghost use Rattle.dimacs_lines.specs.Lines.{lines};
 ghost use Rattle.dimacs_lines.specs.Pages.{Appends, CountsOn};
@@ -55,7 +56,7 @@ impl Model for Labels {
 impl Labels {
     /// Labels of so many nodes, without blocks. Takes no memory.
     pub fn new(alloc: Global, nodes: u32) -> Labels
-        requires { nodes ≤ 134217728 }
+        requires { nodes ≤ most_nodes }
         ensures made { result ≡ record { nodes = nodes; blocks = [] } }
         ensures lawful { AreLabels result }
     {
@@ -83,7 +84,7 @@ impl Labels {
     pub fn push(&mut self, block: Block) -> Result<(), Memory>
         requires lawful { IsBlock self.old.nodes block }
         requires source { IsNewSource self.old.blocks block }
-        requires few { length self.old.blocks < 268435456 }
+        requires few { length self.old.blocks < most_count }
         ensures pushed { OnOk result (self.new ≡ with_block self.old block) }
         ensures lawful { OnOk result (AreLabels self.new) }
         ensures sources { OnOk result ((sources : set.FinSet nat_cmp) → AreSources sources self.old.blocks → AreSources (set.insert sources block.source) self.new.blocks) }
@@ -189,7 +190,7 @@ impl BegunLabels {
         radius: Option<i128>,
     ) -> Result<(), TakeError>
         requires source { 1 ≤ source }
-        requires count { count ≤ 268435456 }
+        requires count { count ≤ most_count }
         requires radius { IfSome radius IsRadius }
         ensures { TakesRecord (labels_begun_records self.old) (LabelsBlock source count radius) result (labels_begun_records self.new) }
     {
@@ -287,8 +288,8 @@ impl LabelsReading {
     }
 
     fn start(&mut self, nodes: u32, declared: u32) -> Result<(), TakeError>
-        requires nodes { nodes ≤ 134217728 }
-        requires declared { declared ≤ 268435456 }
+        requires nodes { nodes ≤ most_nodes }
+        requires declared { declared ≤ most_count }
         ensures { TakesRecord self.old (LabelsProblem nodes declared) result self.new }
     {
         if self.begun.is_some() {
@@ -312,7 +313,7 @@ impl LabelsReading {
         radius: Option<i128>,
     ) -> Result<(), TakeError>
         requires source { 1 ≤ source }
-        requires count { count ≤ 268435456 }
+        requires count { count ≤ most_count }
         requires radius { IfSome radius IsRadius }
         ensures { TakesRecord self.old (LabelsBlock source count radius) result self.new }
     {
@@ -410,7 +411,7 @@ pub fn write_labels<S: Sink>(labels: &Labels, sink: &mut S) -> Result<(), Device
 
 /// Writes the line of a block and those of its labels.
 fn write_block<S: Sink>(page: &mut Page, sink: &mut S, block: &Block)
-    requires { length block.now.labels ≤ 268435456 }
+    requires { length block.now.labels ≤ most_count }
     ensures written { Appends (canonical_text (block_lines block.now)) (S.accepted sink.old) page.old (S.accepted sink.new) page.new }
     ensures faults { CountsOn (S.faults sink.old) page.old (S.faults sink.new) page.new }
 {

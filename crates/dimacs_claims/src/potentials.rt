@@ -2,6 +2,7 @@
 
 ghost use Rattle.std.specs.Prelude.{◌≡◌, ◌≤◌, ◌<◌, ◌++◌, ◌∷◌, [], ℕ, List, Option, None, Some, OnOk, OnErr, length, map};
 ghost use Rattle.std.specs.List.{filter};
+ghost use Rattle.dimacs_lines.specs.Limits.{most_nodes};
 ghost use Rattle.dimacs_lines.specs.Devices.{CountsFault};
 ghost use Rattle.dimacs_lines.specs.Lines.{lines};
 ghost use Rattle.dimacs_lines.specs.Pages.{Appends, CountsOn};
@@ -51,7 +52,7 @@ impl Model for Potentials {
 impl Potentials {
     /// The potential 0 for each of so many nodes. Takes no memory.
     pub fn new(alloc: Global, nodes: u32) -> Potentials
-        requires { nodes ≤ 134217728 }
+        requires { nodes ≤ most_nodes }
         ensures { result ≡ zero_potentials nodes }
     {
         Potentials {
@@ -195,7 +196,7 @@ impl PotentialsReading {
     }
 
     fn start(&mut self, nodes: u32, count: u32) -> Result<(), TakeError>
-        requires { nodes ≤ 134217728 }
+        requires { nodes ≤ most_nodes }
         ensures { Takes AreBegunBy self.old (PotentialsProblem nodes count) result self.new }
     {
         test_record(self.earlier(), Record::PotentialsProblem { nodes, count })?;

@@ -1,6 +1,7 @@
 //! The search over the steps that a flow leaves.
 
 ghost use Rattle.std.specs.Prelude.{ℕ, List, ℤ, ◌≡◌, ◌<◌, ◌≤◌, ◌+◌, ◌<ℤ◌, pos, All, length, slice_index, IfOk, OnOk};
+ghost use Rattle.dimacs_lines.specs.Limits.{most_nodes};
 ghost use Rattle.dimacs_instance.specs.declared.network.ArcView.{ArcView};
 ghost use Rattle.dimacs_instance.specs.Arcs.{JoinsNodes};
 ghost use Rattle.dimacs_records.specs.Ranges.{IsNode};
@@ -105,7 +106,7 @@ impl Search {
         requires joined { All (JoinsNodes (N.node_count network.now)) (N.list network.now) }
         requires within { KeepsBounds (N.list network.now) flow.now }
         requires incidence { IsIncidenceOf (N.list network.now) incidence.now }
-        requires few_nodes { N.node_count network.now ≤ 134217728 }
+        requires few_nodes { N.node_count network.now ≤ most_nodes }
         requires at { at < length self.old.queue.items }
         requires search { IsSearch (N.node_count network.now) (N.list network.now) flow.now self.old.source (value_of self.old.visits) self.old.queue.items at }
         ensures source { OnOk result (self.new.source ≡ self.old.source) }
@@ -134,7 +135,7 @@ impl Search {
         incidence: &Incidence,
         sink: u32,
     ) -> Result<(), Memory>
-        requires few_nodes { N.node_count network.now ≤ 134217728 }
+        requires few_nodes { N.node_count network.now ≤ most_nodes }
         requires joined { All (JoinsNodes (N.node_count network.now)) (N.list network.now) }
         requires within { KeepsBounds (N.list network.now) flow.now }
         requires sink { IsNode (N.node_count network.now) sink }
@@ -161,7 +162,7 @@ pub(crate) fn explored<N: Network>(
     source: u32,
     sink: u32,
 ) -> Result<NodeTable<Visit>, Memory>
-    requires few_nodes { N.node_count network.now ≤ 134217728 }
+    requires few_nodes { N.node_count network.now ≤ most_nodes }
     requires joined { All (JoinsNodes (N.node_count network.now)) (N.list network.now) }
     requires within { KeepsBounds (N.list network.now) flow.now }
     requires incidence { IsIncidenceOf (N.list network.now) incidence.now }

@@ -1,6 +1,7 @@
 -- Graphs for shortest paths, and the texts that spell them.
 use Rattle.std.specs.Prelude.{ℕ, ◌≡◌, ◌≤◌, List, ◌∷◌, map, length, pos}
 use Rattle.std.specs.List.{All}
+use Rattle.dimacs_lines.specs.Limits.{most_count, most_nodes}
 use Rattle.dimacs_lines.specs.Lines.{lines}
 use Rattle.dimacs_records.specs.declared.kinds.TextKind.TheVariants.{Graph}
 use Rattle.dimacs_records.specs.declared.records.Record.{Record}
@@ -18,8 +19,8 @@ HasWeightAlone a = (a.low ≡ pos 0) × (a.cap ≡ pos 0) × IsWhole a.cost
 
 -- the counts lie within their limits, and each arc joins nodes of the graph
 pub record IsGraph (g : NetworkValue) : Type 0 where
-  pub nodes_few : g.nodes ≤ 134217728
-  pub arcs_few : length g.arcs ≤ 268435456
+  pub nodes_few : g.nodes ≤ most_nodes
+  pub arcs_few : length g.arcs ≤ most_count
   pub joined : All (JoinsNodes g.nodes) g.arcs
   pub weights : All HasWeightAlone g.arcs
 

@@ -1,6 +1,7 @@
 -- How far a graph has been read.
 use Rattle.std.specs.Prelude.{ℕ, ◌≤◌, List, [], ◌∷◌, map, length, Option, None, Some}
 use Rattle.std.specs.List.{All}
+use Rattle.dimacs_lines.specs.Limits.{most_count, most_nodes}
 use Rattle.dimacs_records.specs.declared.order.Declared.{Declared}
 use Rattle.dimacs_records.specs.declared.records.Record.{Record}
 use Rattle.dimacs_records.specs.declared.records.Record.TheVariants.{GraphProblem}
@@ -16,8 +17,8 @@ pub record GraphBegun : Type 0 where
 
 -- a beginning of a graph's arcs
 pub record IsBegun (begun : GraphBegun) : Type 0 where
-  pub nodes_few : begun.nodes ≤ 134217728
-  pub arcs_few : begun.declared ≤ 268435456
+  pub nodes_few : begun.nodes ≤ most_nodes
+  pub arcs_few : begun.declared ≤ most_count
   pub no_more : length begun.arcs ≤ begun.declared
   pub joined : All (JoinsNodes begun.nodes) begun.arcs
   pub weights : All HasWeightAlone begun.arcs

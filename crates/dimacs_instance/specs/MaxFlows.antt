@@ -1,6 +1,7 @@
 -- What maximum flow instances are.
 use Rattle.std.specs.Prelude.{ℕ, ◌≡◌, ◌≢◌, ◌≤◌, ◌≤ℤ◌, List, length, pos}
 use Rattle.std.specs.List.{All}
+use Rattle.dimacs_lines.specs.Limits.{most_count, most_nodes}
 use Rattle.dimacs_records.specs.Ranges.{IsNode, IsWhole}
 use Rattle.dimacs_instance.specs.declared.network.ArcView.{ArcView}
 use Rattle.dimacs_instance.specs.Arcs.{JoinsNodes}
@@ -17,8 +18,8 @@ pub record MaxValue : Type 0 where
   pub arcs : List ArcView
 
 pub record IsMax (m : MaxValue) : Type 0 where
-  pub nodes_few : m.nodes ≤ 134217728
-  pub arcs_few : length m.arcs ≤ 268435456
+  pub nodes_few : m.nodes ≤ most_nodes
+  pub arcs_few : length m.arcs ≤ most_count
   pub source_within : IsNode m.nodes m.source
   pub sink_within : IsNode m.nodes m.sink
   pub ends_apart : m.source ≢ m.sink

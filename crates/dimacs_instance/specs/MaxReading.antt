@@ -1,6 +1,7 @@
 -- How far a maximum flow instance has been read.
 use Rattle.std.specs.Prelude.{ℕ, ◌≡◌, ◌≢◌, ◌≤◌, List, [], ◌∷◌, ◌++◌, map, length, nat_lt, Option, None, Some}
 use Rattle.std.specs.List.{All, list_any}
+use Rattle.dimacs_lines.specs.Limits.{most_count, most_nodes}
 use Rattle.dimacs_records.specs.declared.order.Declared.{Declared}
 use Rattle.dimacs_records.specs.declared.order.Earlier.{Earlier}
 use Rattle.dimacs_records.specs.declared.records.End.{End}
@@ -47,8 +48,8 @@ AreNodes nodes (Both first second) = IsNode nodes first.node × IsNode nodes sec
 
 -- a beginning of a maximum flow instance
 pub record IsMaxBegun (begun : MaxBegun) : Type 0 where
-  pub nodes_few : begun.nodes ≤ 134217728
-  pub arcs_few : begun.declared ≤ 268435456
+  pub nodes_few : begun.nodes ≤ most_nodes
+  pub arcs_few : begun.declared ≤ most_count
   pub no_more : length begun.arcs ≤ begun.declared
   pub ends_within : AreNodes begun.nodes begun.ends
   pub ends_apart : AreApart begun.ends

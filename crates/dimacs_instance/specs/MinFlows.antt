@@ -3,6 +3,7 @@ use Rattle.std.specs.Prelude.{ℕ, suc, ℤ, ◌≢◌, ◌≤◌, ◌≤ℤ◌,
 use Rattle.std.specs.List.{All}
 use Rattle.std.specs.Ordering.{nat_cmp}
 use Rattle.std.specs.FinMap.{FinMap, get, entries, values}
+use Rattle.dimacs_lines.specs.Limits.{most_count, most_nodes}
 use Rattle.dimacs_instance.specs.declared.network.ArcView.{ArcView}
 use Rattle.dimacs_instance.specs.Arcs.{JoinsNodes}
 use Rattle.dimacs_records.specs.Ranges.{IsWhole, IsNode}
@@ -22,8 +23,8 @@ abbrev pub IsSupply : ℕ → ℕ × ℤ → Type 0
 IsSupply nodes s = IsNode nodes s.0 × (s.1 ≢ pos 0) × IsWhole s.1
 
 pub record IsMin (m : MinValue) : Type 0 where
-  pub nodes_few : m.nodes ≤ 134217728
-  pub arcs_few : length m.arcs ≤ 268435456
+  pub nodes_few : m.nodes ≤ most_nodes
+  pub arcs_few : length m.arcs ≤ most_count
   pub supplied : All (IsSupply m.nodes) (entries m.supplies)
   pub joined : All (JoinsNodes m.nodes) m.arcs
   pub bounds : All HasBounds m.arcs

@@ -6,6 +6,7 @@ use Rattle.std.specs.FinMap.{FinMap, from_entries, entries}
 use Rattle.std.specs.FinMap as map
 use Rattle.std.specs.FinSet.{FinSet}
 use Rattle.std.specs.FinSet as set
+use Rattle.dimacs_lines.specs.Limits.{most_count, most_nodes}
 use Rattle.dimacs_records.specs.declared.order.Declared.{Declared}
 use Rattle.dimacs_records.specs.declared.order.Earlier.{Earlier}
 use Rattle.dimacs_records.specs.declared.records.Record.{Record}
@@ -26,8 +27,8 @@ pub record MinBegun : Type 0 where
 
 -- a beginning of a minimum cost flow instance
 pub record IsMinBegun (begun : MinBegun) : Type 0 where
-  pub nodes_few : begun.nodes ≤ 134217728
-  pub arcs_few : begun.declared ≤ 268435456
+  pub nodes_few : begun.nodes ≤ most_nodes
+  pub arcs_few : begun.declared ≤ most_count
   pub no_more : length begun.arcs ≤ begun.declared
   pub supplied : All (IsSupply begun.nodes) (entries begun.supplies)
   pub joined : All (JoinsNodes begun.nodes) begun.arcs

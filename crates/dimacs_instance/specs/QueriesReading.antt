@@ -1,5 +1,6 @@
 -- How far queries have been read.
 use Rattle.std.specs.Prelude.{ℕ, ◌≤◌, List, [], ◌∷◌, length, Option, None, Some}
+use Rattle.dimacs_lines.specs.Limits.{most_count}
 use Rattle.dimacs_records.specs.declared.records.Record.{Record}
 use Rattle.dimacs_records.specs.declared.records.Record.TheVariants.{QueriesProblem}
 use Rattle.dimacs_instance.specs.QueryTexts.{QueriesValue, HaveIds, kind_asked, query_lines}
@@ -11,7 +12,7 @@ pub record QueriesBegun : Type 0 where
 
 -- a beginning of the queries
 pub record AreBegun (begun : QueriesBegun) : Type 0 where
-  pub few : begun.declared ≤ 268435456
+  pub few : begun.declared ≤ most_count
   pub no_more : length (query_lines begun.queries) ≤ begun.declared
   pub ids : HaveIds begun.queries
 

@@ -1,6 +1,7 @@
 -- Queries for shortest paths, and the texts that spell them.
 use Rattle.std.specs.Prelude.{ℕ, ◌≡◌, ◌≤◌, List, ◌∷◌, map, length}
 use Rattle.std.specs.List.{All}
+use Rattle.dimacs_lines.specs.Limits.{most_count}
 use Rattle.dimacs_lines.specs.Lines.{lines}
 use Rattle.dimacs_records.specs.declared.kinds.TextKind.TheVariants as kinds
 use Rattle.dimacs_records.specs.declared.records.QueryKind.{QueryKind}
@@ -48,7 +49,7 @@ HaveIds (Pairs pairs) = All AreIds pairs
 
 -- the IDs and the number of the queries lie in their ranges
 pub record AreLawful (queries : QueriesValue) : Type 0 where
-  pub few : length (query_lines queries) ≤ 268435456
+  pub few : length (query_lines queries) ≤ most_count
   pub ids : HaveIds queries
 
 abbrev pub GivesQueries : List LineRecord → QueriesValue → Type 0

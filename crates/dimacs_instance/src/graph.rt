@@ -1,6 +1,7 @@
 //! Graphs for shortest paths.
 
 ghost use Rattle.std.specs.Prelude.{◌≡◌, ◌≤◌, ◌<◌, ◌++◌, ◌∷◌, [], ℕ, List, Option, length, IfOk, OnOk, OnErr, Some};
+ghost use Rattle.dimacs_lines.specs.Limits.{most_count, most_nodes};
 ghost use Rattle.dimacs_lines.specs.Devices.{CountsFault};
 ghost use Rattle.dimacs_lines.specs.Puts.{Puts};
 ghost use Rattle.dimacs_records.specs.declared.kinds.TextKind.TheVariants as kinds;
@@ -147,8 +148,8 @@ impl PlainGraphReading {
     }
 
     fn start(&mut self, nodes: u32, arcs: u32) -> Result<(), TakeError>
-        requires nodes { nodes ≤ 134217728 }
-        requires arcs { arcs ≤ 268435456 }
+        requires nodes { nodes ≤ most_nodes }
+        requires arcs { arcs ≤ most_count }
         ensures { TakesRecord self.old (GraphProblem nodes arcs) result self.new }
     {
         test_record(self.earlier(), Record::GraphProblem { nodes, arcs })?;

@@ -2,6 +2,7 @@
 
 ghost use Rattle.std.specs.Prelude.{◌≡◌, ◌≤◌, ◌<◌, ◌≤ℤ◌, ◌++◌, ◌∷◌, [], ℕ, List, Option, None, Some, IfOk, OnOk, OnErr, false, length, pos};
 ghost use Rattle.std.specs.List.{list_any};
+ghost use Rattle.dimacs_lines.specs.Limits.{most_count, most_nodes};
 ghost use Rattle.dimacs_lines.specs.Devices.{CountsFault};
 ghost use Rattle.dimacs_lines.specs.Lines.{lines};
 ghost use Rattle.dimacs_lines.specs.Puts.{Puts};
@@ -253,8 +254,8 @@ impl PlainMaxReading {
     }
 
     fn start(&mut self, nodes: u32, arcs: u32) -> Result<(), TakeError>
-        requires nodes { nodes ≤ 134217728 }
-        requires arcs { arcs ≤ 268435456 }
+        requires nodes { nodes ≤ most_nodes }
+        requires arcs { arcs ≤ most_count }
         ensures { Takes IsMaxBegunBy self.old (MaxProblem nodes arcs) result self.new }
     {
         test_record(self.earlier(), Record::MaxProblem { nodes, arcs })?;

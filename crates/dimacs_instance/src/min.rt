@@ -3,6 +3,7 @@
 ghost use Rattle.std.specs.Prelude.{◌≡◌, ◌≤◌, ◌<◌, ◌≤ℤ◌, ◌<ℤ◌, ◌+ℤ◌, ◌^◌, ◌++◌, ◌∷◌, [], ℕ, List, Option, length, map, Some, None, pos, OnOk, OnErr, IfOk};
 ghost use Rattle.std.specs.List.{filter};
 ghost use Rattle.std.specs.FinMap.{entries};
+ghost use Rattle.dimacs_lines.specs.Limits.{most_count, most_nodes};
 ghost use Rattle.dimacs_lines.specs.Devices.{CountsFault};
 ghost use Rattle.dimacs_lines.specs.Lines.{lines};
 ghost use Rattle.dimacs_lines.specs.Pages.{Appends, CountsOn};
@@ -247,8 +248,8 @@ impl PlainMinReading {
     }
 
     fn start(&mut self, nodes: u32, arcs: u32) -> Result<(), TakeError>
-        requires nodes { nodes ≤ 134217728 }
-        requires arcs { arcs ≤ 268435456 }
+        requires nodes { nodes ≤ most_nodes }
+        requires arcs { arcs ≤ most_count }
         ensures { Takes IsBegunBy self.old (MinProblem nodes arcs) result self.new }
     {
         test_record(self.earlier(), Record::MinProblem { nodes, arcs })?;

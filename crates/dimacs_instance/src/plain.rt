@@ -1,16 +1,18 @@
 //! A network that scans its list.
 
 ghost use Rattle.std.specs.Prelude.{◌≡◌, ◌<◌, ◌≤◌, ◌+◌, ◌++◌, ◌∷◌, [], List, Some, length, slice_get, OnOk, OnErr};
+ghost use Rattle.dimacs_lines.specs.Limits.{most_count};
 ghost use Rattle.dimacs_instance.specs.declared.network.ArcView.{ArcView};
 ghost use Rattle.dimacs_instance.specs.Plain.{capacity_arc, weight_arc};
 
 use crate::network::{ArcView, Network};
 use dimacs_lines::Memory;
+use dimacs_records::MAX_COUNT;
 use std::alloc::Global;
 use std::marker::Model;
 
 /// The most arcs of an instance.
-pub const MAX_ARCS: u32 = 268_435_456;
+pub const MAX_ARCS: u32 = MAX_COUNT;
 
 /// An arc as it is kept: without the numbers that all arcs of its instance have in common.
 pub trait KeptArc: Copy {
@@ -85,13 +87,14 @@ pub struct PlainArcs<A: KeptArc> {
 
 impl<A: KeptArc> Model for PlainArcs<A> {
     ghost use Rattle.std.specs.Prelude.{◌≤◌, length, map};
+    ghost use Rattle.dimacs_lines.specs.Limits.{most_count};
     ghost use Rattle.dimacs_instance.specs.Arcs.{NetworkValue};
 
     ghost Value = { NetworkValue };
 
     ghost view = { λ n. record { nodes = n.nodes; arcs = map A.shows n.arcs.items } };
 
-    ghost invariant = { λ n. length n.arcs.items ≤ 268435456 };
+    ghost invariant = { λ n. length n.arcs.items ≤ most_count };
 }
 
 impl<A: KeptArc> PlainArcs<A> {
@@ -107,7 +110,7 @@ impl<A: KeptArc> PlainArcs<A> {
 
     /// Adds an arc behind the others.
     pub fn push(&mut self, arc: A) -> Result<(), Memory>
-        requires { length self.old.arcs < 268435456 }
+        requires { length self.old.arcs < most_count }
         ensures pushed { OnOk result (self.new ≡ record self.old { arcs = self.old.arcs ++ A.shows arc ∷ [] }) }
         ensures unchanged { OnErr result (self.new ≡ self.old) }
     {

@@ -2,6 +2,7 @@
 
 ghost use Rattle.std.specs.Prelude.{◌≡◌, ◌≤◌, ◌<◌, ◌++◌, [], ℕ, List, Option, Some, IfOk, length, slice_get};
 ghost use Rattle.std.specs.Result.{result_map_both};
+ghost use Rattle.dimacs_lines.specs.Limits.{most_count, most_nodes};
 ghost use Rattle.dimacs_lines.specs.Devices.{CountsFault};
 ghost use Rattle.dimacs_lines.specs.Lines.{lines};
 ghost use Rattle.dimacs_lines.specs.Pages.{Appends, CountsOn};
@@ -130,7 +131,7 @@ impl Model for BegunQueries {
 impl BegunQueries {
     fn add_source(&mut self, id: u32) -> Result<(), TakeError>
         requires least { 1 ≤ id }
-        requires most { id ≤ 134217728 }
+        requires most { id ≤ most_nodes }
         ensures { TakesRecord (queries_begun_records self.old) (SourceQuery id) result (queries_begun_records self.new) }
     {
         let Queries::Sources(ids) = &mut self.queries else {
@@ -145,9 +146,9 @@ impl BegunQueries {
 
     fn add_pair(&mut self, from: u32, to: u32) -> Result<(), TakeError>
         requires from_least { 1 ≤ from }
-        requires from_most { from ≤ 134217728 }
+        requires from_most { from ≤ most_nodes }
         requires to_least { 1 ≤ to }
-        requires to_most { to ≤ 134217728 }
+        requires to_most { to ≤ most_nodes }
         ensures { TakesRecord (queries_begun_records self.old) (PairQuery from to) result (queries_begun_records self.new) }
     {
         let Queries::Pairs(pairs) = &mut self.queries else {
@@ -169,7 +170,7 @@ impl QueriesReading {
     }
 
     fn start(&mut self, asks: QueryKind, declared: u32) -> Result<(), TakeError>
-        requires declared { declared ≤ 268435456 }
+        requires declared { declared ≤ most_count }
         ensures { TakesRecord self.old (QueriesProblem asks declared) result self.new }
     {
         if self.begun.is_some() {
@@ -186,7 +187,7 @@ impl QueriesReading {
     #[inline(always)]
     fn add_source(&mut self, id: u32) -> Result<(), TakeError>
         requires least { 1 ≤ id }
-        requires most { id ≤ 134217728 }
+        requires most { id ≤ most_nodes }
         ensures { TakesRecord self.old (SourceQuery id) result self.new }
     {
         let Some(begun) = &mut self.begun else {
@@ -198,9 +199,9 @@ impl QueriesReading {
     #[inline(always)]
     fn add_pair(&mut self, from: u32, to: u32) -> Result<(), TakeError>
         requires from_least { 1 ≤ from }
-        requires from_most { from ≤ 134217728 }
+        requires from_most { from ≤ most_nodes }
         requires to_least { 1 ≤ to }
-        requires to_most { to ≤ 134217728 }
+        requires to_most { to ≤ most_nodes }
         ensures { TakesRecord self.old (PairQuery from to) result self.new }
     {
         let Some(begun) = &mut self.begun else {

@@ -2,6 +2,7 @@
 
 ghost use Rattle.std.specs.Prelude.{◌≡◌, ◌≤◌, ◌^◌, ◌==◌, ℕ, ◌+ℤ◌, ◌-ℤ◌, length, IfOk, OnOk, FitsSigned};
 ghost use Rattle.std.specs.Int.{w128};
+ghost use Rattle.dimacs_lines.specs.Limits.{most_count};
 ghost use Rattle.dimacs_nodes.specs.Tables.{value_of};
 ghost use Rattle.dimacs_judge.specs.Flows.{when};
 ghost use Rattle.dimacs_judge.specs.FlowTests.{AreBalances};
@@ -26,7 +27,7 @@ impl Balances {
         network: &N,
         flow: &Flow,
     ) -> Result<Balances, Memory>
-        requires few_arcs { length (N.list network.now) ≤ 268435456 }
+        requires few_arcs { length (N.list network.now) ≤ most_count }
         requires one_each { length flow.now ≡ length (N.list network.now) }
         ensures { IfOk result (AreBalances (N.list network.now) flow.now) }
     {

@@ -1,6 +1,7 @@
 //! Whether a set of nodes is violated.
 
 ghost use Rattle.std.specs.Prelude.{◌≡◌, ◌≤◌, ◌^◌, ◌+ℤ◌, ◌-ℤ◌, ◌<ℤ◌, ◌⊎◌, ◌↔◌, IsTrue, length};
+ghost use Rattle.dimacs_lines.specs.Limits.{most_count};
 ghost use Rattle.dimacs_instance.specs.MinFlows.{supply_of};
 ghost use Rattle.dimacs_judge.specs.CertificateTests.{violated_row};
 ghost use Rattle.dimacs_judge.specs.Cuts.{members, leaves, enters};
@@ -61,7 +62,7 @@ fn supply_at<N: Network>(node: u32, instance: &MinInstance<N>, set: &Cut) -> i64
 }
 
 fn bounds_across<N: Network>(network: &N, set: &Cut) -> Crossing
-    requires few_arcs { length (N.list network.now) ≤ 268435456 }
+    requires few_arcs { length (N.list network.now) ≤ most_count }
     ensures most { result.most ≡ most_out (N.list network.now) (members set.now) }
     ensures least { result.least ≡ least_out (N.list network.now) (members set.now) }
 {

@@ -1,6 +1,7 @@
 //! Whether a flow keeps its bounds, and whether the nodes are in balance.
 
 ghost use Rattle.std.specs.Prelude.{◌≡◌, ◌≤◌, ℕ, ℤ, List, Option, length};
+ghost use Rattle.dimacs_lines.specs.Limits.{most_count, most_nodes};
 ghost use Rattle.dimacs_judge.specs.Feasible.{FeasibleMax, FeasibleMin};
 ghost use Rattle.dimacs_judge.specs.FlowTests.{BoundFails, BalanceFails, AreBalances, TellsFeasible, bound_row, balance_row, feasible_max_rows, feasible_min_rows, max_demand, min_demand};
 ghost use Rattle.dimacs_judge.specs.Tests.{Settles, TellsReason, TellsRow};
@@ -51,8 +52,8 @@ pub(crate) fn feasible<N: Network, D: Demands>(
     flow: &Flow,
     demands: &D,
 ) -> Result<Balances, JudgeError>
-    requires few_nodes { N.node_count network.now ≤ 134217728 }
-    requires few_arcs { length (N.list network.now) ≤ 268435456 }
+    requires few_nodes { N.node_count network.now ≤ most_nodes }
+    requires few_arcs { length (N.list network.now) ≤ most_count }
     requires one_each { length flow.now ≡ length (N.list network.now) }
     ensures { TellsFeasible (N.node_count network.now) (N.list network.now) (D.demand demands.now) flow.now result }
 {
@@ -122,7 +123,7 @@ pub(crate) fn balances_hold<N: Network, D: Demands>(
     balances: &Balances,
     demands: &D,
 ) -> Result<(), (Where, Reason)>
-    requires { N.node_count network.now ≤ 134217728 }
+    requires { N.node_count network.now ≤ most_nodes }
     ensures { (x : List ℤ) → AreBalances (N.list network.now) x balances.now → TellsRow (balance_row (N.node_count network.now) (N.list network.now) (D.demand demands.now) x) result }
 {
     for v in 1..network.nodes() + 1 {

@@ -1,6 +1,7 @@
 //! The value of a flow.
 
 ghost use Rattle.std.specs.Prelude.{◌≡◌, ◌≤◌, ◌==◌, ◌-ℤ◌, length};
+ghost use Rattle.dimacs_lines.specs.Limits.{most_count};
 ghost use Rattle.dimacs_judge.specs.Feasible.{value};
 ghost use Rattle.dimacs_judge.specs.Flows.{net, when};
 
@@ -17,7 +18,7 @@ pub fn value_of<N: Network>(instance: &MaxInstance<N>, flow: &Flow) -> i128
 
 /// The balance of one node.
 fn balance_at<N: Network>(network: &N, flow: &Flow, node: u32) -> i128
-    requires few_arcs { length (N.list network.now) ≤ 268435456 }
+    requires few_arcs { length (N.list network.now) ≤ most_count }
     requires one_each { length flow.now ≡ length (N.list network.now) }
     ensures { result ≡ net (N.list network.now) flow.now node }
 {

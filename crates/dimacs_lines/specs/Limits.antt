@@ -9,6 +9,14 @@ longest_line = 1048576
 abbrev pub most_lines : ℕ
 most_lines = 1000000000000
 
+-- the most nodes, which is the greatest ID
+abbrev pub most_nodes : ℕ
+most_nodes = 134217728
+
+-- the greatest count that a text declares, of arcs, of labels or of other lines
+abbrev pub most_count : ℕ
+most_count = 268435456
+
 -- the most bytes that are held: a whole line and one piece
 abbrev pub most_held : ℕ
 most_held = 1114112

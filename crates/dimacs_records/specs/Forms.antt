@@ -1,5 +1,6 @@
 -- What the lines of each kind of text look like.
 use Rattle.std.specs.Prelude.{ℕ, ◌^◌, ◌-◌, List, [], ◌∷◌, ℤ, pos, neg_ℤ, codes}
+use Rattle.dimacs_lines.specs.Limits.{most_count, most_nodes}
 use Rattle.dimacs_records.specs.declared.kinds.TextKind.{TextKind}
 use Rattle.dimacs_records.specs.declared.kinds.TextKind.TheVariants.{Max, Min, Graph, Queries, Solution, Cut, Potentials, Labels}
 
@@ -10,13 +11,13 @@ pub data FieldType : Type 0 where
   Number : ℤ → ℤ → FieldType
 
 abbrev pub Nodes : FieldType
-Nodes = Number (pos 0) (pos 134217728)
+Nodes = Number (pos 0) (pos most_nodes)
 
 abbrev pub Count : FieldType
-Count = Number (pos 0) (pos 268435456)
+Count = Number (pos 0) (pos most_count)
 
 abbrev pub Id : FieldType
-Id = Number (pos 1) (pos 134217728)
+Id = Number (pos 1) (pos most_nodes)
 
 abbrev pub Whole : FieldType
 Whole = Number (neg_ℤ (pos (2 ^ 63))) (pos (2 ^ 63 - 1))

@@ -1,5 +1,6 @@
 -- The ranges of the numbers in texts.
 use Rattle.std.specs.Prelude.{ℕ, ◌≤◌, ◌^◌, ◌-◌, ℤ, pos, neg_ℤ}
+use Rattle.dimacs_lines.specs.Limits.{most_nodes}
 use Rattle.dimacs_lines.specs.Number.{IsWithin}
 
 -- the ID of one of so many nodes
@@ -8,7 +9,7 @@ IsNode nodes id = (1 ≤ id) × (id ≤ nodes)
 
 -- an ID in a text that doesn't say how many nodes there are
 abbrev pub IsId : ℕ → Type 0
-IsId id = IsNode 134217728 id
+IsId id = IsNode most_nodes id
 
 -- a whole number of 64 bits
 abbrev pub IsWhole : ℤ → Type 0

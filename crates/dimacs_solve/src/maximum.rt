@@ -1,6 +1,7 @@
 //! Solving maximum flow.
 
 ghost use Rattle.std.specs.Prelude.{◌≡◌, ◌≤◌, length, IfOk, map};
+ghost use Rattle.dimacs_lines.specs.Limits.{most_count};
 ghost use Rattle.dimacs_claims.specs.declared.solution.Entry.{Entry};
 ghost use Rattle.dimacs_claims.specs.SolutionTexts.{claimed};
 ghost use Rattle.dimacs_judge.specs.Claims.{Carries};
@@ -63,7 +64,7 @@ fn solution_for<N: Network>(
 
 /// An entry for every arc, in order, with its amount.
 fn entries_for<N: Network>(alloc: Global, network: &N, flow: &Flow) -> Result<Vec<Entry>, Memory>
-    requires few_arcs { length (N.list network.now) ≤ 268435456 }
+    requires few_arcs { length (N.list network.now) ≤ most_count }
     requires one_each { length flow.now ≡ length (N.list network.now) }
     ensures all { IfOk result (λ entries. AreEntriesOf (N.list network.now) entries.items) }
     ensures flows { IfOk result (λ entries. map (λ (e : Entry). e.flow) entries.items ≡ flow.now) }

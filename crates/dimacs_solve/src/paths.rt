@@ -1,6 +1,7 @@
 //! Labels for queries.
 
 ghost use Rattle.std.specs.Prelude.{◌≡◌, ◌<◌, ◌≤◌, ◌*◌, [], ℕ, All, length, IfOk, OnOk, MatchOption};
+ghost use Rattle.dimacs_lines.specs.Limits.{most_count};
 ghost use Rattle.dimacs_records.specs.Ranges.{IsNode};
 ghost use Rattle.dimacs_instance.specs.QueryTexts.{AreLawful, asked, query_lines};
 ghost use Rattle.dimacs_claims.specs.Labels.{AreLabels, BlockValue, IsNewSource};
@@ -73,7 +74,7 @@ fn solve_all<D: Distance>(
 ) -> Result<Labels, Memory>
     requires adjacent { AreByNode adjacency.now }
     requires room { adjacency.now.nodes * adjacency.now.greatest < D.limit }
-    requires few { length (sources_asked (asked queries.now)) ≤ 268435456 }
+    requires few { length (sources_asked (asked queries.now)) ≤ most_count }
     requires sources { All (IsNode adjacency.now.nodes) (sources_asked (asked queries.now)) }
     requires same { length (query_lines (asked queries.now)) ≡ length (sources_asked (asked queries.now)) }
     ensures { IfOk result (AreSolved adjacency.now (sources_asked (asked queries.now))) }
@@ -113,7 +114,7 @@ fn solve_one<D: Distance>(
     requires nodes { labels.old.nodes ≡ adjacency.now.nodes }
     requires source { IsNode adjacency.now.nodes source }
     requires new { (b : BlockValue) → b.source ≡ source → IsNewSource labels.old.blocks b }
-    requires few { length labels.old.blocks < 268435456 }
+    requires few { length labels.old.blocks < most_count }
     requires rounds { marks.old.round ≡ length labels.old.blocks }
     requires empty { frontier.old ≡ [] }
     ensures block { OnOk result (AddsBlock adjacency.now source labels.old labels.new) }
