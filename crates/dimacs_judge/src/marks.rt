@@ -112,7 +112,7 @@ pub(crate) fn marked_blocks_hold<N: Network>(
     for i in 0..blocks.len() {
         let block = &blocks[i];
         test_weights_for(network, block, &mut weights)?;
-        link_for(alloc, network, block, &mut least)?;
+        link_for(alloc, network, labels, block, &mut least)?;
         marked_block_holds(network, block, i as u32 + 1, &least, &mut marks)?;
     }
     Ok(())
@@ -145,6 +145,7 @@ fn test_weights_for<N: Network>(
 fn link_for<N: Network>(
     alloc: Global,
     network: &N,
+    labels: &Labels,
     block: &Block,
     least: &mut Option<LeastArcs>,
 ) -> Result<(), Memory>
@@ -152,9 +153,18 @@ fn link_for<N: Network>(
     ensures { IfSome least.new (AreLeast (N.list network.now)) }
 {
     if least.is_none() && labels_few(block, network) {
-        *least = Some(LeastArcs::new(alloc, network)?);
+        *least = Some(LeastArcs::new(alloc, network, count(labels))?);
     }
     Ok(())
+}
+
+/// How many nodes all blocks label, their sources among them.
+fn count(labels: &Labels) -> usize {
+    let mut count = 0usize;
+    for block in labels.blocks() {
+        count = count.saturating_add(block.labels().len()).saturating_add(1);
+    }
+    count
 }
 
 /// The tests of one block but that of the weights: first its labels, then the arcs.
