@@ -1,6 +1,7 @@
 //! Least flows that are made.
 
 use crate::checks::same;
+use crate::tables::{case, cell, number, rows};
 use dimacs_instance::{ArcView, ForwardStar, MinInstance, read_min};
 use dimacs_judge::{Verdict, judge_infeasible, judge_min};
 use dimacs_lines::MemorySource;
@@ -43,13 +44,9 @@ as much as fits on an arc | p min 3 2; n 1 9223372036854775807; n 3 -92233720368
 
 type Instance = MinInstance<ForwardStar<ArcView>>;
 
-/// An instance, of lines parted by semicolons.
 fn instance(alloc: Global, lines: &str) -> Result<Instance, Fail> {
-    let mut text = Vec::new(alloc);
-    for byte in lines.bytes() {
-        text.push(if byte == b';' { b'\n' } else { byte })?;
-    }
-    let instance = read_min(alloc, &mut MemorySource::new(&text))?;
+    let text = case(alloc, lines)?;
+    let instance = read_min(alloc, &mut MemorySource::new(text.as_bytes()))?;
     Ok(instance)
 }
 
@@ -78,16 +75,11 @@ fn told_yes(alloc: Global, verdict: &Verdict) -> Result<String, Fail> {
 
 /// Whether the case of a line is solved as it says.
 fn solves(rt: &impl Abort, alloc: Global, line: &str) -> Result<(), Fail> {
-    let mut parts = line.split(" | ");
-    let name = parts.next().unwrap_or_default();
-    let instance = instance(alloc, parts.next().unwrap_or_default())?;
-    let limit = parts
-        .next()
-        .unwrap_or_default()
-        .parse::<u64>()
-        .unwrap_or(99);
-    let wanted = parts.next().unwrap_or_default();
-    let answer = solve_min(alloc, &instance, limit)?;
+    let (name, rest) = cell(rt, line);
+    let (lines, rest) = cell(rt, rest);
+    let (limit, wanted) = cell(rt, rest);
+    let instance = instance(alloc, lines)?;
+    let answer = solve_min(alloc, &instance, number(rt, limit))?;
     let said = told(alloc, &instance, answer)?;
     same(rt, name, said.as_str(), wanted);
     Ok(())
@@ -95,7 +87,7 @@ fn solves(rt: &impl Abort, alloc: Global, line: &str) -> Result<(), Fail> {
 
 #[test]
 fn least_flows_are_made(rt: HostRuntime) -> Result<(), Fail> {
-    for line in CASES.lines() {
+    for line in rows(&rt, CASES, 29) {
         solves(&rt, rt.alloc(), line)?;
     }
     Ok(())

@@ -10,3 +10,5 @@ mod least;
 mod maximum;
 #[cfg(test)]
 mod paths;
+#[cfg(test)]
+mod tables;

@@ -1,6 +1,7 @@
 //! Maximum flows: whether a flow is one, and that one is made.
 
 use crate::checks::{holds, same};
+use crate::tables::{case, cell, number, rows};
 use dimacs_claims::Cut;
 use dimacs_decide::{Decision, decide_max};
 use dimacs_instance::{CapacityArc, ForwardStar, MaxInstance, Network, read_max};
@@ -49,22 +50,18 @@ the better flow is made the best before the second question | p max 8 11; n 1 s;
 
 type Instance = MaxInstance<ForwardStar<CapacityArc>>;
 
-/// An instance, of lines parted by semicolons.
 fn instance(alloc: Global, lines: &str) -> Result<Instance, Fail> {
-    let mut text = Vec::new(alloc);
-    for byte in lines.bytes() {
-        text.push(if byte == b';' { b'\n' } else { byte })?;
-    }
-    let instance = read_max(alloc, &mut MemorySource::new(&text))?;
+    let text = case(alloc, lines)?;
+    let instance = read_max(alloc, &mut MemorySource::new(text.as_bytes()))?;
     Ok(instance)
 }
 
-/// The numbers of a line.
-fn numbers(alloc: Global, line: &str) -> Result<Vec<i64>, Fail> {
+/// The numbers in a cell. Where a word is none, the test stops there.
+fn numbers(rt: &impl Abort, alloc: Global, cell: &str) -> Result<Vec<i64>, Fail> {
     let mut numbers = Vec::new(alloc);
-    for word in line.split(" ") {
-        if let Ok(number) = word.parse::<i64>() {
-            numbers.push(number)?;
+    for word in cell.split(" ") {
+        if !word.is_empty() {
+            numbers.push(word.parse::<i64>().expect(rt, word))?;
         }
     }
     Ok(numbers)
@@ -85,24 +82,26 @@ fn flow(alloc: Global, arcs: u32, amounts: &[i64]) -> Result<Flow, Fail> {
 
 /// Whether it is decided of the flow of a line what the line says.
 fn decides(rt: &impl Abort, alloc: Global, line: &str) -> Result<(), Fail> {
-    let mut parts = line.split(" | ");
-    let name = parts.next().unwrap_or_default();
-    let instance = instance(alloc, parts.next().unwrap_or_default())?;
-    let amounts = numbers(alloc, parts.next().unwrap_or_default())?;
-    let wanted = parts.next().unwrap_or_default();
+    let (name, rest) = cell(rt, line);
+    let (lines, rest) = cell(rt, rest);
+    let (amounts, wanted) = cell(rt, rest);
+    let (word, wanted) = wanted.split_once(" ").unwrap_or((wanted, ""));
+    let instance = instance(alloc, lines)?;
+    let amounts = numbers(rt, alloc, amounts)?;
+    let wanted = numbers(rt, alloc, wanted)?;
     let flow = flow(alloc, instance.network().arcs(), &amounts)?;
+    same(rt, name, amounts.len(), flow.len());
     assert!(rt; flow.len() == instance.network().arcs() as usize, "{name}");
     feasible_max(alloc, &instance, &flow)?;
     let decision = decide_max(alloc, &instance, &flow)?;
-    let numbers = numbers(alloc, wanted)?;
     match decision {
         Decision::Optimal(cut) => {
-            holds(rt, name, wanted.starts_with("cut"));
-            has_nodes(rt, name, &cut, &numbers);
+            same(rt, name, word, "cut");
+            has_nodes(rt, name, &cut, &wanted);
         }
         Decision::Better(better) => {
-            holds(rt, name, wanted.starts_with("flow"));
-            has_amounts(rt, name, &better, &numbers);
+            same(rt, name, word, "flow");
+            has_amounts(rt, name, &better, &wanted);
         }
     }
     Ok(())
@@ -144,16 +143,11 @@ fn told(alloc: Global, instance: &Instance, answer: MaxAnswer) -> Result<String,
 
 /// Whether the instance of a line is solved as it says.
 fn solves(rt: &impl Abort, alloc: Global, line: &str) -> Result<(), Fail> {
-    let mut parts = line.split(" | ");
-    let name = parts.next().unwrap_or_default();
-    let instance = instance(alloc, parts.next().unwrap_or_default())?;
-    let limit = parts
-        .next()
-        .unwrap_or_default()
-        .parse::<u64>()
-        .unwrap_or(99);
-    let wanted = parts.next().unwrap_or_default();
-    let answer = solve_max(alloc, &instance, limit)?;
+    let (name, rest) = cell(rt, line);
+    let (lines, rest) = cell(rt, rest);
+    let (limit, wanted) = cell(rt, rest);
+    let instance = instance(alloc, lines)?;
+    let answer = solve_max(alloc, &instance, number(rt, limit))?;
     let said = told(alloc, &instance, answer)?;
     same(rt, name, said.as_str(), wanted);
     Ok(())
@@ -161,7 +155,7 @@ fn solves(rt: &impl Abort, alloc: Global, line: &str) -> Result<(), Fail> {
 
 #[test]
 fn flows_are_decided(rt: HostRuntime) -> Result<(), Fail> {
-    for line in FLOWS.lines() {
+    for line in rows(&rt, FLOWS, 12) {
         decides(&rt, rt.alloc(), line)?;
     }
     Ok(())
@@ -169,7 +163,7 @@ fn flows_are_decided(rt: HostRuntime) -> Result<(), Fail> {
 
 #[test]
 fn maximum_flows_are_made(rt: HostRuntime) -> Result<(), Fail> {
-    for line in INSTANCES.lines() {
+    for line in rows(&rt, INSTANCES, 17) {
         solves(&rt, rt.alloc(), line)?;
     }
     Ok(())

@@ -1,6 +1,7 @@
 //! Labels that are made.
 
 use crate::checks::same;
+use crate::tables::{case, cell, rows};
 use dimacs_claims::{Labels, write_labels};
 use dimacs_instance::{read_graph, read_queries};
 use dimacs_judge::judge_paths;
@@ -34,15 +35,6 @@ the least product past 64 bits | p sp 3 2;a 1 2 6148914691236517206;a 2 3 614891
 the greatest weights on the longest walk | p sp 5 4;a 4 5 9223372036854775807;a 3 4 9223372036854775807;a 2 3 9223372036854775807;a 1 2 9223372036854775807 | p aux sp ss 1;s 1 | p dist 5 1;t 1 4;d 2 9223372036854775807 1;d 3 18446744073709551614 2;d 4 27670116110564327421 3;d 5 36893488147419103228 4;
 the greatest IDs | p sp 134217728 2;a 134217728 1 5;a 1 134217727 0 | p aux sp ss 1;s 134217728 | p dist 134217728 1;t 134217728 2;d 1 5 134217728;d 134217727 5 1;";
 
-/// A text, of lines parted by semicolons.
-fn text(alloc: Global, lines: &str) -> Result<Vec<u8>, Fail> {
-    let mut text = Vec::new(alloc);
-    for byte in lines.bytes() {
-        text.push(if byte == b';' { b'\n' } else { byte })?;
-    }
-    Ok(text)
-}
-
 /// The text of labels.
 fn written(alloc: Global, labels: &Labels) -> Result<MemorySink, Fail> {
     let mut sink = MemorySink::new(alloc);
@@ -52,19 +44,19 @@ fn written(alloc: Global, labels: &Labels) -> Result<MemorySink, Fail> {
 
 /// Whether the case of a line is solved as it says, and labels that are made are judged to be distances.
 fn solves(rt: &impl Abort, alloc: Global, line: &str) -> Result<(), Fail> {
-    let mut parts = line.split(" | ");
-    let name = parts.next().unwrap_or_default();
-    let graph_text = text(alloc, parts.next().unwrap_or_default())?;
-    let query_text = text(alloc, parts.next().unwrap_or_default())?;
-    let wanted = parts.next().unwrap_or_default();
-    let graph = read_graph(alloc, &mut MemorySource::new(&graph_text))?;
-    let queries = read_queries(alloc, &mut MemorySource::new(&query_text))?;
+    let (name, rest) = cell(rt, line);
+    let (graph, rest) = cell(rt, rest);
+    let (queries, wanted) = cell(rt, rest);
+    let graph_text = case(alloc, graph)?;
+    let query_text = case(alloc, queries)?;
+    let graph = read_graph(alloc, &mut MemorySource::new(graph_text.as_bytes()))?;
+    let queries = read_queries(alloc, &mut MemorySource::new(query_text.as_bytes()))?;
     match solve_paths(alloc, &graph, &queries) {
         Ok(labels) => {
             judge_paths(alloc, &graph, &queries, &labels)?;
             let sink = written(alloc, &labels)?;
-            let wanted_text = text(alloc, wanted)?;
-            same(rt, name, sink.bytes(), wanted_text.as_slice());
+            let wanted = case(alloc, wanted)?;
+            same(rt, name, sink.bytes(), wanted.as_bytes());
         }
         Err(error) => {
             let said = format!(in alloc; "{error:?}")?;
@@ -76,7 +68,7 @@ fn solves(rt: &impl Abort, alloc: Global, line: &str) -> Result<(), Fail> {
 
 #[test]
 fn labels_are_made(rt: HostRuntime) -> Result<(), Fail> {
-    for line in CASES.lines() {
+    for line in rows(&rt, CASES, 20) {
         solves(&rt, rt.alloc(), line)?;
     }
     Ok(())
