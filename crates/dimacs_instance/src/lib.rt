@@ -4,6 +4,7 @@
 //! alone, so a network may keep its arcs as it likes.
 #![tactic(auto)]
 
+mod arc_index;
 mod gather;
 mod graph;
 mod indexed;
@@ -13,10 +14,12 @@ mod min;
 mod network;
 mod plain;
 mod queries;
+mod room;
 mod star;
 mod star_order;
 mod star_starts;
 
+pub use arc_index::ArcIndex;
 pub use graph::{Graph, PlainGraphReading, read_plain_graph, write_graph};
 pub use indexed::{GraphReading, MaxReading, MinReading, read_graph, read_max, read_min};
 pub use links::{Links, Side};

@@ -31,6 +31,11 @@ pub trait Network: Drop {
         requires { i < length (list self.now) }
         ensures { slice_get (list self.now) i ≡ Some result };
 
+    /// Whether `find` looks an arc up in an index and doesn't go over all arcs. A hint: no answer depends on it.
+    fn is_indexed(&self) -> bool {
+        false
+    }
+
     /// The index of the arc from `tail` to `head` that has `k` such arcs before it.
     fn find(&self, tail: u32, head: u32, k: u32) -> Option<u32>
         ensures { IsKthBetween (list self.now) tail head k result };

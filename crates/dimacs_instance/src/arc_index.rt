@@ -1,0 +1,61 @@
+//! An index of the arcs of a network, by their ends.
+
+ghost use Rattle.std.specs.Prelude.{IfOk};
+ghost use Rattle.dimacs_instance.specs.Arcs.{IsKthBetween};
+ghost use Rattle.dimacs_instance.specs.Star.{HasRoom, Indexes};
+
+use crate::network::Network;
+use crate::star_order::{OutArc, put_in_order};
+use crate::star_starts::TailStarts;
+use dimacs_lines::Memory;
+use std::alloc::Global;
+
+/// A forward star apart from its network: the arcs out of each node stand together, by head. All its room is made at
+/// once, 12 bytes an arc at most, 8 for the order and 4 for the starts. No page of it is written until it is filled, which
+/// takes no more memory.
+#[derive(Drop)]
+pub struct ArcIndex {
+    /// All arcs, by tail, then head, then index.
+    pub(crate) outs: Vec<OutArc>,
+    pub(crate) starts: TailStarts,
+}
+
+impl ArcIndex {
+    /// Room for the arcs of a network, with nothing in it.
+    pub fn room<N: Network>(alloc: Global, network: &N) -> Result<ArcIndex, Memory>
+        ensures { IfOk result (HasRoom (N.node_count network.now) (N.list network.now)) }
+    {
+        Ok(ArcIndex {
+            outs: Vec::with_capacity(alloc, network.arcs() as usize)?,
+            starts: TailStarts::room(alloc, network)?,
+        })
+    }
+
+    /// Orders the arcs of the network that it has room for.
+    #[inline(never)]
+    pub fn fill<N: Network>(&mut self, network: &N)
+        requires { HasRoom (N.node_count network.now) (N.list network.now) self.old }
+        ensures { Indexes (N.node_count network.now) (N.list network.now) self.new }
+    {
+        put_in_order(network, &mut self.starts, &mut self.outs);
+        self.starts.fill(network, &self.outs);
+    }
+
+    /// As `Network::find` of the network that it was filled for: where the arcs of the tail begin is looked up, and they
+    /// are halved by head.
+    #[inline(always)]
+    pub fn find<N: Network>(&self, network: &N, tail: u32, head: u32, k: u32) -> Option<u32>
+        requires { Indexes (N.node_count network.now) (N.list network.now) self.now }
+        ensures { IsKthBetween (N.list network.now) tail head k result }
+    {
+        let (from, to) = self.starts.range(network, &self.outs, tail);
+        let leaving = &self.outs[from..to];
+        let first = leaving.partition_point(|out| out.head < head);
+        let out = leaving.get(first + k as usize)?;
+        if out.head == head {
+            Some(out.index)
+        } else {
+            None
+        }
+    }
+}
