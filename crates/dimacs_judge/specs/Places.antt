@@ -1,7 +1,9 @@
 -- A flow while entries are put on their arcs, one after another.
-use Rattle.std.specs.Prelude.{ℕ, zero, suc, ◌≡◌, ◌<◌, ◌≤◌, ◌^◌, Bool, false, List, length, take, get_or, count_by, ℤ, Option, None, Some, Result, Ok, Err, ◌++◌, ◌∷◌, []}
+use Rattle.std.specs.Prelude.{ℕ, zero, suc, ◌≡◌, ◌<◌, ◌≤◌, ◌^◌, Bool, true, false, List, length, take, get_or, count_by, ℤ, Option, None, Some, Result, Ok, Err, ◌++◌, ◌∷◌, []}
 use Rattle.dimacs_instance.specs.declared.network.ArcView.{ArcView}
+use Rattle.dimacs_instance.specs.declared.arc_index.ArcIndex.{ArcIndex}
 use Rattle.dimacs_instance.specs.Arcs.{joins, IsKthBetween}
+use Rattle.dimacs_instance.specs.Star.{HasRoom, Indexes}
 use Rattle.dimacs_claims.specs.declared.solution.Entry.{Entry}
 use Rattle.dimacs_records.specs.declared.reasons.Reason.{Reason}
 use Rattle.dimacs_judge.specs.declared.verdict.Where.{Where}
@@ -59,3 +61,9 @@ PutsEntry arcs before e (Err reason) p = Clear (entry_row arcs before) × EntryF
 abbrev pub TellsFlow : List ArcView → List Entry → Result (List ℤ) (Where × Reason) → Type 0
 TellsFlow arcs entries (Ok x) = Carries arcs entries x
 TellsFlow arcs entries (Err refusal) = FirstOfRow (entry_row arcs entries) refusal.0 refusal.1
+
+-- an index of these arcs, if there is one: filled, or with room for them
+abbrev pub IsIndexFor : ℕ → List ArcView → Bool → Option ArcIndex → Type 0
+IsIndexFor nodes arcs filled None = Unit {0}
+IsIndexFor nodes arcs true (Some index) = Indexes nodes arcs index
+IsIndexFor nodes arcs false (Some index) = HasRoom nodes arcs index

@@ -5,14 +5,14 @@ ghost use Rattle.dimacs_claims.specs.declared.solution.Entry.{Entry};
 ghost use Rattle.dimacs_instance.specs.declared.network.ArcView.{ArcView};
 ghost use Rattle.dimacs_instance.specs.Arcs.{joins, IsKthBetween};
 ghost use Rattle.dimacs_judge.specs.Claims.{Carries, entry_row};
-ghost use Rattle.dimacs_judge.specs.Places.{ArePlaced, HavePlaced, PutsEntry, TellsFlow, came_between};
+ghost use Rattle.dimacs_judge.specs.Places.{ArePlaced, HavePlaced, IsIndexFor, PutsEntry, TellsFlow, came_between};
 ghost use Rattle.dimacs_judge.specs.Rows.{arc_at};
 ghost use Rattle.dimacs_judge.specs.Tests.{FirstOfRow};
 
 use crate::flow::Flow;
 use crate::verdict::Where;
 use dimacs_claims::{Entry, Place};
-use dimacs_instance::Network;
+use dimacs_instance::{ArcIndex, Network};
 use dimacs_lines::Memory;
 use dimacs_records::Reason;
 use std::alloc::Global;
@@ -32,19 +32,21 @@ pub struct FlowPlaces<'a, N: Network> {
     /// How many entries came before the first out of order.
     in_order: u32,
     out_of_order: bool,
+    /// An index of the arcs, where the network has none of its own. It is filled once an entry comes out of order.
+    index: Option<ArcIndex>,
     /// The first entry that fails. Nothing is counted or put after it.
     refusal: Option<(Where, Reason)>,
 }
 
 impl<'a, N: Network> Model for FlowPlaces<'a, N> {
     ghost use Rattle.dimacs_judge.specs.Claims.{Carries, entry_row};
-    ghost use Rattle.dimacs_judge.specs.Places.{PlacesValue, HaveRoom};
+    ghost use Rattle.dimacs_judge.specs.Places.{PlacesValue, HaveRoom, IsIndexFor};
 
     ghost Value = { PlacesValue };
 
     ghost view = { λ p. record { arcs = N.list p.network.now; flow = p.flow; counts = p.counts.items; in_order = p.in_order; out_of_order = p.out_of_order; refusal = p.refusal } };
 
-    ghost invariant = { λ p. HaveRoom (record { arcs = N.list p.network.now; flow = p.flow; counts = p.counts.items; in_order = p.in_order; out_of_order = p.out_of_order; refusal = p.refusal }) };
+    ghost invariant = { λ p. HaveRoom (record { arcs = N.list p.network.now; flow = p.flow; counts = p.counts.items; in_order = p.in_order; out_of_order = p.out_of_order; refusal = p.refusal }) × IsIndexFor (N.node_count p.network.now) (N.list p.network.now) p.out_of_order p.index };
 }
 
 impl<'a, N: Network> FlowPlaces<'a, N> {
@@ -60,6 +62,7 @@ impl<'a, N: Network> FlowPlaces<'a, N> {
             counts: vec![in alloc; 0u32; arcs as usize]?,
             in_order: 0,
             out_of_order: false,
+            index: room_for_index(alloc, network)?,
             refusal: None,
         })
     }
@@ -117,8 +120,19 @@ impl<'a, N: Network> FlowPlaces<'a, N> {
             self.in_order += 1;
             return Ok(());
         }
-        self.out_of_order = true;
+        self.leave_order();
         self.put_by_search(entry)
+    }
+
+    /// From here on entries are searched. The first time, an index is filled for it.
+    fn leave_order(&mut self)
+        ensures { self.new ≡ record self.old { out_of_order = true } }
+    {
+        match &mut self.index {
+            Some(index) if !self.out_of_order => index.fill(self.network),
+            _ => {}
+        }
+        self.out_of_order = true;
     }
 
     /// Whether all entries came in the order of the arcs, and this one has the ends of the next arc.
@@ -141,7 +155,7 @@ impl<'a, N: Network> FlowPlaces<'a, N> {
         ensures refusal { self.new.refusal ≡ None }
         ensures puts { (before : List Entry) → HavePlaced self.old before → PutsEntry self.old.arcs before entry result self.new }
     {
-        let Some(first) = self.network.find(entry.tail, entry.head, 0) else {
+        let Some(first) = self.find(entry, 0) else {
             return Err(Reason::UnknownArc);
         };
         let came = self.came(entry, first);
@@ -165,7 +179,21 @@ impl<'a, N: Network> FlowPlaces<'a, N> {
         if self.in_order <= first {
             return 0;
         }
-        arcs_below(self.network, entry.tail, entry.head, self.in_order)
+        self.arcs_below(entry, self.in_order)
+    }
+
+    /// How many of the arcs below `end` have the ends of this entry, where at least one does.
+    fn arcs_below(&self, entry: Entry, end: u32) -> u32
+        requires { 1 ≤ count_by (joins entry.tail entry.head) (take end self.now.arcs) }
+        ensures { result ≡ count_by (joins entry.tail entry.head) (take end self.now.arcs) }
+    {
+        for k in 1..self.network.arcs() {
+            match self.find(entry, k) {
+                Some(arc) if arc < end => {}
+                _ => return k,
+            }
+        }
+        self.network.arcs()
     }
 
     /// The k-th arc with the ends of this entry, of which the first is at hand.
@@ -177,7 +205,20 @@ impl<'a, N: Network> FlowPlaces<'a, N> {
         if k == 0 {
             Some(first)
         } else {
-            self.network.find(entry.tail, entry.head, k)
+            self.find(entry, k)
+        }
+    }
+
+    /// The k-th arc with the ends of this entry.
+    #[inline(always)]
+    fn find(&self, entry: Entry, k: u32) -> Option<u32>
+        ensures { IsKthBetween self.now.arcs entry.tail entry.head k result }
+    {
+        match &self.index {
+            Some(index) if self.out_of_order => {
+                index.find(self.network, entry.tail, entry.head, k)
+            }
+            _ => self.network.find(entry.tail, entry.head, k),
         }
     }
 }
@@ -202,16 +243,12 @@ impl<'a, N: Network> Place for FlowPlaces<'a, N> {
     }
 }
 
-/// How many of the arcs below `end` go from `tail` to `head`, where at least one does.
-fn arcs_below<N: Network>(network: &N, tail: u32, head: u32, end: u32) -> u32
-    requires { 1 ≤ count_by (joins tail head) (take end (N.list network.now)) }
-    ensures { result ≡ count_by (joins tail head) (take end (N.list network.now)) }
+/// Room for an index of the arcs of a network, where it has none of its own.
+fn room_for_index<N: Network>(alloc: Global, network: &N) -> Result<Option<ArcIndex>, Memory>
+    ensures { IfOk result (λ index. IsIndexFor (N.node_count network.now) (N.list network.now) false index) }
 {
-    for k in 1..network.arcs() {
-        match network.find(tail, head, k) {
-            Some(arc) if arc < end => {}
-            _ => return k,
-        }
+    if network.is_indexed() {
+        return Ok(None);
     }
-    network.arcs()
+    Ok(Some(ArcIndex::room(alloc, network)?))
 }

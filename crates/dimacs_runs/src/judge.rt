@@ -69,10 +69,9 @@ fn tell_max<P: Source, Q: Source, R: Source>(
         Ok(instance) => instance,
         Err(unread) => return unread.told(),
     };
-    let indexed = instance.indexed(alloc)?;
-    let places = FlowPlaces::new(alloc, indexed.network())?;
+    let places = FlowPlaces::new(alloc, instance.network())?;
     match read_placed::<_, Cut, Q, R>(alloc, places, claim, certificate) {
-        Ok((placed, cut)) => answer_told(judge_max_placed(alloc, &indexed, &placed, &cut)),
+        Ok((placed, cut)) => answer_told(judge_max_placed(alloc, &instance, &placed, &cut)),
         Err(unread) => unread.told(),
     }
 }
@@ -93,12 +92,11 @@ fn tell_min<P: Source, Q: Source, R: Source>(
         Ok(instance) => instance,
         Err(unread) => return unread.told(),
     };
-    let indexed = instance.indexed(alloc)?;
-    let places = FlowPlaces::new(alloc, indexed.network())?;
+    let places = FlowPlaces::new(alloc, instance.network())?;
     match read_placed::<_, Potentials, Q, R>(alloc, places, claim, certificate) {
         Ok((placed, potentials)) => answer_told(judge_min_placed(
             alloc,
-            &indexed,
+            &instance,
             &placed,
             &potentials,
         )),

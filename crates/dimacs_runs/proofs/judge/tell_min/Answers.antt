@@ -16,7 +16,7 @@ returns-in-Ok-read_placed-clause-told g c = λ a b d first second third.
     let k = c.in-Ok-read_placed.potentials in
     let (s, placed, solution, certificate) = c.in-Ok-read_placed.ensures.reads b d second third in
     rw c.answer_told.ensures (three_values (says kinds.Min SpellsMin a) (says kinds.Solution SpellsSolution b) (says kinds.Potentials SpellsPotentials d) (λ i s k. VerdictOr (ShowsLeast i s k) (min_rows i s k) (min_line s.value)) i s k _ (c.in-Ok.ensures.reads a first) solution certificate
-    (answer_alone (ShowsLeast i s k) (min_rows i s k) _ (min_line s.value) (λ verdict is. ap verdict_lines is) c.judge_min_placed.result (rw c.in_ok-indexed.ensures at (c.judge_min_placed.ensures s placed))))
+    (answer_alone (ShowsLeast i s k) (min_rows i s k) _ (min_line s.value) (λ verdict is. ap verdict_lines is) c.judge_min_placed.result (c.judge_min_placed.ensures s placed)))
 
 -- the instance could not be read
 pub returns-in-Err-clause-told : goal.returns-in-Err-clause-told

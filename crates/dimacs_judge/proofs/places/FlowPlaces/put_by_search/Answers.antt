@@ -7,13 +7,13 @@ use Rattle.dimacs_judge.proofs.places.FlowPlaces.put_by_search.Goals as goal
 
 pub returns-in_default-kth-clause-puts : goal.returns-in_default-kth-clause-puts
 returns-in_default-kth-clause-puts g c = λ before placed.
-    (placed.clear, none_left c.args.self.now before c.args.entry placed c.in-Some.first c.came-came.result (rw (← c.self.view_is) c.in-Some.ensures) c.came-came.ensures c.in_default-kth.ensures)
+    (placed.clear, none_left c.args.self.now before c.args.entry placed c.in-Some.first c.came-came.result c.in-Some.ensures c.came-came.ensures c.in_default-kth.ensures)
 
 pub overflow_add-came : goal.overflow_add-came
 overflow_add-came g c =
     let arcs = g.N.Network.list c.self.inside.network.now in
     let fewer = found_among arcs [] c.args.entry c.came-came.result c.in-Some-kth.arc (rw (← c.self.view_is) at c.in-Some-kth.ensures) in
-    omega (arith, fewer, count_by-le-length (joins c.args.entry.tail c.args.entry.head) arcs, c.self.invariant.few)
+    omega (arith, fewer, count_by-le-length (joins c.args.entry.tail c.args.entry.head) arcs, c.self.invariant.0.few)
 
 pub returns-clause-puts : goal.returns-clause-puts
 returns-clause-puts g c =
@@ -21,5 +21,6 @@ returns-clause-puts g c =
     let found = rw (← c.self.view_is) at c.in-Some-kth.ensures in
     let came = rw (← c.self.view_is) at c.came-came.ensures in
     let searched : c.self.inside.out_of_order ≡ true = rw (← c.self.view_is) at c.requires.searched in
-    let room : c.in-Some.first < length c.self.inside.counts.items = omega (arith, c.in-Some.ensures.0, c.self.invariant.counts) in
-    rw (← c.self.view_is, c.set.ensures, to_z-of_z w64 c.args.entry.flow fits) (λ before placed. found_placed _ before c.args.entry placed searched c.in-Some.first c.came-came.result c.in-Some-kth.arc c.in-Some.ensures came found room)
+    let first = rw (← c.self.view_is) at c.in-Some.ensures in
+    let room : c.in-Some.first < length c.self.inside.counts.items = omega (arith, first.0, c.self.invariant.0.counts) in
+    rw (← c.self.view_is, c.set.ensures, to_z-of_z w64 c.args.entry.flow fits) (λ before placed. found_placed _ before c.args.entry placed searched c.in-Some.first c.came-came.result c.in-Some-kth.arc first came found room)

@@ -6,7 +6,7 @@ use Rattle.dimacs_judge.proofs.places.FlowPlaces.put_on_arc.Goals as goal
 pub overflow_add-self : goal.overflow_add-self
 overflow_add-self g c =
     let next = rw (← c.self.view_is) at (c.if-is_next.ensures refl) in
-    omega (arith, next.1, c.self.invariant.few)
+    omega (arith, next.1, c.self.invariant.0.few)
 
 pub returns-then-is_next-clause-puts : goal.returns-then-is_next-clause-puts
 returns-then-is_next-clause-puts g c =
@@ -15,4 +15,4 @@ returns-then-is_next-clause-puts g c =
     rw (← c.self.view_is, c.set.ensures, to_z-of_z w64 c.args.entry.flow fits) (λ before placed. next_placed _ before c.args.entry placed next.0 next.1 next.2)
 
 pub returns-clause-puts : goal.returns-clause-puts
-returns-clause-puts g c = rw (← c.self.view_is) (λ before placed. c.put_by_search.ensures.puts before (placed_in_any_order _ before c.args.entry placed))
+returns-clause-puts g c = λ before placed. rw c.leave_order.ensures at (c.put_by_search.ensures.puts before (rw c.leave_order.ensures (placed_in_any_order _ before c.args.entry placed)))
