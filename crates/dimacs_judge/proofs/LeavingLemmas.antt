@@ -4,6 +4,8 @@ use Rattle.std.proofs.lemmas.Int.{ints, by_lt_z}
 use Rattle.std.proofs.lemmas.Bool.{cases_lt, cases_order}
 use Rattle.std.proofs.lemmas.List.{get_or_default, get_or-map, length-map}
 use Rattle.std.specs.Option.{is_some}
+use Rattle.std.specs.Result.{is_err, result_err}
+use Rattle.std.specs.Prelude.{Result, Ok, Err}
 use Rattle.dimacs_nodes.specs.declared.node_table.NodeTable.{NodeTable}
 use Rattle.dimacs_nodes.specs.Tables.{value_of}
 use Rattle.dimacs_records.specs.declared.reasons.Reason.{Reason}
@@ -82,20 +84,20 @@ passed_beyond number nodes b marks own a d is are tail beyond = record {
     below : (to : ℤ) → (d +ℤ a.cost) <ℤ to → (d +ℤ a.cost) ≤ℤ to
     below to less = omega (arith, ints, less)
 
--- a single test without a reason to fail
-pub no_reason : (fails : Reason → Type 0) (told : Option Reason) → is_some told ≡ false → TellsReason fails told → (reason : Reason) → ¬ fails reason
-no_reason fails None none tells = tells
-no_reason fails (Some why) none tells = absurd (cc)
+-- a test without a reason to fail
+pub no_reason : {X : Type 0} (fails : Reason → Type 0) (told : Result X Reason) → is_err told ≡ false → TellsReason fails (result_err told) → (reason : Reason) → ¬ fails reason
+no_reason fails (Ok x) none tells = tells
+no_reason fails (Err why) none tells = absurd (cc)
 
 -- after an arc
-module _ (number : ℕ) (a : ArcView) (old new : NodeTable Mark) (passes : MarksArc number a old new) (b : BlockValue) where
+module _ (number : ℕ) (a : ArcView) (old new : NodeTable Mark) (b : BlockValue) (passes : MarksArc b.labels number a old new) where
   pub passed_still : (c : ArcView) → IsPassed b old c → IsPassed b new c
-  passed_still c is = record { holds = is.holds; marked = marks_still number a old new passes b c is.marked }
+  passed_still c is = record { holds = is.holds; marked = marks_still number a old new b passes c is.marked }
 
-  pub passed_this : (arcs : List ArcView) (i : ℕ) → slice_get arcs i ≡ Some a → IsMarked number b old → ((reason : Reason) → ¬ RelaxFails b.radius (marked_dist number (value_of old a.tail)) (marked_dist number (value_of old a.head)) a.cost reason) → IsPassed b new a
+  pub passed_this : (arcs : List ArcView) (i : ℕ) → slice_get arcs i ≡ Some a → IsMarked number b old → ((reason : Reason) → ¬ RelaxFails b.radius (marked_dist b.labels number (value_of old a.tail)) (marked_dist b.labels number (value_of old a.head)) a.cost reason) → IsPassed b new a
   passed_this arcs i here are holds = record {
     holds = rw (← are.labels a.tail, ← are.labels a.head) holds;
-    marked = marks_this number a old new passes arcs b i here are;
+    marked = marks_this number a old new b passes arcs i here are;
   }
 
 -- ---- the arcs of a node

@@ -79,6 +79,7 @@ fn node_passed<N: Network>(
     ensures passed { IsTrue result → ArePassedFrom (N.list network.now) block.now marks.new node }
 {
     let radius = block.radius();
+    let labels = block.labels();
     let mut next = least.last(node);
     while next > 0 {
         let place = next - 1;
@@ -86,7 +87,7 @@ fn node_passed<N: Network>(
         if least.by_weight() && leads_past(radius, from, arc.cost) {
             return true;
         }
-        if pass_arc(arc, radius, number, marks).is_some() {
+        if pass_arc(arc, radius, number, labels, marks).is_err() {
             return false;
         }
         next = least.before(place);

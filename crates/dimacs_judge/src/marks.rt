@@ -1,91 +1,130 @@
 //! Whether the labels of blocks are distances, by one pass over the arcs for each block, or over those that leave its
 //! nodes.
 
-ghost use Rattle.std.specs.Prelude.{◌≡◌, ◌<◌, ◌≤◌, ◌+◌, ◌⊎◌, ◌↔◌, ◌+ℤ◌, ℕ, List, IfSome, OnOk, IsTrue, false, true};
+ghost use Rattle.std.specs.Prelude.{◌≡◌, ◌≢◌, ◌<◌, ◌≤◌, ◌+◌, ◌-◌, ◌^◌, ◌↔◌, ◌+ℤ◌, ℕ, List, get_or, pos, IfSome, IfOk, OnOk, IsTrue, if◌then◌else◌, false, true};
+ghost use Rattle.std.specs.Result.{result_err};
+ghost use Rattle.dimacs_lines.specs.Limits.{most_count, most_nodes};
 ghost use Rattle.dimacs_instance.specs.declared.network.ArcView.{ArcView};
-ghost use Rattle.dimacs_claims.specs.Labels.{AreLabels, BlockValue, IsBlock};
+ghost use Rattle.dimacs_claims.specs.declared.block.Label.{Label};
+ghost use Rattle.dimacs_claims.specs.Labels.{AreLabels, BlockValue, IsBlock, no_label};
 ghost use Rattle.dimacs_nodes.specs.Tables.{blank_of, value_of};
 ghost use Rattle.dimacs_records.specs.Ranges.{IsWide};
 ghost use Rattle.dimacs_judge.specs.CertificateTests.{RelaxFails, distance_rows, label_rows, relax_row, support_row, weight_row};
 ghost use Rattle.dimacs_judge.specs.Leaving.{AreLeast};
-ghost use Rattle.dimacs_judge.specs.Marks.{AreAsTested, AreEarlier, AreMade, AreMadeAlone, AreMadeBelow, AreUnmade, AreWide, IsMarked, MarksArc, dist_of, marked_dist};
-ghost use Rattle.dimacs_judge.specs.Tests.{Clear, TellsAll, TellsReason, TellsRow};
+ghost use Rattle.dimacs_judge.specs.Marks.{AreAsTested, AreEarlier, AreMade, AreMadeAlone, AreMadeBelow, AreUnmade, AreWide, IsMarked, IsTight, MarksArc, dist_of, is_made, marked_dist};
+ghost use Rattle.dimacs_judge.specs.Tests.{Clear, Tells, TellsAll, TellsReason, TellsRow};
 
 use crate::labels::{escape_fault, is_beyond, weights_hold};
 use crate::least_arcs::LeastArcs;
 use crate::leaving::{labels_few, leaving_passed};
 use crate::verdict::{JudgeError, Where};
-use dimacs_claims::{Block, LabelList, Labels};
+use dimacs_claims::{Block, Label, LabelList, Labels};
 use dimacs_instance::{ArcView, Network};
 use dimacs_lines::Memory;
 use dimacs_nodes::NodeTable;
 use dimacs_records::Reason;
 use std::alloc::Global;
 
-/// What a block of labels says of a node.
-///
-/// A distance takes 101 bits with its sign. In three parts it takes 13 bytes, and the mark 24 in place of 32. Two marks
-/// are looked up for each arc, so the smaller they are, the more often the cache has them.
+/// What a block of labels says of a node, in 16 bytes: two marks are looked up for each arc, so the smaller they are, the
+/// more often the cache has them.
 #[derive(Clone, Copy)]
 pub(crate) struct Mark {
-    low: u64,
-    middle: u32,
+    /// The distance where it is less than `FAR`. Else `FAR` and the place of the label, which has the distance.
+    dist: i64,
+    /// The predecessor, until an arc is found that makes the label; then `MADE`.
     pred: u32,
     /// The number of the block, from 1. Other blocks say nothing of the node by this mark.
     block: u32,
-    high: u8,
-    /// Whether an arc was found that makes the label.
-    made: bool,
 }
 
 /// Set by no block.
 const NO_MARK: Mark = Mark {
-    low: 0,
-    middle: 0,
+    dist: 0,
     pred: 0,
     block: 0,
-    high: 0,
-    made: false,
 };
 
-/// Is added to a distance, so that the parts are of a number from 0 on.
-const SHIFT: i128 = 1 << 100;
+/// Past the greatest distance that stands in a mark. Of distances beyond 64 bits below it none does either.
+const FAR: i64 = 1 << 62;
 
-/// Past the greatest low part.
-const LOW_END: u128 = 1 << 64;
-
-/// Past the greatest middle part.
-const MIDDLE_END: u128 = 1 << 32;
+/// The ID of no node.
+const MADE: u32 = u32::MAX;
 
 impl Mark {
-    /// Of a label that no arc was found to make.
-    #[inline(always)]
-    fn of(dist: i128, pred: u32, block: u32) -> Mark
-        requires { IsWide dist }
-        ensures dist { dist_of result ≡ dist }
-        ensures pred { result.pred ≡ pred }
+    /// Of the source, whose label no arc has to make.
+    fn of_source(block: u32) -> Mark
+        ensures dist { (labels : List Label) → dist_of labels result ≡ pos 0 }
         ensures block { result.block ≡ block }
-        ensures unmade { result.made ≡ false }
+        ensures made { is_made result ≡ true }
     {
-        let parts = (dist + SHIFT) as u128;
-        let upper = parts / LOW_END;
         Mark {
-            low: (parts % LOW_END) as u64,
-            middle: (upper % MIDDLE_END) as u32,
-            pred,
+            dist: 0,
+            pred: MADE,
             block,
-            high: (upper / MIDDLE_END) as u8,
-            made: false,
         }
     }
 
+    /// Of the label at this place, which no arc was found to make.
     #[inline(always)]
-    fn dist(self) -> i128
-        ensures { result ≡ dist_of self }
+    fn of(label: Label, place: usize, block: u32) -> Mark
+        requires { place < most_count }
+        ensures dist { (labels : List Label) → get_or labels place no_label ≡ label → dist_of labels result ≡ label.dist }
+        ensures pred { result.pred ≡ label.pred }
+        ensures block { result.block ≡ block }
     {
-        let upper = u128::from(self.high) * MIDDLE_END + u128::from(self.middle);
-        let parts = upper * LOW_END + u128::from(self.low);
-        parts as i128 - SHIFT
+        let dist = match i64::try_from(label.dist) {
+            Ok(dist) if dist < FAR => dist,
+            _ => FAR + place as i64,
+        };
+        Mark {
+            dist,
+            pred: label.pred,
+            block,
+        }
+    }
+
+    /// Whether an arc was found that makes the label.
+    #[inline(always)]
+    fn is_made(self) -> bool
+        ensures { result ≡ is_made self }
+    {
+        self.pred == MADE
+    }
+
+    /// The same, but made where this is so.
+    #[inline(always)]
+    fn made_if(self, made: bool) -> Mark
+        ensures dist { result.dist ≡ self.dist }
+        ensures block { result.block ≡ self.block }
+        ensures pred { result.pred ≡ (if made then 2 ^ 32 - 1 else self.pred) }
+    {
+        let pred = if made { MADE } else { self.pred };
+        Mark { pred, ..self }
+    }
+
+    /// Of the label with this mark in a block of these labels.
+    #[inline(always)]
+    fn dist(self, labels: &LabelList) -> i128
+        ensures { result ≡ dist_of labels.now self }
+    {
+        if self.dist < FAR {
+            i128::from(self.dist)
+        } else {
+            far_dist(labels, (self.dist - FAR).unsigned_abs() as usize)
+        }
+    }
+}
+
+/// The distance of the label at this place, where there is one.
+#[cold]
+#[inline(never)]
+fn far_dist(labels: &LabelList, place: usize) -> i128
+    ensures { result ≡ (get_or labels.now place no_label).dist }
+{
+    if place < labels.len() {
+        labels.at(place).dist
+    } else {
+        0
     }
 }
 
@@ -175,7 +214,7 @@ fn marked_block_holds<N: Network>(
     least: &Option<LeastArcs>,
     marks: &mut NodeTable<Mark>,
 ) -> Result<(), JudgeError>
-    requires lawful { (nodes : ℕ) × IsBlock nodes block.now }
+    requires lawful { (nodes : ℕ) × (nodes ≤ most_nodes) × IsBlock nodes block.now }
     requires number { 1 ≤ number }
     requires least { IfSome least.now (AreLeast (N.list network.now)) }
     requires earlier { AreEarlier number marks.old }
@@ -183,30 +222,28 @@ fn marked_block_holds<N: Network>(
     ensures earlier { OnOk result (AreEarlier (number + 1) marks.new) }
 {
     mark_labels(block, number, marks)?;
-    let relaxed = block_passed(network, block, number, least, marks);
-    labels_made(block.labels(), marks)?;
-    relaxed?;
+    block_passed(network, block, number, least, marks)?;
     Ok(())
 }
 
 /// Marks the nodes that a block labels.
 fn mark_labels(block: &Block, number: u32, marks: &mut NodeTable<Mark>) -> Result<(), Memory>
-    requires lawful { (nodes : ℕ) × IsBlock nodes block.now }
+    requires lawful { (nodes : ℕ) × (nodes ≤ most_nodes) × IsBlock nodes block.now }
     requires earlier { AreEarlier number marks.old }
     ensures marked { OnOk result (IsMarked number block.now marks.new) }
     ensures unmade { OnOk result (AreUnmade block.now marks.new) }
 {
-    marks.set(block.source(), Mark::of(0, 0, number))?;
+    marks.set(block.source(), Mark::of_source(number))?;
     let labels = block.labels();
     for i in 0..labels.len() {
         let label = labels.at(i);
-        marks.set(label.id, Mark::of(label.dist, label.pred, number))?;
+        marks.set(label.id, Mark::of(label, i, number))?;
     }
     Ok(())
 }
 
-/// Marks the labels that arcs make, and tells the first arc that fails: by the least arcs that leave labelled nodes where
-/// the block labels few and none fails, else by all.
+/// Marks the labels that arcs make, and makes the tests: by the least arcs that leave labelled nodes where the block labels
+/// few and none fails, else by all.
 fn block_passed<N: Network>(
     network: &N,
     block: &Block,
@@ -220,11 +257,10 @@ fn block_passed<N: Network>(
     requires marked { IsMarked number block.now marks.old }
     requires unmade { AreUnmade block.now marks.old }
     ensures marked { IsMarked number block.now marks.new }
-    ensures made { AreMade (N.list network.now) block.now marks.new }
-    ensures relaxed { TellsRow (relax_row (N.list network.now) block.now) result }
+    ensures tests { Tells (distance_rows (N.list network.now) block.now) result }
 {
     if few_passed(network, block, number, least, marks) {
-        return Ok(());
+        return labels_made(block.labels(), marks);
     }
     arcs_passed(network, block, number, marks)
 }
@@ -255,8 +291,9 @@ fn few_passed<N: Network>(
     }
 }
 
-/// Marks the labels that arcs make, and tells the first arc with a labelled tail whose head has no label, and isn't past
-/// the radius, or a label that is too great.
+/// Marks the labels that arcs make, and tells the first label that none makes, else the first arc with a labelled tail whose
+/// head has no label, and isn't past the radius, or a label that is too great. The labels are looked up again only where
+/// one of them wasn't counted as made.
 fn arcs_passed<N: Network>(
     network: &N,
     block: &Block,
@@ -268,15 +305,22 @@ fn arcs_passed<N: Network>(
     requires marked { IsMarked number block.now marks.old }
     requires alone { AreMadeAlone (N.list network.now) block.now marks.old }
     ensures marked { IsMarked number block.now marks.new }
-    ensures made { AreMade (N.list network.now) block.now marks.new }
-    ensures relaxed { TellsRow (relax_row (N.list network.now) block.now) result }
+    ensures tests { Tells (distance_rows (N.list network.now) block.now) result }
 {
     let radius = block.radius();
+    let labels = block.labels();
+    let mut count = 0usize;
     for i in 0..network.arcs() {
-        if let Some(reason) = pass_arc(network.arc(i), radius, number, marks) {
-            rest_passed(network, block, i + 1, number, marks);
-            return Err((Where::Arc(i + 1), reason));
+        match pass_arc(network.arc(i), radius, number, labels, marks) {
+            Ok(made) => count += usize::from(made),
+            Err(reason) => {
+                rest_passed(network, block, i + 1, number, marks);
+                return labels_made(labels, marks).and(Err((Where::Arc(i + 1), reason)));
+            }
         }
+    }
+    if count < labels.len() {
+        return labels_made(labels, marks);
     }
     Ok(())
 }
@@ -300,63 +344,71 @@ fn rest_passed<N: Network>(
     ensures made { AreMade (N.list network.now) block.now marks.new }
 {
     let radius = block.radius();
+    let labels = block.labels();
     for i in from..network.arcs() {
-        pass_arc(network.arc(i), radius, number, marks);
+        let _passed = pass_arc(network.arc(i), radius, number, labels, marks);
     }
 }
 
-/// Looks the head up only where the tail has a label, and marks it where the arc makes its label.
+/// Looks the head up only where the tail has a label, and marks it where the arc makes its label. Tells whether it did, as
+/// no arc before it.
 #[inline(always)]
 pub(crate) fn pass_arc(
     arc: ArcView,
     radius: Option<i128>,
     number: u32,
+    labels: &LabelList,
     marks: &mut NodeTable<Mark>,
-) -> Option<Reason>
+) -> Result<bool, Reason>
     requires blank { (blank_of marks.old).block < number }
-    requires wide { AreWide number marks.old }
-    ensures told { TellsReason (RelaxFails radius (marked_dist number (value_of marks.old arc.tail)) (marked_dist number (value_of marks.old arc.head)) arc.cost) result }
-    ensures marks { MarksArc number arc marks.old marks.new }
+    requires wide { AreWide labels.now number marks.old }
+    ensures told { TellsReason (RelaxFails radius (marked_dist labels.now number (value_of marks.old arc.tail)) (marked_dist labels.now number (value_of marks.old arc.head)) arc.cost) (result_err result) }
+    ensures marks { MarksArc labels.now number arc marks.old marks.new }
+    ensures made { IfOk result (λ made. IsTrue made → IsTight labels.now number arc marks.old) }
 {
-    let from = distance_by(marks.get(arc.tail), number)?;
+    let Some(from) = distance_by(marks.get(arc.tail), number, labels) else {
+        return Ok(false);
+    };
     let head = marks.get(arc.head);
-    let Some(to) = distance_by(head, number) else {
-        return escape_fault(radius, from, arc.cost);
+    let Some(to) = distance_by(head, number, labels) else {
+        return match escape_fault(radius, from, arc.cost) {
+            Some(reason) => Err(reason),
+            None => Ok(false),
+        };
     };
     if is_beyond(to, from, arc.cost) {
-        return Some(Reason::NotShortest);
+        return Err(Reason::NotShortest);
     }
     // Put in any case: a branch would often be foretold wrongly, since two of five arcs of a road graph make a label.
-    let made = made_with(arc, from, to, head);
-    marks.put(arc.head, Mark { made, ..head });
-    None
+    let made = makes(arc, from, to, head.pred);
+    marks.put(arc.head, head.made_if(made));
+    Ok(made)
 }
 
-/// Whether the arc makes the label of its head, or one before it did.
-#[inline(always)]
-fn made_with(arc: ArcView, from: i128, to: i128, head: Mark) -> bool
-    requires { IsWide from }
-    ensures { IsTrue result ↔ ((head.made ≡ true) ⊎ (((from +ℤ arc.cost) ≡ to) × (head.pred ≡ arc.tail))) }
-{
-    head.made || makes(arc, from, to, head.pred)
-}
-
-/// Whether the arc leads from the one distance to the other, and from the predecessor.
+/// Whether the arc leads from the one distance to the other, and from the predecessor, as none before it.
 #[inline(always)]
 fn makes(arc: ArcView, from: i128, to: i128, pred: u32) -> bool
     requires { IsWide from }
-    ensures { IsTrue result ↔ (((from +ℤ arc.cost) ≡ to) × (pred ≡ arc.tail)) }
+    ensures { IsTrue result ↔ (((from +ℤ arc.cost) ≡ to) × (pred ≡ arc.tail) × (pred ≢ 2 ^ 32 - 1)) }
 {
-    from + i128::from(arc.cost) == to && pred == arc.tail
+    from + i128::from(arc.cost) == to && is_pred(arc.tail, pred)
 }
 
-/// What the block of this number says of a node by its mark.
+/// Whether the predecessor still stands in the mark, and is this node.
 #[inline(always)]
-fn distance_by(mark: Mark, number: u32) -> Option<i128>
-    ensures { result ≡ marked_dist number mark }
+fn is_pred(node: u32, pred: u32) -> bool
+    ensures { IsTrue result ↔ ((pred ≡ node) × (pred ≢ 2 ^ 32 - 1)) }
+{
+    pred == node && pred != MADE
+}
+
+/// What the block of this number and these labels says of a node by its mark.
+#[inline(always)]
+fn distance_by(mark: Mark, number: u32, labels: &LabelList) -> Option<i128>
+    ensures { result ≡ marked_dist labels.now number mark }
 {
     if mark.block == number {
-        Some(mark.dist())
+        Some(mark.dist(labels))
     } else {
         None
     }
@@ -368,7 +420,7 @@ fn labels_made(labels: &LabelList, marks: &NodeTable<Mark>) -> Result<(), (Where
 {
     for i in 0..labels.len() {
         let id = labels.at(i).id;
-        if !marks.get(id).made {
+        if !marks.get(id).is_made() {
             return Err((Where::Node(id), Reason::NoTightArc));
         }
     }

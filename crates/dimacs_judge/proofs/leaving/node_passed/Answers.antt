@@ -1,5 +1,6 @@
 use Rattle.std.proofs.Common.{◌≡◌, ◌+◌, ◌-◌, ◌<◌, IfSome, Option, ℤ, ◌+ℤ◌, SFits, length, slice_index, ap, arith, rules, subst, sym, ◌∙◌}
 use Rattle.std.specs.Int.{w64, w128}
+use Rattle.std.specs.Result.{result_err}
 use Rattle.std.proofs.lemmas.Int.{to_z-of_z}
 use Rattle.std.proofs.lemmas.Option.{get_or_from_slice_get}
 use Rattle.dimacs_nodes.specs.Tables.{value_of}
@@ -59,18 +60,18 @@ returns-then-leads_past-clause-passed g c = λ yes.
     node_done arcs order number b marks node is.marked c.requires.least.covering (node_beyond arcs order number b marks node c.requires.lawful.0 c.args.from place c.requires.lawful.1 is.marked c.requires.label fall inside beyond on)
 
 pub pass_arc-requires-clause-wide : goal.pass_arc-requires-clause-wide
-pass_arc-requires-clause-wide g c = marked_wide c.args.number c.requires.lawful.0 c.args.block.now c.loop-next.marks c.requires.lawful.1 c.loop-next.invariant.marked
+pass_arc-requires-clause-wide g c = rw c.labels-labels.ensures (marked_wide c.args.number c.requires.lawful.0 c.args.block.now c.loop-next.marks c.requires.lawful.1 c.loop-next.invariant.marked)
 
-pub returns-then-is_some-clause-marked : goal.returns-then-is_some-clause-marked
-returns-then-is_some-clause-marked g c = marked_after c.args.number c.arc-arc.result c.loop-next.marks c.pass_arc.new.marks c.pass_arc.ensures.marks c.args.block.now c.loop-next.invariant.marked
+pub returns-then-is_err-clause-marked : goal.returns-then-is_err-clause-marked
+returns-then-is_err-clause-marked g c = marked_after c.args.number c.arc-arc.result c.loop-next.marks c.pass_arc.new.marks c.args.block.now (rw c.labels-labels.ensures at c.pass_arc.ensures.marks) c.loop-next.invariant.marked
 
-pub returns-then-is_some-clause-alone : goal.returns-then-is_some-clause-alone
-returns-then-is_some-clause-alone g c =
+pub returns-then-is_err-clause-alone : goal.returns-then-is_err-clause-alone
+returns-then-is_err-clause-alone g c =
     let is = c.loop-next.invariant in
-    alone_after c.args.number c.arc-arc.result c.loop-next.marks c.pass_arc.new.marks c.pass_arc.ensures.marks (g.N.Network.list c.args.network.now) c.args.block.now c.arc_at.result c.arc-arc.ensures is.marked is.alone
+    alone_after c.args.number c.arc-arc.result c.loop-next.marks c.pass_arc.new.marks c.args.block.now (rw c.labels-labels.ensures at c.pass_arc.ensures.marks) (g.N.Network.list c.args.network.now) c.arc_at.result c.arc-arc.ensures is.marked is.alone
 
-pub returns-then-is_some-clause-kept : goal.returns-then-is_some-clause-kept
-returns-then-is_some-clause-kept g c = λ a passed. passed_still c.args.number c.arc-arc.result c.loop-next.marks c.pass_arc.new.marks c.pass_arc.ensures.marks c.args.block.now a (c.loop-next.invariant.kept a passed)
+pub returns-then-is_err-clause-kept : goal.returns-then-is_err-clause-kept
+returns-then-is_err-clause-kept g c = λ a passed. passed_still c.args.number c.arc-arc.result c.loop-next.marks c.pass_arc.new.marks c.args.block.now (rw c.labels-labels.ensures at c.pass_arc.ensures.marks) a (c.loop-next.invariant.kept a passed)
 
 pub loop-next-preserved : goal.loop-next-preserved
 loop-next-preserved g c =
@@ -82,7 +83,7 @@ loop-next-preserved g c =
     let is = c.loop-next.invariant in
     let old = c.loop-next.marks in
     let new = c.pass_arc.new.marks in
-    let passes = c.pass_arc.ensures.marks in
+    let passes = rw c.labels-labels.ensures at c.pass_arc.ensures.marks in
     let node = c.args.node in
     let place = c.loop-next.next - 1 in
     let i = c.arc_at.result in
@@ -92,16 +93,16 @@ loop-next-preserved g c =
     let same : arc_at chosen place ≡ a = at_place arcs order place inside ∙ (ap (arc_at arcs) (sym c.arc_at.ensures) ∙ get_or_from_slice_get arcs i a no_arc c.arc-arc.ensures) in
     let here : (arc_at chosen place).tail ≡ node = is.found c.loop-next-test.true in
     let last : IsLast Tail chosen place node c.before-next.result = subst (IsLast Tail chosen place node) (sym c.before-next.ensures) (subst (λ v. IsLast Tail chosen place v (slice_index c.args.least.now.before.items place)) here (c.requires.least.linked.last_before place inside)) in
-    let told = subst (λ (radius : Option ℤ). TellsReason (RelaxFails radius (marked_dist number (value_of old a.tail)) (marked_dist number (value_of old a.head)) a.cost) c.pass_arc.result) c.radius-radius.ensures c.pass_arc.ensures.told in
-    let this = passed_this number a old new passes b arcs i c.arc-arc.ensures is.marked (no_reason _ c.pass_arc.result (sym c.is_some.ensures ∙ c.if-is_some.false) told) in
+    let told = subst (λ (radius : Option ℤ). TellsReason (RelaxFails radius (marked_dist b.labels number (value_of old a.tail)) (marked_dist b.labels number (value_of old a.head)) a.cost) (result_err c.pass_arc.result)) c.radius-radius.ensures (rw c.labels-labels.ensures at c.pass_arc.ensures.told) in
+    let this = passed_this number a old new b passes arcs i c.arc-arc.ensures is.marked (no_reason _ c.pass_arc.result (sym c.is_err.ensures.value ∙ c.if-is_err.false) told) in
     let on : ArePassedOn arcs order number b old node (place + 1) = subst (ArePassedOn arcs order number b old node) next_is is.passed in
     record {
-      marked = marked_after number a old new passes b is.marked;
-      alone = alone_after number a old new passes arcs b i c.arc-arc.ensures is.marked is.alone;
-      kept = λ d passed. passed_still number a old new passes b d (is.kept d passed);
+      marked = marked_after number a old new b passes is.marked;
+      alone = alone_after number a old new b passes arcs i c.arc-arc.ensures is.marked is.alone;
+      kept = λ d passed. passed_still number a old new b passes d (is.kept d passed);
       within = omega (arith, last.within, inside);
       found = last.found;
-      passed = node_more arcs order number b new node place c.before-next.result last (subst (IsPassed b new) (sym same) this) (λ p after there at. passed_still number a old new passes b (arc_at chosen p) (on p after there at));
+      passed = node_more arcs order number b new node place c.before-next.result last (subst (IsPassed b new) (sym same) this) (λ p after there at. passed_still number a old new b passes (arc_at chosen p) (on p after there at));
     }
 
 pub returns-clause-passed : goal.returns-clause-passed

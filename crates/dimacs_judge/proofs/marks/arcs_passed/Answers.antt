@@ -1,6 +1,7 @@
-use Rattle.std.proofs.Common.{◌≤◌, ap, arith, length}
+use Rattle.std.proofs.Common.{◌≡◌, ◌≤◌, ◌+◌, ap, arith, length, sym, Err}
+use Rattle.dimacs_judge.specs.declared.verdict.Where.TheVariants.{Arc}
 use Rattle.dimacs_judge.specs.declared.marks.Mark.{Mark}
-use Rattle.dimacs_judge.proofs.MarkLemmas.{alone_after, clear_after, first_after, made_after, made_all, marked_after, marked_wide, wide_after}
+use Rattle.dimacs_judge.proofs.MarkLemmas.{all_counted, both_told, labels_told, count_on, alone_after, clear_after, first_after, made_after, made_all, marked_after, marked_wide, wide_after}
 use Rattle.dimacs_judge.proofs.RowLemmas.{arc_clear_end}
 use Rattle.dimacs_judge.proofs.marks.arcs_passed.Goals as goal
 
@@ -14,6 +15,7 @@ loop-i-init g c =
       marked = c.requires.marked;
       alone = c.requires.alone;
       made = λ k below. absurd (omega (arith, below));
+      count = omega arith;
       clear = λ k below. absurd (omega (arith, below));
     }
 
@@ -25,40 +27,55 @@ loop-i-preserved g c =
     let a = c.arc.result in
     let old = c.loop-i.marks in
     let new = c.pass_arc.new.marks in
-    let passes = c.pass_arc.ensures.marks in
+    let passes = rw c.labels-labels.ensures at c.pass_arc.ensures.marks in
     let number = c.args.number in
     let i = c.loop-i.i in
-    let told = rw (c.radius-radius.ensures, c.in_default.is) at c.pass_arc.ensures.told in
+    let told = rw (c.labels-labels.ensures, c.radius-radius.ensures, c.in-Ok.is) at c.pass_arc.ensures.told in
+    let made = rw (c.labels-labels.ensures, c.in-Ok.is) at c.pass_arc.ensures.made in
     record {
       blank = omega (arith, is.blank, ap (λ (m : Mark). m.block) passes.blank);
-      wide = wide_after number a old new passes is.wide;
-      marked = marked_after number a old new passes b is.marked;
-      alone = alone_after number a old new passes arcs b i c.arc.ensures is.marked is.alone;
-      made = made_after number a old new passes arcs b i c.arc.ensures is.marked is.made;
-      clear = clear_after number a old new passes arcs b i c.arc.ensures is.marked is.clear told;
+      wide = wide_after number a old new b passes is.wide;
+      marked = marked_after number a old new b passes is.marked;
+      alone = alone_after number a old new b passes arcs i c.arc.ensures is.marked is.alone;
+      made = made_after number a old new b passes arcs i c.arc.ensures is.marked is.made;
+      count = count_on number a old new b passes is.marked c.in-Ok.made c.loop-i.count c.from-count.result made is.count c.from-count.ensures;
+      clear = clear_after number a old new b passes arcs i c.arc.ensures is.marked is.clear told;
     }
 
 pub rest_passed-requires-clause-marked : goal.rest_passed-requires-clause-marked
-rest_passed-requires-clause-marked g c = marked_after c.args.number c.arc.result c.loop-i.marks c.pass_arc.new.marks c.pass_arc.ensures.marks c.args.block.now c.loop-i.invariant.marked
+rest_passed-requires-clause-marked g c = marked_after c.args.number c.arc.result c.loop-i.marks c.pass_arc.new.marks c.args.block.now (rw c.labels-labels.ensures at c.pass_arc.ensures.marks) c.loop-i.invariant.marked
 
 pub rest_passed-requires-clause-alone : goal.rest_passed-requires-clause-alone
-rest_passed-requires-clause-alone g c = alone_after c.args.number c.arc.result c.loop-i.marks c.pass_arc.new.marks c.pass_arc.ensures.marks (g.N.Network.list c.args.network.now) c.args.block.now c.loop-i.i c.arc.ensures c.loop-i.invariant.marked c.loop-i.invariant.alone
+rest_passed-requires-clause-alone g c = alone_after c.args.number c.arc.result c.loop-i.marks c.pass_arc.new.marks c.args.block.now (rw c.labels-labels.ensures at c.pass_arc.ensures.marks) (g.N.Network.list c.args.network.now) c.loop-i.i c.arc.ensures c.loop-i.invariant.marked c.loop-i.invariant.alone
 
 pub rest_passed-requires-clause-made : goal.rest_passed-requires-clause-made
-rest_passed-requires-clause-made g c = made_after c.args.number c.arc.result c.loop-i.marks c.pass_arc.new.marks c.pass_arc.ensures.marks (g.N.Network.list c.args.network.now) c.args.block.now c.loop-i.i c.arc.ensures c.loop-i.invariant.marked c.loop-i.invariant.made
+rest_passed-requires-clause-made g c = made_after c.args.number c.arc.result c.loop-i.marks c.pass_arc.new.marks c.args.block.now (rw c.labels-labels.ensures at c.pass_arc.ensures.marks) (g.N.Network.list c.args.network.now) c.loop-i.i c.arc.ensures c.loop-i.invariant.marked c.loop-i.invariant.made
 
-pub returns-in-Some-clause-relaxed : goal.returns-in-Some-clause-relaxed
-returns-in-Some-clause-relaxed g c =
-    let told = rw (c.radius-radius.ensures, c.in-Some.is) at c.pass_arc.ensures.told in
-    first_after c.args.number c.arc.result c.loop-i.marks c.pass_arc.new.marks c.pass_arc.ensures.marks (g.N.Network.list c.args.network.now) c.args.block.now c.loop-i.i c.arc.ensures c.loop-i.invariant.marked c.in-Some.reason c.loop-i.invariant.clear told
-
-pub returns-clause-made : goal.returns-clause-made
-returns-clause-made g c =
+pub returns-in-Err-clause-tests : goal.returns-in-Err-clause-tests
+returns-in-Err-clause-tests g c =
     let arcs = g.N.Network.list c.args.network.now in
-    let all : length arcs ≤ c.loop-i.i = omega (arith, c.loop-i-test.false, c.arcs-i-end.ensures) in
-    made_all arcs c.args.block.now c.loop-i.marks c.loop-i.invariant.alone (λ k inside. c.loop-i.invariant.made k (omega (arith, inside, all)))
+    let b = c.args.block.now in
+    let is = c.loop-i.invariant in
+    let told = rw (c.labels-labels.ensures, c.radius-radius.ensures, c.in-Err.is) at c.pass_arc.ensures.told in
+    let passes = rw c.labels-labels.ensures at c.pass_arc.ensures.marks in
+    let first = first_after c.args.number c.arc.result c.loop-i.marks c.pass_arc.new.marks b passes arcs c.loop-i.i c.arc.ensures is.marked c.in-Err.reason is.clear told in
+    let made = c.labels_made.ensures arcs b (sym c.labels-labels.ensures) c.rest_passed.ensures.made in
+    rw c.and.ensures (both_told arcs b c.labels_made.result (Err (Arc (c.loop-i.i + 1), c.in-Err.reason)) made first)
 
-pub returns-clause-relaxed : goal.returns-clause-relaxed
-returns-clause-relaxed g c =
-    let all : length (g.N.Network.list c.args.network.now) ≤ c.loop-i.i = omega (arith, c.loop-i-test.false, c.arcs-i-end.ensures) in
-    arc_clear_end (g.N.Network.list c.args.network.now) _ c.loop-i.i all c.loop-i.invariant.clear
+pub returns-then-count-len-clause-tests : goal.returns-then-count-len-clause-tests
+returns-then-count-len-clause-tests g c =
+    let arcs = g.N.Network.list c.args.network.now in
+    let b = c.args.block.now in
+    let is = c.loop-i.invariant in
+    let all : length arcs ≤ c.loop-i.i = omega (arith, c.loop-i-test.false, c.arcs-i-end.ensures) in
+    let made = made_all arcs b c.loop-i.marks is.alone (λ k inside. is.made k (omega (arith, inside, all))) in
+    labels_told arcs b c.labels_made-then-count-len.result (c.labels_made-then-count-len.ensures arcs b (sym c.labels-labels.ensures) made) (arc_clear_end arcs _ c.loop-i.i all is.clear)
+
+pub returns-clause-tests : goal.returns-clause-tests
+returns-clause-tests g c =
+    let arcs = g.N.Network.list c.args.network.now in
+    let b = c.args.block.now in
+    let is = c.loop-i.invariant in
+    let all : length arcs ≤ c.loop-i.i = omega (arith, c.loop-i-test.false, c.arcs-i-end.ensures) in
+    let size : c.len.result ≡ length b.labels = rw c.labels-labels.ensures at c.len.ensures in
+    (all_counted arcs b c.loop-i.marks is.alone (omega (arith, is.count, size, c.if-count-len.false)), (arc_clear_end arcs _ c.loop-i.i all is.clear, tt))

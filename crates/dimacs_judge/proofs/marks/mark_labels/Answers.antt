@@ -1,14 +1,13 @@
-use Rattle.std.proofs.Common.{◌≡◌, ◌≤◌, ◌<◌, length, get_or, rules, SFits}
-use Rattle.std.specs.Int.{w128}
-use Rattle.std.proofs.lemmas.Int.{to_z-of_z}
-use Rattle.dimacs_claims.specs.Labels.{no_label}
-use Rattle.dimacs_judge.proofs.MarkLemmas.{all_marked, marked_source, marked_more}
+use Rattle.std.proofs.Common.{◌≡◌, ◌≤◌, ◌<◌, length, get_or, ◌∙◌, ap, sym, arith}
+use Rattle.dimacs_claims.specs.declared.block.Label.{Label}
+use Rattle.dimacs_claims.specs.Labels.{IsLabel, no_label}
+use Rattle.dimacs_judge.proofs.MarkLemmas.{all_marked, has_not_made, marked_source, marked_more}
 use Rattle.dimacs_judge.proofs.marks.mark_labels.Goals as goal
 
 pub loop-i-init : goal.loop-i-init
 loop-i-init c =
     let e = c.in_ok-set.ensures in
-    marked_source c.args.number c.args.block.now c.args.marks.now c.set.new.self _ c.requires.earlier e.blank (rw c.source.ensures at e.set) (rw c.source.ensures at e.others) c.of.ensures.dist c.of.ensures.block
+    marked_source c.args.number c.args.block.now c.args.marks.now c.set.new.self _ c.requires.earlier e.blank (rw c.source.ensures at e.set) (rw c.source.ensures at e.others) (c.of_source.ensures.dist c.args.block.now.labels) c.of_source.ensures.block c.of_source.ensures.made
 
 pub loop-i-preserved : goal.loop-i-preserved
 loop-i-preserved c =
@@ -17,18 +16,20 @@ loop-i-preserved c =
     let labels = c.labels-labels.ensures in
     let l = c.at-label.result in
     let is : l ≡ get_or b.labels c.loop-i.i no_label = rw labels at c.at-label.ensures in
-    let fits : SFits w128 l.dist = search rules in
     let inside : c.loop-i.i < length b.labels = rw (c.len-i-end.ensures, labels) at c.loop-i-test.true in
-    let mark = c.of-in-loop-i.ensures in
-    let dist = rw (to_z-of_z w128 l.dist fits, is) at mark.dist in
-    marked_more c.args.number c.requires.lawful.0 b c.loop-i.i c.loop-i.marks c.set-in-loop-i.new.self _ c.requires.lawful.1 inside c.loop-i.invariant e.blank (rw is at e.set) (rw is at e.others) dist (rw is at mark.pred) mark.block mark.unmade
+    let mark = c.of.ensures in
+    let dist = mark.dist b.labels (sym is) ∙ ap (λ (x : Label). x.dist) is in
+    let lawful = c.requires.lawful in
+    let pred = rw is at mark.pred in
+    let within : IsLabel lawful.0 (get_or b.labels c.loop-i.i no_label) = lawful.2.within c.loop-i.i no_label inside in
+    marked_more c.args.number lawful.0 b c.loop-i.i c.loop-i.marks c.set-in-loop-i.new.self _ lawful.2 inside c.loop-i.invariant e.blank (rw is at e.set) (rw is at e.others) dist pred mark.block (has_not_made c.of.result (λ made. omega (arith, pred, made, within.pred.1, lawful.1)))
 
 pub returns-clause-marked : goal.returns-clause-marked
 returns-clause-marked c =
     let all : length c.args.block.now.labels ≤ c.loop-i.i = rw (c.len-i-end.ensures, c.labels-labels.ensures) at c.loop-i-test.false in
-    (all_marked c.args.number c.requires.lawful.0 c.args.block.now c.loop-i.i c.loop-i.marks c.requires.lawful.1 all c.loop-i.invariant).0
+    (all_marked c.args.number c.requires.lawful.0 c.args.block.now c.loop-i.i c.loop-i.marks c.requires.lawful.2 all c.loop-i.invariant).0
 
 pub returns-clause-unmade : goal.returns-clause-unmade
 returns-clause-unmade c =
     let all : length c.args.block.now.labels ≤ c.loop-i.i = rw (c.len-i-end.ensures, c.labels-labels.ensures) at c.loop-i-test.false in
-    (all_marked c.args.number c.requires.lawful.0 c.args.block.now c.loop-i.i c.loop-i.marks c.requires.lawful.1 all c.loop-i.invariant).1
+    (all_marked c.args.number c.requires.lawful.0 c.args.block.now c.loop-i.i c.loop-i.marks c.requires.lawful.2 all c.loop-i.invariant).1

@@ -19,15 +19,15 @@ loop-i-preserved g c =
     let is = c.loop-i.invariant in
     let a = c.arc.result in
     let old = c.loop-i.marks in
-    let new = c.pass_arc.new.marks in
-    let passes = c.pass_arc.ensures.marks in
+    let new = c.pass_arc-passed.new.marks in
+    let passes = rw c.labels-labels.ensures at c.pass_arc-passed.ensures.marks in
     let number = c.args.number in
     record {
       blank = omega (arith, is.blank, ap (λ (m : Mark). m.block) passes.blank);
-      wide = wide_after number a old new passes is.wide;
-      marked = marked_after number a old new passes b is.marked;
-      alone = alone_after number a old new passes arcs b c.loop-i.i c.arc.ensures is.marked is.alone;
-      made = made_after number a old new passes arcs b c.loop-i.i c.arc.ensures is.marked is.made;
+      wide = wide_after number a old new b passes is.wide;
+      marked = marked_after number a old new b passes is.marked;
+      alone = alone_after number a old new b passes arcs c.loop-i.i c.arc.ensures is.marked is.alone;
+      made = made_after number a old new b passes arcs c.loop-i.i c.arc.ensures is.marked is.made;
     }
 
 pub returns-clause-marked : goal.returns-clause-marked

@@ -7,7 +7,7 @@ use Rattle.dimacs_judge.proofs.marks.rest_passed.Given as goal
 abbrev pub invariant-loop-i : goal.invariant-loop-i
 invariant-loop-i g l = record {
   blank : (blank_of l.marks).block < l.number;
-  wide : AreWide l.number l.marks;
+  wide : AreWide l.block.labels l.number l.marks;
   marked : IsMarked l.number l.block l.marks;
   alone : AreMadeAlone (g.N.Network.list l.network) l.block l.marks;
   made : AreMadeBelow (g.N.Network.list l.network) l.block l.i l.marks;
