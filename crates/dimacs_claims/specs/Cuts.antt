@@ -1,5 +1,6 @@
 -- Sets of nodes, and the texts that spell them.
-use Rattle.std.specs.Prelude.{ℕ, ◌≡◌, ◌==◌, ◌≤◌, Bool, true, List, ◌∷◌, map, length, count_by}
+use Rattle.std.specs.Prelude.{ℕ, ◌≡◌, ◌==◌, ◌≤◌, Bool, true, List, ◌∷◌, map, length, count_by, [], codes}
+use Rattle.std.specs.Fmt.{decimal}
 use Rattle.std.specs.List.{All, filter, range_with_len}
 use Rattle.std.specs.Ordering.{nat_cmp}
 use Rattle.std.specs.FinSet.{FinSet, contains, empty, insert, from_list}
@@ -9,6 +10,7 @@ use Rattle.dimacs_records.specs.declared.kinds.TextKind.TheVariants as kinds
 use Rattle.dimacs_records.specs.declared.records.Record.{Record}
 use Rattle.dimacs_records.specs.declared.records.Record.TheVariants.{CutProblem, CutNode}
 use Rattle.dimacs_records.specs.Canonical.{canonical_text}
+use Rattle.dimacs_records.specs.Printed.{shown}
 use Rattle.dimacs_records.specs.Ranges.{IsNode}
 use Rattle.dimacs_records.specs.Readings.{LineRecord, records_of}
 use Rattle.dimacs_records.specs.Texts.{SpellsValue}
@@ -61,3 +63,6 @@ SpellsCut text c = SpellsValue kinds.Cut GivesCut (lines text) c
 -- the nodes stand by ID
 abbrev pub canonical_cut : CutValue → List ℕ
 canonical_cut c = canonical_text (cut_records c.nodes (length (ids_in c)) (ids_in c))
+
+abbrev pub shown_cut : CutValue → List ℕ
+shown_cut c = shown (codes "cut" ∷ decimal c.nodes ∷ decimal (length (ids_in c)) ∷ [])

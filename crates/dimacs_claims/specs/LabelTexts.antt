@@ -1,5 +1,6 @@
 -- The texts that spell labels.
-use Rattle.std.specs.Prelude.{ℕ, ◌≡◌, ◌≤◌, List, ◌∷◌, map, length}
+use Rattle.std.specs.Prelude.{ℕ, ◌≡◌, ◌≤◌, List, ◌∷◌, map, length, [], codes}
+use Rattle.std.specs.Fmt.{decimal}
 use Rattle.std.specs.List.{flat_map}
 use Rattle.dimacs_lines.specs.Lines.{lines}
 use Rattle.dimacs_lines.specs.Limits.{most_lines}
@@ -7,6 +8,7 @@ use Rattle.dimacs_records.specs.declared.kinds.TextKind.TheVariants as kinds
 use Rattle.dimacs_records.specs.declared.records.Record.{Record}
 use Rattle.dimacs_records.specs.declared.records.Record.TheVariants.{LabelsProblem, LabelsBlock, LabelsNode}
 use Rattle.dimacs_records.specs.Canonical.{canonical_text}
+use Rattle.dimacs_records.specs.Printed.{shown}
 use Rattle.dimacs_records.specs.Readings.{LineRecord, records_of}
 use Rattle.dimacs_records.specs.Texts.{SpellsValue}
 use Rattle.dimacs_claims.specs.declared.block.Label.{Label}
@@ -32,6 +34,9 @@ SpellsLabels text labels = SpellsValue kinds.Labels GivesLabels (lines text) lab
 
 abbrev pub canonical_labels : LabelsValue → List ℕ
 canonical_labels labels = canonical_text (label_records labels)
+
+abbrev pub shown_labels : LabelsValue → List ℕ
+shown_labels l = shown (codes "dist" ∷ decimal l.nodes ∷ decimal (length l.blocks) ∷ [])
 
 -- no more lines than a text may have
 abbrev pub FitText : LabelsValue → Type 0

@@ -1,5 +1,6 @@
 -- Potentials of nodes, and the texts that spell them.
-use Rattle.std.specs.Prelude.{ℕ, ℤ, ◌≡◌, ◌≢◌, ◌≤◌, List, ◌∷◌, Some, map, length, if◌then◌else◌, pos, unwrap_or}
+use Rattle.std.specs.Prelude.{ℕ, ℤ, ◌≡◌, ◌≢◌, ◌≤◌, List, ◌∷◌, Some, map, length, if◌then◌else◌, pos, unwrap_or, [], codes}
+use Rattle.std.specs.Fmt.{decimal}
 use Rattle.std.specs.List.{filter, range_with_len}
 use Rattle.std.specs.Ordering.{nat_cmp, int_eq}
 use Rattle.std.specs.FinMap.{FinMap, empty, get, insert, remove, from_entries}
@@ -9,6 +10,7 @@ use Rattle.dimacs_records.specs.declared.kinds.TextKind.TheVariants as kinds
 use Rattle.dimacs_records.specs.declared.records.Record.{Record}
 use Rattle.dimacs_records.specs.declared.records.Record.TheVariants.{PotentialsProblem, PotentialsNode}
 use Rattle.dimacs_records.specs.Canonical.{canonical_text}
+use Rattle.dimacs_records.specs.Printed.{shown}
 use Rattle.dimacs_records.specs.Readings.{LineRecord, records_of}
 use Rattle.dimacs_records.specs.Texts.{SpellsValue}
 use Rattle.dimacs_records.specs.Ranges.{IsNode, IsWide}
@@ -69,3 +71,7 @@ SpellsPotentials text p = SpellsValue kinds.Potentials GivesPotentials (lines te
 -- the nodes stand by ID, and those of potential 0 are left out
 abbrev pub canonical_potentials : PotentialsValue → List ℕ
 canonical_potentials p = canonical_text (potentials_records p.nodes (length (nonzero_ids p)) (with_values p (nonzero_ids p)))
+
+-- the potentials that aren't 0
+abbrev pub shown_potentials : PotentialsValue → List ℕ
+shown_potentials p = shown (codes "pot" ∷ decimal p.nodes ∷ decimal (length (nonzero_ids p)) ∷ [])

@@ -1,5 +1,6 @@
 -- Solutions, and the texts that spell them.
-use Rattle.std.specs.Prelude.{ℕ, suc, ◌+◌, ◌≡◌, ◌≤◌, List, [], ◌∷◌, ◌++◌, map, length, ℤ}
+use Rattle.std.specs.Prelude.{ℕ, suc, ◌+◌, ◌≡◌, ◌≤◌, List, [], ◌∷◌, ◌++◌, map, length, ℤ, codes}
+use Rattle.std.specs.Fmt.{decimal, signed_decimal}
 use Rattle.std.specs.List.{All}
 use Rattle.dimacs_lines.specs.Lines.{lines}
 use Rattle.dimacs_lines.specs.Limits.{most_lines}
@@ -7,6 +8,7 @@ use Rattle.dimacs_records.specs.declared.kinds.TextKind.TheVariants as kinds
 use Rattle.dimacs_records.specs.declared.records.Record.{Record}
 use Rattle.dimacs_records.specs.declared.records.Record.TheVariants as records
 use Rattle.dimacs_records.specs.Canonical.{canonical_text}
+use Rattle.dimacs_records.specs.Printed.{shown}
 use Rattle.dimacs_records.specs.Ranges.{IsId, IsWhole, IsWide}
 use Rattle.dimacs_records.specs.Readings.{LineRecord, on_line}
 use Rattle.dimacs_records.specs.Texts.{SpellsValue}
@@ -62,6 +64,9 @@ solution_records s = records.SolutionValue s.value ∷ map entry_record s.entrie
 
 abbrev pub canonical_solution : SolutionValue → List ℕ
 canonical_solution s = canonical_text (solution_records s)
+
+abbrev pub shown_solution : SolutionValue → List ℕ
+shown_solution s = shown (codes "solution" ∷ signed_decimal s.value ∷ decimal (length s.entries) ∷ [])
 
 -- the entries on one line after another from this one on
 abbrev pub on_lines_from : ℕ → List Entry → List Entry

@@ -9,6 +9,7 @@ mod labels;
 mod place;
 mod potentials;
 mod solution;
+mod texts;
 
 pub use block::{Block, Label};
 pub use cut::{Cut, CutReading, read_cut, write_cut};

@@ -1,5 +1,6 @@
 -- Graphs for shortest paths, and the texts that spell them.
-use Rattle.std.specs.Prelude.{ℕ, ◌≡◌, ◌≤◌, List, ◌∷◌, map, length, pos}
+use Rattle.std.specs.Prelude.{ℕ, ◌≡◌, ◌≤◌, List, ◌∷◌, map, length, pos, [], codes}
+use Rattle.std.specs.Fmt.{decimal}
 use Rattle.std.specs.List.{All}
 use Rattle.dimacs_lines.specs.Limits.{most_count, most_nodes}
 use Rattle.dimacs_lines.specs.Lines.{lines}
@@ -7,6 +8,7 @@ use Rattle.dimacs_records.specs.declared.kinds.TextKind.TheVariants.{Graph}
 use Rattle.dimacs_records.specs.declared.records.Record.{Record}
 use Rattle.dimacs_records.specs.declared.records.Record.TheVariants.{GraphProblem, GraphArc}
 use Rattle.dimacs_records.specs.Canonical.{canonical_text}
+use Rattle.dimacs_records.specs.Printed.{shown}
 use Rattle.dimacs_records.specs.Ranges.{IsWhole}
 use Rattle.dimacs_records.specs.Readings.{LineRecord, records_of}
 use Rattle.dimacs_records.specs.Texts.{SpellsValue}
@@ -40,3 +42,6 @@ SpellsGraph text g = SpellsValue Graph GivesGraph (lines text) g
 
 abbrev pub canonical_graph : NetworkValue → List ℕ
 canonical_graph g = canonical_text (graph_records g)
+
+abbrev pub shown_graph : NetworkValue → List ℕ
+shown_graph g = shown (codes "sp" ∷ decimal g.nodes ∷ decimal (length g.arcs) ∷ [])

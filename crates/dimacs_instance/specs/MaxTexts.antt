@@ -1,11 +1,13 @@
 -- The texts that spell maximum flow instances.
-use Rattle.std.specs.Prelude.{ℕ, ◌≡◌, ◌⊎◌, List, ◌∷◌, map, length, nat_lt, if◌then◌else◌}
+use Rattle.std.specs.Prelude.{ℕ, ◌≡◌, ◌⊎◌, List, ◌∷◌, map, length, nat_lt, if◌then◌else◌, [], codes}
+use Rattle.std.specs.Fmt.{decimal}
 use Rattle.dimacs_lines.specs.Lines.{lines}
 use Rattle.dimacs_records.specs.declared.kinds.TextKind.TheVariants.{Max}
 use Rattle.dimacs_records.specs.declared.records.End.TheVariants.{Source, Sink}
 use Rattle.dimacs_records.specs.declared.records.Record.{Record}
 use Rattle.dimacs_records.specs.declared.records.Record.TheVariants.{MaxProblem, MaxNode, MaxArc}
 use Rattle.dimacs_records.specs.Canonical.{canonical_text}
+use Rattle.dimacs_records.specs.Printed.{shown}
 use Rattle.dimacs_records.specs.Readings.{LineRecord, records_of}
 use Rattle.dimacs_records.specs.Texts.{SpellsValue}
 use Rattle.dimacs_instance.specs.declared.network.ArcView.{ArcView}
@@ -38,3 +40,6 @@ nodes_by_id source sink = if nat_lt source sink then (source_node source, sink_n
 
 abbrev pub canonical_max : MaxValue → List ℕ
 canonical_max m = canonical_text (max_records m (nodes_by_id m.source m.sink))
+
+abbrev pub shown_max : MaxValue → List ℕ
+shown_max m = shown (codes "max" ∷ decimal m.nodes ∷ decimal (length m.arcs) ∷ decimal m.source ∷ decimal m.sink ∷ [])

@@ -1,5 +1,6 @@
 -- The texts that spell minimum cost flow instances.
-use Rattle.std.specs.Prelude.{ℕ, ℤ, ◌≡◌, List, ◌∷◌, ◌++◌, map, length}
+use Rattle.std.specs.Prelude.{ℕ, ℤ, ◌≡◌, List, ◌∷◌, ◌++◌, map, length, [], codes}
+use Rattle.std.specs.Fmt.{decimal}
 use Rattle.std.specs.List.{filter}
 use Rattle.std.specs.FinMap.{entries, from_entries}
 use Rattle.dimacs_lines.specs.Lines.{lines}
@@ -7,10 +8,11 @@ use Rattle.dimacs_records.specs.declared.kinds.TextKind.TheVariants.{Min}
 use Rattle.dimacs_records.specs.declared.records.Record.{Record}
 use Rattle.dimacs_records.specs.declared.records.Record.TheVariants.{MinProblem, MinNode, MinArc}
 use Rattle.dimacs_records.specs.Canonical.{canonical_text}
+use Rattle.dimacs_records.specs.Printed.{shown}
 use Rattle.dimacs_records.specs.Readings.{LineRecord, records_of}
 use Rattle.dimacs_records.specs.Texts.{SpellsValue}
 use Rattle.dimacs_instance.specs.declared.network.ArcView.{ArcView}
-use Rattle.dimacs_instance.specs.MinFlows.{MinValue, IsMin}
+use Rattle.dimacs_instance.specs.MinFlows.{MinValue, IsMin, supplied, demanded}
 use Rattle.dimacs_records.specs.NodeValues.{NameNodes, has_value}
 
 -- the line of a node and its supply
@@ -42,3 +44,7 @@ canonical_min_records m = min_records m.nodes (length m.arcs) (entries m.supplie
 
 abbrev pub canonical_min : MinValue → List ℕ
 canonical_min m = canonical_text (canonical_min_records m)
+
+-- the supplies that are positive, and those that are negative, each as a sum without its sign
+abbrev pub shown_min : MinValue → List ℕ
+shown_min m = shown (codes "min" ∷ decimal m.nodes ∷ decimal (length m.arcs) ∷ decimal (supplied m) ∷ decimal (demanded m) ∷ [])

@@ -1,5 +1,6 @@
 -- Queries for shortest paths, and the texts that spell them.
-use Rattle.std.specs.Prelude.{ℕ, ◌≡◌, ◌≤◌, List, ◌∷◌, map, length}
+use Rattle.std.specs.Prelude.{ℕ, ◌≡◌, ◌≤◌, List, ◌∷◌, map, length, [], codes}
+use Rattle.std.specs.Fmt.{decimal}
 use Rattle.std.specs.List.{All}
 use Rattle.dimacs_lines.specs.Limits.{most_count}
 use Rattle.dimacs_lines.specs.Lines.{lines}
@@ -9,6 +10,7 @@ use Rattle.dimacs_records.specs.declared.records.QueryKind.TheVariants as asks
 use Rattle.dimacs_records.specs.declared.records.Record.{Record}
 use Rattle.dimacs_records.specs.declared.records.Record.TheVariants.{QueriesProblem, SourceQuery, PairQuery}
 use Rattle.dimacs_records.specs.Canonical.{canonical_text}
+use Rattle.dimacs_records.specs.Printed.{shown}
 use Rattle.dimacs_records.specs.Ranges.{IsId}
 use Rattle.dimacs_records.specs.Readings.{LineRecord, records_of}
 use Rattle.dimacs_records.specs.Texts.{SpellsValue}
@@ -61,3 +63,7 @@ SpellsQueries text queries = SpellsValue kinds.Queries GivesQueries (lines text)
 
 abbrev pub canonical_queries : QueriesValue → List ℕ
 canonical_queries queries = canonical_text (query_records queries)
+
+abbrev pub shown_queries : QueriesValue → List ℕ
+shown_queries (Sources ids) = shown (codes "ss" ∷ decimal (length ids) ∷ [])
+shown_queries (Pairs pairs) = shown (codes "p2p" ∷ decimal (length pairs) ∷ [])

@@ -18,6 +18,7 @@ mod room;
 mod star;
 mod star_order;
 mod star_starts;
+mod texts;
 
 pub use arc_index::ArcIndex;
 pub use graph::{Graph, PlainGraphReading, read_plain_graph, write_graph};

@@ -1,5 +1,5 @@
 -- Lines as they are printed, field by field.
-use Rattle.std.specs.Prelude.{ℕ, List, [], ◌∷◌, ◌++◌, map}
+use Rattle.std.specs.Prelude.{ℕ, List, [], ◌∷◌, ◌++◌, codes, map}
 use Rattle.std.specs.List.{flat_map}
 use Rattle.std.specs.Fmt.{signed_decimal}
 use Rattle.dimacs_records.specs.declared.printed.Part.{Part}
@@ -11,6 +11,10 @@ behind_blank field = 32 ∷ field
 -- a line of these fields: one blank between them, and byte 10
 abbrev pub spaced_line : List ℕ → List (List ℕ) → List ℕ
 spaced_line first fields = first ++ (flat_map behind_blank fields ++ 10 ∷ [])
+
+-- the line that tells what a text is
+abbrev pub shown : List (List ℕ) → List ℕ
+shown parts = spaced_line (codes "i") parts
 
 abbrev pub printed : Part → List ℕ
 printed (Word word) = word.now

@@ -33,3 +33,8 @@ Reads spells fault (Ok v) = spells v × ((other : _) → spells other → other 
 Reads spells fault (Err (read_errors.Refused place reason)) = fault place.line place.field reason × ((l f : ℕ) (r : Reason) → fault l f r → (l ≡ place.line) × (f ≡ place.field) × (r ≡ reason)) × ((v : _) → ¬ spells v)
 Reads spells fault (Err read_errors.Device) = Unit {0}
 Reads spells fault (Err read_errors.Memory) = Unit {0}
+
+-- what a reader answers whose value says this
+abbrev pub ReadsAs : {T V : Type 0} → (T → V) → (V → Type 0) → (ℕ → ℕ → Reason → Type 0) → Result T ReadError → Type 0
+ReadsAs said spells fault (Ok value) = Reads spells fault (Ok (said value))
+ReadsAs said spells fault (Err error) = Reads spells fault (Err error)

@@ -17,6 +17,7 @@ mod printed;
 mod reading;
 mod reasons;
 mod records;
+mod text;
 mod typed;
 
 pub use canonical::{put_record, write_record};
@@ -30,4 +31,5 @@ pub use printed::{Part, put_line, write_line};
 pub use reading::Reading;
 pub use reasons::Reason;
 pub use records::{End, QueryKind, Record};
+pub use text::Text;
 pub use typed::{MAX_COUNT, MAX_NODES};

@@ -8,7 +8,6 @@ pub mod Outputs
 pub mod Produced
 pub mod Refusals
 pub mod Runs
-pub mod Shown
 pub mod Solved
 pub mod Told
 pub mod Verdicts

@@ -10,21 +10,19 @@ use Rattle.dimacs_lines.specs.declared.device.DeviceFault.{DeviceFault}
 use Rattle.dimacs_records.specs.declared.faults.ReadError.{ReadError}
 use Rattle.dimacs_records.specs.declared.faults.ReadError.TheVariants as read_errors
 use Rattle.dimacs_records.specs.Faults.{Fault}
-use Rattle.dimacs_records.specs.Texts.{Reads}
-use Rattle.dimacs_claims.specs.Cuts.{SpellsCut, canonical_cut}
-use Rattle.dimacs_claims.specs.LabelTexts.{SpellsLabels, canonical_labels}
-use Rattle.dimacs_claims.specs.Potentials.{SpellsPotentials, canonical_potentials}
-use Rattle.dimacs_claims.specs.SolutionTexts.{SpellsSolution, canonical_solution}
-use Rattle.dimacs_instance.specs.Graph.{SpellsGraph, canonical_graph}
-use Rattle.dimacs_instance.specs.MaxTexts.{SpellsMax, canonical_max}
-use Rattle.dimacs_instance.specs.MinTexts.{SpellsMin, canonical_min}
-use Rattle.dimacs_instance.specs.QueryTexts.{SpellsQueries, canonical_queries}
+use Rattle.dimacs_claims.specs.Cuts.{SpellsCut, canonical_cut, shown_cut}
+use Rattle.dimacs_claims.specs.LabelTexts.{SpellsLabels, canonical_labels, shown_labels}
+use Rattle.dimacs_claims.specs.Potentials.{SpellsPotentials, canonical_potentials, shown_potentials}
+use Rattle.dimacs_claims.specs.SolutionTexts.{SpellsSolution, canonical_solution, shown_solution}
+use Rattle.dimacs_instance.specs.Graph.{SpellsGraph, canonical_graph, shown_graph}
+use Rattle.dimacs_instance.specs.MaxTexts.{SpellsMax, canonical_max, shown_max}
+use Rattle.dimacs_instance.specs.MinTexts.{SpellsMin, canonical_min, shown_min}
+use Rattle.dimacs_instance.specs.QueryTexts.{SpellsQueries, canonical_queries, shown_queries}
 use Rattle.dimacs_runs.specs.declared.outcome.Status.{Status}
 use Rattle.dimacs_runs.specs.declared.outcome.Status.TheVariants.{Done, Refused, GaveUp}
 use Rattle.dimacs_runs.specs.declared.outcome.RunError.{RunError}
 use Rattle.dimacs_runs.specs.declared.outcome.RunError.TheVariants.{Device, Memory}
 use Rattle.dimacs_runs.specs.Refusals.{refusal_line}
-use Rattle.dimacs_runs.specs.Shown.{shown_max, shown_min, shown_graph, shown_queries, shown_solution, shown_cut, shown_potentials, shown_labels}
 
 -- the text in the words of a refusal
 abbrev pub text_word : TextKind → List ℕ
@@ -42,11 +40,6 @@ abbrev pub Tells : {V : Type 0} → (V → Type 0) → (V → List ℕ) → (ℕ
 Tells spells told fault text Done out = (v : _) × spells v × (out ≡ told v)
 Tells spells told fault text Refused out = (l : ℕ) × (f : ℕ) × (r : Reason) × fault l f r × (out ≡ refusal_line text l f r)
 Tells spells told fault text GaveUp out = ⊥
-
--- what a reader answers whose value says this
-abbrev pub ReadsAs : {T V : Type 0} → (T → V) → (V → Type 0) → (ℕ → ℕ → Reason → Type 0) → Result T ReadError → Type 0
-ReadsAs said spells fault (Ok value) = Reads spells fault (Ok (said value))
-ReadsAs said spells fault (Err error) = Reads spells fault (Err error)
 
 -- the canonical text, or the line of the fault
 abbrev pub Converted : TextKind → List ℕ → Status → List ℕ → Type 0

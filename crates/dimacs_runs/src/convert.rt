@@ -8,13 +8,13 @@ ghost use Rattle.dimacs_runs.specs.Runs.{Converted, text_word, Tells, Reports, C
 
 use crate::ending::{done, refuse};
 use crate::outcome::{RunError, Status};
-use crate::texts::Text;
+use crate::refusal::text_name;
 use dimacs_claims::{Cut, Labels, Potentials, Solution};
 use dimacs_instance::{
     ArcView, CapacityArc, Graph, MaxInstance, MinInstance, PlainArcs, Queries, WeightArc,
 };
 use dimacs_lines::{Sink, Source};
-use dimacs_records::TextKind;
+use dimacs_records::{Text, TextKind};
 use std::alloc::Global;
 
 /// Puts the canonical text of a text of this kind, or one line that says why it is refused.
@@ -53,6 +53,6 @@ fn convert<T: Text, S: Source, K: Sink>(
 {
     match T::read(alloc, text) {
         Ok(value) => done(value.write(sink)),
-        Err(error) => refuse(error, T::name(), sink),
+        Err(error) => refuse(error, text_name(T::kind()), sink),
     }
 }

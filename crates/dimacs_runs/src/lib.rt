@@ -1,13 +1,11 @@
 //! The runs of the command, over any sources and sinks, and what the command's words mean.
 #![tactic(auto)]
 
-mod claim_texts;
 mod command;
 mod convert;
 mod counted;
 mod ending;
 mod files;
-mod instance_texts;
 mod jobs;
 mod judge;
 mod outcome;
@@ -16,7 +14,6 @@ mod reading;
 mod refusal;
 mod show;
 mod solve;
-mod texts;
 mod told;
 mod unread;
 mod verdict;

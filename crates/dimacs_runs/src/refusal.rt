@@ -1,11 +1,25 @@
 //! The lines of refusals.
 
+ghost use Rattle.std.specs.Prelude.{◌≡◌};
 ghost use Rattle.dimacs_lines.specs.Devices.{CountsFault};
 ghost use Rattle.dimacs_lines.specs.Puts.{Puts};
 ghost use Rattle.dimacs_runs.specs.Refusals.{refusal_line};
+ghost use Rattle.dimacs_runs.specs.Runs.{text_word};
 
 use dimacs_lines::{DeviceFault, Sink};
-use dimacs_records::{At, Part, Reason, put_line};
+use dimacs_records::{At, Part, Reason, TextKind, put_line};
+
+/// The text in the words of a refusal.
+pub(crate) fn text_name(kind: TextKind) -> &'static str
+    ensures { result.now ≡ text_word kind }
+{
+    match kind {
+        TextKind::Max | TextKind::Min | TextKind::Graph => "instance",
+        TextKind::Queries => "query",
+        TextKind::Solution => "solution",
+        TextKind::Cut | TextKind::Potentials | TextKind::Labels => "certificate",
+    }
+}
 
 /// Puts the line of a text's fault.
 pub fn put_refusal<K: Sink>(

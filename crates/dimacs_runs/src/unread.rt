@@ -10,11 +10,11 @@ ghost use Rattle.dimacs_claims.specs.SolutionTexts.{SpellsSolution};
 ghost use Rattle.dimacs_runs.specs.Judgings.{CountsUnread, PlacesOne, ReadsOne, ReadsPlaced, ReadsTwo, ReadsThree, error_told, says};
 
 use crate::outcome::RunError;
-use crate::texts::Text;
+use crate::refusal::text_name;
 use crate::told::Told;
-use dimacs_claims::{Place, Placed, Solution, read_solution_into};
+use dimacs_claims::{Place, Placed, read_solution_into};
 use dimacs_lines::Source;
-use dimacs_records::ReadError;
+use dimacs_records::{ReadError, Text, TextKind};
 use std::alloc::Global;
 
 /// A text that could not be read, by its name in refusals.
@@ -46,7 +46,7 @@ pub(crate) fn read<V: Text, P: Source>(alloc: Global, source: &mut P) -> Result<
     match V::read(alloc, source) {
         Ok(value) => Ok(value),
         Err(error) => Err(Unread {
-            text: V::name(),
+            text: text_name(V::kind()),
             error,
         }),
     }
@@ -120,7 +120,7 @@ fn place_solution<E: Place, P: Source>(
     match read_solution_into(alloc, place, source) {
         Ok(placed) => Ok(placed),
         Err(error) => Err(Unread {
-            text: Solution::name(),
+            text: text_name(TextKind::Solution),
             error,
         }),
     }

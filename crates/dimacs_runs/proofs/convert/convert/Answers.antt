@@ -13,4 +13,4 @@ pub returns-in-Err-clause-reports : goal.returns-in-Err-clause-reports
 returns-in-Err-clause-reports g c = λ bytes coming.
     refusal_reports (g.T.Text.spells bytes) g.T.Text.canonical (Fault g.T.Text.kind (lines bytes)) (text_word g.T.Text.kind) c.in-Err.error c.refuse.result
     (g.K.Sink.accepted c.args.sink.now) (g.K.Sink.accepted c.refuse.new.sink) (g.K.Sink.faults c.args.sink.now) (g.K.Sink.faults c.refuse.new.sink)
-    (c.in-Err.ensures.reads bytes coming) (rw (← c.name.ensures) c.refuse.ensures)
+    (c.in-Err.ensures.reads bytes coming) (rw (← c.kind.ensures, ← c.text_name.ensures) c.refuse.ensures)

@@ -1,21 +1,19 @@
-//! The texts of claims and certificates.
+//! The kinds of text of claims and certificates: how each is read, written and shown.
 
 ghost use Rattle.std.specs.Prelude.{◌≡◌, ℕ, List};
 ghost use Rattle.dimacs_records.specs.declared.kinds.TextKind.TheVariants as kinds;
-ghost use Rattle.dimacs_claims.specs.Cuts.{CutValue, SpellsCut, canonical_cut};
+ghost use Rattle.dimacs_claims.specs.Cuts.{CutValue, SpellsCut, canonical_cut, shown_cut};
 ghost use Rattle.dimacs_claims.specs.Labels.{LabelsValue};
-ghost use Rattle.dimacs_claims.specs.LabelTexts.{SpellsLabels, canonical_labels};
-ghost use Rattle.dimacs_claims.specs.Potentials.{PotentialsValue, SpellsPotentials, canonical_potentials};
-ghost use Rattle.dimacs_claims.specs.SolutionTexts.{SolutionValue, SpellsSolution, canonical_solution, claimed};
-ghost use Rattle.dimacs_runs.specs.Shown.{shown_cut, shown_labels, shown_potentials, shown_solution};
+ghost use Rattle.dimacs_claims.specs.LabelTexts.{SpellsLabels, canonical_labels, shown_labels};
+ghost use Rattle.dimacs_claims.specs.Potentials.{PotentialsValue, SpellsPotentials, canonical_potentials, shown_potentials};
+ghost use Rattle.dimacs_claims.specs.SolutionTexts.{SolutionValue, SpellsSolution, canonical_solution, claimed, shown_solution};
 
-use crate::texts::Text;
-use dimacs_claims::{
-    Cut, Labels, Potentials, Solution, read_cut, read_labels, read_potentials, read_solution,
-    write_cut, write_labels, write_potentials, write_solution,
-};
+use crate::cut::{Cut, read_cut, write_cut};
+use crate::labels::{Labels, read_labels, write_labels};
+use crate::potentials::{Potentials, read_potentials, write_potentials};
+use crate::solution::{Solution, read_solution, write_solution};
 use dimacs_lines::{DeviceFault, Sink, Source};
-use dimacs_records::{Part, ReadError, put_line};
+use dimacs_records::{Part, ReadError, Text, TextKind, put_line};
 use std::alloc::Global;
 
 impl Text for Solution {
@@ -33,8 +31,8 @@ impl Text for Solution {
 
     ghost shown = { λ s. shown_solution s };
 
-    fn name() -> &'static str {
-        "solution"
+    fn kind() -> TextKind {
+        TextKind::Solution
     }
 
     fn read<S: Source>(alloc: Global, source: &mut S) -> Result<Self, ReadError> {
@@ -73,8 +71,8 @@ impl Text for Cut {
 
     ghost shown = { λ c. shown_cut c };
 
-    fn name() -> &'static str {
-        "certificate"
+    fn kind() -> TextKind {
+        TextKind::Cut
     }
 
     fn read<S: Source>(alloc: Global, source: &mut S) -> Result<Self, ReadError> {
@@ -113,8 +111,8 @@ impl Text for Potentials {
 
     ghost shown = { λ p. shown_potentials p };
 
-    fn name() -> &'static str {
-        "certificate"
+    fn kind() -> TextKind {
+        TextKind::Potentials
     }
 
     fn read<S: Source>(alloc: Global, source: &mut S) -> Result<Self, ReadError> {
@@ -153,8 +151,8 @@ impl Text for Labels {
 
     ghost shown = { λ l. shown_labels l };
 
-    fn name() -> &'static str {
-        "certificate"
+    fn kind() -> TextKind {
+        TextKind::Labels
     }
 
     fn read<S: Source>(alloc: Global, source: &mut S) -> Result<Self, ReadError> {

@@ -7,14 +7,15 @@ ghost use Rattle.dimacs_lines.specs.Puts.{Puts};
 ghost use Rattle.dimacs_records.specs.declared.kinds.TextKind.{TextKind};
 ghost use Rattle.dimacs_records.specs.Faults.{Fault};
 ghost use Rattle.dimacs_records.specs.Readings.{CountsRead};
-ghost use Rattle.dimacs_runs.specs.Runs.{text_word, ReadsAs};
+ghost use Rattle.dimacs_records.specs.Texts.{ReadsAs};
 
+use crate::faults::ReadError;
+use crate::kinds::TextKind;
 use dimacs_lines::{DeviceFault, Sink, Source};
-use dimacs_records::ReadError;
 use std::alloc::Global;
 
 /// A value that texts of one kind spell.
-pub(crate) trait Text: Drop {
+pub trait Text: Drop {
     ghost kind: { TextKind };
 
     ghost Said: { Type 0 };
@@ -31,9 +32,8 @@ pub(crate) trait Text: Drop {
 
     ghost shown: { Said → List ℕ };
 
-    /// The text in the words of a refusal.
-    fn name() -> &'static str
-        ensures { result.now ≡ text_word kind };
+    fn kind() -> TextKind
+        ensures { result ≡ kind };
 
     fn read<S: Source>(alloc: Global, source: &mut S) -> Result<Self, ReadError>
         ensures reads { (bytes : List ℕ) → S.coming source.old ≡ Some bytes → ReadsAs said (spells bytes) (Fault kind (lines bytes)) result }
