@@ -2,11 +2,12 @@
 
 use crate::checks::{holds, same};
 use crate::texts::{
-    Text, Weights, becomes, converts_each, is_made_of, spelled, tells_each_failed_pull,
+    Weights, becomes, converts_each, is_made_of, spelled, tells_each_failed_pull,
     tells_each_failed_put, tells_failed_pulls,
 };
 use dimacs_instance::Network;
 use dimacs_lines::{DeviceFault, FlakySink, FlakySource};
+use dimacs_records::Text;
 use std::alloc::Global;
 use std::test::Fail;
 

@@ -11,6 +11,8 @@ mod cuts;
 #[cfg(test)]
 mod graphs;
 #[cfg(test)]
+mod kinds;
+#[cfg(test)]
 mod labels;
 #[cfg(test)]
 mod max_flows;

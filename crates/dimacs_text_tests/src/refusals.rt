@@ -2,8 +2,9 @@
 
 use crate::checks::same;
 use crate::tables::{case, cell, number, rows};
-use crate::texts::{Text, Weights, refuses, refuses_each, told};
+use crate::texts::{Weights, refuses, refuses_each, told};
 use dimacs_lines::FlakySource;
+use dimacs_records::Text;
 use std::alloc::Global;
 use std::process::Abort;
 use std::test::Fail;

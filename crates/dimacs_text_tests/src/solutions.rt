@@ -2,12 +2,12 @@
 
 use crate::checks::same;
 use crate::texts::{
-    Text, converts_each, ends_with, is_written, read_each, refuses_each, spelled, take_line,
+    converts_each, ends_with, is_written, read_each, refuses_each, spelled, take_line,
     tells_each_failed_pull, tells_each_failed_put,
 };
 use dimacs_claims::{Entry, Solution, SolutionReading};
 use dimacs_lines::{FlakySink, FlakySource};
-use dimacs_records::TextKind;
+use dimacs_records::{Text, TextKind};
 use std::test::Fail;
 
 const FLOW: &str = "s 6\nf 1 2 4\nf 1 3 2\nf 2 3 1\nf 2 4 3\nf 3 4 3\n";

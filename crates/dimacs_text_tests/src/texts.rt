@@ -4,17 +4,11 @@ ghost use Rattle.std.specs.Prelude.{◌≡◌};
 
 use crate::checks::{holds, holds_at, same, same_at};
 use crate::tables::{case, cell, number, rows};
-use dimacs_claims::{
-    Cut, Labels, Potentials, Solution, read_cut, read_labels, read_potentials, read_solution,
-    write_cut, write_labels, write_potentials, write_solution,
-};
 use dimacs_instance::{
-    ArcView, CapacityArc, ForwardStar, Graph, MaxInstance, MinInstance, Network, Queries,
-    WeightArc, read_graph, read_max, read_min, read_queries, write_graph, write_max, write_min,
-    write_queries,
+    ArcView, CapacityArc, ForwardStar, Graph, MaxInstance, MinInstance, Network, WeightArc,
 };
 use dimacs_lines::{DeviceFault, FlakySink, FlakySource};
-use dimacs_records::{ReadError, Reading, TakeError, TextKind, record};
+use dimacs_records::{ReadError, Reading, TakeError, Text, TextKind, record};
 use std::alloc::{AllocError, Global};
 use std::process::Abort;
 use std::test::Fail;
@@ -24,93 +18,6 @@ pub type MaxFlow = MaxInstance<ForwardStar<CapacityArc>>;
 pub type MinFlow = MinInstance<ForwardStar<ArcView>>;
 
 pub type Weights = Graph<ForwardStar<WeightArc>>;
-
-/// A value that texts of one kind spell.
-pub trait Text: Drop {
-    fn read(alloc: Global, source: &mut FlakySource<'_>) -> Result<Self, ReadError>;
-
-    fn write(&self, sink: &mut FlakySink<'_>) -> Result<(), DeviceFault>;
-}
-
-impl Text for MaxFlow {
-    fn read(alloc: Global, source: &mut FlakySource<'_>) -> Result<MaxFlow, ReadError> {
-        read_max(alloc, source)
-    }
-
-    fn write(&self, sink: &mut FlakySink<'_>) -> Result<(), DeviceFault> {
-        write_max(self, sink)
-    }
-}
-
-impl Text for MinFlow {
-    fn read(alloc: Global, source: &mut FlakySource<'_>) -> Result<MinFlow, ReadError> {
-        read_min(alloc, source)
-    }
-
-    fn write(&self, sink: &mut FlakySink<'_>) -> Result<(), DeviceFault> {
-        write_min(self, sink)
-    }
-}
-
-impl Text for Weights {
-    fn read(alloc: Global, source: &mut FlakySource<'_>) -> Result<Weights, ReadError> {
-        read_graph(alloc, source)
-    }
-
-    fn write(&self, sink: &mut FlakySink<'_>) -> Result<(), DeviceFault> {
-        write_graph(self, sink)
-    }
-}
-
-impl Text for Queries {
-    fn read(alloc: Global, source: &mut FlakySource<'_>) -> Result<Queries, ReadError> {
-        read_queries(alloc, source)
-    }
-
-    fn write(&self, sink: &mut FlakySink<'_>) -> Result<(), DeviceFault> {
-        write_queries(self, sink)
-    }
-}
-
-impl Text for Solution {
-    fn read(alloc: Global, source: &mut FlakySource<'_>) -> Result<Solution, ReadError> {
-        read_solution(alloc, source)
-    }
-
-    fn write(&self, sink: &mut FlakySink<'_>) -> Result<(), DeviceFault> {
-        write_solution(self, sink)
-    }
-}
-
-impl Text for Cut {
-    fn read(alloc: Global, source: &mut FlakySource<'_>) -> Result<Cut, ReadError> {
-        read_cut(alloc, source)
-    }
-
-    fn write(&self, sink: &mut FlakySink<'_>) -> Result<(), DeviceFault> {
-        write_cut(self, sink)
-    }
-}
-
-impl Text for Potentials {
-    fn read(alloc: Global, source: &mut FlakySource<'_>) -> Result<Potentials, ReadError> {
-        read_potentials(alloc, source)
-    }
-
-    fn write(&self, sink: &mut FlakySink<'_>) -> Result<(), DeviceFault> {
-        write_potentials(self, sink)
-    }
-}
-
-impl Text for Labels {
-    fn read(alloc: Global, source: &mut FlakySource<'_>) -> Result<Labels, ReadError> {
-        read_labels(alloc, source)
-    }
-
-    fn write(&self, sink: &mut FlakySink<'_>) -> Result<(), DeviceFault> {
-        write_labels(self, sink)
-    }
-}
 
 /// The value that a text spells.
 pub fn spelled<T: Text>(alloc: Global, text: &str) -> Result<T, ReadError> {
