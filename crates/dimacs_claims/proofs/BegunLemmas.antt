@@ -17,12 +17,13 @@ use Rattle.dimacs_records.specs.declared.records.Record.TheVariants.{LabelsProbl
 use Rattle.dimacs_records.specs.declared.reasons.Reason.TheVariants.{ProblemTwice, RecordOrder, NodeRange, NodeTwice, TooMany, TooFew, PredUnknown, PastRadius}
 use Rattle.dimacs_records.specs.Blocks.{is_full_block, is_past}
 use Rattle.dimacs_records.specs.Faults.{FirstAtEnd}
-use Rattle.dimacs_records.specs.FieldReader.{fault_at}
+use Rattle.dimacs_records.specs.inside.FieldReader.{fault_at}
 use Rattle.dimacs_records.specs.Readings.{IsAllowed, IsFirstCondition, IsComplete}
 use Rattle.dimacs_claims.specs.declared.block.Label.{Label}
 use Rattle.dimacs_claims.specs.Labels.{AreSources, BlockValue, AreLabels, EachBehind, IsBlock, IsLabel, IsNewSource, distance_in, label, with_label, has_source}
 use Rattle.dimacs_claims.specs.LabelTexts.{label_line, label_records}
-use Rattle.dimacs_claims.specs.LabelsReading.{LabelsBegun, AreLabelled, AreLabelsBegun, lines_of_blocks, labels_begun_records, label_records_so_far, with_opened}
+use Rattle.dimacs_claims.specs.LabelsReading.{LabelsBegun, AreLabelled, AreLabelsBegun, lines_of_blocks, labels_begun_records, label_records_so_far}
+use Rattle.dimacs_claims.specs.inside.LabelsReading.{with_opened}
 use Rattle.dimacs_claims.proofs.BlockLemmas.{label_id, near_radius, is_some-label, is_some-push, some_if, block_push, each_behind_nil, each_behind_push}
 use Rattle.dimacs_claims.proofs.LabelStates.{Say, second_problem, source_above, source_twice, too_many_blocks, block_before_short, block_allowed, label_outside, id_above, pred_above, label_twice, too_many_labels, pred_unknown, past_radius, label_allowed, too_few_blocks, too_few_labels, all_there}
 use Rattle.dimacs_claims.proofs.LabelRecords.{source_of, opened_with, last_after, last_is, say_taken, not_short, is_short, list_any-has_source, lines_of_blocks-push_block, lines_of_blocks-push_label, lines_of_blocks-zero, push_same}

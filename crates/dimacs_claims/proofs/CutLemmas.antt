@@ -19,14 +19,15 @@ use Rattle.dimacs_records.specs.Earlier.{names, counted_in, is_short}
 use Rattle.dimacs_records.specs.Canonical.{CanBeSpelled}
 use Rattle.dimacs_records.specs.Forms.{form, Word, Nodes, Count, Id}
 use Rattle.dimacs_records.specs.Readings.{LineRecord, records_of, IsAllowed, IsComplete}
-use Rattle.dimacs_records.specs.Texts.{AreFaultless}
+use Rattle.dimacs_records.specs.inside.Texts.{AreFaultless}
 use Rattle.dimacs_records.proofs.CanonicalLaws.{canonical_spelled, numbered_all}
 use Rattle.dimacs_records.proofs.ConditionLemmas.{is_allowed, is_complete, allowed_at}
 use Rattle.dimacs_records.proofs.SplitLemmas.{image_at, All-at}
 use Rattle.dimacs_claims.specs.Cuts.{CutValue, IsCut, AreNamed, GivesCut, SpellsCut, canonical_cut, cut_records, empty_cut, ids_in, is_id, with_node}
 use Rattle.dimacs_records.specs.Ranges.{IsNode}
-use Rattle.dimacs_records.specs.Tests.{Counts, Passes, PassesEnd, Tells, TellsEnd}
-use Rattle.dimacs_claims.specs.CutReading.{CutBegun, IsCutBegunBy, earlier_lines, is_named}
+use Rattle.dimacs_records.specs.Tests.{Counts, Passes, PassesEnd, IsToldOf, TellsEnd}
+use Rattle.dimacs_claims.specs.CutReading.{CutBegun, IsCutBegunBy}
+use Rattle.dimacs_claims.specs.inside.CutReading.{earlier_lines, is_named}
 use Rattle.dimacs_records.specs.Takings.{StandsFor}
 use Rattle.dimacs_claims.proofs.NodeLists.{passing, passing_once, passing_few, none_passing, All-passing, passing_below, passing_listed, passing_more}
 use Rattle.dimacs_records.proofs.CountLemmas.{once_before, once_more}
@@ -95,10 +96,10 @@ named_told : (o : Option CutBegun) (rs : List Record) (id : ℕ) → StandsFor I
 named_told None rs id h = rw h refl
 named_told (Some b) rs id h = rw h.records (any_names id h.named ∙ sym (contains_named b.cut.ids h.named id h.ids))
 
-pub problem_tells : (o : Option CutBegun) (n k : ℕ) (rs : List Record) → StandsFor IsCutBegunBy o rs → Tells (earlier_lines o) rs (CutProblem n k)
+pub problem_tells : (o : Option CutBegun) (n k : ℕ) (rs : List Record) → StandsFor IsCutBegunBy o rs → IsToldOf (earlier_lines o) rs (CutProblem n k)
 problem_tells o n k rs h = record { counts = counts o rs h; misplaced = refl; named = refl; end_named = refl; lacks_end = refl; block_full = refl; block_short = refl; valued = refl; pred_unknown = refl; past_radius = refl }
 
-pub node_tells : (o : Option CutBegun) (id : ℕ) (rs : List Record) → StandsFor IsCutBegunBy o rs → Tells (record (earlier_lines o) { named = is_named o id }) rs (CutNode id)
+pub node_tells : (o : Option CutBegun) (id : ℕ) (rs : List Record) → StandsFor IsCutBegunBy o rs → IsToldOf (record (earlier_lines o) { named = is_named o id }) rs (CutNode id)
 node_tells o id rs h = record { counts = counts o rs h; misplaced = refl; named = named_told o rs id h; end_named = refl; lacks_end = refl; block_full = refl; block_short = refl; valued = refl; pred_unknown = refl; past_radius = refl }
 
 pub end_tells : (o : Option CutBegun) (rs : List Record) → StandsFor IsCutBegunBy o rs → TellsEnd kinds.Cut (earlier_lines o) rs

@@ -16,7 +16,7 @@ use Rattle.dimacs_records.specs.Canonical.{CanBeSpelled}
 use Rattle.dimacs_records.specs.Ranges.{IsRadius}
 use Rattle.dimacs_records.specs.declared.faults.ReadError.{ReadError}
 use Rattle.dimacs_records.specs.Readings.{LineRecord, ReadsLines, numbered, records_of, IsAllowed, IsComplete}
-use Rattle.dimacs_records.specs.Texts.{AreFaultless}
+use Rattle.dimacs_records.specs.inside.Texts.{AreFaultless}
 use Rattle.dimacs_records.proofs.CanonicalLaws.{canonical_spelled, numbered_all}
 use Rattle.dimacs_records.proofs.ReadLaws.{spelled_of_faultless}
 use Rattle.dimacs_claims.specs.declared.block.Label.{Label}

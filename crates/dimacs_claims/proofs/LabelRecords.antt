@@ -16,7 +16,8 @@ use Rattle.dimacs_claims.specs.declared.block.Label.{Label}
 use Rattle.dimacs_claims.specs.Labels.{AreSources, BlockValue, IsBlock, IsNewSource, has_source}
 use Rattle.dimacs_records.specs.Ranges.{IsNode, IsRadius}
 use Rattle.dimacs_claims.specs.LabelTexts.{label_line, block_lines}
-use Rattle.dimacs_claims.specs.LabelsReading.{LabelsBegun, AreLabelsBegun, lines_of_short, lacking, lines_of_blocks, labels_begun_records, with_opened}
+use Rattle.dimacs_claims.specs.LabelsReading.{LabelsBegun, AreLabelsBegun, lines_of_short, lacking, lines_of_blocks, labels_begun_records}
+use Rattle.dimacs_claims.specs.inside.LabelsReading.{with_opened}
 use Rattle.dimacs_claims.proofs.BlockLemmas.{label_id, block_empty, each_behind_push}
 use Rattle.dimacs_claims.proofs.LabelStates.{Say, opened, is_source, say_problem, say_block, say_label}
 

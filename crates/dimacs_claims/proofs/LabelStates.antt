@@ -15,7 +15,7 @@ use Rattle.dimacs_records.specs.declared.reasons.Reason.TheVariants.{ProblemMiss
 use Rattle.dimacs_records.specs.Blocks.{Block, block_in, block_after, is_labelled, is_full_block, is_past_block, is_short_block}
 use Rattle.dimacs_records.specs.Earlier.{Problem, declares, problem_in, problem_of, or_else, counted_in, is_counted, names}
 use Rattle.dimacs_records.specs.Faults.{FirstAtEnd}
-use Rattle.dimacs_records.specs.FieldReader.{fault_at}
+use Rattle.dimacs_records.specs.inside.FieldReader.{fault_at}
 use Rattle.dimacs_records.specs.Readings.{IsAllowed, IsFirstCondition, IsComplete}
 use Rattle.dimacs_records.proofs.ConditionLemmas.{is_first_condition, is_allowed, is_first_at_end, is_complete}
 

@@ -21,7 +21,7 @@ use Rattle.dimacs_records.specs.Earlier.{names, counted_in, is_short}
 use Rattle.dimacs_records.specs.Canonical.{CanBeSpelled}
 use Rattle.dimacs_records.specs.Forms.{form, Word, Nodes, Count, Id, Wide}
 use Rattle.dimacs_records.specs.Readings.{LineRecord, records_of, IsAllowed, IsComplete}
-use Rattle.dimacs_records.specs.Texts.{AreFaultless}
+use Rattle.dimacs_records.specs.inside.Texts.{AreFaultless}
 use Rattle.dimacs_records.proofs.CanonicalLaws.{canonical_spelled, numbered_all}
 use Rattle.dimacs_records.proofs.ConditionLemmas.{is_allowed, is_complete, allowed_at}
 use Rattle.dimacs_records.proofs.SplitLemmas.{image_at, All-at}
@@ -29,8 +29,9 @@ use Rattle.dimacs_claims.specs.Cuts.{is_id}
 use Rattle.dimacs_records.specs.Ranges.{IsNode, IsWide}
 use Rattle.dimacs_claims.specs.Potentials.{PotentialsValue, ArePotentials, GivesPotentials, SpellsPotentials, canonical_potentials, node_line, nonzero_ids, potential_of, potentials_records, with_values, zero_potentials}
 use Rattle.dimacs_records.specs.NodeValues.{NameNodes, has_value, is_nonzero, is_of}
-use Rattle.dimacs_claims.specs.PotentialsReading.{PotentialsBegun, AreBegunBy, earlier_lines, has_line, is_named, with_line, with_value, with_zero}
-use Rattle.dimacs_records.specs.Tests.{Counts, Passes, PassesEnd, Tells, TellsEnd}
+use Rattle.dimacs_claims.specs.PotentialsReading.{PotentialsBegun, AreBegunBy, has_line}
+use Rattle.dimacs_claims.specs.inside.PotentialsReading.{earlier_lines, is_named, with_line, with_value, with_zero}
+use Rattle.dimacs_records.specs.Tests.{Counts, Passes, PassesEnd, IsToldOf, TellsEnd}
 use Rattle.dimacs_records.specs.Takings.{StandsFor}
 use Rattle.dimacs_claims.proofs.NodeLists.{All-passing, count_map, passing, passing_below, passing_few, passing_listed, passing_once}
 use Rattle.dimacs_claims.proofs.ValueLemmas.{law_with_potential, not_zero, zero_law}
@@ -101,10 +102,10 @@ named_told : (o : Option PotentialsBegun) (rs : List Record) (id : ℕ) → Stan
 named_told None rs id h = rw h refl
 named_told (Some b) rs id h = rw h.records (any_names id h.named ∙ sym (h.nodes_named id))
 
-pub problem_tells : (o : Option PotentialsBegun) (n k : ℕ) (rs : List Record) → StandsFor AreBegunBy o rs → Tells (earlier_lines o) rs (PotentialsProblem n k)
+pub problem_tells : (o : Option PotentialsBegun) (n k : ℕ) (rs : List Record) → StandsFor AreBegunBy o rs → IsToldOf (earlier_lines o) rs (PotentialsProblem n k)
 problem_tells o n k rs h = record { counts = counts o rs h; misplaced = refl; named = refl; end_named = refl; lacks_end = refl; block_full = refl; block_short = refl; valued = refl; pred_unknown = refl; past_radius = refl }
 
-pub node_tells : (o : Option PotentialsBegun) (id : ℕ) (v : ℤ) (rs : List Record) → StandsFor AreBegunBy o rs → Tells (record (earlier_lines o) { named = is_named o id }) rs (PotentialsNode id v)
+pub node_tells : (o : Option PotentialsBegun) (id : ℕ) (v : ℤ) (rs : List Record) → StandsFor AreBegunBy o rs → IsToldOf (record (earlier_lines o) { named = is_named o id }) rs (PotentialsNode id v)
 node_tells o id v rs h = record { counts = counts o rs h; misplaced = refl; named = named_told o rs id h; end_named = refl; lacks_end = refl; block_full = refl; block_short = refl; valued = refl; pred_unknown = refl; past_radius = refl }
 
 pub end_tells : (o : Option PotentialsBegun) (rs : List Record) → StandsFor AreBegunBy o rs → TellsEnd kinds.Potentials (earlier_lines o) rs

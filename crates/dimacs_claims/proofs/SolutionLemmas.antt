@@ -18,12 +18,13 @@ use Rattle.dimacs_records.specs.declared.faults.ReadError.{ReadError}
 use Rattle.dimacs_records.specs.declared.faults.ReadError.TheVariants as read_errors
 use Rattle.dimacs_records.specs.Earlier.{problem_in, is_value}
 use Rattle.dimacs_records.specs.Faults.{FirstAtEnd, Spell}
-use Rattle.dimacs_records.specs.FieldReader.{fault_at}
+use Rattle.dimacs_records.specs.inside.FieldReader.{fault_at}
 use Rattle.dimacs_records.specs.Spelling.{parts_of, texts_in}
 use Rattle.dimacs_records.specs.Forms.{form, Wide, Id, Whole}
 use Rattle.dimacs_records.specs.Canonical.{CanBeSpelled, FitAll, canonical_text}
 use Rattle.dimacs_records.specs.Readings.{LineRecord, AreBefore, AreSpelledBefore, IsOfKind, ReadsLines, IsAllowed, RefusesRecord, IsFirstCondition, IsComplete, on_line, records_of, numbered}
-use Rattle.dimacs_records.specs.Texts.{AreFaultless, AreSpelled}
+use Rattle.dimacs_records.specs.Texts.{AreSpelled}
+use Rattle.dimacs_records.specs.inside.Texts.{AreFaultless}
 use Rattle.dimacs_records.proofs.CanonicalLaws.{canonical_spelled}
 use Rattle.dimacs_records.proofs.ConditionLemmas.{is_first_condition, is_allowed, is_first_at_end, is_complete}
 use Rattle.dimacs_records.proofs.FitLaws.{fits_of}
@@ -33,7 +34,8 @@ use Rattle.dimacs_claims.specs.declared.solution.Entry.{Entry}
 use Rattle.dimacs_claims.specs.declared.solution.Solution.{Solution}
 use Rattle.dimacs_claims.specs.declared.solution.ValueLine.{ValueLine}
 use Rattle.dimacs_claims.specs.SolutionTexts.{SolutionValue, StandsAmong, GivesSolution, SpellsSolution, IsLawful, IsLawfulEntry, canonical_solution, claimed, entry_line, entry_record, on_lines_from, renumbered, solution_records}
-use Rattle.dimacs_claims.specs.SolutionReading.{AreTaken, StandsFor, GivesPlaced, IsPlaced, IsPlacedLawful, AnswersAlike, ReadsLike, TakesLine}
+use Rattle.dimacs_claims.specs.SolutionReading.{AreTaken, StandsForSolution, GivesPlaced, IsPlaced, IsPlacedLawful, AnswersAlike, ReadsLike}
+use Rattle.dimacs_claims.specs.inside.SolutionReading.{TakesSolutionLine}
 
 abbrev IsSolutionLine : LineRecord → Type 0
 IsSolutionLine r = IsOfKind kinds.Solution r.says
@@ -315,25 +317,25 @@ placed_lawful value value_line holds rs given are =
 
 -- ---- what a reading that places entries stands for
 module _ (holds : List Entry → Type 0) (rs : List LineRecord) where
-  pub none_taken : (entries : List Entry) → holds entries → StandsFor None holds (map entry_line entries)
+  pub none_taken : (entries : List Entry) → holds entries → StandsForSolution None holds (map entry_line entries)
   none_taken entries stands = (entries, stands, refl)
 
-  pub no_value_placed : (value : Option ValueLine) → value ≡ None → StandsFor value holds rs → FirstAtEnd kinds.Solution (records_of rs) SolutionMissing
+  pub no_value_placed : (value : Option ValueLine) → value ≡ None → StandsForSolution value holds rs → FirstAtEnd kinds.Solution (records_of rs) SolutionMissing
   no_value_placed None none h = no_value_at_end h.0 rs h.2
   no_value_placed (Some v) none h = absurd (cc)
 
-  pub complete_placed : (v : ValueLine) → StandsFor (Some v) holds rs → IsComplete kinds.Solution (records_of rs)
+  pub complete_placed : (v : ValueLine) → StandsForSolution (Some v) holds rs → IsComplete kinds.Solution (records_of rs)
   complete_placed v h = complete_with_value h.0 rs v.line v.value h.2
 
-  pub value_refused : (value : Option ValueLine) (other : ℤ) → is_some value ≡ true → StandsFor value holds rs → IsFirstCondition (records_of rs) (value_record other) (fault_at 0 SolutionTwice)
+  pub value_refused : (value : Option ValueLine) (other : ℤ) → is_some value ≡ true → StandsForSolution value holds rs → IsFirstCondition (records_of rs) (value_record other) (fault_at 0 SolutionTwice)
   value_refused value other came h = value_came value h.0 rs other came h.2
 
-  pub value_placed : (value : Option ValueLine) (line : ℕ) (said : ℤ) → is_some value ≡ false → StandsFor value holds rs
-      → IsAllowed (records_of rs) (value_record said) × StandsFor (Some (record { value = said; line = line })) holds (rs ++ on_line line (value_record said) ∷ [])
+  pub value_placed : (value : Option ValueLine) (line : ℕ) (said : ℤ) → is_some value ≡ false → StandsForSolution value holds rs
+      → IsAllowed (records_of rs) (value_record said) × StandsForSolution (Some (record { value = said; line = line })) holds (rs ++ on_line line (value_record said) ∷ [])
   value_placed value line said none h = let both = value_first value h.0 rs line said none h.2 in (both.0, (h.0, h.1, both.1))
 
-  pub entry_placed : (value : Option ValueLine) (e : Entry) (more : List Entry → Type 0) → ((es : List Entry) → holds es → more (es ++ e ∷ [])) → StandsFor value holds rs
-      → IsAllowed (records_of rs) (entry_record e) × StandsFor value more (rs ++ entry_line e ∷ [])
+  pub entry_placed : (value : Option ValueLine) (e : Entry) (more : List Entry → Type 0) → ((es : List Entry) → holds es → more (es ++ e ∷ [])) → StandsForSolution value holds rs
+      → IsAllowed (records_of rs) (entry_record e) × StandsForSolution value more (rs ++ entry_line e ∷ [])
   entry_placed value e more placed h = (entry_allowed (records_of rs) e, (h.0 ++ e ∷ [], placed h.0 h.1, taken_more value h.0 e h.2))
     where
       taken_more : (value : Option ValueLine) (es : List Entry) (e : Entry) → AreTaken value es rs → AreTaken value (es ++ e ∷ []) (rs ++ entry_line e ∷ [])
@@ -346,7 +348,7 @@ module _ (holds : List Entry → Type 0) (rs : List LineRecord) where
       }
 
   -- where the place stands for the same, so does the reading
-  pub same_placed : (value : Option ValueLine) (other : List Entry → Type 0) → ((es : List Entry) → holds es ↔ other es) → StandsFor value holds rs ↔ StandsFor value other rs
+  pub same_placed : (value : Option ValueLine) (other : List Entry → Type 0) → ((es : List Entry) → holds es ↔ other es) → StandsForSolution value holds rs ↔ StandsForSolution value other rs
   same_placed value other same = ((λ h. (h.0, (same h.0).0 h.1, h.2)), (λ h. (h.0, (same h.0).1 h.1, h.2)))
 
 -- a solution whose entries were kept
@@ -366,18 +368,18 @@ error_kept like (Err f) e (Ok s) alike is = absurd is
 
 -- ---- what becomes of a reading, clause by clause
 module _ (old new : List LineRecord → Type 0) (r : LineRecord) where
-  pub line_allowed : (result : Result Unit TakeError) → TakesLine old r result new → OnOk result ((rs : List LineRecord) → old rs → IsAllowed (records_of rs) r.says)
+  pub line_allowed : (result : Result Unit TakeError) → TakesSolutionLine old r result new → OnOk result ((rs : List LineRecord) → old rs → IsAllowed (records_of rs) r.says)
   line_allowed (Ok done) takes = λ rs h. (takes rs h).0
   line_allowed (Err error) takes = tt
 
-  pub line_taken : (line : ℕ) (result : Result Unit TakeError) → TakesLine old r result new → OnOk result ((rs : List LineRecord) → old rs → AreBefore line rs → new (rs ++ r ∷ []))
+  pub line_taken : (line : ℕ) (result : Result Unit TakeError) → TakesSolutionLine old r result new → OnOk result ((rs : List LineRecord) → old rs → AreBefore line rs → new (rs ++ r ∷ []))
   line_taken line (Ok done) takes = λ rs h before. (takes rs h).1
   line_taken line (Err error) takes = tt
 
-  pub line_refused : (result : Result Unit TakeError) → TakesLine old r result new → IfErr result (λ error. (rs : List LineRecord) → old rs → RefusesRecord (records_of rs) r.says error)
+  pub line_refused : (result : Result Unit TakeError) → TakesSolutionLine old r result new → IfErr result (λ error. (rs : List LineRecord) → old rs → RefusesRecord (records_of rs) r.says error)
   line_refused (Ok done) takes = tt
   line_refused (Err error) takes = λ rs. (takes rs).1
 
-  pub line_unchanged : (result : Result Unit TakeError) → TakesLine old r result new → OnErr result ((rs : List LineRecord) → new rs ↔ old rs)
+  pub line_unchanged : (result : Result Unit TakeError) → TakesSolutionLine old r result new → OnErr result ((rs : List LineRecord) → new rs ↔ old rs)
   line_unchanged (Ok done) takes = tt
   line_unchanged (Err error) takes = λ rs. (takes rs).0

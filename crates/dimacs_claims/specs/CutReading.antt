@@ -1,13 +1,10 @@
 -- How far a set of nodes has been read, and how such values are stored.
-use Rattle.std.specs.Prelude.{ℕ, ◌≡◌, ◌≤◌, Bool, List, Option, Some, length, refl}
+use Rattle.std.specs.Prelude.{ℕ, ◌≡◌, ◌≤◌, List, length, refl}
 use Rattle.std.specs.Coded.{Coded, code_by, coded×, coded_ℕ}
 use Rattle.std.specs.Ordering.{nat_cmp}
-use Rattle.std.specs.FinSet.{FinSet, contains, from_list}
+use Rattle.std.specs.FinSet.{FinSet, from_list}
 use Rattle.std.specs.FinSet as set
 use Rattle.dimacs_records.specs.declared.records.Record.{Record}
-use Rattle.dimacs_records.specs.declared.order.Declared.{Declared}
-use Rattle.dimacs_records.specs.declared.order.Earlier.{Earlier}
-use Rattle.dimacs_records.specs.Tests.{earlier_begun, is_named_begun}
 use Rattle.dimacs_claims.specs.Cuts.{CutValue, IsCut, AreNamed, cut_records, ids_in}
 
 -- what the problem line declares, and the nodes behind it
@@ -24,19 +21,6 @@ pub record IsCutBegunBy (begun : CutBegun) (rs : List Record) : Type 0 where
   pub no_more : length named ≤ begun.declared
   pub is_cut : IsCut begun.cut
   pub records : rs ≡ cut_records begun.cut.nodes begun.declared named
-
-abbrev pub has_line : CutBegun → ℕ → Bool
-has_line begun id = contains begun.cut.ids id
-
-abbrev pub declared_by : CutBegun → Declared
-declared_by begun = record { nodes = Some begun.cut.nodes; count = begun.declared }
-
--- what the records taken say of one that names no node
-abbrev pub earlier_lines : Option CutBegun → Earlier
-earlier_lines = earlier_begun declared_by (λ (begun : CutBegun). length (ids_in begun.cut))
-
-abbrev pub is_named : Option CutBegun → ℕ → Bool
-is_named = is_named_begun has_line
 
 abbrev pub cut_code : Coded CutValue
 cut_code = code_by (ℕ × FinSet nat_cmp) (coded× coded_ℕ (set.code coded_ℕ)) (λ c. (c.nodes, c.ids)) (λ p. record { nodes = p.0; ids = p.1 }) (λ _. refl)

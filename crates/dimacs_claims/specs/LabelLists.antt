@@ -1,4 +1,4 @@
--- The labels of a block as they are kept. No public clause cites this module.
+-- The labels of a block as they are kept.
 use Rattle.dimacs_claims.specs.declared.block.Label.{Label}
 use Rattle.dimacs_claims.specs.declared.label_list.ShortLabel.{ShortLabel}
 

@@ -1,5 +1,5 @@
 -- How far labels have been read.
-use Rattle.std.specs.Prelude.{ℕ, ◌≡◌, ◌≤◌, ◌+◌, List, [], ◌∷◌, ◌++◌, map, length, Option, None, Some, is_some, ◌==◌, ℤ}
+use Rattle.std.specs.Prelude.{ℕ, ◌≡◌, ◌≤◌, ◌+◌, List, [], ◌∷◌, ◌++◌, map, length, Option, None, Some, is_some, ◌==◌}
 use Rattle.std.specs.List.{All}
 use Rattle.dimacs_lines.specs.Limits.{most_count, most_nodes}
 use Rattle.dimacs_nodes.specs.declared.node_table.NodeTable.{NodeTable}
@@ -51,15 +51,6 @@ pub record AreLabelsBegun (begun : LabelsBegun) : Type 0 where
   pub none_lack : begun.blocks ≡ [] → begun.missing ≡ 0
   pub blocks : All (IsBlock begun.nodes) begun.blocks
   pub sources : EachBehind IsNewSource begun.blocks
-
--- one block more, which lacks all of its labels
-abbrev pub with_opened : LabelsBegun → ℕ → ℕ → Option ℤ → LabelsBegun
-with_opened begun source count radius = record {
-  nodes = begun.nodes;
-  declared = begun.declared;
-  missing = count;
-  blocks = begun.blocks ++ record { source = source; radius = radius; labels = [] } ∷ [];
-}
 
 -- the table has, by node, the number of the last block that has a label of it, from 1
 pub record AreLabelled (labelled : NodeTable ℕ) (blocks : List BlockValue) : Type 0 where

@@ -9,3 +9,4 @@ pub mod Potentials
 pub mod PotentialsReading
 pub mod SolutionReading
 pub mod SolutionTexts
+pub mod inside

@@ -1,16 +1,13 @@
 -- How far potentials have been read, and how such values are stored.
-use Rattle.std.specs.Prelude.{ℕ, ℤ, ◌≡◌, ◌≤◌, ◌+◌, ◌||◌, Bool, List, Option, Some, length, refl, pos, if◌then◌else◌, unwrap_or}
+use Rattle.std.specs.Prelude.{ℕ, ℤ, ◌≡◌, ◌≤◌, ◌||◌, Bool, List, length, refl, pos, unwrap_or}
 use Rattle.std.specs.Coded.{Coded, code_by, coded×, coded_ℕ, coded_ℤ}
 use Rattle.std.specs.List.{filter, list_any}
-use Rattle.std.specs.Ordering.{nat_cmp, int_eq}
-use Rattle.std.specs.FinMap.{FinMap, get, insert, from_entries, retain_keys}
+use Rattle.std.specs.Ordering.{nat_cmp}
+use Rattle.std.specs.FinMap.{FinMap, get, from_entries, retain_keys}
 use Rattle.std.specs.FinMap as map
 use Rattle.std.specs.FinSet.{FinSet}
 use Rattle.std.specs.FinSet as set
 use Rattle.dimacs_records.specs.declared.records.Record.{Record}
-use Rattle.dimacs_records.specs.declared.order.Declared.{Declared}
-use Rattle.dimacs_records.specs.declared.order.Earlier.{Earlier}
-use Rattle.dimacs_records.specs.Tests.{earlier_begun, is_named_begun}
 use Rattle.dimacs_claims.specs.Potentials.{PotentialsValue, ArePotentials, potential_of, potentials_records}
 use Rattle.dimacs_records.specs.NodeValues.{NameNodes, has_value, is_nonzero, is_of}
 
@@ -38,26 +35,6 @@ pub record AreBegunBy (begun : PotentialsBegun) (rs : List Record) : Type 0 wher
   pub no_more : begun.taken ≤ begun.declared
   pub are_potentials : ArePotentials begun.potentials
   pub records : rs ≡ potentials_records begun.potentials.nodes begun.declared named
-
-abbrev pub with_zero : PotentialsBegun → ℕ → PotentialsBegun
-with_zero begun id = record { declared = begun.declared; taken = begun.taken + 1; potentials = begun.potentials; zeros = set.insert begun.zeros id }
-
-abbrev pub with_value : PotentialsBegun → ℕ → ℤ → PotentialsBegun
-with_value begun id value = record { declared = begun.declared; taken = begun.taken + 1; potentials = record { nodes = begun.potentials.nodes; values = insert begun.potentials.values id value }; zeros = begun.zeros }
-
--- with one line more
-abbrev pub with_line : PotentialsBegun → ℕ → ℤ → PotentialsBegun
-with_line begun id value = if int_eq value (pos 0) then with_zero begun id else with_value begun id value
-
-abbrev pub declared_by : PotentialsBegun → Declared
-declared_by begun = record { nodes = Some begun.potentials.nodes; count = begun.declared }
-
--- what the records taken say of one that names no node
-abbrev pub earlier_lines : Option PotentialsBegun → Earlier
-earlier_lines = earlier_begun declared_by (λ (begun : PotentialsBegun). begun.taken)
-
-abbrev pub is_named : Option PotentialsBegun → ℕ → Bool
-is_named = is_named_begun has_line
 
 abbrev pub potentials_code : Coded PotentialsValue
 potentials_code = code_by (ℕ × FinMap nat_cmp ℤ) (coded× coded_ℕ (map.code coded_ℕ coded_ℤ)) (λ p. (p.nodes, p.values)) (λ p. record { nodes = p.0; values = p.1 }) (λ _. refl)

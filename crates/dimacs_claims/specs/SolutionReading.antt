@@ -1,12 +1,11 @@
 -- How far a solution has been read.
-use Rattle.std.specs.Prelude.{ℕ, ℤ, ◌≡◌, ◌↔◌, List, [], ◌∷◌, ◌++◌, map, Option, None, Some, Result, Ok, Err, IfOk}
+use Rattle.std.specs.Prelude.{ℕ, ℤ, ◌≡◌, List, map, Option, None, Some, Result, Ok, Err, IfOk}
 use Rattle.dimacs_lines.specs.Lines.{lines}
 use Rattle.dimacs_records.specs.declared.faults.ReadError.{ReadError}
-use Rattle.dimacs_records.specs.declared.faults.TakeError.{TakeError}
 use Rattle.dimacs_records.specs.declared.kinds.TextKind.TheVariants as kinds
 use Rattle.dimacs_records.specs.declared.records.Record.TheVariants.{SolutionValue}
 use Rattle.dimacs_records.specs.Faults.{Fault}
-use Rattle.dimacs_records.specs.Readings.{LineRecord, on_line, records_of, IsAllowed, RefusesRecord}
+use Rattle.dimacs_records.specs.Readings.{LineRecord, on_line}
 use Rattle.dimacs_records.specs.Texts.{Reads}
 use Rattle.dimacs_claims.specs.declared.solution.Entry.{Entry}
 use Rattle.dimacs_claims.specs.declared.solution.ValueLine.{ValueLine}
@@ -19,13 +18,8 @@ AreTaken None entries rs = rs ≡ map entry_line entries
 AreTaken (Some v) entries rs = StandsAmong (on_line v.line (SolutionValue v.value)) (map entry_line entries) rs
 
 -- these are the records of the value, once it came, and of entries for which the place stands
-abbrev pub StandsFor : Option ValueLine → (List Entry → Type 0) → List LineRecord → Type 0
-StandsFor value holds rs = (entries : List Entry) × holds entries × AreTaken value entries rs
-
--- what becomes of a reading that is told the record of one more line
-abbrev pub TakesLine : (List LineRecord → Type 0) → LineRecord → Result Unit TakeError → (List LineRecord → Type 0) → Type 0
-TakesLine old r (Ok done) new = (rs : List LineRecord) → old rs → IsAllowed (records_of rs) r.says × new (rs ++ r ∷ [])
-TakesLine old r (Err error) new = (rs : List LineRecord) → (new rs ↔ old rs) × (old rs → RefusesRecord (records_of rs) r.says error)
+abbrev pub StandsForSolution : Option ValueLine → (List Entry → Type 0) → List LineRecord → Type 0
+StandsForSolution value holds rs = (entries : List Entry) × holds entries × AreTaken value entries rs
 
 -- the records give a solution of this value, with entries for which the place stands
 abbrev pub GivesPlaced : ℤ → ℕ → (List Entry → Type 0) → List LineRecord → Type 0

@@ -14,10 +14,12 @@ ghost use Rattle.dimacs_records.specs.Canonical.{canonical_text};
 ghost use Rattle.dimacs_records.specs.Faults.{Fault};
 ghost use Rattle.dimacs_records.specs.Readings.{CountsRead, records_of};
 ghost use Rattle.dimacs_records.specs.Texts.{Reads};
-ghost use Rattle.dimacs_records.specs.Takings.{StandsFor, Takes};
+ghost use Rattle.dimacs_records.specs.Takings.{StandsFor};
+ghost use Rattle.dimacs_records.specs.inside.Takings.{Takes};
 ghost use Rattle.dimacs_claims.specs.Cuts.{CutValue, IsCut, GivesCut, SpellsCut, canonical_cut, empty_cut, ids_in, with_node};
 ghost use Rattle.dimacs_records.specs.Ranges.{IsNode};
-ghost use Rattle.dimacs_claims.specs.CutReading.{IsCutBegunBy, earlier_lines, is_named};
+ghost use Rattle.dimacs_claims.specs.CutReading.{IsCutBegunBy};
+ghost use Rattle.dimacs_claims.specs.inside.CutReading.{earlier_lines, is_named};
 
 use dimacs_lines::{DeviceFault, Memory, Page, Sink, Source};
 use dimacs_nodes::NodeSet;

@@ -10,7 +10,8 @@ ghost use Rattle.dimacs_records.specs.declared.kinds.TextKind.TheVariants as kin
 ghost use Rattle.dimacs_records.specs.declared.records.Record.TheVariants.{LabelsProblem, LabelsBlock, LabelsNode};
 ghost use Rattle.dimacs_records.specs.Canonical.{canonical_text};
 ghost use Rattle.dimacs_records.specs.Faults.{Fault};
-ghost use Rattle.dimacs_records.specs.Readings.{CountsRead, TakesRecord, records_of};
+ghost use Rattle.dimacs_records.specs.Readings.{CountsRead, records_of};
+ghost use Rattle.dimacs_records.specs.inside.Readings.{TakesRecord};
 ghost use Rattle.dimacs_records.specs.Texts.{Reads};
 ghost use Rattle.dimacs_claims.specs.ById.{AreIndexed};
 ghost use Rattle.dimacs_claims.specs.Labels as claims;
@@ -20,7 +21,8 @@ ghost use Rattle.std.specs.List.{All};
 ghost use Rattle.std.specs.Ordering.{nat_cmp};
 ghost use Rattle.dimacs_records.specs.Ranges.{IsRadius, IsWide};
 ghost use Rattle.dimacs_claims.specs.LabelTexts.{FitText, GivesLabels, SpellsLabels, block_lines, canonical_labels, label_line};
-ghost use Rattle.dimacs_claims.specs.LabelsReading.{AreLabelsBegun, labels_begun_records, with_opened};
+ghost use Rattle.dimacs_claims.specs.LabelsReading.{AreLabelsBegun, labels_begun_records};
+ghost use Rattle.dimacs_claims.specs.inside.LabelsReading.{with_opened};
 
 use crate::block::{Block, Label};
 use crate::by_id::ById;

@@ -13,11 +13,13 @@ ghost use Rattle.dimacs_records.specs.Canonical.{canonical_text};
 ghost use Rattle.dimacs_records.specs.Faults.{Fault};
 ghost use Rattle.dimacs_records.specs.Readings.{CountsRead, records_of};
 ghost use Rattle.dimacs_records.specs.Texts.{Reads};
-ghost use Rattle.dimacs_records.specs.Takings.{StandsFor, Takes};
+ghost use Rattle.dimacs_records.specs.Takings.{StandsFor};
+ghost use Rattle.dimacs_records.specs.inside.Takings.{Takes};
 ghost use Rattle.dimacs_records.specs.Ranges.{IsNode, IsWide};
 ghost use Rattle.dimacs_claims.specs.Potentials.{PotentialsValue, ArePotentials, GivesPotentials, SpellsPotentials, canonical_potentials, node_line, nonzero_ids, potential_of, with_potential, with_values, zero_potentials};
 ghost use Rattle.dimacs_records.specs.NodeValues.{is_nonzero};
-ghost use Rattle.dimacs_claims.specs.PotentialsReading.{AreBegunBy, earlier_lines, is_named, with_line};
+ghost use Rattle.dimacs_claims.specs.PotentialsReading.{AreBegunBy};
+ghost use Rattle.dimacs_claims.specs.inside.PotentialsReading.{earlier_lines, is_named, with_line};
 
 use dimacs_lines::{DeviceFault, Memory, Page, Sink, Source};
 use dimacs_nodes::{NodeMap, NodeSet};

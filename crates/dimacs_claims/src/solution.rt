@@ -12,7 +12,8 @@ ghost use Rattle.dimacs_records.specs.Faults.{Fault};
 ghost use Rattle.dimacs_records.specs.Readings.{CountsRead, on_line};
 ghost use Rattle.dimacs_records.specs.Texts.{Reads};
 ghost use Rattle.dimacs_claims.specs.SolutionTexts.{SolutionValue, IsLawful, SpellsSolution, canonical_solution, claimed, entry_line, entry_record, renumbered};
-ghost use Rattle.dimacs_claims.specs.SolutionReading.{GivesPlaced, IsPlaced, IsPlacedLawful, ReadsLike, StandsFor, TakesLine};
+ghost use Rattle.dimacs_claims.specs.SolutionReading.{GivesPlaced, IsPlaced, IsPlacedLawful, ReadsLike, StandsForSolution};
+ghost use Rattle.dimacs_claims.specs.inside.SolutionReading.{TakesSolutionLine};
 
 use crate::place::{Place, Placed};
 use dimacs_lines::{DeviceFault, Page, Sink, Source};
@@ -72,14 +73,14 @@ pub struct SolutionReading<P: Place> {
 
 impl<P: Place> SolutionReading<P> {
     pub fn new(place: P) -> SolutionReading<P>
-        ensures begins { (entries : List Entry) → P.stands_for place entries → StandsFor result.value (P.stands_for result.place) (map entry_line entries) }
+        ensures begins { (entries : List Entry) → P.stands_for place entries → StandsForSolution result.value (P.stands_for result.place) (map entry_line entries) }
         ensures fixed { P.fixed result.place ≡ P.fixed place }
     {
         SolutionReading { value: None, place }
     }
 
     fn take_value(&mut self, said: ValueLine) -> Result<(), TakeError>
-        ensures takes { TakesLine (StandsFor self.old.value (P.stands_for self.old.place)) (on_line said.line (records.SolutionValue said.value)) result (StandsFor self.new.value (P.stands_for self.new.place)) }
+        ensures takes { TakesSolutionLine (StandsForSolution self.old.value (P.stands_for self.old.place)) (on_line said.line (records.SolutionValue said.value)) result (StandsForSolution self.new.value (P.stands_for self.new.place)) }
         ensures fixed { P.fixed self.new.place ≡ P.fixed self.old.place }
     {
         if self.value.is_some() {
@@ -91,7 +92,7 @@ impl<P: Place> SolutionReading<P> {
 
     #[inline(always)]
     fn take_entry(&mut self, entry: Entry) -> Result<(), TakeError>
-        ensures takes { TakesLine (StandsFor self.old.value (P.stands_for self.old.place)) (entry_line entry) result (StandsFor self.new.value (P.stands_for self.new.place)) }
+        ensures takes { TakesSolutionLine (StandsForSolution self.old.value (P.stands_for self.old.place)) (entry_line entry) result (StandsForSolution self.new.value (P.stands_for self.new.place)) }
         ensures fixed { P.fixed self.new.place ≡ P.fixed self.old.place }
     {
         self.place.place(entry)?;
@@ -104,7 +105,7 @@ impl<P: Place> Reading for SolutionReading<P> {
 
     ghost kind = { λ reading. kinds.Solution };
 
-    ghost stands_for = { λ reading rs. StandsFor reading.value (P.stands_for reading.place) rs };
+    ghost stands_for = { λ reading rs. StandsForSolution reading.value (P.stands_for reading.place) rs };
 
     ghost gives = { λ rs placed. GivesPlaced placed.value placed.value_line (P.stands_for placed.place) rs };
 

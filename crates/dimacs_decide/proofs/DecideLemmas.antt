@@ -17,7 +17,7 @@ use Rattle.dimacs_judge.proofs.Duality.{tight_is_maximum}
 use Rattle.dimacs_instance.specs.declared.links.Side.{Side}
 use Rattle.dimacs_instance.specs.declared.links.Side.TheVariants.{Tail, Head}
 use Rattle.dimacs_decide.specs.declared.search.Visit.{Visit}
-use Rattle.dimacs_decide.specs.Residual.{rank_of, is_in, IsExplored}
+use Rattle.dimacs_decide.specs.inside.Residual.{rank_of, is_in, IsExplored}
 use Rattle.dimacs_decide.proofs.SideLemmas.{near_within, AllZip-at, AllZip-of, length-AllZip}
 
 -- ---- a set that no step leaves

@@ -13,9 +13,9 @@ use Rattle.dimacs_instance.specs.declared.links.Side.{Side}
 use Rattle.dimacs_instance.specs.declared.links.Side.TheVariants.{Tail, Head}
 use Rattle.dimacs_decide.specs.declared.search.Visit.{Visit}
 use Rattle.dimacs_instance.specs.Links.{end_of, other_end}
-use Rattle.dimacs_decide.specs.Rooms.{room_at}
-use Rattle.dimacs_decide.specs.Residual.{KeepsBounds, IsReachedBy, rank_of, room_of, via_of}
-use Rattle.dimacs_decide.specs.Raising.{Pushed, IsRaising}
+use Rattle.dimacs_decide.specs.inside.Rooms.{room_at}
+use Rattle.dimacs_decide.specs.inside.Residual.{KeepsBounds, IsReachedBy, rank_of, room_of, via_of}
+use Rattle.dimacs_decide.specs.inside.Raising.{Pushed, IsRaising}
 use Rattle.dimacs_decide.proofs.SideLemmas.{AllZip-at, length-AllZip}
 
 -- ---- one amount changed

@@ -12,7 +12,7 @@ use Rattle.dimacs_instance.specs.declared.links.Side.TheVariants.{Tail, Head}
 use Rattle.dimacs_decide.specs.declared.search.Visit.{Visit}
 use Rattle.dimacs_instance.specs.Links.{end_of, other_end}
 use Rattle.dimacs_instance.specs.Links.{IsLast}
-use Rattle.dimacs_decide.specs.Residual.{unvisited, rank_of, room_of, via_of, room_on, IsReachedBy, unreached, IsPassed, IsWaiting, IsSearch, IsNext, Becomes, Reaches, Grows, IsExplored}
+use Rattle.dimacs_decide.specs.inside.Residual.{unvisited, rank_of, room_of, via_of, room_on, IsReachedBy, unreached, IsSidePassed, IsQueued, IsResidualSearch, IsNext, Becomes, Reaches, Grows, IsExplored}
 
 -- ---- counting
 one_if : (b : Bool) → b ≡ true → cond {A = ℕ} b 1 0 ≡ 1
@@ -66,12 +66,12 @@ grows_then nodes a p b q c r f g = record {
   each = g.each ∙ f.each;
 }
 
-pub passed_still : (arcs : List ArcView) (x : List ℤ) (visits visits' : ℕ → Visit) (v : ℕ) (side : Side) → ((u : ℕ) → 0 < rank_of visits u → 0 < rank_of visits' u) → IsPassed arcs x visits v side → IsPassed arcs x visits' v side
+pub passed_still : (arcs : List ArcView) (x : List ℤ) (visits visits' : ℕ → Visit) (v : ℕ) (side : Side) → ((u : ℕ) → 0 < rank_of visits u → 0 < rank_of visits' u) → IsSidePassed arcs x visits v side → IsSidePassed arcs x visits' v side
 passed_still arcs x visits visits' v side more is k inside near room = more _ (is k inside near room)
 
 -- ---- one node more
 module _ (nodes : ℕ) (arcs : List ArcView) (x : List ℤ) (s : ℕ) (visits : ℕ → Visit) (queue : List ℕ) (done : ℕ) (side : Side) (k from at : ℕ) (e : Visit) (after : ℕ → Visit)
-    (now : IsSearch nodes arcs x s visits queue done) (inside : at ≤ nodes) (new : rank_of visits at ≡ 0) (old : 0 < rank_of visits from)
+    (now : IsResidualSearch nodes arcs x s visits queue done) (inside : at ≤ nodes) (new : rank_of visits at ≡ 0) (old : 0 < rank_of visits from)
     (within : k < length arcs) (near : end_of side (arc_at arcs k) ≡ from) (far : other_end side (arc_at arcs k) ≡ at)
     (next : IsNext (visits from) k (room_on arcs x side k) e) (becomes : Becomes visits at e after) where
   abbrev longer : List ℕ
@@ -150,7 +150,7 @@ module _ (nodes : ℕ) (arcs : List ArcView) (x : List ℤ) (s : ℕ) (visits : 
     each = omega (arith, fewer, length_is);
   }
 
-  pub one_search : done ≤ length queue → IsSearch nodes arcs x s after longer done
+  pub one_search : done ≤ length queue → IsResidualSearch nodes arcs x s after longer done
   one_search short = record {
     tree = λ v ne h. cases v (IsReachedBy arcs x after v) (λ q. subst (IsReachedBy arcs x after) (sym q) is_reached) (λ q. let old : 0 < rank_of visits v = omega (arith, h, q) in was v old (now.tree v ne old));
     source = reached_still s now.source;
@@ -163,7 +163,7 @@ module _ (nodes : ℕ) (arcs : List ArcView) (x : List ℤ) (s : ℕ) (visits : 
         | inr more ↦ absurd (omega (arith, more, h, length_is))
       ]
     ];
-    pending = λ v h. cases v (IsWaiting longer done v ⊎ ((z : Side) → IsPassed arcs x after v z))
+    pending = λ v h. cases v (IsQueued longer done v ⊎ ((z : Side) → IsSidePassed arcs x after v z))
         (λ q. inl (length queue, short, omega (arith, length_is), last_is ∙ sym q))
         (λ q. elim (now.pending v (omega (arith, h, q))) [
           | inl w ↦ let (j, behind, less, is) = w in inl (j, behind, omega (arith, less, length_is), in_front j less ∙ is)
@@ -175,13 +175,13 @@ module _ (nodes : ℕ) (arcs : List ArcView) (x : List ℤ) (s : ℕ) (visits : 
 pub record IsPassing (nodes : ℕ) (arcs : List ArcView) (x : List ℤ) (s : ℕ) (side : Side) (at from next : ℕ) (visits : ℕ → Visit) (queue : List ℕ) (visits' : ℕ → Visit) (queue' : List ℕ) : Type 0 where
   pub within : next ≤ length arcs
   pub found : 0 < next → end_of side (arc_at arcs (next - 1)) ≡ from
-  pub search : IsSearch nodes arcs x s visits' queue' at
+  pub search : IsResidualSearch nodes arcs x s visits' queue' at
   pub grows : Grows nodes visits queue visits' queue'
   pub reached : 0 < rank_of visits' from
   pub passed : (k : ℕ) → next ≤ k → k < length arcs → end_of side (arc_at arcs k) ≡ from → pos 0 <ℤ room_on arcs x side k → 0 < rank_of visits' (other_end side (arc_at arcs k))
 
 pub passing_none : (nodes : ℕ) (arcs : List ArcView) (x : List ℤ) (s : ℕ) (side : Side) (at from next : ℕ) (visits : ℕ → Visit) (queue : List ℕ) → slice_index queue at ≡ from → at < length queue
-    → IsLast side arcs (length arcs) from next → IsSearch nodes arcs x s visits queue at → IsPassing nodes arcs x s side at from next visits queue visits queue
+    → IsLast side arcs (length arcs) from next → IsResidualSearch nodes arcs x s visits queue at → IsPassing nodes arcs x s side at from next visits queue visits queue
 passing_none nodes arcs x s side at from next visits queue is inside last search = record {
   within = last.within;
   found = last.found;
@@ -198,7 +198,7 @@ module _ (nodes : ℕ) (arcs : List ArcView) (x : List ℤ) (s : ℕ) (side : Si
   abbrev i : ℕ
   i = next - 1
 
-  passing_with : IsSearch nodes arcs x s new waits' at → Grows nodes old waits new waits' → (pos 0 <ℤ room_on arcs x side i → 0 < rank_of new (other_end side (arc_at arcs i))) → IsPassing nodes arcs x s side at from before visits queue new waits'
+  passing_with : IsResidualSearch nodes arcs x s new waits' at → Grows nodes old waits new waits' → (pos 0 <ℤ room_on arcs x side i → 0 < rank_of new (other_end side (arc_at arcs i))) → IsPassing nodes arcs x s side at from before visits queue new waits'
   passing_with search grows here = record {
     within = omega (arith, last.within, is.within, some);
     found = last.found;
@@ -218,7 +218,7 @@ module _ (nodes : ℕ) (arcs : List ArcView) (x : List ℤ) (s : ℕ) (side : Si
   passing_more = elim reaches [
     | inl none ↦
         let (visits_is, queue_is, why) = none in
-        let search : IsSearch nodes arcs x s new waits' at = rw (visits_is, queue_is) is.search in
+        let search : IsResidualSearch nodes arcs x s new waits' at = rw (visits_is, queue_is) is.search in
         let grows : Grows nodes old waits new waits' = rw (visits_is, queue_is) (grows_none nodes old waits) in
         passing_with search grows (λ room. elim why [
           | inl empty ↦ absurd (omega (arith, ints, room, empty))
@@ -226,13 +226,13 @@ module _ (nodes : ℕ) (arcs : List ArcView) (x : List ℤ) (s : ℕ) (side : Si
         ])
     | inr one ↦
         let (e, next_is, fresh, becomes, queue_is) = one in
-        let search : IsSearch nodes arcs x s new waits' at = rw queue_is (one_search nodes arcs x s old waits at side i from (other_end side (arc_at arcs i)) e new is.search inside fresh is.reached (omega (arith, is.within, some)) (is.found some) refl next_is becomes short) in
+        let search : IsResidualSearch nodes arcs x s new waits' at = rw queue_is (one_search nodes arcs x s old waits at side i from (other_end side (arc_at arcs i)) e new is.search inside fresh is.reached (omega (arith, is.within, some)) (is.found some) refl next_is becomes short) in
         let grows : Grows nodes old waits new waits' = rw queue_is (one_grows nodes arcs x s old waits at side i from (other_end side (arc_at arcs i)) e new is.search inside fresh is.reached (omega (arith, is.within, some)) (is.found some) refl next_is becomes) in
         passing_with search grows (λ room. omega (arith, ap (λ (z : Visit). z.rank) becomes.here, next_is.rank))
   ]
 
 -- nothing is left at the node
-pub passing_all : (nodes : ℕ) (arcs : List ArcView) (x : List ℤ) (s : ℕ) (side : Side) (at from next : ℕ) (visits : ℕ → Visit) (queue : List ℕ) (visits' : ℕ → Visit) (queue' : List ℕ) → (¬ (0 < next)) → IsPassing nodes arcs x s side at from next visits queue visits' queue' → IsPassed arcs x visits' from side
+pub passing_all : (nodes : ℕ) (arcs : List ArcView) (x : List ℤ) (s : ℕ) (side : Side) (at from next : ℕ) (visits : ℕ → Visit) (queue : List ℕ) (visits' : ℕ → Visit) (queue' : List ℕ) → (¬ (0 < next)) → IsPassing nodes arcs x s side at from next visits queue visits' queue' → IsSidePassed arcs x visits' from side
 passing_all nodes arcs x s side at from next visits queue visits' queue' over is k inside near room = is.passed k (omega (arith, over_is next over)) inside near room
   where
     over_is : (n : ℕ) → (¬ (0 < n)) → n ≤ 0
@@ -245,8 +245,8 @@ both_sides P t h Tail = t
 both_sides P t h Head = h
 
 -- the next of the queue is done
-pub search_next : (nodes : ℕ) (arcs : List ArcView) (x : List ℤ) (s : ℕ) (visits : ℕ → Visit) (queue : List ℕ) (at : ℕ) → IsSearch nodes arcs x s visits queue at
-    → IsPassed arcs x visits (slice_index queue at) Tail → IsPassed arcs x visits (slice_index queue at) Head → IsSearch nodes arcs x s visits queue (at + 1)
+pub search_next : (nodes : ℕ) (arcs : List ArcView) (x : List ℤ) (s : ℕ) (visits : ℕ → Visit) (queue : List ℕ) (at : ℕ) → IsResidualSearch nodes arcs x s visits queue at
+    → IsSidePassed arcs x visits (slice_index queue at) Tail → IsSidePassed arcs x visits (slice_index queue at) Head → IsResidualSearch nodes arcs x s visits queue (at + 1)
 search_next nodes arcs x s visits queue at is tail head = record {
   tree = is.tree;
   source = is.source;
@@ -258,13 +258,13 @@ search_next nodes arcs x s visits queue at is tail head = record {
     | inl w ↦
         let (j, behind, less, here) = w in
         elim (cases_order j at) [
-          | inl same ↦ inr (subst (λ u. (side : Side) → IsPassed arcs x visits u side) (sym (ap (slice_index queue) same) ∙ here) (both_sides (IsPassed arcs x visits (slice_index queue at)) tail head))
+          | inl same ↦ inr (subst (λ u. (side : Side) → IsSidePassed arcs x visits u side) (sym (ap (slice_index queue) same) ∙ here) (both_sides (IsSidePassed arcs x visits (slice_index queue at)) tail head))
           | inr apart ↦ elim apart [ inl low ↦ absurd (omega (arith, low, behind)) | inr high ↦ inl (j, omega (arith, high), less, here) ]
         ]
   ];
 }
 
-pub search_over : (nodes : ℕ) (arcs : List ArcView) (x : List ℤ) (s t : ℕ) (visits : ℕ → Visit) (queue : List ℕ) (at : ℕ) → IsSearch nodes arcs x s visits queue at → (rank_of visits t ≡ 0 → length queue ≤ at) → IsExplored arcs x s t visits
+pub search_over : (nodes : ℕ) (arcs : List ArcView) (x : List ℤ) (s t : ℕ) (visits : ℕ → Visit) (queue : List ℕ) (at : ℕ) → IsResidualSearch nodes arcs x s visits queue at → (rank_of visits t ≡ 0 → length queue ≤ at) → IsExplored arcs x s t visits
 search_over nodes arcs x s t visits queue at is over = record {
   source = is.source;
   tree = is.tree;
@@ -274,7 +274,7 @@ search_over nodes arcs x s t visits queue at is over = record {
   ];
 }
 
-pub search_begun : (nodes : ℕ) (arcs : List ArcView) (x : List ℤ) (s : ℕ) (visits : ℕ → Visit) (e : Visit) → s ≤ nodes → Becomes (λ v. unvisited) s e visits → e.rank ≡ 1 → pos 0 <ℤ e.room → IsSearch nodes arcs x s visits (s ∷ []) 0
+pub search_begun : (nodes : ℕ) (arcs : List ArcView) (x : List ℤ) (s : ℕ) (visits : ℕ → Visit) (e : Visit) → s ≤ nodes → Becomes (λ v. unvisited) s e visits → e.rank ≡ 1 → pos 0 <ℤ e.room → IsResidualSearch nodes arcs x s visits (s ∷ []) 0
 search_begun nodes arcs x s visits e inside becomes one some =
     let rank_is : rank_of visits s ≡ 1 = ap (λ (z : Visit). z.rank) becomes.here ∙ one in
     let room_is : room_of visits s ≡ e.room = ap (λ (z : Visit). z.room) becomes.here in
@@ -291,5 +291,5 @@ search_begun nodes arcs x s visits e inside becomes one some =
         | inl same ↦ subst (λ i. (slice_index (s ∷ []) i ≤ nodes) × (0 < rank_of visits (slice_index (s ∷ []) i))) (sym same) (inside, omega (arith, rank_is))
         | inr apart ↦ elim apart [ inl low ↦ absurd (omega (arith, low)) | inr high ↦ absurd (omega (arith, high, h)) ]
       ];
-      pending = λ v h. alone v (λ u. IsWaiting (s ∷ []) 0 u ⊎ ((side : Side) → IsPassed arcs x visits u side)) h (inl (0, omega arith, omega arith, refl));
+      pending = λ v h. alone v (λ u. IsQueued (s ∷ []) 0 u ⊎ ((side : Side) → IsSidePassed arcs x visits u side)) h (inl (0, omega arith, omega arith, refl));
     }

@@ -1,7 +1,7 @@
 //! How much more can be sent along an arc, from its tail, or back from its head.
 
 ghost use Rattle.std.specs.Prelude.{◌≡◌, pos, ◌≤ℤ◌};
-ghost use Rattle.dimacs_decide.specs.Rooms.{room_at};
+ghost use Rattle.dimacs_decide.specs.inside.Rooms.{room_at};
 
 use dimacs_instance::{ArcView, Side};
 

@@ -7,7 +7,7 @@ ghost use Rattle.dimacs_instance.specs.Arcs.{JoinsNodes};
 ghost use Rattle.dimacs_records.specs.Ranges.{IsNode};
 ghost use Rattle.dimacs_nodes.specs.Tables.{value_of};
 ghost use Rattle.dimacs_decide.specs.Links.{IsIncidenceOf};
-ghost use Rattle.dimacs_decide.specs.Residual.{Grows, IsExplored, IsNext, IsPassed, IsSearch, KeepsBounds, Reaches, rank_of, room_of};
+ghost use Rattle.dimacs_decide.specs.inside.Residual.{Grows, IsExplored, IsNext, IsSidePassed, IsResidualSearch, KeepsBounds, Reaches, rank_of, room_of};
 
 use crate::links::Incidence;
 use crate::room::room_from;
@@ -54,7 +54,7 @@ impl Search {
     /// The search that has reached its source alone.
     fn new(alloc: Global, source: u32) -> Result<Search, Memory>
         ensures source { IfOk result (λ search. search.source ≡ source) }
-        ensures begun { IfOk result (λ search. (nodes : ℕ) (arcs : List ArcView) (x : List ℤ) → source ≤ nodes → IsSearch nodes arcs x source (value_of search.visits) search.queue.items 0) }
+        ensures begun { IfOk result (λ search. (nodes : ℕ) (arcs : List ArcView) (x : List ℤ) → source ≤ nodes → IsResidualSearch nodes arcs x source (value_of search.visits) search.queue.items 0) }
     {
         let unvisited = Visit {
             room: 0,
@@ -108,10 +108,10 @@ impl Search {
         requires incidence { IsIncidenceOf (N.list network.now) incidence.now }
         requires few_nodes { N.node_count network.now ≤ most_nodes }
         requires at { at < length self.old.queue.items }
-        requires search { IsSearch (N.node_count network.now) (N.list network.now) flow.now self.old.source (value_of self.old.visits) self.old.queue.items at }
+        requires search { IsResidualSearch (N.node_count network.now) (N.list network.now) flow.now self.old.source (value_of self.old.visits) self.old.queue.items at }
         ensures source { OnOk result (self.new.source ≡ self.old.source) }
-        ensures search { OnOk result (IsSearch (N.node_count network.now) (N.list network.now) flow.now self.old.source (value_of self.new.visits) self.new.queue.items at) }
-        ensures passed { OnOk result (IsPassed (N.list network.now) flow.now (value_of self.new.visits) (slice_index self.old.queue.items at) side) }
+        ensures search { OnOk result (IsResidualSearch (N.node_count network.now) (N.list network.now) flow.now self.old.source (value_of self.new.visits) self.new.queue.items at) }
+        ensures passed { OnOk result (IsSidePassed (N.list network.now) flow.now (value_of self.new.visits) (slice_index self.old.queue.items at) side) }
         ensures grows { OnOk result (Grows (N.node_count network.now) (value_of self.old.visits) self.old.queue.items (value_of self.new.visits) self.new.queue.items) }
     {
         let links = incidence.links(side);
@@ -140,7 +140,7 @@ impl Search {
         requires within { KeepsBounds (N.list network.now) flow.now }
         requires sink { IsNode (N.node_count network.now) sink }
         requires incidence { IsIncidenceOf (N.list network.now) incidence.now }
-        requires search { IsSearch (N.node_count network.now) (N.list network.now) flow.now self.old.source (value_of self.old.visits) self.old.queue.items 0 }
+        requires search { IsResidualSearch (N.node_count network.now) (N.list network.now) flow.now self.old.source (value_of self.old.visits) self.old.queue.items 0 }
         ensures explored { OnOk result (IsExplored (N.list network.now) flow.now self.old.source sink (value_of self.new.visits)) }
     {
         let mut at = 0;

@@ -14,7 +14,7 @@ use Rattle.dimacs_records.specs.declared.records.Record.TheVariants.{GraphProble
 use Rattle.dimacs_records.specs.Earlier.{counted_in, is_full, is_short, problem_in}
 use Rattle.dimacs_records.specs.declared.order.Declared.{Declared}
 use Rattle.dimacs_records.specs.declared.order.Earlier.{Earlier}
-use Rattle.dimacs_records.specs.Tests.{Counts, Passes, PassesEnd, Tells, TellsEnd, earlier_of, problem_told}
+use Rattle.dimacs_records.specs.Tests.{Counts, Passes, PassesEnd, IsToldOf, TellsEnd, earlier_of, problem_told}
 use Rattle.dimacs_records.specs.Readings.{IsAllowed, IsComplete}
 use Rattle.dimacs_records.proofs.ConditionLemmas.{is_allowed, is_complete}
 use Rattle.dimacs_instance.specs.declared.network.ArcView.{ArcView}
@@ -22,12 +22,13 @@ use Rattle.dimacs_instance.specs.Plain.{weight_arc}
 use Rattle.dimacs_records.specs.Forms.{form, Word, Nodes, Count, Id, Whole}
 use Rattle.dimacs_records.specs.Canonical.{CanBeSpelled}
 use Rattle.dimacs_records.specs.Readings.{LineRecord, records_of}
-use Rattle.dimacs_records.specs.Texts.{AreFaultless}
+use Rattle.dimacs_records.specs.inside.Texts.{AreFaultless}
 use Rattle.dimacs_records.proofs.SplitLemmas.{image_at, All-at}
 use Rattle.dimacs_records.proofs.CanonicalLaws.{canonical_spelled, numbered_all}
 use Rattle.dimacs_instance.specs.Arcs.{JoinsNodes, NetworkValue}
 use Rattle.dimacs_instance.specs.Graph.{IsGraph, HasWeightAlone, GivesGraph, SpellsGraph, canonical_graph, graph_records, graph_arc}
-use Rattle.dimacs_instance.specs.GraphReading.{GraphBegun, IsBegun, arcs_by, begun_records, declared_by, graph_records_so_far}
+use Rattle.dimacs_instance.specs.GraphReading.{GraphBegun, IsBegun, begun_records, graph_records_so_far}
+use Rattle.dimacs_instance.specs.inside.GraphReading.{arcs_by, declared_by}
 use Rattle.dimacs_instance.proofs.ArcLemmas.{take_next}
 
 counted_in-arcs : (arcs : List ArcView) → counted_in (map graph_arc arcs) ≡ length arcs
@@ -61,10 +62,10 @@ pub counts : (begun : Option GraphBegun) → Counts (declared_by begun) (arcs_by
 counts None = record { problem_is = refl; counted_is = refl }
 counts (Some b) = record { problem_is = refl; counted_is = counted_in-arcs b.arcs }
 
-pub problem_tells : (p : Option Declared) (k : ℕ) (rs : List Record) (n m : ℕ) → Counts p k rs → Tells (earlier_of p k) rs (GraphProblem n m)
+pub problem_tells : (p : Option Declared) (k : ℕ) (rs : List Record) (n m : ℕ) → Counts p k rs → IsToldOf (earlier_of p k) rs (GraphProblem n m)
 problem_tells p k rs n m h = record { counts = h; misplaced = refl; named = refl; end_named = refl; lacks_end = refl; block_full = refl; block_short = refl; valued = refl; pred_unknown = refl; past_radius = refl }
 
-pub arc_tells : (p : Option Declared) (k : ℕ) (rs : List Record) (t h : ℕ) (w : ℤ) → Counts p k rs → Tells (earlier_of p k) rs (GraphArc t h w)
+pub arc_tells : (p : Option Declared) (k : ℕ) (rs : List Record) (t h : ℕ) (w : ℤ) → Counts p k rs → IsToldOf (earlier_of p k) rs (GraphArc t h w)
 arc_tells p k rs t h w so = record { counts = so; misplaced = refl; named = refl; end_named = refl; lacks_end = refl; block_full = refl; block_short = refl; valued = refl; pred_unknown = refl; past_radius = refl }
 
 pub end_tells : (p : Option Declared) (k : ℕ) (rs : List Record) → Counts p k rs → TellsEnd Graph (earlier_of p k) rs

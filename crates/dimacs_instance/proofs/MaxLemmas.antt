@@ -15,11 +15,11 @@ use Rattle.dimacs_records.specs.declared.records.End.{End}
 use Rattle.dimacs_records.specs.declared.records.End.TheVariants.{Source, Sink}
 use Rattle.dimacs_records.specs.declared.records.Record.{Record}
 use Rattle.dimacs_records.specs.declared.records.Record.TheVariants.{MaxProblem, MaxNode, MaxArc}
-use Rattle.dimacs_records.specs.Earlier.{counted_in, is_counted, is_short, names, is_end, is_flow_arc, is_max_node}
+use Rattle.dimacs_records.specs.Earlier.{counted_in, is_counted, is_short, names, is_end_node, is_flow_arc, is_max_node}
 use Rattle.dimacs_records.specs.Conditions.{lacks_end}
 use Rattle.dimacs_records.specs.Readings.{IsAllowed, IsComplete}
 use Rattle.dimacs_records.specs.Takings.{StandsFor}
-use Rattle.dimacs_records.specs.Tests.{Counts, Passes, PassesEnd, Tells, TellsEnd}
+use Rattle.dimacs_records.specs.Tests.{Counts, Passes, PassesEnd, IsToldOf, TellsEnd}
 use Rattle.dimacs_records.proofs.ConditionLemmas.{is_allowed, is_complete}
 use Rattle.dimacs_records.proofs.TakingLemmas.{stands}
 use Rattle.dimacs_instance.specs.declared.network.ArcView.{ArcView}
@@ -31,7 +31,8 @@ use Rattle.dimacs_instance.specs.Plain.{capacity_arc}
 use Rattle.dimacs_instance.specs.Arcs.{JoinsNodes}
 use Rattle.dimacs_instance.specs.MaxFlows.{HasCapacityAlone}
 use Rattle.dimacs_records.specs.Ranges.{IsNode, IsWhole}
-use Rattle.dimacs_instance.specs.MaxReading.{MaxBegun, IsMaxBegun, IsMaxBegunBy, earlier_ends, earlier_lines, earlier_names, end_records, ends_by, max_begun_records, max_node, with_arc}
+use Rattle.dimacs_instance.specs.MaxReading.{MaxBegun, IsMaxBegun, IsMaxBegunBy, end_records, max_begun_records, max_node}
+use Rattle.dimacs_instance.specs.inside.MaxReading.{earlier_ends, earlier_lines, earlier_names, ends_by, with_arc}
 
 none_of_arcs : (test : Record → Bool) → ((a : ArcView) → test (max_arc a) ≡ false) → (arcs : List ArcView) → list_any test (map max_arc arcs) ≡ false
 none_of_arcs test none [] = refl
@@ -42,11 +43,11 @@ none_of_nodes test none Neither = refl
 none_of_nodes test none (One first) = rw (none first) refl
 none_of_nodes test none (Both first second) = rw (none first, none second) refl
 
-no_end : (end : End) (r : Record) (tail head : ℕ) (cap : ℤ) → r ≡ MaxArc tail head cap → is_end end r ≡ false
+no_end : (end : End) (r : Record) (tail head : ℕ) (cap : ℤ) → r ≡ MaxArc tail head cap → is_end_node end r ≡ false
 no_end Source r tail head cap is = rw is refl
 no_end Sink r tail head cap is = rw is refl
 
-no_end_problem : (end : End) (nodes declared : ℕ) → is_end end (MaxProblem nodes declared) ≡ false
+no_end_problem : (end : End) (nodes declared : ℕ) → is_end_node end (MaxProblem nodes declared) ≡ false
 no_end_problem Source nodes declared = refl
 no_end_problem Sink nodes declared = refl
 
@@ -76,8 +77,8 @@ module _ (nodes declared : ℕ) (ends : EndLines) (arcs : List ArcView) where
   named : (id : ℕ) → list_any (names id) earlier ≡ list_any (names id) (end_records ends)
   named id = among_nodes (names id) refl (λ a. refl)
 
-  ended : (end : End) → list_any (is_end end) earlier ≡ list_any (is_end end) (end_records ends)
-  ended end = among_nodes (is_end end) (no_end_problem end nodes declared) (λ a. no_end end (max_arc a) a.tail a.head a.cap refl)
+  ended : (end : End) → list_any (is_end_node end) earlier ≡ list_any (is_end_node end) (end_records ends)
+  ended end = among_nodes (is_end_node end) (no_end_problem end nodes declared) (λ a. no_end end (max_arc a) a.tail a.head a.cap refl)
 
   counted : counted_in earlier ≡ length arcs
   counted = by_ends ends
@@ -102,7 +103,7 @@ module _ (nodes declared : ℕ) (ends : EndLines) (arcs : List ArcView) where
       by_ends (One first) = ap suc (no_node_arcs arcs)
       by_ends (Both first second) = ap (λ n. suc (suc n)) (no_node_arcs arcs)
 
-  pub one_more_node : (id : ℕ) (end : End) → arcs ≡ [] → id ≤ nodes → list_any (names id) (end_records ends) ≡ false → list_any (is_end end) (end_records ends) ≡ false → IsAllowed earlier (MaxNode id end)
+  pub one_more_node : (id : ℕ) (end : End) → arcs ≡ [] → id ≤ nodes → list_any (names id) (end_records ends) ≡ false → list_any (is_end_node end) (end_records ends) ≡ false → IsAllowed earlier (MaxNode id end)
   one_more_node id end none within fresh other =
       is_allowed earlier (MaxNode id end) (rw (any_flow_arc ∙ ap (λ (xs : List ArcView). nat_lt 0 (length xs)) none, le-ltb nodes id within, named id ∙ fresh, ended end ∙ other) refl)
 
@@ -127,10 +128,10 @@ counts : (o : Option MaxBegun) (rs : List Record) → StandsFor IsMaxBegunBy o r
 counts None rs h = rw h (record { problem_is = refl; counted_is = refl })
 counts (Some b) rs h = rw h (record { problem_is = refl; counted_is = counted b.nodes b.declared b.ends b.arcs })
 
-pub problem_tells : (o : Option MaxBegun) (n m : ℕ) (rs : List Record) → StandsFor IsMaxBegunBy o rs → Tells (earlier_lines o) rs (MaxProblem n m)
+pub problem_tells : (o : Option MaxBegun) (n m : ℕ) (rs : List Record) → StandsFor IsMaxBegunBy o rs → IsToldOf (earlier_lines o) rs (MaxProblem n m)
 problem_tells o n m rs h = record { counts = counts o rs h; misplaced = refl; named = refl; end_named = refl; lacks_end = refl; block_full = refl; block_short = refl; valued = refl; pred_unknown = refl; past_radius = refl }
 
-pub node_tells : (o : Option MaxBegun) (id : ℕ) (end : End) (rs : List Record) → StandsFor IsMaxBegunBy o rs → Tells (earlier_names o id end) rs (MaxNode id end)
+pub node_tells : (o : Option MaxBegun) (id : ℕ) (end : End) (rs : List Record) → StandsFor IsMaxBegunBy o rs → IsToldOf (earlier_names o id end) rs (MaxNode id end)
 node_tells None id end rs h = rw h (record { counts = counts None [] refl; misplaced = refl; named = refl; end_named = refl; lacks_end = refl; block_full = refl; block_short = refl; valued = refl; pred_unknown = refl; past_radius = refl })
 node_tells (Some b) id end rs h = rw h (record { counts = counts (Some b) (max_begun_records b) refl; misplaced = any_flow_arc b.nodes b.declared b.ends b.arcs; named = named b.nodes b.declared b.ends b.arcs id; end_named = ended b.nodes b.declared b.ends b.arcs end; lacks_end = refl; block_full = refl; block_short = refl; valued = refl; pred_unknown = refl; past_radius = refl })
 
@@ -138,7 +139,7 @@ lacks_told : (o : Option MaxBegun) (rs : List Record) → StandsFor IsMaxBegunBy
 lacks_told None rs h = rw h refl
 lacks_told (Some b) rs h = rw h (lacking b.nodes b.declared b.ends b.arcs)
 
-pub arc_tells : (o : Option MaxBegun) (t h : ℕ) (cap : ℤ) (rs : List Record) → StandsFor IsMaxBegunBy o rs → Tells (earlier_ends o) rs (MaxArc t h cap)
+pub arc_tells : (o : Option MaxBegun) (t h : ℕ) (cap : ℤ) (rs : List Record) → StandsFor IsMaxBegunBy o rs → IsToldOf (earlier_ends o) rs (MaxArc t h cap)
 arc_tells o t h cap rs so = record { counts = counts o rs so; misplaced = refl; named = refl; end_named = refl; lacks_end = lacks_told o rs so; block_full = refl; block_short = refl; valued = refl; pred_unknown = refl; past_radius = refl }
 
 pub end_tells : (o : Option MaxBegun) (rs : List Record) → StandsFor IsMaxBegunBy o rs → TellsEnd Max (earlier_ends o) rs

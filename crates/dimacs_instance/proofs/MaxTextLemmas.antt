@@ -12,11 +12,12 @@ use Rattle.dimacs_records.specs.declared.records.End.{End}
 use Rattle.dimacs_records.specs.declared.records.End.TheVariants.{Source, Sink}
 use Rattle.dimacs_records.specs.declared.records.Record.{Record}
 use Rattle.dimacs_records.specs.declared.records.Record.TheVariants.{MaxProblem, MaxNode, MaxArc}
-use Rattle.dimacs_records.specs.Earlier.{names, is_end}
+use Rattle.dimacs_records.specs.Earlier.{names, is_end_node}
 use Rattle.dimacs_records.specs.Forms.{form, Word, Either, Nodes, Count, Id, Whole}
 use Rattle.dimacs_records.specs.Canonical.{CanBeSpelled, canonical_text}
 use Rattle.dimacs_records.specs.Readings.{LineRecord, records_of, IsAllowed}
-use Rattle.dimacs_records.specs.Texts.{AreSpelled, AreFaultless}
+use Rattle.dimacs_records.specs.Texts.{AreSpelled}
+use Rattle.dimacs_records.specs.inside.Texts.{AreFaultless}
 use Rattle.dimacs_records.proofs.SplitLemmas.{ImageAt, image_at, All-at}
 use Rattle.dimacs_records.proofs.CanonicalLaws.{canonical_spelled, numbered_all}
 use Rattle.dimacs_instance.specs.declared.network.ArcView.{ArcView}
@@ -66,7 +67,7 @@ sink_first m is = record {
 other_name : (a b : EndLine) → a.node ≢ b.node → list_any (names b.node) (max_node a ∷ []) ≡ false
 other_name a b other = rw (ne_eqb a.node b.node other) refl
 
-other_end : (e f : End) (node : ℕ) → e ≢ f → list_any (is_end f) (MaxNode node e ∷ []) ≡ false
+other_end : (e f : End) (node : ℕ) → e ≢ f → list_any (is_end_node f) (MaxNode node e ∷ []) ≡ false
 other_end Source Source node other = absurd (other refl)
 other_end Source Sink node other = refl
 other_end Sink Source node other = refl

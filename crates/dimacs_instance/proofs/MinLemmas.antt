@@ -20,7 +20,7 @@ use Rattle.dimacs_records.specs.declared.records.Record.{Record}
 use Rattle.dimacs_records.specs.declared.records.Record.TheVariants.{MinProblem, MinNode}
 use Rattle.dimacs_records.specs.Earlier.{is_flow_arc, is_short, names, counted_in}
 use Rattle.dimacs_records.specs.Readings.{LineRecord, IsAllowed, IsComplete, records_of}
-use Rattle.dimacs_records.specs.Tests.{Counts, Passes, PassesEnd, Tells, TellsEnd}
+use Rattle.dimacs_records.specs.Tests.{Counts, Passes, PassesEnd, IsToldOf, TellsEnd}
 use Rattle.dimacs_records.proofs.ConditionLemmas.{is_allowed, is_complete}
 use Rattle.dimacs_instance.specs.declared.network.ArcView.{ArcView}
 use Rattle.dimacs_instance.specs.Arcs.{JoinsNodes}
@@ -28,7 +28,8 @@ use Rattle.dimacs_records.specs.Ranges.{IsNode, IsWhole}
 use Rattle.dimacs_instance.specs.MinFlows.{IsSupply, HasBounds}
 use Rattle.dimacs_instance.specs.MinTexts.{GivesMin, min_node, min_arc, min_records}
 use Rattle.dimacs_records.specs.NodeValues.{NameNodes, is_of, has_value}
-use Rattle.dimacs_instance.specs.MinReading.{MinBegun, IsMinBegun, IsBegunBy, earlier_lines, earlier_names, has_line, is_named, with_supply, with_arc}
+use Rattle.dimacs_instance.specs.MinReading.{MinBegun, IsMinBegun, IsBegunBy, has_line}
+use Rattle.dimacs_instance.specs.inside.MinReading.{earlier_lines, earlier_names, is_named, with_supply, with_arc}
 use Rattle.dimacs_records.specs.Takings.{StandsFor}
 use Rattle.dimacs_records.proofs.NameLemmas.{named_more, any_more, valued_more, zero_more}
 
@@ -88,13 +89,13 @@ named_told : (o : Option MinBegun) (rs : List Record) (id : ℕ) → StandsFor I
 named_told None rs id h = rw h refl
 named_told (Some b) rs id h = rw h.records (any_names id h.named b.arcs ∙ sym (h.nodes_named id))
 
-pub problem_tells : (o : Option MinBegun) (n m : ℕ) (rs : List Record) → StandsFor IsBegunBy o rs → Tells (earlier_lines o) rs (MinProblem n m)
+pub problem_tells : (o : Option MinBegun) (n m : ℕ) (rs : List Record) → StandsFor IsBegunBy o rs → IsToldOf (earlier_lines o) rs (MinProblem n m)
 problem_tells o n m rs h = record { counts = counts o rs h; misplaced = refl; named = refl; end_named = refl; lacks_end = refl; block_full = refl; block_short = refl; valued = refl; pred_unknown = refl; past_radius = refl }
 
-pub node_tells : (o : Option MinBegun) (id : ℕ) (s : ℤ) (rs : List Record) → StandsFor IsBegunBy o rs → Tells (earlier_names o id) rs (MinNode id s)
+pub node_tells : (o : Option MinBegun) (id : ℕ) (s : ℤ) (rs : List Record) → StandsFor IsBegunBy o rs → IsToldOf (earlier_names o id) rs (MinNode id s)
 node_tells o id s rs h = record { counts = counts o rs h; misplaced = arcs_told o rs h; named = named_told o rs id h; end_named = refl; lacks_end = refl; block_full = refl; block_short = refl; valued = refl; pred_unknown = refl; past_radius = refl }
 
-pub arc_tells : (o : Option MinBegun) (a : ArcView) (rs : List Record) → StandsFor IsBegunBy o rs → Tells (earlier_lines o) rs (min_arc a)
+pub arc_tells : (o : Option MinBegun) (a : ArcView) (rs : List Record) → StandsFor IsBegunBy o rs → IsToldOf (earlier_lines o) rs (min_arc a)
 arc_tells o a rs h = record { counts = counts o rs h; misplaced = refl; named = refl; end_named = refl; lacks_end = refl; block_full = refl; block_short = refl; valued = refl; pred_unknown = refl; past_radius = refl }
 
 pub end_tells : (o : Option MinBegun) (rs : List Record) → StandsFor IsBegunBy o rs → TellsEnd Min (earlier_lines o) rs

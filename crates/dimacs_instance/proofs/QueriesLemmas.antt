@@ -16,12 +16,12 @@ use Rattle.dimacs_records.specs.declared.records.Record.TheVariants.{QueriesProb
 use Rattle.dimacs_records.specs.declared.reasons.Reason.TheVariants.{ProblemMissing, ProblemTwice, RecordOrder, TooMany, TooFew}
 use Rattle.dimacs_records.specs.Earlier.{asks_for, counted_in}
 use Rattle.dimacs_records.specs.Faults.{FirstAtEnd}
-use Rattle.dimacs_records.specs.FieldReader.{fault_at}
+use Rattle.dimacs_records.specs.inside.FieldReader.{fault_at}
 use Rattle.dimacs_records.specs.Forms.{form, Word, Either, Count, Id}
 use Rattle.dimacs_records.specs.Canonical.{CanBeSpelled}
 use Rattle.dimacs_records.specs.Readings.{LineRecord, IsAllowed, IsFirstCondition, IsComplete, records_of}
 use Rattle.dimacs_records.specs.Spelling.{query_word}
-use Rattle.dimacs_records.specs.Texts.{AreFaultless}
+use Rattle.dimacs_records.specs.inside.Texts.{AreFaultless}
 use Rattle.dimacs_records.proofs.CanonicalLaws.{canonical_spelled, numbered_all}
 use Rattle.dimacs_records.proofs.ConditionLemmas.{is_first_condition, is_allowed, is_first_at_end, is_complete, allowed_at}
 use Rattle.dimacs_records.proofs.SplitLemmas.{image_at}

@@ -2,7 +2,6 @@
 use Rattle.std.specs.Prelude.{ℕ, ◌≤◌, List, [], ◌∷◌, map, length, Option, None, Some}
 use Rattle.std.specs.List.{All}
 use Rattle.dimacs_lines.specs.Limits.{most_count, most_nodes}
-use Rattle.dimacs_records.specs.declared.order.Declared.{Declared}
 use Rattle.dimacs_records.specs.declared.records.Record.{Record}
 use Rattle.dimacs_records.specs.declared.records.Record.TheVariants.{GraphProblem}
 use Rattle.dimacs_instance.specs.declared.network.ArcView.{ArcView}
@@ -30,11 +29,3 @@ begun_records begun = GraphProblem begun.nodes begun.declared ∷ map graph_arc 
 abbrev pub graph_records_so_far : Option GraphBegun → List Record
 graph_records_so_far None = []
 graph_records_so_far (Some begun) = begun_records begun
-
-abbrev pub declared_by : Option GraphBegun → Option Declared
-declared_by None = None
-declared_by (Some begun) = Some (record { nodes = Some begun.nodes; count = begun.declared })
-
-abbrev pub arcs_by : Option GraphBegun → ℕ
-arcs_by None = 0
-arcs_by (Some begun) = length begun.arcs

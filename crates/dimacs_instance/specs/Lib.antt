@@ -13,4 +13,4 @@ pub mod Plain
 pub mod QueriesReading
 pub mod QueryTexts
 pub mod Star
-pub mod StarKeys
+pub mod inside

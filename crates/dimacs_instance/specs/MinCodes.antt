@@ -1,4 +1,4 @@
--- How the values of minimum cost flow instances are stored. No public clause cites this module.
+-- How the values of minimum cost flow instances are stored.
 use Rattle.std.specs.Prelude.{ℕ, ℤ, List, refl}
 use Rattle.std.specs.Coded.{Coded, code_by, coded×, coded_ℕ, coded_ℤ, coded_list}
 use Rattle.std.specs.Ordering.{nat_cmp}

@@ -1,16 +1,13 @@
 -- How far a minimum cost flow instance has been read.
-use Rattle.std.specs.Prelude.{ℕ, ℤ, ◌≡◌, ◌≤◌, ◌||◌, Bool, List, [], ◌∷◌, ◌++◌, Option, Some, length, is_some, nat_lt, pos, if◌then◌else◌}
+use Rattle.std.specs.Prelude.{ℕ, ℤ, ◌≡◌, ◌≤◌, ◌||◌, Bool, List, length, is_some}
 use Rattle.std.specs.List.{All, filter, list_any}
-use Rattle.std.specs.Ordering.{nat_cmp, int_eq}
+use Rattle.std.specs.Ordering.{nat_cmp}
 use Rattle.std.specs.FinMap.{FinMap, from_entries, entries}
 use Rattle.std.specs.FinMap as map
 use Rattle.std.specs.FinSet.{FinSet}
 use Rattle.std.specs.FinSet as set
 use Rattle.dimacs_lines.specs.Limits.{most_count, most_nodes}
-use Rattle.dimacs_records.specs.declared.order.Declared.{Declared}
-use Rattle.dimacs_records.specs.declared.order.Earlier.{Earlier}
 use Rattle.dimacs_records.specs.declared.records.Record.{Record}
-use Rattle.dimacs_records.specs.Tests.{earlier_begun, is_named_begun}
 use Rattle.dimacs_instance.specs.declared.network.ArcView.{ArcView}
 use Rattle.dimacs_instance.specs.Arcs.{JoinsNodes}
 use Rattle.dimacs_instance.specs.MinFlows.{IsSupply, HasBounds}
@@ -44,25 +41,3 @@ pub record IsBegunBy (begun : MinBegun) (rs : List Record) : Type 0 where
   pub supplies : begun.supplies ≡ from_entries (filter has_value named)
   pub nodes_named : (id : ℕ) → has_line begun id ≡ list_any (is_of id) named
   pub records : rs ≡ min_records begun.nodes begun.declared named begun.arcs
-
--- with one node line more
-abbrev pub with_supply : MinBegun → ℕ → ℤ → MinBegun
-with_supply begun id supply = if int_eq supply (pos 0) then record begun { zeros = set.insert begun.zeros id } else record begun { supplies = map.insert begun.supplies id supply }
-
--- with one arc more
-abbrev pub with_arc : MinBegun → ArcView → MinBegun
-with_arc begun arc = record begun { arcs = begun.arcs ++ arc ∷ [] }
-
-abbrev pub declared_by : MinBegun → Declared
-declared_by begun = record { nodes = Some begun.nodes; count = begun.declared }
-
--- what the records taken say of one that names no node
-abbrev pub earlier_lines : Option MinBegun → Earlier
-earlier_lines = earlier_begun declared_by (λ (begun : MinBegun). length begun.arcs)
-
-abbrev pub is_named : Option MinBegun → ℕ → Bool
-is_named = is_named_begun has_line
-
--- what they say of a node line
-abbrev pub earlier_names : Option MinBegun → ℕ → Earlier
-earlier_names begun id = record (earlier_lines begun) { misplaced = nat_lt 0 (earlier_lines begun).counted; named = is_named begun id }

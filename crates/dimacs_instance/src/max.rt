@@ -8,16 +8,18 @@ ghost use Rattle.dimacs_lines.specs.Lines.{lines};
 ghost use Rattle.dimacs_lines.specs.Puts.{Puts};
 ghost use Rattle.dimacs_records.specs.declared.kinds.TextKind.TheVariants as kinds;
 ghost use Rattle.dimacs_records.specs.declared.records.Record.TheVariants.{MaxProblem, MaxNode, MaxArc};
-ghost use Rattle.dimacs_records.specs.Earlier.{names, is_end};
+ghost use Rattle.dimacs_records.specs.Earlier.{names, is_end_node};
 ghost use Rattle.dimacs_records.specs.Conditions.{lacks_end};
 ghost use Rattle.dimacs_records.specs.Ranges.{IsNode};
 ghost use Rattle.dimacs_records.specs.Readings.{CountsRead, records_of};
-ghost use Rattle.dimacs_records.specs.Takings.{StandsFor, Takes};
+ghost use Rattle.dimacs_records.specs.Takings.{StandsFor};
+ghost use Rattle.dimacs_records.specs.inside.Takings.{Takes};
 ghost use Rattle.dimacs_records.specs.Faults.{Fault};
 ghost use Rattle.dimacs_records.specs.Texts.{Reads};
 ghost use Rattle.dimacs_instance.specs.MaxFlows.{MaxValue, IsMax};
 ghost use Rattle.dimacs_instance.specs.MaxTexts.{GivesMax, SpellsMax, canonical_max, max_arc, nodes_by_id};
-ghost use Rattle.dimacs_instance.specs.MaxReading.{AreApart, IsMaxBegunBy, earlier_lines, end_records, ends_by, max_begun_records, max_node};
+ghost use Rattle.dimacs_instance.specs.MaxReading.{EndsAreApart, IsMaxBegunBy, end_records, max_begun_records, max_node};
+ghost use Rattle.dimacs_instance.specs.inside.MaxReading.{earlier_lines, ends_by};
 
 use crate::network::{ArcView, Network};
 use crate::plain::{CapacityArc, KeptArc, PlainArcs};
@@ -144,7 +146,7 @@ impl EndLines {
 
     /// Whether a line is that of this end.
     fn has(self, end: End) -> bool
-        ensures { result ≡ list_any (is_end end) (end_records self) }
+        ensures { result ≡ list_any (is_end_node end) (end_records self) }
     {
         match self {
             EndLines::Neither => false,
@@ -166,8 +168,8 @@ impl EndLines {
 
     /// These lines, and one more of another end.
     fn and(self, line: EndLine) -> EndLines
-        requires apart { AreApart self }
-        requires other_end { list_any (is_end line.end) (end_records self) ≡ false }
+        requires apart { EndsAreApart self }
+        requires other_end { list_any (is_end_node line.end) (end_records self) ≡ false }
         ensures { end_records result ≡ end_records self ++ max_node line ∷ [] }
     {
         match self {
@@ -201,7 +203,7 @@ impl BegunMax {
         requires node { IsNode self.old.nodes line.node }
         requires no_arcs { self.old.arcs ≡ [] }
         requires other_node { list_any (names line.node) (end_records self.old.ends) ≡ false }
-        requires other_end { list_any (is_end line.end) (end_records self.old.ends) ≡ false }
+        requires other_end { list_any (is_end_node line.end) (end_records self.old.ends) ≡ false }
         ensures { max_begun_records self.new ≡ max_begun_records self.old ++ max_node line ∷ [] }
     {
         self.ends = self.ends.and(line);

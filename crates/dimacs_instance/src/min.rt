@@ -19,8 +19,10 @@ ghost use Rattle.dimacs_records.specs.Ranges.{IsNode};
 ghost use Rattle.dimacs_instance.specs.MinTexts.{GivesMin, SpellsMin, canonical_min, min_node, min_arc};
 ghost use Rattle.dimacs_records.specs.NodeValues.{has_value};
 ghost use Rattle.dimacs_instance.specs.Arcs.{JoinsNodes};
-ghost use Rattle.dimacs_instance.specs.MinReading.{IsBegunBy, earlier_lines, is_named, with_arc, with_supply};
-ghost use Rattle.dimacs_records.specs.Takings.{Takes, StandsFor};
+ghost use Rattle.dimacs_instance.specs.MinReading.{IsBegunBy};
+ghost use Rattle.dimacs_instance.specs.inside.MinReading.{earlier_lines, is_named, with_arc, with_supply};
+ghost use Rattle.dimacs_records.specs.Takings.{StandsFor};
+ghost use Rattle.dimacs_records.specs.inside.Takings.{Takes};
 
 use crate::network::{ArcView, Network};
 use crate::plain::{KeptArc, PlainArcs};

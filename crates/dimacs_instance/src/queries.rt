@@ -11,7 +11,8 @@ ghost use Rattle.dimacs_records.specs.declared.kinds.TextKind.TheVariants as kin
 ghost use Rattle.dimacs_records.specs.declared.records.Record.TheVariants.{QueriesProblem, SourceQuery, PairQuery};
 ghost use Rattle.dimacs_records.specs.Canonical.{canonical_line};
 ghost use Rattle.dimacs_records.specs.Faults.{Fault};
-ghost use Rattle.dimacs_records.specs.Readings.{CountsRead, TakesRecord, records_of};
+ghost use Rattle.dimacs_records.specs.Readings.{CountsRead, records_of};
+ghost use Rattle.dimacs_records.specs.inside.Readings.{TakesRecord};
 ghost use Rattle.dimacs_records.specs.Texts.{Reads};
 ghost use Rattle.dimacs_instance.specs.QueryTexts.{QueriesValue, AreLawful, GivesQueries, SpellsQueries, asked, canonical_queries, kind_asked, query_lines};
 ghost use Rattle.dimacs_instance.specs.QueriesReading.{queries_begun_records};

@@ -7,9 +7,11 @@ use Rattle.dimacs_judge.specs.declared.verdict.JudgeError.TheVariants.{Refused, 
 use Rattle.dimacs_judge.specs.declared.verdict.Where.{Where}
 use Rattle.dimacs_claims.specs.declared.block.Label.{Label}
 use Rattle.dimacs_claims.specs.Labels.{BlockValue, label, label_at}
-use Rattle.dimacs_judge.specs.Labels.{block_at}
-use Rattle.dimacs_judge.specs.CertificateTests.{block_rows, distance_rows, label_rows, weight_row}
-use Rattle.dimacs_judge.specs.Tests.{AllClear, Clear, First, TellsAll}
+use Rattle.dimacs_judge.specs.inside.Labels.{block_at}
+use Rattle.dimacs_judge.specs.CertificateTests.{label_rows, weight_row}
+use Rattle.dimacs_judge.specs.inside.CertificateTests.{block_rows, distance_rows}
+use Rattle.dimacs_judge.specs.Tests.{AllClear, Clear, First}
+use Rattle.dimacs_judge.specs.inside.Tests.{TellsAll}
 
 blocks_more_suc : (arcs : List ArcView) (blocks : List BlockValue) (k : ℕ) → k < length blocks → AllClear (label_rows arcs (take k blocks)) → AllClear (block_rows arcs (block_at blocks k)) → AllClear (label_rows arcs (take (suc k) blocks))
 blocks_more_suc arcs [] k inside before here = absurd (omega arith)

@@ -14,7 +14,8 @@ use Rattle.std.proofs.lemmas.Option.{slice_get_past, slice_get-get_or}
 use Rattle.dimacs_nodes.proofs.Nodes.{get-insert_same, get-insert_other}
 use Rattle.dimacs_claims.specs.Labels.{BlockValue, EachBehind, IsNewSource, label_at, has_source}
 use Rattle.dimacs_judge.specs.Answers.{block_of, distance_from, radius_from, radius_in}
-use Rattle.dimacs_judge.specs.QueryTests.{HasBlock, HasFullBlock, AreNumbers}
+use Rattle.dimacs_judge.specs.QueryTests.{HasBlock, HasFullBlock}
+use Rattle.dimacs_judge.specs.inside.QueryTests.{AreNumbers}
 use Rattle.dimacs_claims.proofs.BegunLemmas.{unlabelled}
 
 -- ---- the first place that passes a test

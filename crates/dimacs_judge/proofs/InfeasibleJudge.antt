@@ -10,7 +10,8 @@ use Rattle.dimacs_judge.specs.declared.verdict.Verdict.TheVariants.{Infeasible}
 use Rattle.dimacs_judge.specs.declared.verdict.Where.TheVariants as places
 use Rattle.dimacs_judge.specs.Cuts.{members}
 use Rattle.dimacs_judge.specs.InfeasibleJudge.{PassesInfeasible, ShowsNoFlow, infeasible_rows}
-use Rattle.dimacs_judge.specs.Tests.{AllClear, First, Judges, Refuses}
+use Rattle.dimacs_judge.specs.Tests.{AllClear, First, Judges}
+use Rattle.dimacs_judge.specs.inside.Tests.{Refuses}
 use Rattle.dimacs_judge.proofs.Firsts.{AllOneWay, one_test_one_way}
 use Rattle.dimacs_judge.proofs.Passing.{nodes_are, nodes_clear, set_violated, violated_clear}
 use Rattle.dimacs_judge.proofs.Settling.{error_judges}

@@ -14,7 +14,8 @@ use Rattle.dimacs_judge.specs.declared.verdict.Where.{Where}
 use Rattle.dimacs_judge.specs.declared.verdict.Where.TheVariants as places
 use Rattle.dimacs_claims.specs.Labels.{BlockValue, LabelsValue, AreLabels, IsBlock, IsNear, label, no_label}
 use Rattle.dimacs_judge.specs.Labels.{HasArcOfWeight, HasTightArc, HasWeights, IsReached, IsRelaxed, LabelsOk, AreDistances, StaysNear}
-use Rattle.dimacs_judge.specs.Tests.{Clear, AllClear, Tells}
+use Rattle.dimacs_judge.specs.Tests.{Clear, AllClear}
+use Rattle.dimacs_judge.specs.inside.Tests.{Tells}
 use Rattle.dimacs_judge.specs.Rows.{no_arc, arc_at}
 use Rattle.dimacs_judge.specs.CertificateTests.{support_row, RelaxFails, relax_row, label_rows, weight_row}
 use Rattle.dimacs_judge.proofs.Distances.{labels_are_distances}

@@ -18,10 +18,11 @@ use Rattle.dimacs_claims.specs.Labels.{BlockValue, IsBlock, IsNear, label, no_la
 use Rattle.dimacs_claims.proofs.BlockLemmas.{has_pred}
 use Rattle.dimacs_judge.specs.declared.marks.Mark.{Mark}
 use Rattle.dimacs_judge.specs.CertificateTests.{RelaxFails, relax_row}
-use Rattle.dimacs_judge.specs.Leaving.{AreCovering, ArePassedFrom, Covers, IsPassed, WeightsFall, arcs_in}
-use Rattle.dimacs_judge.specs.Marks.{AreMade, AreMadeAlone, IsMarked, MarksArc, marked_dist}
+use Rattle.dimacs_judge.specs.inside.Leaving.{AreCovering, ArePassedFrom, Covers, IsPassed, WeightsFall, arcs_in}
+use Rattle.dimacs_judge.specs.inside.Marks.{AreMade, AreMadeAlone, IsMarked, MarksArc, marked_dist}
 use Rattle.dimacs_judge.specs.Rows.{arc_at, no_arc}
-use Rattle.dimacs_judge.specs.Tests.{Clear, TellsReason}
+use Rattle.dimacs_judge.specs.Tests.{Clear}
+use Rattle.dimacs_judge.specs.inside.Tests.{TellsReason}
 use Rattle.dimacs_judge.proofs.Distances.{near_label}
 use Rattle.dimacs_judge.proofs.LabelsPassing.{stays_near}
 use Rattle.dimacs_judge.proofs.MarkLemmas.{marks_still, marks_this, some_makes}

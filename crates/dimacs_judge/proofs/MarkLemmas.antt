@@ -25,11 +25,13 @@ use Rattle.dimacs_claims.proofs.ByIdLemmas.{distance_in-at, fresh_apart, label_e
 use Rattle.dimacs_judge.specs.declared.marks.Mark.{Mark}
 use Rattle.dimacs_judge.specs.declared.verdict.Where.{Where}
 use Rattle.dimacs_judge.specs.declared.verdict.Where.TheVariants.{Arc}
-use Rattle.dimacs_judge.specs.CertificateTests.{RelaxFails, distance_rows, relax_row, support_row}
+use Rattle.dimacs_judge.specs.CertificateTests.{RelaxFails, relax_row, support_row}
+use Rattle.dimacs_judge.specs.inside.CertificateTests.{distance_rows}
 use Rattle.dimacs_judge.specs.Labels.{HasTightArc}
-use Rattle.dimacs_judge.specs.Marks.{AreEarlier, AreMade, AreMadeAlone, AreMadeBelow, AreUnmade, AreWide, IsMarked, IsTight, Makes, MarksArc, MarksMade, SaysSame, dist_of, far, is_made, made_count, marked_dist}
+use Rattle.dimacs_judge.specs.inside.Marks.{AreEarlier, AreMade, AreMadeAlone, AreMadeBelow, AreUnmade, AreWide, IsMarked, IsTight, Makes, MarksArc, MarksMade, SaysSame, dist_of, far, is_made, made_count, marked_dist}
 use Rattle.dimacs_judge.specs.Rows.{arc_at, no_arc}
-use Rattle.dimacs_judge.specs.Tests.{Clear, ClearBelow, FirstOfRow, Tells, TellsReason, TellsRow}
+use Rattle.dimacs_judge.specs.Tests.{Clear, ClearBelow, FirstOfRow, TellsRow}
+use Rattle.dimacs_judge.specs.inside.Tests.{Tells, TellsReason}
 use Rattle.dimacs_judge.proofs.RowLemmas.{relax_clear_more, relax_first}
 
 marked_here : (labels : List Label) (number : ℕ) (m : Mark) → m.block ≡ number → marked_dist labels number m ≡ Some (dist_of labels m)

@@ -19,7 +19,8 @@ use Rattle.dimacs_judge.specs.Cuts.{CutTight, members}
 use Rattle.dimacs_judge.specs.Feasible.{FeasibleMax, value}
 use Rattle.dimacs_judge.specs.FlowTests.{max_demand, feasible_max_rows}
 use Rattle.dimacs_judge.specs.MaxJudge.{PassesMax, ShowsMaximum, max_rows}
-use Rattle.dimacs_judge.specs.Tests.{Row, Clear, AllClear, FirstOfRow, First, Judges, Refuses}
+use Rattle.dimacs_judge.specs.Tests.{Row, Clear, AllClear, FirstOfRow, First, Judges}
+use Rattle.dimacs_judge.specs.inside.Tests.{Refuses}
 use Rattle.dimacs_judge.proofs.Claims.{carries_clear, clear_carries, length-claimed_flow, entry_one_way}
 use Rattle.dimacs_judge.proofs.Duality.{tight_is_maximum}
 use Rattle.dimacs_judge.proofs.Firsts.{AllOneWay, one_test_one_way}

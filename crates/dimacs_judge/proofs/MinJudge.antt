@@ -20,7 +20,8 @@ use Rattle.dimacs_judge.specs.Flows.{cost}
 use Rattle.dimacs_judge.specs.FlowTests.{min_demand, feasible_min_rows, cost_row}
 use Rattle.dimacs_judge.specs.MinJudge.{PassesMin, ShowsLeast, min_rows}
 use Rattle.dimacs_judge.specs.Potentials.{Slack}
-use Rattle.dimacs_judge.specs.Tests.{Row, Clear, AllClear, FirstOfRow, First, Judges, Refuses}
+use Rattle.dimacs_judge.specs.Tests.{Row, Clear, AllClear, FirstOfRow, First, Judges}
+use Rattle.dimacs_judge.specs.inside.Tests.{Refuses}
 use Rattle.dimacs_judge.proofs.Claims.{carries_clear, clear_carries, length-claimed_flow, entry_one_way}
 use Rattle.dimacs_judge.proofs.Duality.{slack_is_least}
 use Rattle.dimacs_judge.proofs.Firsts.{AllOneWay, one_test_one_way}

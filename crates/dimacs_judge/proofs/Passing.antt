@@ -20,8 +20,9 @@ use Rattle.dimacs_judge.specs.Cuts.{IsTightAt, CutTight}
 use Rattle.dimacs_judge.specs.Potentials.{IsSlackAt, Slack, reduced_cost}
 use Rattle.dimacs_judge.specs.ViolatedSets.{most_out, least_out, supply_in, Violated}
 use Rattle.dimacs_judge.specs.Agreement.{value_row, nodes_row}
-use Rattle.dimacs_judge.specs.Ranges.{IsOfSize}
-use Rattle.dimacs_judge.specs.Tests.{Clear, AllClear, TellsRow, Tells}
+use Rattle.dimacs_judge.specs.inside.Ranges.{IsOfSize}
+use Rattle.dimacs_judge.specs.Tests.{Clear, AllClear, TellsRow}
+use Rattle.dimacs_judge.specs.inside.Tests.{Tells}
 use Rattle.dimacs_judge.specs.Rows.{one_test, no_arc, arc_at, amount_at, flow_row}
 use Rattle.dimacs_judge.specs.FlowTests.{BoundFails, bound_row, balance_row, cost_through, cost_row, feasible_max_rows, feasible_min_rows, max_demand, min_demand}
 use Rattle.dimacs_judge.specs.CertificateTests.{TightFails, tight_row, cut_rows, SlackFails, slack_row, violated_row}

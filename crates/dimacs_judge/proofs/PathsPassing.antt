@@ -18,7 +18,8 @@ use Rattle.dimacs_judge.specs.CertificateTests.{label_rows}
 use Rattle.dimacs_judge.specs.Labels.{AreDistances}
 use Rattle.dimacs_judge.specs.PathsJudge.{paths_rows, PassesPaths, AnswersAreDistances, ShowsDistances}
 use Rattle.dimacs_judge.specs.QueryTests.{HasBlock, IsServed, sources_asked, query_node_row, block_row}
-use Rattle.dimacs_judge.specs.Tests.{Clear, AllClear, FirstOfRow, First, Refuses, Judges, TellsAll}
+use Rattle.dimacs_judge.specs.Tests.{Clear, AllClear, FirstOfRow, First, Judges}
+use Rattle.dimacs_judge.specs.inside.Tests.{Refuses, TellsAll}
 use Rattle.dimacs_judge.specs.Walks.{IsDistance}
 use Rattle.dimacs_judge.proofs.BlockNumbers.{block_found}
 use Rattle.dimacs_judge.proofs.Firsts.{AllOneWay, one_test_one_way}

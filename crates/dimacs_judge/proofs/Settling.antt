@@ -10,7 +10,8 @@ use Rattle.dimacs_judge.specs.declared.verdict.JudgeError.{JudgeError}
 use Rattle.dimacs_judge.specs.declared.verdict.JudgeError.TheVariants.{Refused, Memory}
 use Rattle.dimacs_judge.specs.declared.verdict.Verdict.{Verdict}
 use Rattle.dimacs_judge.specs.Claims.{Carries, entry_row}
-use Rattle.dimacs_judge.specs.Tests.{Row, AllClear, First, TellsRow, Tells, Decides, Settles, Judges, Refuses}
+use Rattle.dimacs_judge.specs.Tests.{Row, AllClear, First, TellsRow, Decides, Settles, Judges}
+use Rattle.dimacs_judge.specs.inside.Tests.{Tells, Refuses}
 use Rattle.dimacs_judge.proofs.Firsts.{AllOneWay, one_first, none_first}
 use Rattle.dimacs_judge.proofs.RowLists.{first_in_front, first_behind}
 

@@ -61,14 +61,6 @@ RelaxFails radius tail head weight reason =
 abbrev pub relax_row : List ArcView → BlockValue → Row
 relax_row arcs b = arc_row arcs (λ k reason. RelaxFails b.radius (label b (arc_at arcs k).tail) (label b (arc_at arcs k).head) (arc_at arcs k).cost reason)
 
--- the tests of the labels of one block, and of the arcs between them
-abbrev pub distance_rows : List ArcView → BlockValue → List Row
-distance_rows arcs b = support_row arcs b ∷ relax_row arcs b ∷ []
-
--- the tests of one block
-abbrev pub block_rows : List ArcView → BlockValue → List Row
-block_rows arcs b = weight_row arcs b ∷ distance_rows arcs b
-
 -- the tests of all blocks, one block after another
 abbrev pub label_rows : List ArcView → List BlockValue → List Row
 label_rows arcs [] = []

@@ -1,13 +1,9 @@
 -- What labels must meet to be distances.
-use Rattle.std.specs.Prelude.{ℕ, ◌≡◌, ◌⊎◌, List, [], All, Contains, get_or, Option, Some, None, ℤ, pos, ◌+ℤ◌, ◌≤ℤ◌}
+use Rattle.std.specs.Prelude.{ℕ, ◌≡◌, ◌⊎◌, List, All, Contains, Option, Some, None, ℤ, pos, ◌+ℤ◌, ◌≤ℤ◌}
 use Rattle.dimacs_instance.specs.declared.network.ArcView.{ArcView}
 use Rattle.dimacs_claims.specs.declared.block.Label.{Label}
 use Rattle.dimacs_claims.specs.Labels.{BlockValue, IsNear, label}
 use Rattle.dimacs_judge.specs.Walks.{IsDistance}
-
--- the block of this number, from 0
-abbrev pub block_at : List BlockValue → ℕ → BlockValue
-block_at blocks k = get_or blocks k (record { source = 0; radius = None; labels = [] })
 
 -- an arc from the label's predecessor to its node, whose weight leads from this distance to the label's
 pub record HasArcOfWeight (g : List ArcView) (l : Label) (base : ℤ) : Type 0 where

@@ -1,4 +1,3 @@
-pub mod Ranges
 pub mod Flows
 pub mod Feasible
 pub mod Optimum
@@ -19,7 +18,6 @@ pub mod InfeasibleJudge
 pub mod QueryTests
 pub mod Answers
 pub mod PathsJudge
-pub mod Marks
-pub mod Leaving
 pub mod MaxJudge
 pub mod MinJudge
+pub mod inside

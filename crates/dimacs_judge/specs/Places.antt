@@ -1,5 +1,5 @@
 -- A flow while entries are put on their arcs, one after another.
-use Rattle.std.specs.Prelude.{ℕ, zero, suc, ◌≡◌, ◌<◌, ◌≤◌, ◌^◌, Bool, true, false, List, length, take, get_or, count_by, ℤ, Option, None, Some, Result, Ok, Err, ◌++◌, ◌∷◌, []}
+use Rattle.std.specs.Prelude.{ℕ, zero, suc, ◌≡◌, ◌<◌, ◌≤◌, ◌^◌, Bool, true, false, List, length, take, get_or, count_by, ℤ, Option, None, Some}
 use Rattle.dimacs_instance.specs.declared.network.ArcView.{ArcView}
 use Rattle.dimacs_instance.specs.declared.arc_index.ArcIndex.{ArcIndex}
 use Rattle.dimacs_instance.specs.Arcs.{joins, IsKthBetween}
@@ -7,7 +7,7 @@ use Rattle.dimacs_instance.specs.Star.{HasRoom, Indexes}
 use Rattle.dimacs_claims.specs.declared.solution.Entry.{Entry}
 use Rattle.dimacs_records.specs.declared.reasons.Reason.{Reason}
 use Rattle.dimacs_judge.specs.declared.verdict.Where.{Where}
-use Rattle.dimacs_judge.specs.Claims.{is_between, claimed_flow, Carries, EntryFails, entry_row}
+use Rattle.dimacs_judge.specs.Claims.{is_between, claimed_flow, entry_row}
 use Rattle.dimacs_judge.specs.Tests.{Clear, FirstOfRow}
 
 -- the arcs, what they carry, a count for each, how many entries came in the order of the arcs, whether all did, and the first entry that fails
@@ -51,16 +51,6 @@ Hold p entries (Some refusal) = FirstOfRow (entry_row p.arcs entries) refusal.0 
 -- these entries were placed
 abbrev pub ArePlaced : PlacesValue → List Entry → Type 0
 ArePlaced p entries = Hold p entries p.refusal
-
--- one more entry: it doesn't fail, and its flow was put; else the reason for which it fails
-abbrev pub PutsEntry : List ArcView → List Entry → Entry → Result Unit Reason → PlacesValue → Type 0
-PutsEntry arcs before e (Ok done) p = HavePlaced p (before ++ e ∷ [])
-PutsEntry arcs before e (Err reason) p = Clear (entry_row arcs before) × EntryFails arcs before e reason
-
--- the flow that the entries carry, or the first of them that fails
-abbrev pub TellsFlow : List ArcView → List Entry → Result (List ℤ) (Where × Reason) → Type 0
-TellsFlow arcs entries (Ok x) = Carries arcs entries x
-TellsFlow arcs entries (Err refusal) = FirstOfRow (entry_row arcs entries) refusal.0 refusal.1
 
 -- an index of these arcs, if there is one: filled, or with room for them
 abbrev pub IsIndexFor : ℕ → List ArcView → Bool → Option ArcIndex → Type 0

@@ -1,16 +1,13 @@
 -- The tests of queries: their nodes, and the blocks of their sources.
-use Rattle.std.specs.Prelude.{ℕ, ◌≡◌, ◌<◌, List, [], ◌∷◌, map, length, get_or, Some, None, Result, Ok, Err}
-use Rattle.std.specs.List.{Any, flat_map, position}
-use Rattle.std.specs.Ordering.{nat_cmp}
-use Rattle.std.specs.FinMap.{FinMap, get}
+use Rattle.std.specs.Prelude.{ℕ, ◌≡◌, ◌<◌, List, [], ◌∷◌, map, length, get_or, Some, None}
+use Rattle.std.specs.List.{Any, flat_map}
 use Rattle.dimacs_instance.specs.QueryTexts.{QueriesValue, Sources, Pairs}
-use Rattle.dimacs_claims.specs.Labels.{BlockValue, has_source}
+use Rattle.dimacs_claims.specs.Labels.{BlockValue}
 use Rattle.dimacs_records.specs.declared.reasons.Reason.{Reason}
 use Rattle.dimacs_records.specs.declared.reasons.Reason.TheVariants.{QueryNode, BlockMissing}
 use Rattle.dimacs_judge.specs.declared.verdict.Where.TheVariants.{Node}
-use Rattle.dimacs_judge.specs.declared.verdict.JudgeError.{JudgeError}
 use Rattle.dimacs_judge.specs.Answers.{block_of}
-use Rattle.dimacs_judge.specs.Tests.{Row, Clear, FirstOfRow, Refuses}
+use Rattle.dimacs_judge.specs.Tests.{Row}
 
 -- FROM before TO
 abbrev pub ends_of : ℕ × ℕ → List ℕ
@@ -50,12 +47,3 @@ query_node_row nodes queries = listed_row (nodes_asked queries) QueryNode (λ id
 -- no block serves the source of a query
 abbrev pub block_row : List BlockValue → QueriesValue → Row
 block_row blocks queries = listed_row (sources_asked queries) BlockMissing (λ source. ¬ IsServed blocks queries source)
-
--- each source has the number of its first block, from 0; a node without a block has none
-abbrev pub AreNumbers : List BlockValue → FinMap nat_cmp ℕ → Type 0
-AreNumbers blocks numbers = (source : ℕ) → get numbers source ≡ position (has_source source) blocks
-
--- the numbers of the blocks, where every query is served; else the first query that isn't
-abbrev pub TellsBlocks : List BlockValue → QueriesValue → Result (FinMap nat_cmp ℕ) JudgeError → Type 0
-TellsBlocks blocks queries (Ok numbers) = AreNumbers blocks numbers × Clear (block_row blocks queries)
-TellsBlocks blocks queries (Err error) = Refuses (FirstOfRow (block_row blocks queries)) error

@@ -1,5 +1,5 @@
 -- Rows of tests, in order, and the first test that fails.
-use Rattle.std.specs.Prelude.{ℕ, ◌≡◌, ◌<◌, ◌⊎◌, List, [], ◌∷◌, Option, None, Some, Result, Ok, Err}
+use Rattle.std.specs.Prelude.{ℕ, ◌≡◌, ◌<◌, ◌⊎◌, List, [], ◌∷◌, Result, Ok, Err}
 use Rattle.dimacs_records.specs.declared.reasons.Reason.{Reason}
 use Rattle.dimacs_judge.specs.declared.verdict.Where.{Where}
 use Rattle.dimacs_judge.specs.declared.verdict.JudgeError.{JudgeError}
@@ -39,17 +39,6 @@ abbrev pub TellsRow : Row → Result Unit (Where × Reason) → Type 0
 TellsRow row (Ok done) = Clear row
 TellsRow row (Err refusal) = FirstOfRow row refusal.0 refusal.1
 
--- what the tests of rows answer: that all pass, or the first that fails
-abbrev pub Tells : List Row → Result Unit (Where × Reason) → Type 0
-Tells rows (Ok done) = AllClear rows
-Tells rows (Err refusal) = First rows refusal.0 refusal.1
-
--- what tests of rows that take memory answer; want of it says nothing of the tests
-abbrev pub TellsAll : List Row → Result Unit JudgeError → Type 0
-TellsAll rows (Ok done) = AllClear rows
-TellsAll rows (Err (Refused place reason)) = First rows place reason
-TellsAll rows (Err Memory) = Unit
-
 -- yes exactly where this holds; else the first test that fails
 abbrev pub Decides : Type 0 → List Row → Result Unit (Where × Reason) → Type 0
 Decides holds rows (Ok done) = holds
@@ -70,13 +59,3 @@ abbrev pub Judges : List Row → Type 0 → (Verdict → Type 0) → Result Verd
 Judges rows holds says (Ok verdict) = AllClear rows × holds × says verdict
 Judges rows holds says (Err (Refused place reason)) = FirstAlone rows place reason × ¬ holds
 Judges rows holds says (Err Memory) = Unit
-
--- the reason for which a single test fails, where it does
-abbrev pub TellsReason : (Reason → Type 0) → Option Reason → Type 0
-TellsReason fails None = (reason : Reason) → ¬ fails reason
-TellsReason fails (Some reason) = fails reason
-
--- what a judge's refusal names; want of memory says nothing of the tests
-abbrev pub Refuses : (Where → Reason → Type 0) → JudgeError → Type 0
-Refuses first (Refused place reason) = first place reason
-Refuses first Memory = Unit

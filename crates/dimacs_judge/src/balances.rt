@@ -5,8 +5,8 @@ ghost use Rattle.std.specs.Int.{w128};
 ghost use Rattle.dimacs_lines.specs.Limits.{most_count};
 ghost use Rattle.dimacs_nodes.specs.Tables.{value_of};
 ghost use Rattle.dimacs_judge.specs.Flows.{when};
-ghost use Rattle.dimacs_judge.specs.FlowTests.{AreBalances};
-ghost use Rattle.dimacs_judge.specs.Ranges.{IsOfSize};
+ghost use Rattle.dimacs_judge.specs.inside.FlowTests.{AreBalances};
+ghost use Rattle.dimacs_judge.specs.inside.Ranges.{IsOfSize};
 
 use crate::flow::Flow;
 use dimacs_instance::{ArcView, Network};

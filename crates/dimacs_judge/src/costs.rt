@@ -1,8 +1,8 @@
 //! The cost of a flow.
 
 ghost use Rattle.std.specs.Prelude.{◌≡◌, ◌^◌, ◌+ℤ◌, ◌*ℤ◌, length, IsTrue, ◌↔◌, MatchOption};
-ghost use Rattle.dimacs_judge.specs.FlowTests.{TellsCost};
-ghost use Rattle.dimacs_judge.specs.Ranges.{IsOfSize};
+ghost use Rattle.dimacs_judge.specs.inside.FlowTests.{TellsCost};
+ghost use Rattle.dimacs_judge.specs.inside.Ranges.{IsOfSize};
 ghost use Rattle.dimacs_records.specs.Ranges.{IsWide};
 
 use crate::flow::Flow;

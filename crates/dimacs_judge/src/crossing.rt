@@ -6,7 +6,7 @@ ghost use Rattle.dimacs_instance.specs.MinFlows.{supply_of};
 ghost use Rattle.dimacs_judge.specs.CertificateTests.{violated_row};
 ghost use Rattle.dimacs_judge.specs.Cuts.{members, leaves, enters};
 ghost use Rattle.dimacs_judge.specs.Flows.{when};
-ghost use Rattle.dimacs_judge.specs.Ranges.{IsOfSize};
+ghost use Rattle.dimacs_judge.specs.inside.Ranges.{IsOfSize};
 ghost use Rattle.dimacs_judge.specs.Tests.{TellsRow};
 ghost use Rattle.dimacs_judge.specs.ViolatedSets as theory;
 ghost use Rattle.dimacs_judge.specs.ViolatedSets.{most_out, least_out};

@@ -3,7 +3,8 @@
 ghost use Rattle.std.specs.Prelude.{◌≡◌, length};
 ghost use Rattle.dimacs_judge.specs.CertificateTests.{TightFails, tight_row, cut_rows};
 ghost use Rattle.dimacs_judge.specs.Cuts.{CutTight, members};
-ghost use Rattle.dimacs_judge.specs.Tests.{Decides, TellsReason, TellsRow};
+ghost use Rattle.dimacs_judge.specs.Tests.{Decides, TellsRow};
+ghost use Rattle.dimacs_judge.specs.inside.Tests.{TellsReason};
 
 use crate::flow::Flow;
 use crate::verdict::Where;

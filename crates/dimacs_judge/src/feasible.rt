@@ -3,8 +3,10 @@
 ghost use Rattle.std.specs.Prelude.{◌≡◌, ◌≤◌, ℕ, ℤ, List, Option, length};
 ghost use Rattle.dimacs_lines.specs.Limits.{most_count, most_nodes};
 ghost use Rattle.dimacs_judge.specs.Feasible.{FeasibleMax, FeasibleMin};
-ghost use Rattle.dimacs_judge.specs.FlowTests.{BoundFails, BalanceFails, AreBalances, TellsFeasible, bound_row, balance_row, feasible_max_rows, feasible_min_rows, max_demand, min_demand};
-ghost use Rattle.dimacs_judge.specs.Tests.{Settles, TellsReason, TellsRow};
+ghost use Rattle.dimacs_judge.specs.FlowTests.{BoundFails, BalanceFails, bound_row, balance_row, feasible_max_rows, feasible_min_rows, max_demand, min_demand};
+ghost use Rattle.dimacs_judge.specs.inside.FlowTests.{AreBalances, TellsFeasible};
+ghost use Rattle.dimacs_judge.specs.Tests.{Settles, TellsRow};
+ghost use Rattle.dimacs_judge.specs.inside.Tests.{TellsReason};
 
 use crate::balances::Balances;
 use crate::flow::Flow;

@@ -2,11 +2,14 @@
 
 ghost use Rattle.std.specs.Prelude.{◌≡◌, ◌<◌, ◌+ℤ◌, ◌<ℤ◌, ℤ, Some, All, length, IsTrue, ◌↔◌, IfSome, OnOk};
 ghost use Rattle.dimacs_claims.specs.Labels.{AreLabels, IsNear, label_at};
-ghost use Rattle.dimacs_judge.specs.CertificateTests.{RelaxFails, block_rows, label_rows, negative_row, relax_row, support_row, weight_row};
-ghost use Rattle.dimacs_judge.specs.Labels.{AreDistances, HasArcOfWeight, LabelsOk, block_at};
+ghost use Rattle.dimacs_judge.specs.CertificateTests.{RelaxFails, label_rows, negative_row, relax_row, support_row, weight_row};
+ghost use Rattle.dimacs_judge.specs.inside.CertificateTests.{block_rows};
+ghost use Rattle.dimacs_judge.specs.Labels.{AreDistances, HasArcOfWeight, LabelsOk};
+ghost use Rattle.dimacs_judge.specs.inside.Labels.{block_at};
 ghost use Rattle.dimacs_records.specs.Ranges.{IsWide};
 ghost use Rattle.dimacs_records.specs.declared.reasons.Reason.TheVariants as reasons;
-ghost use Rattle.dimacs_judge.specs.Tests.{Decides, TellsReason, TellsRow, Tells};
+ghost use Rattle.dimacs_judge.specs.Tests.{Decides, TellsRow};
+ghost use Rattle.dimacs_judge.specs.inside.Tests.{TellsReason, Tells};
 
 use crate::verdict::Where;
 use dimacs_claims::{Label, LabelList, Labels};

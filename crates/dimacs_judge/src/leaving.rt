@@ -5,8 +5,8 @@ ghost use Rattle.dimacs_instance.specs.declared.network.ArcView.{ArcView};
 ghost use Rattle.dimacs_claims.specs.Labels.{IsBlock, IsNear, label};
 ghost use Rattle.dimacs_records.specs.Ranges.{IsWide};
 ghost use Rattle.dimacs_judge.specs.CertificateTests.{relax_row};
-ghost use Rattle.dimacs_judge.specs.Leaving.{AreLeast, ArePassedFrom, IsPassed};
-ghost use Rattle.dimacs_judge.specs.Marks.{AreMade, AreMadeAlone, IsMarked};
+ghost use Rattle.dimacs_judge.specs.inside.Leaving.{AreLeast, ArePassedFrom, IsPassed};
+ghost use Rattle.dimacs_judge.specs.inside.Marks.{AreMade, AreMadeAlone, IsMarked};
 ghost use Rattle.dimacs_judge.specs.Tests.{Clear};
 
 use crate::labels::escape_fault;

@@ -9,10 +9,12 @@ ghost use Rattle.dimacs_claims.specs.declared.block.Label.{Label};
 ghost use Rattle.dimacs_claims.specs.Labels.{AreLabels, BlockValue, IsBlock, no_label};
 ghost use Rattle.dimacs_nodes.specs.Tables.{blank_of, value_of};
 ghost use Rattle.dimacs_records.specs.Ranges.{IsWide};
-ghost use Rattle.dimacs_judge.specs.CertificateTests.{RelaxFails, distance_rows, label_rows, relax_row, support_row, weight_row};
-ghost use Rattle.dimacs_judge.specs.Leaving.{AreLeast};
-ghost use Rattle.dimacs_judge.specs.Marks.{AreAsTested, AreEarlier, AreMade, AreMadeAlone, AreMadeBelow, AreUnmade, AreWide, IsMarked, IsTight, MarksArc, dist_of, is_made, marked_dist};
-ghost use Rattle.dimacs_judge.specs.Tests.{Clear, Tells, TellsAll, TellsReason, TellsRow};
+ghost use Rattle.dimacs_judge.specs.CertificateTests.{RelaxFails, label_rows, relax_row, support_row, weight_row};
+ghost use Rattle.dimacs_judge.specs.inside.CertificateTests.{distance_rows};
+ghost use Rattle.dimacs_judge.specs.inside.Leaving.{AreLeast};
+ghost use Rattle.dimacs_judge.specs.inside.Marks.{AreAsTested, AreEarlier, AreMade, AreMadeAlone, AreMadeBelow, AreUnmade, AreWide, IsMarked, IsTight, MarksArc, dist_of, is_made, marked_dist};
+ghost use Rattle.dimacs_judge.specs.Tests.{Clear, TellsRow};
+ghost use Rattle.dimacs_judge.specs.inside.Tests.{Tells, TellsAll, TellsReason};
 
 use crate::labels::{escape_fault, is_beyond, weights_hold};
 use crate::least_arcs::LeastArcs;

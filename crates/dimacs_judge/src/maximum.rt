@@ -6,7 +6,7 @@ ghost use Rattle.dimacs_claims.specs.SolutionTexts.{SolutionValue, claimed};
 ghost use Rattle.dimacs_judge.specs.declared.verdict.Verdict.TheVariants.{Max};
 ghost use Rattle.dimacs_judge.specs.Agreement.{value_row};
 ghost use Rattle.dimacs_judge.specs.Feasible.{value};
-ghost use Rattle.dimacs_judge.specs.FlowTests.{AreBalances};
+ghost use Rattle.dimacs_judge.specs.inside.FlowTests.{AreBalances};
 ghost use Rattle.dimacs_judge.specs.MaxJudge.{ShowsMaximum, max_rows};
 ghost use Rattle.dimacs_judge.specs.Places.{ArePlaced};
 ghost use Rattle.dimacs_judge.specs.Tests.{Judges, TellsRow};

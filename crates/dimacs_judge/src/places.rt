@@ -5,7 +5,8 @@ ghost use Rattle.dimacs_claims.specs.declared.solution.Entry.{Entry};
 ghost use Rattle.dimacs_instance.specs.declared.network.ArcView.{ArcView};
 ghost use Rattle.dimacs_instance.specs.Arcs.{joins, IsKthBetween};
 ghost use Rattle.dimacs_judge.specs.Claims.{Carries, entry_row};
-ghost use Rattle.dimacs_judge.specs.Places.{ArePlaced, HavePlaced, IsIndexFor, PutsEntry, TellsFlow, came_between};
+ghost use Rattle.dimacs_judge.specs.Places.{ArePlaced, HavePlaced, IsIndexFor, came_between};
+ghost use Rattle.dimacs_judge.specs.inside.Places.{PutsEntry, TellsFlow};
 ghost use Rattle.dimacs_judge.specs.Rows.{arc_at};
 ghost use Rattle.dimacs_judge.specs.Tests.{FirstOfRow};
 

@@ -5,8 +5,9 @@ ghost use Rattle.dimacs_claims.specs.Potentials.{potential_of};
 ghost use Rattle.dimacs_judge.specs.Potentials as theory;
 ghost use Rattle.dimacs_judge.specs.Potentials.{Slack};
 ghost use Rattle.dimacs_judge.specs.CertificateTests.{SlackFails, slack_row};
-ghost use Rattle.dimacs_judge.specs.Ranges.{IsOfSize};
-ghost use Rattle.dimacs_judge.specs.Tests.{Decides, TellsReason, TellsRow};
+ghost use Rattle.dimacs_judge.specs.inside.Ranges.{IsOfSize};
+ghost use Rattle.dimacs_judge.specs.Tests.{Decides, TellsRow};
+ghost use Rattle.dimacs_judge.specs.inside.Tests.{TellsReason};
 
 use crate::flow::Flow;
 use crate::verdict::Where;

@@ -4,7 +4,8 @@ ghost use Rattle.std.specs.Prelude.{◌≡◌, ◌<◌, ◌≤◌, ◌↔◌, Is
 ghost use Rattle.dimacs_records.specs.declared.reasons.Reason.TheVariants as reasons;
 ghost use Rattle.dimacs_instance.specs.QueryTexts.{AreLawful, Pairs, asked};
 ghost use Rattle.dimacs_judge.specs.Answers.{AnswersQueries, answer_to, distance_from, radius_from};
-ghost use Rattle.dimacs_judge.specs.QueryTests.{AreNumbers, HasBlock, HasFullBlock, IsServed, TellsBlocks, block_row, listed_row, nodes_asked, query_node_row, sources_asked};
+ghost use Rattle.dimacs_judge.specs.QueryTests.{HasBlock, HasFullBlock, IsServed, block_row, listed_row, nodes_asked, query_node_row, sources_asked};
+ghost use Rattle.dimacs_judge.specs.inside.QueryTests.{AreNumbers, TellsBlocks};
 ghost use Rattle.dimacs_judge.specs.Tests.{TellsRow};
 
 use crate::verdict::{Answer, JudgeError, Verdict, Where};

@@ -6,7 +6,7 @@ use Rattle.std.proofs.Math.Nat.{add-sub_cancel_left}
 use Rattle.std.proofs.lemmas.Bool.{cases_lt, cond_both, eqb-true, eqb-false}
 use Rattle.std.proofs.lemmas.List.{drop_all}
 use Rattle.std.proofs.lemmas.List.Elements.{All-nil, All-cons, All-head, All-tail}
-use Rattle.dimacs_lines.specs.Fields.{is_blank, Run, onto_runs, runs_from, fields_of, AreApart, Covers, AreFields}
+use Rattle.dimacs_lines.specs.Fields.{is_blank, Run, onto_runs, runs_from, fields_of, AreApart, IsInRun, AreFields}
 use Rattle.dimacs_lines.proofs.FieldLemmas.{runs_start}
 
 abbrev IsSolid : ℕ → Type 0
@@ -22,7 +22,7 @@ record IsField (line : List ℕ) (run : Run) : Type 0 where
 record AreFieldsFrom (line : List ℕ) (i : ℕ) (runs : List Run) : Type 0 where
   each : All (IsField line) runs
   apart : AreApart runs
-  none_left_out : (place : ℕ) → i ≤ place → place < length line → IsSolid (get_or line place 0) → Any (Covers place) runs
+  none_left_out : (place : ℕ) → i ≤ place → place < length line → IsSolid (get_or line place 0) → Any (IsInRun place) runs
 
 -- the byte at place i, with a text right behind it
 abbrev byte_then : List ℕ → ℕ → List ℕ → Run
@@ -69,8 +69,8 @@ module _ (line : List ℕ) (i : ℕ) (inside : i < length line) (first : IsSolid
     each = All-cons (IsField line) (byte_then line i []) runs (byte_then_field [] (All-nil IsSolid) refl) h.each;
     apart = apart;
     none_left_out = λ place from to solid. elim (cases_lt i place) [
-      | inl later ↦ any_later (Covers place) _ runs (h.none_left_out place (omega arith) to solid)
-      | inr here ↦ any_first (Covers place) _ runs (omega arith, omega arith)
+      | inl later ↦ any_later (IsInRun place) _ runs (h.none_left_out place (omega arith) to solid)
+      | inr here ↦ any_first (IsInRun place) _ runs (omega arith, omega arith)
     ];
   }
 
@@ -83,8 +83,8 @@ module _ (line : List ℕ) (i : ℕ) (inside : i < length line) (first : IsSolid
         each = All-cons (IsField line) both runs (byte_then_field run.text field.no_blank (rw (← next) field.in_place)) (All-tail (IsField line) run runs h.each);
         apart = apart_other_first run both runs (omega arith) h.apart;
         none_left_out = λ place from to solid. elim (cases_lt i place) [
-          | inl later ↦ any_other_first (Covers place) run both runs (λ c. (omega arith, omega (arith, c))) (h.none_left_out place (omega arith) to solid)
-          | inr here ↦ any_first (Covers place) both runs (omega arith, omega arith)
+          | inl later ↦ any_other_first (IsInRun place) run both runs (λ c. (omega arith, omega (arith, c))) (h.none_left_out place (omega arith) to solid)
+          | inr here ↦ any_first (IsInRun place) both runs (omega arith, omega arith)
         ];
       }
 

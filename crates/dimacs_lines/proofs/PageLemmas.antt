@@ -3,7 +3,8 @@ use Rattle.std.proofs.Common.{◌++◌, ℕ, List, [], Bool, true, false, Option
 use Rattle.std.proofs.lemmas.List.{append-nil}
 use Rattle.dimacs_lines.specs.Devices.{after_piece}
 use Rattle.dimacs_lines.specs.Puts.{AcceptsFront}
-use Rattle.dimacs_lines.specs.Pages.{IsWrittenBy, IsPut}
+use Rattle.dimacs_lines.specs.Pages.{IsWrittenBy}
+use Rattle.dimacs_lines.specs.inside.Pages.{IsPut}
 use Rattle.dimacs_lines.proofs.PutLemmas.{after_piece-after_piece, AcceptsFront-behind, AcceptsFront-longer}
 
 -- more is kept, or nothing after a fault

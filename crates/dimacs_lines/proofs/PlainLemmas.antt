@@ -7,7 +7,8 @@ use Rattle.std.proofs.Math.Nat.{pow-le-pow_right}
 use Rattle.std.proofs.lemmas.List.{take-append-drop, drop-drop, drop_more, length-take, length-take-le}
 use Rattle.std.proofs.lemmas.List.Sums.{prefix_len-le-length}
 use Rattle.dimacs_lines.specs.Number.{place_sum}
-use Rattle.dimacs_lines.specs.Plain.{EndsAt, DigitsAt, StandsAt}
+use Rattle.dimacs_lines.specs.Plain.{EndsAt, StandsAt}
+use Rattle.dimacs_lines.specs.inside.Plain.{DigitsAt}
 use Rattle.dimacs_lines.proofs.DigitLemmas.{All-digits, spells_digits, spells_minus}
 use Rattle.dimacs_lines.proofs.NumberLemmas.{place_sum-lt}
 

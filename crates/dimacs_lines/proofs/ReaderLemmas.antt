@@ -14,7 +14,7 @@ use Rattle.dimacs_lines.specs.Limits.{longest_line}
 use Rattle.dimacs_lines.specs.Devices.{before_piece}
 use Rattle.dimacs_lines.specs.Lines.{is_end, lines}
 use Rattle.dimacs_lines.specs.Reader.{State, NextLine, ComesAt}
-use Rattle.dimacs_lines.specs.Buffer.{IsEnough, GivesHeld, RefusesFirst}
+use Rattle.dimacs_lines.specs.inside.Buffer.{IsEnough, GivesHeld, RefusesFirst}
 use Rattle.dimacs_lines.proofs.TextLemmas.{lines_step, before_first-whole, after_first-whole}
 
 pub before_piece-before_piece : (a b : List ℕ) (rest : Option (List ℕ)) → before_piece a (before_piece b rest) ≡ before_piece (a ++ b) rest

@@ -30,8 +30,8 @@ AreApart [] = Unit {0}
 AreApart (run ∷ []) = Unit {0}
 AreApart (run ∷ next ∷ runs) = (run.start + length run.text < next.start) × AreApart (next ∷ runs)
 
-abbrev pub Covers : ℕ → Run → Type 0
-Covers place run = (run.start ≤ place) × (place < run.start + length run.text)
+abbrev pub IsInRun : ℕ → Run → Type 0
+IsInRun place run = (run.start ≤ place) × (place < run.start + length run.text)
 
 -- the runs of a line, in the line's words
 pub record AreFields (line : List ℕ) (runs : List Run) : Type 0 where
@@ -39,4 +39,4 @@ pub record AreFields (line : List ℕ) (runs : List Run) : Type 0 where
   pub no_blank : All (λ (run : Run). All (λ b. is_blank b ≡ false) run.text) runs
   pub in_place : All (λ (run : Run). slice_range line run.start (run.start + length run.text) ≡ run.text) runs
   pub apart : AreApart runs
-  pub none_left_out : (place : ℕ) → place < length line → is_blank (slice_index line place) ≡ false → Any (Covers place) runs
+  pub none_left_out : (place : ℕ) → place < length line → is_blank (slice_index line place) ≡ false → Any (IsInRun place) runs

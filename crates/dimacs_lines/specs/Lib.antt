@@ -9,3 +9,4 @@ pub mod Fields
 pub mod FieldViews
 pub mod Pages
 pub mod Plain
+pub mod inside

@@ -36,12 +36,6 @@ Appends more old page new after = (start : Option (List ℕ)) (text : List ℕ) 
 abbrev pub CountsOn : ℕ → PageState → ℕ → PageState → Type 0
 CountsOn old page new after = (start : ℕ) → FaultsAre start old page → FaultsAre start new after
 
--- the bytes were put, unless the sink had failed before; and whether it has failed by now
-abbrev pub IsPut : Bool → Option (List ℕ) → ℕ → List ℕ → Bool → Option (List ℕ) → ℕ → Type 0
-IsPut true old faults bytes failed new counted = (failed ≡ true) × (new ≡ old) × (counted ≡ faults)
-IsPut false old faults bytes true new counted = AcceptsFront old bytes new × (counted ≡ one_more faults)
-IsPut false old faults bytes false new counted = (new ≡ after_piece old bytes) × (counted ≡ faults)
-
 -- a blank and a number
 abbrev pub number_field : ℤ → List ℕ
 number_field n = 32 ∷ signed_decimal n

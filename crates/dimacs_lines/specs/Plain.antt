@@ -1,23 +1,12 @@
 -- Numbers that stand in bytes with one byte right after them.
-use Rattle.std.specs.Prelude.{ℕ, ◌+◌, ◌≡◌, ◌≤◌, ◌<◌, List, ◌∷◌, ◌++◌, length, drop, ℤ}
-use Rattle.std.specs.List.{All}
-use Rattle.std.specs.Char.{IsAsciiDigit}
-use Rattle.dimacs_lines.specs.Number.{Spells, place_sum}
+use Rattle.std.specs.Prelude.{ℕ, ◌+◌, ◌≡◌, ◌≤◌, List, ◌∷◌, ◌++◌, length, drop, ℤ}
+use Rattle.dimacs_lines.specs.Number.{Spells}
 
 -- this text stands at a place of the bytes, and then the byte that ends it; what follows begins at the next place
 pub record EndsAt (bytes : List ℕ) (at stop : ℕ) (text : List ℕ) (next : ℕ) : Type 0 where
   pub there : drop at bytes ≡ text ++ stop ∷ drop next bytes
   pub passed : next ≡ at + length text + 1
   pub within : next ≤ length bytes
-
--- one to eight digits stand there, and say n
-pub record DigitsAt (bytes : List ℕ) (at stop n next : ℕ) : Type 0 where
-  pub digits : List ℕ
-  pub some : 0 < length digits
-  pub few : length digits ≤ 8
-  pub each : All IsAsciiDigit digits
-  pub says : n ≡ place_sum digits
-  pub ends : EndsAt bytes at stop digits next
 
 -- up to forty bytes stand there, and spell n
 pub record StandsAt (bytes : List ℕ) (at stop : ℕ) (n : ℤ) (next : ℕ) : Type 0 where

@@ -4,7 +4,8 @@ ghost use Rattle.std.specs.Prelude.{◌≡◌, ◌+◌, ◌≤◌, [], ◌++◌,
 ghost use Rattle.std.specs.Fmt.{decimal, signed_decimal};
 ghost use Rattle.dimacs_lines.specs.Puts.{Puts};
 ghost use Rattle.dimacs_lines.specs.Devices.{CountsFault};
-ghost use Rattle.dimacs_lines.specs.Pages.{Appends, CountsOn, IsWritten, IsPut, FaultsAre, number_field, numbers_line};
+ghost use Rattle.dimacs_lines.specs.Pages.{Appends, CountsOn, IsWritten, FaultsAre, number_field, numbers_line};
+ghost use Rattle.dimacs_lines.specs.inside.Pages.{IsPut};
 
 use crate::decimals::decimal_length;
 use crate::device::{DeviceFault, Sink, put_all};

@@ -2,7 +2,8 @@
 //! that ends it, a blank or the line's end. What has another form is left to `Scan`.
 
 ghost use Rattle.std.specs.Prelude.{◌≡◌, ◌≤◌, ◌<◌, pos, length, IfSome};
-ghost use Rattle.dimacs_lines.specs.Plain.{DigitsAt, StandsAt};
+ghost use Rattle.dimacs_lines.specs.Plain.{StandsAt};
+ghost use Rattle.dimacs_lines.specs.inside.Plain.{DigitsAt};
 
 use crate::digits::digits_at;
 use crate::numbers::number;

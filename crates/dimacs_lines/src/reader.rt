@@ -5,8 +5,9 @@ ghost use Rattle.std.specs.List.{position_or_len};
 ghost use Rattle.dimacs_lines.specs.Devices.{before_piece, CountsFault};
 ghost use Rattle.dimacs_lines.specs.Limits.{longest_line, most_lines, most_held, greatest_piece};
 ghost use Rattle.dimacs_lines.specs.Lines.{is_end};
-ghost use Rattle.dimacs_lines.specs.Reader.{text_left, NextLine, CountsDevice};
-ghost use Rattle.dimacs_lines.specs.Buffer.{PullsMore, IsEnough, IsInterruption, GivesHeld};
+ghost use Rattle.dimacs_lines.specs.Reader.{NextLine, CountsDevice};
+ghost use Rattle.dimacs_lines.specs.inside.Reader.{text_left};
+ghost use Rattle.dimacs_lines.specs.inside.Buffer.{PullsMore, IsEnough, IsInterruption, GivesHeld};
 ghost use Rattle.dimacs_lines.specs.declared.reader.LinesError.{LinesError};
 ghost use Rattle.dimacs_lines.specs.declared.reader.Progress.TheVariants.{Open, Ended, Failed};
 

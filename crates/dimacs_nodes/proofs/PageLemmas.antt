@@ -8,7 +8,8 @@ use Rattle.std.specs.Ordering.{nat_cmp}
 use Rattle.std.specs.Cmp.{nat_cmp_total}
 use Rattle.std.specs.FinMap.{FinMap, empty, insert, get, same_map, nat_cmp-IsAntisymmetric}
 use Rattle.dimacs_nodes.proofs.Nodes.{get-empty, get-insert_same, get-insert_other}
-use Rattle.dimacs_nodes.specs.Pages.{Directory, slots_of, ArePages, AreNeeded, HasSlot, IsUsed, TakesPageOf, value_at, SameSlots, SameValues, with_option, values_below, values_in}
+use Rattle.dimacs_nodes.specs.Pages.{Directory, slots_of, ArePages, AreNeeded, HasSlot, IsUsed, value_at, with_option, values_below, values_in}
+use Rattle.dimacs_nodes.specs.inside.Pages.{TakesPageOf, SameSlots, SameValues}
 
 module _ {T : Type 0} where
   -- the values below n, at an ID

@@ -3,7 +3,8 @@ use Rattle.std.proofs.Common.{◌≡◌, ◌≢◌, inl, inr, ℕ, ◌+◌, ◌*
 use Rattle.std.proofs.lemmas.Bool.{cases_eq, cases_lt}
 use Rattle.std.proofs.lemmas.List.{get_or_append_left, get_or-append_right, get_or_past, get_or-replicate, length-replicate, length-set}
 use Rattle.dimacs_nodes.specs.declared.node_table.TheConstants.{NO_PAGE}
-use Rattle.dimacs_nodes.specs.Slots.{IsDirectory, SameNumbers, number_of, place_of, slot_value}
+use Rattle.dimacs_nodes.specs.Slots.{number_of, place_of, slot_value}
+use Rattle.dimacs_nodes.specs.inside.Slots.{IsDirectory, SameNumbers}
 
 pub place_of-number : (directory : List ℕ) (id : ℕ) → place_of directory id ≡ number_of directory id * 256 + id % 256
 unfolding place_of

@@ -2,3 +2,4 @@ pub mod Pages
 pub mod Sets
 pub mod Slots
 pub mod Tables
+pub mod inside

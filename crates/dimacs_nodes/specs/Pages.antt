@@ -1,5 +1,5 @@
--- The values of nodes, in pages of 256 slots. No public clause cites this module.
-use Rattle.std.specs.Prelude.{ℕ, zero, suc, ◌+◌, ◌*◌, ◌/◌, ◌%◌, ◌≡◌, ◌≢◌, ◌⊎◌, List, [], map, length, max, Option, None, Some, IsSome, slice_index_or, Vec}
+-- The values of nodes, in pages of 256 slots.
+use Rattle.std.specs.Prelude.{ℕ, zero, suc, ◌+◌, ◌*◌, ◌/◌, ◌%◌, ◌≡◌, ◌⊎◌, List, [], map, length, Option, None, Some, IsSome, slice_index_or, Vec}
 use Rattle.std.specs.Ordering.{nat_cmp}
 use Rattle.std.specs.FinMap.{FinMap, empty, insert}
 use Rattle.std.specs.declared.alloc.Global.{Global}
@@ -24,13 +24,6 @@ module _ {T : Type 0} where
   unfoldable pub value_at : Directory T → ℕ → Option T
   value_at pages id = slice_index_or (slots_of pages id) (id % 256) None
 
-  -- only the directory may have changed
-  abbrev pub SameSlots : Directory T → Directory T → Type 0
-  SameSlots old new = (id : ℕ) → slots_of new id ≡ slots_of old id
-
-  abbrev pub SameValues : Directory T → Directory T → Type 0
-  SameValues old new = (id : ℕ) → value_at new id ≡ value_at old id
-
   -- an ID of this page has a value
   abbrev pub IsUsed : Directory T → ℕ → Type 0
   IsUsed pages page = (id : ℕ) × (id / 256 ≡ page) × IsSome (value_at pages id)
@@ -39,12 +32,6 @@ module _ {T : Type 0} where
   pub record AreNeeded (pages : Directory T) : Type 0 where
     pub used : (id : ℕ) → HasSlot pages id → IsUsed pages (id / 256)
     pub last : (page : ℕ) → length pages ≡ page + 1 → IsUsed pages page
-
-  -- the page of this ID has its slots, the others are as before, and the directory is no longer than the ID needs
-  pub record TakesPageOf (old new : Directory T) (id : ℕ) : Type 0 where
-    pub slot : HasSlot new id
-    pub others : (other : ℕ) → other / 256 ≢ id / 256 → slots_of new other ≡ slots_of old other
-    pub reach : length new ≡ max (length old) (id / 256 + 1)
 
   -- the map with this value, if it is one, at this ID
   abbrev pub with_option : FinMap nat_cmp T → ℕ → Option T → FinMap nat_cmp T

@@ -1,4 +1,4 @@
--- Sets of nodes, as maps that hold nothing but the nodes. No public clause cites this module.
+-- Sets of nodes, as maps that hold nothing but the nodes.
 use Rattle.std.specs.Ordering.{nat_cmp}
 use Rattle.std.specs.FinMap.{FinMap, keys}
 use Rattle.std.specs.FinSet.{FinSet, from_list}

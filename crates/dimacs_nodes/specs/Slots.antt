@@ -1,5 +1,5 @@
--- The slots of IDs, in pages of 256. No public clause cites this module.
-use Rattle.std.specs.Prelude.{ℕ, ◌+◌, ◌*◌, ◌/◌, ◌%◌, ◌≡◌, ◌≢◌, ◌<◌, ◌≤◌, List, length, slice_index_or}
+-- The slots of IDs, in pages of 256.
+use Rattle.std.specs.Prelude.{ℕ, ◌+◌, ◌*◌, ◌/◌, ◌%◌, List, slice_index_or}
 use Rattle.dimacs_nodes.specs.declared.node_table.TheConstants.{NO_PAGE}
 
 -- the number of the page of this ID
@@ -13,15 +13,3 @@ place_of directory id = 256 * number_of directory id + id % 256
 -- what the slot of this ID holds
 unfoldable pub slot_value : {T : Type 0} → T → List ℕ → List T → ℕ → T
 slot_value blank directory slots id = slice_index_or slots (place_of directory id) blank
-
--- each page that was taken has a number of its own, and its 256 slots
-pub record IsDirectory (directory : List ℕ) (slots : ℕ) : Type 0 where
-  pub short : length directory ≤ 16777216
-  pub whole : slots % 256 ≡ 0
-  pub few : slots ≤ 256 * NO_PAGE
-  pub known : (i : ℕ) → slice_index_or directory i NO_PAGE ≢ NO_PAGE → 256 * slice_index_or directory i NO_PAGE < slots
-  pub apart : (i j : ℕ) → 256 * slice_index_or directory i NO_PAGE < slots → slice_index_or directory i NO_PAGE ≡ slice_index_or directory j NO_PAGE → i ≡ j
-
--- only the end of the directory may have changed
-abbrev pub SameNumbers : List ℕ → List ℕ → Type 0
-SameNumbers old new = (i : ℕ) → slice_index_or new i NO_PAGE ≡ slice_index_or old i NO_PAGE

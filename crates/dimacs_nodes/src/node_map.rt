@@ -2,7 +2,8 @@
 
 ghost use Rattle.std.specs.Prelude.{◌≡◌, ◌+◌, ◌/◌, ◌%◌, [], length, max, IsSome, IsOk, OnOk, OnErr, MatchBool};
 ghost use Rattle.std.specs.FinMap as map;
-ghost use Rattle.dimacs_nodes.specs.Pages.{ArePages, HasSlot, slots_of, SameSlots, SameValues, TakesPageOf};
+ghost use Rattle.dimacs_nodes.specs.Pages.{ArePages, HasSlot, slots_of};
+ghost use Rattle.dimacs_nodes.specs.inside.Pages.{SameSlots, SameValues, TakesPageOf};
 
 use dimacs_lines::Memory;
 use std::alloc::Global;

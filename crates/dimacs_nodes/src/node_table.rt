@@ -1,7 +1,8 @@
 //! A value for each node, blank but for those that were set.
 
 ghost use Rattle.std.specs.Prelude.{◌≡◌, ◌≢◌, ◌<◌, ◌≤◌, ◌+◌, ◌/◌, ◌⊎◌, ℕ, length, max, OnOk, OnErr};
-ghost use Rattle.dimacs_nodes.specs.Slots.{IsDirectory, SameNumbers, place_of};
+ghost use Rattle.dimacs_nodes.specs.Slots.{place_of};
+ghost use Rattle.dimacs_nodes.specs.inside.Slots.{IsDirectory, SameNumbers};
 
 use dimacs_lines::Memory;
 use std::alloc::Global;

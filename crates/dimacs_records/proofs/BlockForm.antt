@@ -8,10 +8,10 @@ use Rattle.dimacs_records.specs.declared.records.Record.{Record}
 use Rattle.dimacs_records.specs.declared.records.Record.TheVariants.{LabelsBlock}
 use Rattle.dimacs_records.specs.declared.reasons.Reason.TheVariants.{FieldCount}
 use Rattle.dimacs_records.specs.declared.faults.LineFault.{LineFault}
-use Rattle.dimacs_records.specs.declared.typed.FieldReader.{FieldReader}
+use Rattle.dimacs_records.specs.declared.field_reader.FieldReader.{FieldReader}
 use Rattle.dimacs_records.specs.Forms.{FieldType, Id, Count, Radius}
 use Rattle.dimacs_records.specs.Spelling.{Amount}
-use Rattle.dimacs_records.specs.FieldReader.{fault_at, Takes, TakesNext, TakesLast, finished, IsFresh, ReadsForm, ReadsLetter, text_of_run, texts_left}
+use Rattle.dimacs_records.specs.inside.FieldReader.{fault_at, TakesField, TakesNext, TakesLast, finished, IsUntouched, ReadsForm, ReadsLetter, text_of_run, texts_left}
 use Rattle.dimacs_records.proofs.FormLemmas.{missing_next, at_missing, reads_form}
 
 abbrev short_form : List FieldType
@@ -27,7 +27,7 @@ missing_last f (run ∷ runs) old None new h taken = absurd taken
 missing_last f (run ∷ runs) old (Some radius) new h taken = taken.1 ∙ h
 
 -- the fields were taken one after another, and finished
-module _ (s one two three : FieldReader) (source count : ℕ) (radius : Option ℤ) (result : Result (Option Record) LineFault) (fresh : IsFresh s) (at_source : Takes 2 Id s (Amount (pos source)) one) (at_count : Takes 3 Count one (Amount (pos count)) two) (at_radius : TakesLast 4 two.scan two radius three) (h : result ≡ finished three (LabelsBlock source count radius)) where
+module _ (s one two three : FieldReader) (source count : ℕ) (radius : Option ℤ) (result : Result (Option Record) LineFault) (fresh : IsUntouched s) (at_source : TakesField 2 Id s (Amount (pos source)) one) (at_count : TakesField 3 Count one (Amount (pos count)) two) (at_radius : TakesLast 4 two.scan two radius three) (h : result ≡ finished three (LabelsBlock source count radius)) where
   too_few : two.missing ≡ true → result ≡ Err (fault_at 0 FieldCount)
   too_few there = h ∙ at_missing three _ (missing_last 4 two.scan two radius three there at_radius)
 
@@ -39,7 +39,7 @@ module _ (s one two three : FieldReader) (source count : ℕ) (radius : Option �
   reads_long : (radius' : Option ℤ) (run : Run) (runs : List Run) → radius ≡ radius' → two.scan ≡ run ∷ runs → TakesLast 4 (run ∷ runs) two radius' three → ReadsForm Labels (codes "t") long_form (texts_left s) result
   reads_long None run runs none left taken = absurd taken
   reads_long (Some r) run runs some left taken =
-      let taken_here : Takes 4 Radius two (Amount r) three = rw left taken in
+      let taken_here : TakesField 4 Radius two (Amount r) three = rw left taken in
       reads_form Labels (codes "t") long_form s three (LabelsBlock source count (Some r)) result refl refl fresh (one, at_source, (two, at_count, (three, taken_here, refl))) (rw some at h)
 
   by_runs : (runs : List Run) → s.scan ≡ runs → ReadsLetter Labels (codes "t") (map text_of_run runs) result

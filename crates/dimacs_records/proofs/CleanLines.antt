@@ -12,7 +12,7 @@ use Rattle.dimacs_records.specs.Forms.{FieldType, forms}
 use Rattle.dimacs_records.specs.Spelling.{SpellsRecord, texts_in, is_skip}
 use Rattle.dimacs_records.specs.Shapes.{fields_condition, types_in, letter_condition, shape_condition}
 use Rattle.dimacs_records.specs.Conditions.{limit_condition, condition}
-use Rattle.dimacs_records.specs.Order.{Place, at, limit_places, shape_places, record_places, places, First}
+use Rattle.dimacs_records.specs.Order.{Place, at, limit_places, shape_places, record_places, places, FirstOf}
 use Rattle.dimacs_records.specs.Faults.{Condition, of_limit, of_shape, of_record, Spell, records_in, IsClean}
 use Rattle.dimacs_records.proofs.FirstLemmas.{none_is}
 use Rattle.dimacs_records.proofs.PlaceLemmas.{test_at}
@@ -99,7 +99,7 @@ no_refusal : (earlier : List Record) (r : Record) → All (λ p. ¬ Holds (condi
 no_refusal earlier r = none_is (test_at (condition earlier r)) (limit_places ++ shape_places) refl
 
 pub first_limit : (kind : TextKind) (earlier : List Record) (number : ℕ) (line : List ℕ) (f : ℕ) (reason : Reason)
-    → First (Holds (limit_condition number line)) limit_places (at f reason) → First (Condition kind earlier number line) places (at f reason)
+    → FirstOf (Holds (limit_condition number line)) limit_places (at f reason) → FirstOf (Condition kind earlier number line) places (at f reason)
 first_limit kind earlier number line f reason =
     first_before (Holds (limit_condition number line)) (Condition kind earlier number line) limit_places (shape_places ++ record_places) (at f reason)
     (λ p inside c. elim c [
@@ -111,8 +111,8 @@ first_limit kind earlier number line f reason =
     ]) of_limit
 
 pub first_shape : (kind : TextKind) (earlier : List Record) (number : ℕ) (line : List ℕ) (f : ℕ) (reason : Reason)
-    → NoneHolds (limit_condition number line) → is_skip (texts_in line) ≡ false → First (Holds (shape_condition kind (texts_in line))) shape_places (at f reason)
-    → First (Condition kind earlier number line) places (at f reason)
+    → NoneHolds (limit_condition number line) → is_skip (texts_in line) ≡ false → FirstOf (Holds (shape_condition kind (texts_in line))) shape_places (at f reason)
+    → FirstOf (Condition kind earlier number line) places (at f reason)
 first_shape kind earlier number line f reason within solid first =
     let Shape = Holds (shape_condition kind (texts_in line)) in
     first_before Shape (Condition kind earlier number line) (limit_places ++ shape_places) record_places (at f reason)
@@ -123,8 +123,8 @@ first_shape kind earlier number line f reason within solid first =
     ]) (of_shape solid) (first_behind Shape limit_places shape_places (at f reason) (no_shape kind (texts_in line)) first)
 
 pub first_record : (kind : TextKind) (earlier : List Record) (number : ℕ) (line : List ℕ) (r : Record) (f : ℕ) (reason : Reason)
-    → NoneHolds (limit_condition number line) → is_skip (texts_in line) ≡ false → SpellsRecord kind (texts_in line) r → First (Holds (condition earlier r)) record_places (at f reason)
-    → First (Condition kind earlier number line) places (at f reason)
+    → NoneHolds (limit_condition number line) → is_skip (texts_in line) ≡ false → SpellsRecord kind (texts_in line) r → FirstOf (Holds (condition earlier r)) record_places (at f reason)
+    → FirstOf (Condition kind earlier number line) places (at f reason)
 first_record kind earlier number line r f reason within solid spells first =
     let Refused = Holds (condition earlier r) in
     first_before Refused (Condition kind earlier number line) places [] (at f reason)

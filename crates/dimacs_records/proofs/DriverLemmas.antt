@@ -5,7 +5,8 @@ use Rattle.std.proofs.lemmas.Bool.{true≢false, and_right, le-ltb, lt-ltb}
 use Rattle.std.proofs.lemmas.List.Elements.{All-nil, All-cons}
 use Rattle.std.proofs.lemmas.List.{append-nil, length-append}
 use Rattle.dimacs_lines.specs.Lines.{lines}
-use Rattle.dimacs_lines.specs.Reader.{State, text_left, GivesLine, AtEnd, Stops}
+use Rattle.dimacs_lines.specs.Reader.{State, GivesLine, AtEnd, Stops}
+use Rattle.dimacs_lines.specs.inside.Reader.{text_left}
 use Rattle.dimacs_lines.specs.declared.reader.LinesError.{LinesError}
 use Rattle.dimacs_lines.specs.declared.reader.LinesError.TheVariants as line_errors
 use Rattle.dimacs_lines.specs.Limits.{longest_line, most_lines}
@@ -21,9 +22,9 @@ use Rattle.dimacs_records.specs.declared.faults.LineFault.{LineFault}
 use Rattle.dimacs_records.specs.Spelling.{SpellsRecord, texts_in, is_skip}
 use Rattle.dimacs_records.specs.Conditions.{limit_condition}
 use Rattle.dimacs_records.specs.LineReader.{ReadsLine}
-use Rattle.dimacs_records.specs.Order.{at, limit_places, places, First}
+use Rattle.dimacs_records.specs.Order.{at, limit_places, places, FirstOf}
 use Rattle.dimacs_records.specs.Faults.{Condition, Spell, IsClean, records_in}
-use Rattle.dimacs_records.specs.Driver.{IsReadSoFar, IsReadWhole, ReadsOne, RefusesLine, TakesLine, IsBehind, read_error, lines_error}
+use Rattle.dimacs_records.specs.inside.Driver.{IsReadSoFar, IsReadWhole, ReadsNext, RefusesLine, TakesLine, IsBehind, read_error, lines_error}
 use Rattle.dimacs_records.proofs.FirstLemmas.{is_first}
 use Rattle.dimacs_records.proofs.PlaceLemmas.{test_at}
 use Rattle.dimacs_records.proofs.CleanLines.{NoneHolds, clean_nothing, clean_skip, clean_record, first_limit, first_shape, first_record}
@@ -43,11 +44,11 @@ within number line few short f LineTooLong h = true≢false (sym h ∙ and_right
 within number line few short f reason h = true≢false (sym h)
 
 -- a line behind the last that may be
-too_many : (kind : TextKind) (earlier : List Record) (number : ℕ) (line : List ℕ) → most_lines < number → First (Condition kind earlier number line) places (at 0 LineLimit)
+too_many : (kind : TextKind) (earlier : List Record) (number : ℕ) (line : List ℕ) → most_lines < number → FirstOf (Condition kind earlier number line) places (at 0 LineLimit)
 too_many kind earlier number line above =
     first_limit kind earlier number line 0 LineLimit (is_first (test_at (limit_condition number line)) limit_places (at 0 LineLimit) (rw (lt-ltb most_lines number above) refl))
 
-too_long : (kind : TextKind) (earlier : List Record) (number : ℕ) (line : List ℕ) → number ≤ most_lines → longest_line < length line → First (Condition kind earlier number line) places (at 0 LineTooLong)
+too_long : (kind : TextKind) (earlier : List Record) (number : ℕ) (line : List ℕ) → number ≤ most_lines → longest_line < length line → FirstOf (Condition kind earlier number line) places (at 0 LineTooLong)
 too_long kind earlier number line few long =
     first_limit kind earlier number line 0 LineTooLong (is_first (test_at (limit_condition number line)) limit_places (at 0 LineTooLong) (rw (line_number number few, lt-ltb longest_line (length line) long) refl))
 
@@ -123,7 +124,7 @@ at_number number (Err error) = Err (read_error number error)
 
 -- the line that was given was taken, or it is where the text has its fault
 pub read_one : (kind : TextKind) (all : List (List ℕ)) (old new : State) (left later : Option (List ℕ)) (number : ℕ) (before_stands stands_for : List LineRecord → Type 0) (result : Result Unit TakeError)
-    → GivesLine old new left later number → (h : IsReadSoFar kind all old.given left before_stands) → TakesLine kind h.before h.said new.line stands_for result → ReadsOne kind all old.given later stands_for (at_number number result)
+    → GivesLine old new left later number → (h : IsReadSoFar kind all old.given left before_stands) → TakesLine kind h.before h.said new.line stands_for result → ReadsNext kind all old.given later stands_for (at_number number result)
 read_one kind all old new left later number before_stands stands_for (Ok done) given h takes =
     let more = given.first h.rest h.left_is in
     record {
@@ -160,7 +161,7 @@ line_of (line ∷ rest) h = (line, rest, refl)
 
 -- where a limit is passed, the text has its fault
 pub stopped : (kind : TextKind) (all : List (List ℕ)) (old new : State) (left later : Option (List ℕ)) (before_stands stands_for : List LineRecord → Type 0) (error : LinesError)
-    → Stops old new left error → IsReadSoFar kind all old.given left before_stands → ReadsOne kind all old.given later stands_for (Err (lines_error error))
+    → Stops old new left error → IsReadSoFar kind all old.given left before_stands → ReadsNext kind all old.given later stands_for (Err (lines_error error))
 stopped kind all old new left later before_stands stands_for (line_errors.TooMany number) stops h =
     let next : number ≡ length h.before + 1 = stops.comes.0 ∙ ap (λ n. n + 1) h.counted in
     let more = line_of (lines h.rest) (stops.comes.2 h.rest h.left_is) in

@@ -7,7 +7,7 @@ use Rattle.dimacs_records.specs.declared.records.Record.{Record}
 use Rattle.dimacs_records.specs.declared.reasons.Reason.{Reason}
 use Rattle.dimacs_records.specs.Spelling.{texts_in}
 use Rattle.dimacs_records.specs.Conditions.{end_condition}
-use Rattle.dimacs_records.specs.Order.{Place, at, places, end_reasons, First}
+use Rattle.dimacs_records.specs.Order.{Place, at, places, end_reasons, FirstOf}
 use Rattle.dimacs_records.specs.Faults.{Condition, Spell, records_in, IsClean, FaultyLine, FirstAtEnd}
 use Rattle.dimacs_records.specs.FaultLaws.{OneFaultLaw, NoFaultLaw}
 use Rattle.dimacs_records.proofs.FirstLemmas.{first_unique}
@@ -38,7 +38,7 @@ one_line : (kind : TextKind) (lines : List (List ℕ)) (l f l' f' : ℕ) (r r' :
 one_line kind lines l f l' f' r r' g h before_is line_is =
     let number : l ≡ l' = g.number ∙ (ap (λ (t : List (List ℕ)). length t + 1) before_is ∙ sym h.number) in
     let said = say_same kind h.before g.said h.said (rw before_is at g.clean.spell) h.clean.spell in
-    let first : First (Condition kind (records_in h.said) l' h.line) places (at f r) = rw (said, number, line_is) at g.first in
+    let first : FirstOf (Condition kind (records_in h.said) l' h.line) places (at f r) = rw (said, number, line_is) at g.first in
     let place = first_unique (Condition kind (records_in h.said) l' h.line) places (at f r) (at f' r') first h.first in
     (number, ap (λ (p : Place). p.field) place, ap (λ (p : Place). p.reason) place)
 

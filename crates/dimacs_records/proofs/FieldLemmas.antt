@@ -17,7 +17,7 @@ use Rattle.dimacs_records.specs.declared.reasons.Reason.TheVariants.{NumberRange
 use Rattle.dimacs_records.specs.Forms.{FieldType, Word, Either, Number}
 use Rattle.dimacs_records.specs.Spelling.{Part, Text, Amount, Says}
 use Rattle.dimacs_records.specs.Shapes.{is_number}
-use Rattle.dimacs_records.specs.FieldReader.{field_reason, number_reason}
+use Rattle.dimacs_records.specs.inside.FieldReader.{field_reason, number_reason}
 use Rattle.dimacs_records.specs.Earlier.{or_else}
 use Rattle.dimacs_lines.proofs.DigitLemmas.{digit_from}
 

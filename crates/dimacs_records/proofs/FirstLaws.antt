@@ -2,10 +2,10 @@
 use Rattle.std.proofs.Common.{◌∷◌, ◌++◌, List, get_or, ap, sym, ◌∙◌, append_assoc}
 use Rattle.std.specs.List.{All, Contains}
 use Rattle.std.proofs.lemmas.List.Elements.{All-append, Contains-append_left, Contains-get_or}
-use Rattle.dimacs_records.specs.Order.{First}
+use Rattle.dimacs_records.specs.Order.{FirstOf}
 
 -- behind others that lack the property
-pub first_behind : {X : Type 0} (P : X → Type 0) (front all : List X) (x : X) → All (λ y. ¬ P y) front → First P all x → First P (front ++ all) x
+pub first_behind : {X : Type 0} (P : X → Type 0) (front all : List X) (x : X) → All (λ y. ¬ P y) front → FirstOf P all x → FirstOf P (front ++ all) x
 first_behind P front all x none h = record {
   before = front ++ h.before;
   after = h.after;
@@ -16,7 +16,7 @@ first_behind P front all x none h = record {
 
 -- before any others, and of another property that is no wider within the list, and that x has too
 pub first_before : {X : Type 0} (P Q : X → Type 0) (all back : List X) (x : X)
-    → ((y : X) → Contains all y → Q y → P y) → (P x → Q x) → First P all x → First Q (all ++ back) x
+    → ((y : X) → Contains all y → Q y → P y) → (P x → Q x) → FirstOf P all x → FirstOf Q (all ++ back) x
 first_before P Q all back x narrow holds h = record {
   before = h.before;
   after = h.after ++ back;

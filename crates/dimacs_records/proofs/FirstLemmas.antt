@@ -3,7 +3,7 @@ use Rattle.std.proofs.Common.{◌≡◌, ◌++◌, ◌∷◌, [], List, Bool, tr
 use Rattle.std.specs.Prelude.{IsTrue, if◌then◌else◌}
 use Rattle.std.specs.List.{All}
 use Rattle.std.proofs.lemmas.List.Elements.{All-nil, All-cons, All-head, All-tail}
-use Rattle.dimacs_records.specs.Order.{First}
+use Rattle.dimacs_records.specs.Order.{FirstOf}
 
 -- the first of a list that passes a test
 abbrev pub first_by : {X : Type 0} → (X → Bool) → List X → Option X
@@ -17,14 +17,14 @@ unique P [] (b ∷ bs) after after' x y e n n' p q = let same : x ≡ b = cc in 
 unique P (b ∷ bs) [] after after' x y e n n' p q = let same : b ≡ y = cc in absurd (All-head (λ z. ¬ P z) b bs n (subst P (sym same) q))
 unique P (b ∷ bs) (c ∷ cs) after after' x y e n n' p q = unique P bs cs after after' x y (cc) (All-tail (λ z. ¬ P z) b bs n) (All-tail (λ z. ¬ P z) c cs n') p q
 
-pub first_unique : {X : Type 0} (P : X → Type 0) (all : List X) (x y : X) → First P all x → First P all y → x ≡ y
+pub first_unique : {X : Type 0} (P : X → Type 0) (all : List X) (x y : X) → FirstOf P all x → FirstOf P all y → x ≡ y
 first_unique P all x y f g = unique P f.before g.before f.after g.after x y (sym f.all_is ∙ g.all_is) f.none_before g.none_before f.holds g.holds
 
 ne_false : (b : Bool) → b ≡ false → ¬ (b ≡ true)
 ne_false true h = absurd (cc)
 ne_false false h = λ e. absurd (cc)
 
-is_first_at : {X : Type 0} (test : X → Bool) (y : X) (all : List X) (x : X) (b : Bool) → test y ≡ b → first_by test (y ∷ all) ≡ Some x → (first_by test all ≡ Some x → First (λ z. IsTrue (test z)) all x) → First (λ z. IsTrue (test z)) (y ∷ all) x
+is_first_at : {X : Type 0} (test : X → Bool) (y : X) (all : List X) (x : X) (b : Bool) → test y ≡ b → first_by test (y ∷ all) ≡ Some x → (first_by test all ≡ Some x → FirstOf (λ z. IsTrue (test z)) all x) → FirstOf (λ z. IsTrue (test z)) (y ∷ all) x
 is_first_at test y all x true h e more =
     let found : first_by test (y ∷ all) ≡ Some y = rw h refl in
     let same : y ≡ x = cc in
@@ -34,7 +34,7 @@ is_first_at test y all x false h e more =
     let f = more (sym past ∙ e) in
     record { before = y ∷ f.before; after = f.after; all_is = ap (λ t. y ∷ t) f.all_is; none_before = All-cons (λ z. ¬ IsTrue (test z)) y f.before (ne_false (test y) h) f.none_before; holds = f.holds }
 
-pub is_first : {X : Type 0} (test : X → Bool) (all : List X) (x : X) → first_by test all ≡ Some x → First (λ z. IsTrue (test z)) all x
+pub is_first : {X : Type 0} (test : X → Bool) (all : List X) (x : X) → first_by test all ≡ Some x → FirstOf (λ z. IsTrue (test z)) all x
 is_first test [] x e = absurd (cc)
 is_first test (y ∷ all) x e = is_first_at test y all x (test y) refl e (is_first test all x)
 

@@ -10,17 +10,17 @@ use Rattle.dimacs_records.specs.declared.records.Record.{Record}
 use Rattle.dimacs_records.specs.declared.reasons.Reason.{Reason}
 use Rattle.dimacs_records.specs.declared.reasons.Reason.TheVariants.{FieldCount}
 use Rattle.dimacs_records.specs.declared.faults.LineFault.{LineFault}
-use Rattle.dimacs_records.specs.declared.typed.FieldReader.{FieldReader}
+use Rattle.dimacs_records.specs.declared.field_reader.FieldReader.{FieldReader}
 use Rattle.dimacs_records.specs.Earlier.{or_else}
 use Rattle.dimacs_records.specs.Forms.{FieldType}
 use Rattle.dimacs_records.specs.Spelling.{Part, SayAll, kind_of, letter_of, parts_of}
-use Rattle.dimacs_records.specs.FieldReader.{field_reason, fault_at, fault_in, fields_fault, Takes, TakesNext, without_fault, finished, IsFresh, ReadsForm, text_of_run, texts_left}
+use Rattle.dimacs_records.specs.inside.FieldReader.{field_reason, fault_at, fault_in, fields_fault, TakesField, TakesNext, without_fault, finished, IsUntouched, ReadsForm, text_of_run, texts_left}
 use Rattle.dimacs_records.proofs.FieldLemmas.{or_else-none}
 
 -- fields of these types were taken one after another, the first being field f, and say this
 abbrev pub TakesAll : ℕ → List FieldType → FieldReader → List Part → FieldReader → Type 0
 TakesAll f [] old [] new = new ≡ old
-TakesAll f (type ∷ types) old (part ∷ parts) new = (mid : FieldReader) × Takes f type old part mid × TakesAll (suc f) types mid parts new
+TakesAll f (type ∷ types) old (part ∷ parts) new = (mid : FieldReader) × TakesField f type old part mid × TakesAll (suc f) types mid parts new
 TakesAll f types old parts new = ⊥
 
 or_else-assoc : {X : Type 0} → (a b c : Option X) → or_else (or_else a b) c ≡ or_else a (or_else b c)
@@ -103,7 +103,7 @@ form_answer kind letter types runs r of_kind of_letter says = by_length (length 
 
 -- the fields behind a letter, taken by its types and finished
 pub reads_form : (kind : TextKind) (letter : List ℕ) (types : List FieldType) (s new : FieldReader) (r : Record) (result : Result (Option Record) LineFault)
-    → kind_of r ≡ kind → letter_of r ≡ letter → IsFresh s → TakesAll 2 types s (parts_of r) new → result ≡ finished new r → ReadsForm kind letter types (texts_left s) result
+    → kind_of r ≡ kind → letter_of r ≡ letter → IsUntouched s → TakesAll 2 types s (parts_of r) new → result ≡ finished new r → ReadsForm kind letter types (texts_left s) result
 reads_form kind letter types s new r result of_kind of_letter fresh taken h =
     let is : result ≡ outcome 2 types None s.scan r = h ∙ (taken_outcome 2 types s (parts_of r) new s.scan r refl fresh.0 taken ∙ ap (λ o. outcome 2 types o s.scan r) fresh.1) in
     subst (ReadsForm kind letter types (map text_of_run s.scan)) (sym is) (form_answer kind letter types s.scan r of_kind of_letter (said_all 2 types s (parts_of r) new s.scan refl taken))

@@ -9,8 +9,8 @@ use Rattle.dimacs_lines.specs.Limits.{most_lines}
 use Rattle.dimacs_records.specs.declared.faults.TakeError.{TakeError}
 use Rattle.dimacs_records.specs.declared.kinds.TextKind.{TextKind}
 use Rattle.dimacs_records.specs.declared.records.Record.{Record}
-use Rattle.dimacs_records.specs.Driver.{IsReadSoFar, ReadsOne}
-use Rattle.dimacs_records.specs.Plain.{SaysFirst}
+use Rattle.dimacs_records.specs.inside.Driver.{IsReadSoFar, ReadsNext}
+use Rattle.dimacs_records.specs.inside.Plain.{SaysFirst}
 use Rattle.dimacs_records.specs.Readings.{LineRecord, on_line, records_of, AreBefore, IsAllowed, RefusesRecord}
 use Rattle.dimacs_records.proofs.DriverLemmas.{at_number, behind, read_one, take_record}
 
@@ -48,7 +48,7 @@ pub plain_step : (kind : TextKind) (all : List (List ℕ)) (bytes : List ℕ) (g
     → OnOk result ((rs : List LineRecord) → old rs → IsAllowed (records_of rs) r)
     → OnOk result ((rs : List LineRecord) → old rs → AreBefore (given + 1) rs → new (rs ++ on_line (given + 1) r ∷ []))
     → IfErr result (λ error. (rs : List LineRecord) → old rs → RefusesRecord (records_of rs) r error)
-    → ReadsOne kind all given (before_piece (drop size bytes) coming) new (at_number (given + 1) result)
+    → ReadsNext kind all given (before_piece (drop size bytes) coming) new (at_number (given + 1) result)
 plain_step kind all bytes given size coming r old new result says few so_far allowed taken refused =
     let left = before_piece bytes coming in
     let later = before_piece (drop size bytes) coming in

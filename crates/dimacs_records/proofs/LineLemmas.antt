@@ -11,8 +11,8 @@ use Rattle.dimacs_records.specs.declared.faults.LineFault.{LineFault}
 use Rattle.dimacs_records.specs.Forms.{FieldType, Form, forms}
 use Rattle.dimacs_records.specs.Spelling.{is_skip}
 use Rattle.dimacs_records.specs.Shapes.{types_in, letter_condition, shape_condition}
-use Rattle.dimacs_records.specs.Order.{Place, at, shape_places, First}
-use Rattle.dimacs_records.specs.FieldReader.{form_fault, ReadsForm, ReadsLetter, ReadsTypes}
+use Rattle.dimacs_records.specs.Order.{Place, at, shape_places, FirstOf}
+use Rattle.dimacs_records.specs.inside.FieldReader.{form_fault, ReadsForm, ReadsLetter, ReadsTypes}
 use Rattle.dimacs_records.specs.LineReader.{ReadsLine}
 use Rattle.dimacs_records.proofs.FirstLemmas.{first_by, is_first}
 use Rattle.dimacs_records.proofs.PlaceLemmas.{first_of_shape, place_of, place_in, test_at}
@@ -69,7 +69,7 @@ short_types kind letter types f =
     rw (← f.types_are, ← c.2) (leb-true _ 5 (all c.0 f.form c.1))
 
 to_place : (kind : TextKind) (letter : List ℕ) (types : List FieldType) (behind : List (List ℕ)) (fault : LineFault) → types_in (forms kind) letter (length behind) ≡ Some types → form_fault types behind ≡ Some fault
-    → First (λ (p : Place). IsTrue (shape_condition kind (letter ∷ behind) p.field p.reason)) shape_places (place_of fault)
+    → FirstOf (λ (p : Place). IsTrue (shape_condition kind (letter ∷ behind) p.field p.reason)) shape_places (place_of fault)
 to_place kind letter types behind fault known h =
     let short = short_types kind letter types (form_of (forms kind) letter (length behind) types known) in
     let found : first_by (test_at (letter_condition (Some types) behind)) shape_places ≡ Some (place_of fault) = first_of_shape types behind short ∙ ap place_in h in
@@ -87,7 +87,7 @@ form_line kind letter types behind (Err fault) solid known h = (solid, to_place 
 types_line : (kind : TextKind) (letter : List ℕ) (found : Option (List FieldType)) (behind : List (List ℕ)) (result : Result (Option Record) LineFault) → is_skip (letter ∷ behind) ≡ false
     → types_in (forms kind) letter (length behind) ≡ found → ReadsTypes kind letter found behind result → ReadsLine kind (letter ∷ behind) result
 types_line kind letter None behind result solid unknown h =
-    let first : First (λ (p : Place). IsTrue (shape_condition kind (letter ∷ behind) p.field p.reason)) shape_places (at 1 UnknownLine) = is_first (test_at (shape_condition kind (letter ∷ behind))) shape_places (at 1 UnknownLine) (rw unknown refl) in
+    let first : FirstOf (λ (p : Place). IsTrue (shape_condition kind (letter ∷ behind) p.field p.reason)) shape_places (at 1 UnknownLine) = is_first (test_at (shape_condition kind (letter ∷ behind))) shape_places (at 1 UnknownLine) (rw unknown refl) in
     subst (ReadsLine kind (letter ∷ behind)) (sym h) (solid, first)
 types_line kind letter (Some types) behind result solid known h = form_line kind letter types behind result solid known h
 

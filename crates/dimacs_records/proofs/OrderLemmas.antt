@@ -13,10 +13,12 @@ use Rattle.dimacs_records.specs.Earlier.{is_counted, is_full, is_problem, is_sho
 use Rattle.dimacs_records.specs.Faults.{FirstAtEnd}
 use Rattle.dimacs_records.specs.Order.{Place, at}
 use Rattle.dimacs_records.specs.declared.faults.TakeError.{TakeError}
-use Rattle.dimacs_records.specs.Readings.{IsAllowed, IsComplete, IsFirstCondition, RefusesRecord, TakesRecord}
-use Rattle.dimacs_records.specs.Takings.{StandsFor, Takes}
+use Rattle.dimacs_records.specs.Readings.{IsAllowed, IsComplete, IsFirstCondition, RefusesRecord}
+use Rattle.dimacs_records.specs.inside.Readings.{TakesRecord}
+use Rattle.dimacs_records.specs.Takings.{StandsFor}
+use Rattle.dimacs_records.specs.inside.Takings.{Takes}
 use Rattle.dimacs_records.specs.Spelling.{kind_of}
-use Rattle.dimacs_records.specs.Tests.{Passes, PassesEnd, Tells, TellsEnd, is_too_many_told, problem_told}
+use Rattle.dimacs_records.specs.Tests.{Passes, PassesEnd, IsToldOf, TellsEnd, is_too_many_told, problem_told}
 use Rattle.dimacs_records.proofs.ConditionLemmas.{first_place, first_reason_at_end, is_allowed, is_complete, is_first_at_end, is_first_condition}
 
 abbrev pub by_tests : Bool → Bool → Bool → Bool → Bool → Bool → Bool → Bool → Bool → Bool → Bool → Bool → Bool → Bool → Bool → Bool → Option Place
@@ -36,19 +38,19 @@ place_told e r =
     (is_above_at 2 p (bounded_ids r)) (is_above_at 3 p (bounded_ids r)) (is_above_at 4 p (bounded_ids r))
     e.named e.end_named e.lacks_end (is_bound_wrong 4 r) (is_bound_wrong 5 r) (is_too_many_told e r) e.block_short e.valued e.pred_unknown e.past_radius
 
-too_many : (e : Earlier) (earlier : List Record) (r : Record) → Tells e earlier r → is_too_many earlier r ≡ is_too_many_told e r
+too_many : (e : Earlier) (earlier : List Record) (r : Record) → IsToldOf e earlier r → is_too_many earlier r ≡ is_too_many_told e r
 too_many e earlier (LabelsNode id dist pred) t = t.block_full
 too_many e earlier r t = ap₂ (λ p n. is_counted r && is_full p n) t.counts.problem_is t.counts.counted_is
 
-told : (e : Earlier) (earlier : List Record) (r : Record) → Tells e earlier r → first_place earlier r ≡ place_told e r
+told : (e : Earlier) (earlier : List Record) (r : Record) → IsToldOf e earlier r → first_place earlier r ≡ place_told e r
 told e earlier r t =
     rw (too_many e earlier r t, t.counts.problem_is, t.misplaced, t.named, t.end_named, t.lacks_end, t.block_short, t.valued, t.pred_unknown, t.past_radius) refl
 
-pub first_told : (e : Earlier) (earlier : List Record) (r : Record) (fault : LineFault) → place_told e r ≡ Some (at fault.field fault.reason) → Tells e earlier r → IsFirstCondition earlier r fault
+pub first_told : (e : Earlier) (earlier : List Record) (r : Record) (fault : LineFault) → place_told e r ≡ Some (at fault.field fault.reason) → IsToldOf e earlier r → IsFirstCondition earlier r fault
 first_told e earlier r fault h t = is_first_condition earlier r fault (told e earlier r t ∙ h)
 
 -- a record is allowed that passes the tests
-pub allowed_told : (e : Earlier) (earlier : List Record) (r : Record) → Passes e r → Tells e earlier r → IsAllowed earlier r
+pub allowed_told : (e : Earlier) (earlier : List Record) (r : Record) → Passes e r → IsToldOf e earlier r → IsAllowed earlier r
 allowed_told e earlier r p t =
     is_allowed earlier r (told e earlier r t
     ∙ rw (p.after_problem, p.one_problem, p.placed, p.second_within, p.third_within, p.fourth_within, p.new_node, p.new_end, p.both_ends, p.low, p.cap, p.room, p.full_block, p.one_value, p.pred_known, p.near) refl)
@@ -70,16 +72,16 @@ pub complete_told : (kind : TextKind) (e : Earlier) (all : List Record) → Pass
 complete_told kind e all p t = is_complete kind all (end_told kind e all t ∙ rw (p.problem, p.ends, p.finished, p.value) refl)
 
 -- what a reading answers that stands for some records, by the tests
-module _ {B : Type 0} (by : B → List Record → Type 0) (old : Option B) (r : Record) (e : Earlier) (tells : (rs : List Record) → StandsFor by old rs → Tells e rs r) where
-  pub refused_told : (error : TakeError) → ((rs : List Record) → Tells e rs r → RefusesRecord rs r error) → Takes by old r (Err error) old
+module _ {B : Type 0} (by : B → List Record → Type 0) (old : Option B) (r : Record) (e : Earlier) (tells : (rs : List Record) → StandsFor by old rs → IsToldOf e rs r) where
+  pub refused_told : (error : TakeError) → ((rs : List Record) → IsToldOf e rs r → RefusesRecord rs r error) → Takes by old r (Err error) old
   refused_told error refuses = ((λ rs h. refuses rs (tells rs h)), refl)
 
   pub taken_told : (new : B) → Passes e r → ((rs : List Record) → StandsFor by old rs → by new (rs ++ r ∷ [])) → Takes by old r (Ok tt) (Some new)
   taken_told new p stands = λ rs h. (allowed_told e rs r p (tells rs h), stands rs h)
 
 -- what a reading answers that keeps all records, by the tests
-pub refused_record : (e : Earlier) (before : List Record) (r : Record) (error : TakeError) → Tells e before r → ((rs : List Record) → Tells e rs r → RefusesRecord rs r error) → TakesRecord before r (Err error) before
+pub refused_record : (e : Earlier) (before : List Record) (r : Record) (error : TakeError) → IsToldOf e before r → ((rs : List Record) → IsToldOf e rs r → RefusesRecord rs r error) → TakesRecord before r (Err error) before
 refused_record e before r error t refuses = (refuses before t, refl)
 
-pub taken_record : (e : Earlier) (before after : List Record) (r : Record) → Tells e before r → Passes e r → after ≡ before ++ r ∷ [] → TakesRecord before r (Ok tt) after
+pub taken_record : (e : Earlier) (before after : List Record) (r : Record) → IsToldOf e before r → Passes e r → after ≡ before ++ r ∷ [] → TakesRecord before r (Ok tt) after
 taken_record e before after r t p same = (allowed_told e before r p t, same)

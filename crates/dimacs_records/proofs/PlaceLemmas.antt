@@ -11,7 +11,7 @@ use Rattle.dimacs_records.specs.Earlier.{or_else}
 use Rattle.dimacs_records.specs.Forms.{FieldType, Word, Either, Number}
 use Rattle.dimacs_records.specs.Shapes.{field_condition, fields_condition, letter_condition}
 use Rattle.dimacs_records.specs.Order.{Place, at, field_places, shape_places}
-use Rattle.dimacs_records.specs.FieldReader.{fault_at, fault_in, fields_fault, form_fault}
+use Rattle.dimacs_records.specs.inside.FieldReader.{fault_at, fault_in, fields_fault, form_fault}
 use Rattle.dimacs_records.proofs.FirstLemmas.{first_by}
 
 abbrev pub place_of : LineFault → Place

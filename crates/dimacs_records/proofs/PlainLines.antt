@@ -9,7 +9,7 @@ use Rattle.std.proofs.lemmas.List.Elements.{All-nil, All-cons, All-head, All-tai
 use Rattle.dimacs_lines.specs.Lines.{is_end, lines}
 use Rattle.dimacs_lines.specs.Fields.{is_blank, Run, onto_runs, runs_from}
 use Rattle.dimacs_records.specs.Spelling.{texts_in}
-use Rattle.dimacs_records.specs.FieldReader.{text_of_run}
+use Rattle.dimacs_records.specs.inside.FieldReader.{text_of_run}
 use Rattle.dimacs_records.specs.Printed.{behind_blank}
 
 -- a printed ASCII character, of which none is a blank or a line end

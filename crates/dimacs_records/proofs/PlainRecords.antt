@@ -16,7 +16,7 @@ use Rattle.dimacs_records.specs.declared.kinds.TextKind.{TextKind}
 use Rattle.dimacs_records.specs.declared.records.Record.{Record}
 use Rattle.dimacs_records.specs.Forms.{FieldType, Word, Either, Number, Id, Whole, Wide, Form, forms}
 use Rattle.dimacs_records.specs.LineReader.{ReadsLine}
-use Rattle.dimacs_records.specs.Plain.{Stand, IsPlainLine, SaysFirst}
+use Rattle.dimacs_records.specs.inside.Plain.{Stand, IsPlainLine, SaysFirst}
 use Rattle.dimacs_records.specs.Printed.{behind_blank}
 use Rattle.dimacs_records.specs.Spelling.{Part, Text, Amount, Says, SayAll, kind_of, letter_of, parts_of, texts_in, is_skip, is_comment}
 use Rattle.dimacs_records.proofs.DecimalLemmas.{visible_digit}

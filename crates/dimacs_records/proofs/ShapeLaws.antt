@@ -9,7 +9,7 @@ use Rattle.dimacs_records.specs.declared.reasons.Reason.TheVariants.{FieldCount,
 use Rattle.dimacs_records.specs.Forms.{FieldType, Word, Either, Number}
 use Rattle.dimacs_records.specs.Spelling.{Part, SayAll, SpellsRecord, parts_of}
 use Rattle.dimacs_records.specs.Shapes.{field_condition, fields_condition, letter_condition, shape_condition}
-use Rattle.dimacs_records.specs.FieldReader.{field_reason}
+use Rattle.dimacs_records.specs.inside.FieldReader.{field_reason}
 use Rattle.dimacs_records.proofs.FieldLemmas.{field_reason-said}
 use Rattle.dimacs_records.proofs.SpellLaws.{spelled_types}
 

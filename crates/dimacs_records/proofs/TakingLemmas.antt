@@ -5,7 +5,8 @@ use Rattle.std.proofs.lemmas.List.{map-append}
 use Rattle.dimacs_records.specs.declared.records.Record.{Record}
 use Rattle.dimacs_records.specs.declared.faults.TakeError.{TakeError}
 use Rattle.dimacs_records.specs.Readings.{LineRecord, records_of, on_line, AreBefore}
-use Rattle.dimacs_records.specs.Takings.{StandsFor, Takes}
+use Rattle.dimacs_records.specs.Takings.{StandsFor}
+use Rattle.dimacs_records.specs.inside.Takings.{Takes}
 
 -- what a reading stands for that has begun
 pub stands : {B : Type 0} (by : B → List Record → Type 0) (o : Option B) (b : B) (rs : List Record) → o ≡ Some b → StandsFor by o rs → by b rs

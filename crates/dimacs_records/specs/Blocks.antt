@@ -11,14 +11,14 @@ pub record Block : Type 0 where
   pub radius : Option ℤ
   pub ids : List ℕ
 
-abbrev pub with_label : Option Block → ℕ → Option Block
-with_label None id = None
-with_label (Some block) id = Some (record block { ids = block.ids ++ id ∷ [] })
+abbrev pub with_labelled : Option Block → ℕ → Option Block
+with_labelled None id = None
+with_labelled (Some block) id = Some (record block { ids = block.ids ++ id ∷ [] })
 
 -- the last block, after one more record
 abbrev pub block_after : Option Block → Record → Option Block
 block_after block (LabelsBlock source count radius) = Some (record { source = source; count = count; radius = radius; ids = [] })
-block_after block (LabelsNode id dist pred) = with_label block id
+block_after block (LabelsNode id dist pred) = with_labelled block id
 block_after block r = block
 
 -- the last block

@@ -10,7 +10,7 @@ use Rattle.dimacs_records.specs.declared.records.Record.TheVariants.{MaxNode, Ma
 use Rattle.dimacs_records.specs.declared.reasons.Reason.{Reason}
 use Rattle.dimacs_records.specs.declared.reasons.Reason.TheVariants.{LineTooLong, ProblemMissing, ProblemTwice, RecordOrder, NodeRange, NodeTwice, EndTwice, EndMissing, BoundOrder, TooMany, TooFew, SolutionMissing, SolutionTwice, PredUnknown, LineLimit, PastRadius}
 use Rattle.dimacs_records.specs.Spelling.{kind_of}
-use Rattle.dimacs_records.specs.Earlier.{Problem, problem_in, is_problem, is_above, is_full, is_short, is_counted, counted_in, asks_for, names, is_max_node, is_end, is_flow_arc, is_value}
+use Rattle.dimacs_records.specs.Earlier.{Problem, problem_in, is_problem, is_above, is_full, is_short, is_counted, counted_in, asks_for, names, is_max_node, is_end_node, is_flow_arc, is_value}
 use Rattle.dimacs_records.specs.Blocks.{block_in, is_labelled, is_full_block, is_short_block, is_past_block}
 
 -- at field f of a line with this number the condition of a limit holds
@@ -67,7 +67,7 @@ is_named_twice earlier (LabelsNode id dist pred) = is_labelled (block_in earlier
 is_named_twice earlier r = false
 
 abbrev pub is_end_twice : List Record → Record → Bool
-is_end_twice earlier (MaxNode id end) = list_any (is_end end) earlier
+is_end_twice earlier (MaxNode id end) = list_any (is_end_node end) earlier
 is_end_twice earlier r = false
 
 -- fewer than two node lines

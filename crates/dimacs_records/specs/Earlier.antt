@@ -92,10 +92,10 @@ is_max_node (MaxNode id end) = true
 is_max_node r = false
 
 -- the node line of this end
-abbrev pub is_end : End → Record → Bool
-is_end Source (MaxNode id Source) = true
-is_end Sink (MaxNode id Sink) = true
-is_end end r = false
+abbrev pub is_end_node : End → Record → Bool
+is_end_node Source (MaxNode id Source) = true
+is_end_node Sink (MaxNode id Sink) = true
+is_end_node end r = false
 
 -- an arc line of a flow instance
 abbrev pub is_flow_arc : Record → Bool

@@ -6,7 +6,7 @@ use Rattle.dimacs_records.specs.declared.reasons.Reason.{Reason}
 use Rattle.dimacs_records.specs.Spelling.{SpellsRecord, texts_in, is_skip}
 use Rattle.dimacs_records.specs.Shapes.{shape_condition}
 use Rattle.dimacs_records.specs.Conditions.{limit_condition, condition, end_condition}
-use Rattle.dimacs_records.specs.Order.{Place, at, places, end_reasons, First}
+use Rattle.dimacs_records.specs.Order.{Place, at, places, end_reasons, FirstOf}
 
 -- at a place of a line, behind the earlier records, the condition of its reason holds
 pub data Condition (kind : TextKind) (earlier : List Record) (number : ℕ) (line : List ℕ) (p : Place) : Type 0 where
@@ -41,11 +41,11 @@ pub record FaultyLine (kind : TextKind) (lines : List (List ℕ)) (l f : ℕ) (r
   pub lines_are : lines ≡ before ++ line ∷ after
   pub number : l ≡ length before + 1
   pub clean : IsClean kind before said
-  pub first : First (Condition kind (records_in said) l line) places (at f r)
+  pub first : FirstOf (Condition kind (records_in said) l line) places (at f r)
 
 -- at the end of a text of these records this condition comes first
 abbrev pub FirstAtEnd : TextKind → List Record → Reason → Type 0
-FirstAtEnd kind all reason = First (λ other. IsTrue (end_condition kind all other)) end_reasons reason
+FirstAtEnd kind all reason = FirstOf (λ other. IsTrue (end_condition kind all other)) end_reasons reason
 
 -- clean lines, and at their end this condition
 pub record FaultyEnd (kind : TextKind) (lines : List (List ℕ)) (l f : ℕ) (r : Reason) : Type 0 where

@@ -2,16 +2,13 @@ pub mod Blocks
 pub mod Canonical
 pub mod CanonicalLaw
 pub mod Conditions
-pub mod Driver
 pub mod Earlier
 pub mod FaultLaws
 pub mod Faults
-pub mod FieldReader
 pub mod Forms
 pub mod LineReader
 pub mod Names
 pub mod Order
-pub mod Plain
 pub mod Printed
 pub mod Ranges
 pub mod NodeValues
@@ -21,3 +18,4 @@ pub mod Shapes
 pub mod Spelling
 pub mod Texts
 pub mod Tests
+pub mod inside

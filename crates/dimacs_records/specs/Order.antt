@@ -39,7 +39,7 @@ abbrev pub end_reasons : List Reason
 end_reasons = ProblemMissing ∷ EndMissing ∷ TooFew ∷ SolutionMissing ∷ []
 
 -- the first of a list with a property: none before it has the property
-pub record First {X : Type 0} (P : X → Type 0) (all : List X) (x : X) : Type 0 where
+pub record FirstOf {X : Type 0} (P : X → Type 0) (all : List X) (x : X) : Type 0 where
   pub before : List X
   pub after : List X
   pub all_is : all ≡ before ++ x ∷ after

@@ -1,5 +1,5 @@
 -- What a reading stands for, and what it answers.
-use Rattle.std.specs.Prelude.{ℕ, suc, ◌+◌, ◌≡◌, ◌<◌, List, [], ◌∷◌, ◌++◌, length, map, Option, Some, None, Result, Ok, Err, IsTrue}
+use Rattle.std.specs.Prelude.{ℕ, suc, ◌+◌, ◌≡◌, ◌<◌, List, [], ◌∷◌, length, map, Option, Some, None, Result, Ok, Err, IsTrue}
 use Rattle.std.specs.List.{All}
 use Rattle.dimacs_lines.specs.Devices.{one_more}
 use Rattle.dimacs_lines.specs.Limits.{most_lines}
@@ -13,7 +13,7 @@ use Rattle.dimacs_records.specs.declared.faults.ReadError.{ReadError}
 use Rattle.dimacs_records.specs.declared.faults.ReadError.TheVariants as read_errors
 use Rattle.dimacs_records.specs.Spelling.{SpellsRecord}
 use Rattle.dimacs_records.specs.Conditions.{condition, end_condition}
-use Rattle.dimacs_records.specs.Order.{Place, at, record_places, First}
+use Rattle.dimacs_records.specs.Order.{Place, at, record_places, FirstOf}
 use Rattle.dimacs_records.specs.Faults.{IsFaultless, FirstAtEnd, Fault}
 
 -- a record of a text, and the number of its line
@@ -57,17 +57,12 @@ abbrev pub IsAllowed : List Record → Record → Type 0
 IsAllowed earlier r = (field : ℕ) (reason : Reason) → ¬ IsTrue (condition earlier r field reason)
 
 abbrev pub IsFirstCondition : List Record → Record → LineFault → Type 0
-IsFirstCondition earlier r fault = First (λ (p : Place). IsTrue (condition earlier r p.field p.reason)) record_places (at fault.field fault.reason)
+IsFirstCondition earlier r fault = FirstOf (λ (p : Place). IsTrue (condition earlier r p.field p.reason)) record_places (at fault.field fault.reason)
 
 -- why a record is not taken behind the earlier ones
 abbrev pub RefusesRecord : List Record → Record → TakeError → Type 0
 RefusesRecord earlier r (take_errors.Refused fault) = IsFirstCondition earlier r fault
 RefusesRecord earlier r take_errors.Memory = Unit {0}
-
--- what becomes of the records of a reading that is told one more
-abbrev pub TakesRecord : List Record → Record → Result Unit TakeError → List Record → Type 0
-TakesRecord before r (Ok done) after = IsAllowed before r × (after ≡ before ++ r ∷ [])
-TakesRecord before r (Err error) after = RefusesRecord before r error × (after ≡ before)
 
 -- no condition holds at the end of a text of these records
 abbrev pub IsComplete : TextKind → List Record → Type 0

@@ -1,15 +1,8 @@
 -- What readings answer that keep less than the records they were told.
-use Rattle.std.specs.Prelude.{◌≡◌, List, [], ◌∷◌, ◌++◌, Option, None, Some, Result, Ok, Err}
+use Rattle.std.specs.Prelude.{◌≡◌, List, [], Option, None, Some}
 use Rattle.dimacs_records.specs.declared.records.Record.{Record}
-use Rattle.dimacs_records.specs.declared.faults.TakeError.{TakeError}
-use Rattle.dimacs_records.specs.Readings.{IsAllowed, RefusesRecord}
 
 -- the records that may have been taken, where what is kept behind a problem line stands for these
 abbrev pub StandsFor : {B : Type 0} → (B → List Record → Type 0) → Option B → List Record → Type 0
 StandsFor begun_by None rs = rs ≡ []
 StandsFor begun_by (Some begun) rs = begun_by begun rs
-
--- what a reading answers to one record more, and what it is then
-abbrev pub Takes : {B : Type 0} → (B → List Record → Type 0) → Option B → Record → Result Unit TakeError → Option B → Type 0
-Takes begun_by old r (Ok done) new = (rs : List Record) → StandsFor begun_by old rs → IsAllowed rs r × StandsFor begun_by new (rs ++ r ∷ [])
-Takes begun_by old r (Err error) new = ((rs : List Record) → StandsFor begun_by old rs → RefusesRecord rs r error) × (new ≡ old)

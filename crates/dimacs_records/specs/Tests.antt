@@ -1,7 +1,6 @@
--- What is told of the earlier records, and what a record has that passes the tests. No public clause of a reader cites this file.
+-- What is told of the earlier records, and what a record has that passes the tests.
 use Rattle.std.specs.Prelude.{ℕ, ◌≡◌, ◌&&◌, ◌||◌, Bool, false, List, Option, Some, None, is_some, is_none, not}
 use Rattle.std.specs.List.{list_any}
-use Rattle.std.specs.Option.{option_map, option_map_or}
 use Rattle.dimacs_records.specs.declared.kinds.TextKind.{TextKind}
 use Rattle.dimacs_records.specs.declared.order.Declared.{Declared}
 use Rattle.dimacs_records.specs.declared.order.Earlier.{Earlier}
@@ -9,7 +8,7 @@ use Rattle.dimacs_records.specs.declared.records.Record.{Record}
 use Rattle.dimacs_records.specs.declared.records.Record.TheVariants.{LabelsNode}
 use Rattle.dimacs_records.specs.Blocks.{block_in, is_full_block}
 use Rattle.dimacs_records.specs.Conditions.{bounded_ids, is_above_at, is_bound_wrong, is_end_twice, is_named_twice, is_out_of_order, is_past_radius, is_pred_unknown, is_too_few, is_unfinished, is_value_twice, is_without_ends, lacks_end, needs_ends, needs_problem, needs_value}
-use Rattle.dimacs_records.specs.Earlier.{Problem, counted_in, is_above, is_counted, is_full, is_problem, is_short, is_value, problem_in}
+use Rattle.dimacs_records.specs.Earlier.{Problem, counted_in, is_counted, is_full, is_problem, is_short, is_value, problem_in}
 use Rattle.dimacs_records.specs.Spelling.{kind_of}
 
 -- the problem line that is told
@@ -20,19 +19,6 @@ problem_told (Some p) = Some (record { nodes = p.nodes; count = p.count })
 -- after this problem line and so many lines that it counts
 abbrev pub earlier_of : Option Declared → ℕ → Earlier
 earlier_of problem counted = record { problem = problem; counted = counted; misplaced = false; named = false; end_named = false; lacks_end = false; block_full = false; block_short = false; valued = false; pred_unknown = false; past_radius = false }
-
--- after what was begun with a problem line and the lines that it counts, or before any
-abbrev pub earlier_begun : {B : Type 0} → (B → Declared) → (B → ℕ) → Option B → Earlier
-earlier_begun declared counted begun = earlier_of (option_map declared begun) (option_map_or counted begun 0)
-
--- whether what was begun has a line that names this node
-abbrev pub is_named_begun : {B : Type 0} → (B → ℕ → Bool) → Option B → ℕ → Bool
-is_named_begun has_line begun id = option_map_or (λ b. has_line b id) begun false
-
--- an ID that there is, and that is above NODES
-abbrev pub is_above_found : Option Problem → Option ℕ → Bool
-is_above_found p None = false
-is_above_found p (Some id) = is_above p id
 
 -- a label in a block that has as many as it declares
 abbrev pub is_full_label : List Record → Record → Bool
@@ -49,7 +35,7 @@ pub record Counts (problem : Option Declared) (counted : ℕ) (rs : List Record)
   pub counted_is : counted_in rs ≡ counted
 
 -- this is so of the earlier records, as far as record r asks for it
-pub record Tells (e : Earlier) (earlier : List Record) (r : Record) : Type 0 where
+pub record IsToldOf (e : Earlier) (earlier : List Record) (r : Record) : Type 0 where
   pub counts : Counts e.problem e.counted earlier
   pub misplaced : is_out_of_order earlier r ≡ e.misplaced
   pub named : is_named_twice earlier r ≡ e.named

@@ -1,5 +1,5 @@
 -- What a text spells, with no word of faults; and what a reader answers.
-use Rattle.std.specs.Prelude.{ℕ, ◌≡◌, ◌≤◌, List, ◌∷◌, ◌++◌, length, Option, Result, Ok, Err}
+use Rattle.std.specs.Prelude.{ℕ, ◌≡◌, ◌≤◌, List, length, Option, Result, Ok, Err}
 use Rattle.std.specs.List.{All}
 use Rattle.dimacs_lines.specs.Limits.{longest_line, most_lines}
 use Rattle.dimacs_records.specs.declared.kinds.TextKind.{TextKind}
@@ -8,7 +8,7 @@ use Rattle.dimacs_records.specs.declared.reasons.Reason.{Reason}
 use Rattle.dimacs_records.specs.declared.faults.ReadError.{ReadError}
 use Rattle.dimacs_records.specs.declared.faults.ReadError.TheVariants as read_errors
 use Rattle.dimacs_records.specs.Faults.{Spell}
-use Rattle.dimacs_records.specs.Readings.{LineRecord, numbered, IsAllowed, IsComplete}
+use Rattle.dimacs_records.specs.Readings.{LineRecord, numbered}
 
 -- the lines lie within the limits, and each is skipped or spells the record beside it
 pub record AreSpelled (kind : TextKind) (all : List (List ℕ)) (said : List (Option Record)) : Type 0 where
@@ -21,11 +21,6 @@ pub record SpellsValue {V : Type 0} (kind : TextKind) (gives : List LineRecord �
   pub said : List (Option Record)
   pub spelled : AreSpelled kind all said
   pub given : gives (numbered 1 said) v
-
--- no condition holds at any record, nor at the end
-pub record AreFaultless (kind : TextKind) (all : List Record) : Type 0 where
-  pub allowed : (before after : List Record) (r : Record) → all ≡ before ++ r ∷ after → IsAllowed before r
-  pub complete : IsComplete kind all
 
 -- the one value that is spelled, where there is no fault; or the one fault, where no value is spelled
 abbrev pub Reads : {V : Type 0} → (V → Type 0) → (ℕ → ℕ → Reason → Type 0) → Result V ReadError → Type 0

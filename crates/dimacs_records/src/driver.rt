@@ -4,14 +4,14 @@ ghost use Rattle.std.specs.Prelude.{◌≡◌, ◌≢◌, ◌+◌, ◌≤◌, �
 ghost use Rattle.std.specs.Option.{option_len};
 ghost use Rattle.dimacs_lines.specs.Devices.{before_piece};
 ghost use Rattle.dimacs_lines.specs.Lines.{lines};
-ghost use Rattle.dimacs_lines.specs.Reader.{text_left};
+ghost use Rattle.dimacs_lines.specs.inside.Reader.{text_left};
 ghost use Rattle.dimacs_lines.specs.declared.reader.Progress.TheVariants.{Open};
 ghost use Rattle.dimacs_lines.specs.Limits.{most_lines};
 ghost use Rattle.dimacs_records.specs.declared.faults.ReadError.TheVariants.{Device};
 ghost use Rattle.dimacs_records.specs.declared.records.Record.{Record};
 ghost use Rattle.dimacs_records.specs.Readings.{ReadsLines, CountsRead, IsGivenByLines, numbered};
-ghost use Rattle.dimacs_records.specs.Plain.{TakesPlain};
-ghost use Rattle.dimacs_records.specs.Driver.{HasTaken, IsReadSoFar, IsBehind, ReadsOne, ReadsSome, ReadsAll, TakesLine, read_error, lines_error};
+ghost use Rattle.dimacs_records.specs.inside.Plain.{TakesPlain};
+ghost use Rattle.dimacs_records.specs.inside.Driver.{HasTaken, IsReadSoFar, IsBehind, ReadsNext, ReadsSome, ReadsAll, TakesLine, read_error, lines_error};
 
 use crate::faults::{At, ReadError, TakeError};
 use crate::kinds::TextKind;
@@ -143,7 +143,7 @@ fn read_line<R: Reading, S: Source>(
     ensures kind { R.kind reading.new ≡ kind }
     ensures next { IfOk result (λ answer. IfSome answer (λ number. (lines.new.progress ≡ Open) × (lines.new.given ≡ number) × (number ≡ lines.old.given + 1) × (number ≤ most_lines))) }
     ensures reads { (all : List (List ℕ)) → IsReadSoFar kind all lines.old.given (text_left lines.old (S.coming source.old)) (R.stands_for reading.old)
-        → ReadsOne kind all lines.old.given (text_left lines.new (S.coming source.new)) (R.stands_for reading.new) result }
+        → ReadsNext kind all lines.old.given (text_left lines.new (S.coming source.new)) (R.stands_for reading.new) result }
     ensures spelled { IfOk result (λ answer. HasTaken kind (lines.old.given + 1) (R.stands_for reading.old) → HasTaken kind (lines.old.given + 1 + option_len answer) (R.stands_for reading.new)) }
     ensures kept { (value : R.Value) → R.keeps reading.new value → R.keeps reading.old value }
     ensures device { CountsRead result (S.faults source.old) (S.faults source.new) }

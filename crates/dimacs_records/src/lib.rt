@@ -8,6 +8,7 @@
 mod canonical;
 mod driver;
 mod faults;
+mod field_reader;
 mod kinds;
 mod laws;
 mod lines;
@@ -18,11 +19,11 @@ mod reading;
 mod reasons;
 mod records;
 mod text;
-mod typed;
 
 pub use canonical::{put_record, write_record};
 pub use driver::read_text;
 pub use faults::{At, LineFault, ReadError, TakeError};
+pub use field_reader::{MAX_COUNT, MAX_NODES};
 pub use kinds::TextKind;
 pub use laws::{canonical_texts, no_fault, one_fault};
 pub use lines::record;
@@ -32,4 +33,3 @@ pub use reading::Reading;
 pub use reasons::Reason;
 pub use records::{End, QueryKind, Record};
 pub use text::Text;
-pub use typed::{MAX_COUNT, MAX_NODES};

@@ -4,7 +4,7 @@ ghost use Rattle.std.specs.Prelude.{◌≡◌};
 ghost use Rattle.dimacs_records.specs.declared.reasons.Reason.TheVariants.{UnknownLine};
 ghost use Rattle.dimacs_records.specs.Spelling.{texts_in, is_comment};
 ghost use Rattle.dimacs_records.specs.LineReader.{ReadsLine};
-ghost use Rattle.dimacs_records.specs.FieldReader.{IsFresh, ReadsLetter, texts_left, fault_at};
+ghost use Rattle.dimacs_records.specs.inside.FieldReader.{IsUntouched, ReadsLetter, texts_left, fault_at};
 
 mod cut;
 mod graph;
@@ -16,10 +16,10 @@ mod queries;
 mod solution;
 
 use crate::faults::LineFault;
+use crate::field_reader::FieldReader;
 use crate::kinds::TextKind;
 use crate::reasons::Reason;
 use crate::records::Record;
-use crate::typed::FieldReader;
 use dimacs_lines::Scan;
 
 /// What a line of a text of this kind says: `None` for a comment and for a line without fields.
@@ -52,7 +52,7 @@ fn letter_record(
     letter: &[u8],
     fields: FieldReader,
 ) -> Result<Option<Record>, LineFault>
-    requires { IsFresh fields }
+    requires { IsUntouched fields }
     ensures { ReadsLetter kind letter.now (texts_left fields.entry) result }
 {
     match kind {

@@ -8,7 +8,8 @@ ghost use Rattle.dimacs_records.specs.Conditions.{is_above_at, bounded_ids, is_b
 ghost use Rattle.dimacs_records.specs.Earlier.{Problem, is_above, is_counted, is_full, is_problem, is_short};
 ghost use Rattle.dimacs_records.specs.Readings.{RefusesRecord, RefusesEnd};
 ghost use Rattle.dimacs_records.specs.Spelling.{kind_of};
-ghost use Rattle.dimacs_records.specs.Tests.{Passes, PassesEnd, Tells, TellsEnd, earlier_of, is_above_found, is_too_many_told, problem_told};
+ghost use Rattle.dimacs_records.specs.Tests.{Passes, PassesEnd, IsToldOf, TellsEnd, earlier_of, is_too_many_told, problem_told};
+ghost use Rattle.dimacs_records.specs.inside.Tests.{is_above_found};
 
 use crate::faults::TakeError;
 use crate::kinds::TextKind;
@@ -186,7 +187,7 @@ impl Earlier {
 #[inline(always)]
 pub fn test_record(earlier: Earlier, said: Record) -> Result<(), TakeError>
     ensures passes { OnOk result (Passes earlier said) }
-    ensures refused { IfErr result (λ error. (rs : List Record) → Tells earlier rs said → RefusesRecord rs said error) }
+    ensures refused { IfErr result (λ error. (rs : List Record) → IsToldOf earlier rs said → RefusesRecord rs said error) }
 {
     refuse_if(earlier.is_without_problem(said), 0, Reason::ProblemMissing)?;
     refuse_if(earlier.is_second_problem(said), 0, Reason::ProblemTwice)?;

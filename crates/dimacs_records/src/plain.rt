@@ -4,7 +4,7 @@
 ghost use Rattle.std.specs.Prelude.{◌≡◌, ◌≤◌, ◌∷◌, [], pos, length, drop, IfSome, IsTrue};
 ghost use Rattle.dimacs_records.specs.declared.kinds.TextKind.TheVariants.{Max, Min, Graph, Solution, Potentials, Labels};
 ghost use Rattle.dimacs_records.specs.Forms.{Id, Whole};
-ghost use Rattle.dimacs_records.specs.Plain.{IsPlainLine, SaysFirst};
+ghost use Rattle.dimacs_records.specs.inside.Plain.{IsPlainLine, SaysFirst};
 ghost use Rattle.dimacs_records.specs.Spelling.{Amount};
 
 use crate::kinds::TextKind;

@@ -5,7 +5,7 @@ use Rattle.dimacs_runs.specs.declared.outcome.RunError.{RunError}
 use Rattle.dimacs_runs.specs.declared.jobs.SolveJob.{SolveJob}
 use Rattle.dimacs_runs.specs.declared.jobs.SolveJob.TheVariants as jobs
 use Rattle.dimacs_runs.specs.declared.outcome.Status.{Status}
-use Rattle.dimacs_runs.specs.Commands.{Seen, Stops}
+use Rattle.dimacs_runs.specs.Commands.{Seen, StopsOpening}
 use Rattle.dimacs_runs.specs.Files.{Begins, Closed, FileEvent, TakesPlace, after_events}
 use Rattle.dimacs_runs.specs.Outputs.{ReportsAll}
 use Rattle.dimacs_runs.specs.Solved.{AreQueries}
@@ -31,7 +31,7 @@ pub some_take_place : {X : Type 0} (Q : RunError → Type 0) (result : Result X 
 some_take_place Q (Ok x) events old new failed begins = absurd failed
 some_take_place Q (Err error) events old new failed begins = begins
 
-pub stops : (Q : RunError → Type 0) (result : Result Status RunError) (opening : List FileEvent) (old new : Seen) → IsErrAnd result Q → Begins opening old.done new.done → new.output ≡ old.output → Stops opening result old new
+pub stops : (Q : RunError → Type 0) (result : Result Status RunError) (opening : List FileEvent) (old new : Seen) → IsErrAnd result Q → Begins opening old.done new.done → new.output ≡ old.output → StopsOpening opening result old new
 stops Q (Ok status) opening old new failed begins same = absurd failed
 stops Q (Err error) opening old new failed begins same = record { error = error; failed = refl; begun = begins; unwritten = same }
 

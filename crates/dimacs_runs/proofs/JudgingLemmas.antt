@@ -21,12 +21,14 @@ use Rattle.dimacs_runs.specs.declared.outcome.Status.{Status}
 use Rattle.dimacs_runs.specs.declared.outcome.Status.TheVariants.{Done, Refused, GaveUp}
 use Rattle.dimacs_runs.specs.declared.outcome.RunError.{RunError}
 use Rattle.dimacs_runs.specs.declared.told.Told.{Told}
-use Rattle.dimacs_runs.specs.declared.unread.Unread.{Unread}
-use Rattle.dimacs_runs.specs.Judgings.{TextSays, FaultOr, VerdictOr, ReadsIn, StopsAt, answer_told, error_told}
+use Rattle.dimacs_runs.specs.declared.texts_in_turn.Unread.{Unread}
+use Rattle.dimacs_runs.specs.Judgings.{TextSays, FaultOr, VerdictOr}
+use Rattle.dimacs_runs.specs.inside.Judgings.{ReadsIn, StopsAt, answer_told, error_told}
 use Rattle.dimacs_runs.specs.Refusals.{refusal_line}
 use Rattle.dimacs_runs.specs.Runs.{TellsAlone, Reports}
-use Rattle.dimacs_runs.specs.Told.{EndsAfter, ToldAlone, told_lines, told_status}
-use Rattle.dimacs_runs.specs.Verdicts.{answer_line, failure_line, sources_line, verdict_lines}
+use Rattle.dimacs_runs.specs.inside.Told.{EndsAfter, ToldAlone, told_lines, told_status}
+use Rattle.dimacs_runs.specs.Verdicts.{answer_line, failure_line, sources_line}
+use Rattle.dimacs_runs.specs.inside.Verdicts.{verdict_lines}
 use Rattle.dimacs_judge.proofs.Firsts.{none_first}
 
 module _ {V : Type 0} (text : TextSays V) (next : V → Status → List ℕ → Type 0) where

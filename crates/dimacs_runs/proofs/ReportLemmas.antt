@@ -11,11 +11,12 @@ use Rattle.dimacs_runs.specs.declared.outcome.Status.{Status}
 use Rattle.dimacs_runs.specs.declared.outcome.Status.TheVariants.{Done, Refused, GaveUp}
 use Rattle.dimacs_runs.specs.declared.outcome.RunError.{RunError}
 use Rattle.dimacs_runs.specs.Refusals.{refusal_line}
-use Rattle.dimacs_runs.specs.Runs.{Tells, TellsAlone, Reports, done_after, EndsWith}
+use Rattle.dimacs_runs.specs.Runs.{TellsText, TellsAlone, Reports}
+use Rattle.dimacs_runs.specs.inside.Runs.{done_after, EndsWith}
 
 module _ {V : Type 0} (spells : V → Type 0) (told : V → List ℕ) (fault : ℕ → ℕ → Reason → Type 0) (text : List ℕ) where
   abbrev tells : Status → List ℕ → Type 0
-  tells = Tells spells told fault text
+  tells = TellsText spells told fault text
 
   value_told : (v : V) → Reads spells fault (Ok v) → TellsAlone tells Done (told v)
   value_told v read = ((v, read.0, refl), alone)

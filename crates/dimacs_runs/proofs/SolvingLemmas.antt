@@ -32,13 +32,14 @@ use Rattle.dimacs_runs.specs.declared.outcome.Status.TheVariants.{Refused}
 use Rattle.dimacs_runs.specs.declared.outcome.RunError.{RunError}
 use Rattle.dimacs_runs.specs.declared.outcome.RunError.TheVariants.{Device, Memory}
 use Rattle.dimacs_runs.specs.declared.produced.Produced.{Produced}
-use Rattle.dimacs_runs.specs.declared.unread.Unread.{Unread}
-use Rattle.dimacs_runs.specs.Judgings.{CountsDevices, TextSays, ReadsIn, StopsAt, error_told}
+use Rattle.dimacs_runs.specs.declared.texts_in_turn.Unread.{Unread}
+use Rattle.dimacs_runs.specs.Judgings.{CountsDevices, TextSays}
+use Rattle.dimacs_runs.specs.inside.Judgings.{ReadsIn, StopsAt, error_told}
 use Rattle.dimacs_runs.specs.Outputs.{MayTell, ReportsAll}
-use Rattle.dimacs_runs.specs.Produced.{EndsProducing, MayProduce, least_produced, maximum_produced, produced_texts, refused, reported}
+use Rattle.dimacs_runs.specs.inside.Produced.{EndsProducing, MayProduce, least_produced, maximum_produced, produced_texts, refused, reported}
 use Rattle.dimacs_runs.specs.Refusals.{refusal_line}
 use Rattle.dimacs_runs.specs.Solved.{FaultAloneOr, FindsLeast, FindsMaximum, FindsPaths, RefusesPaths, report_alone}
-use Rattle.dimacs_runs.specs.Told.{told_status}
+use Rattle.dimacs_runs.specs.inside.Told.{told_status}
 use Rattle.dimacs_runs.specs.Verdicts.{failure_line}
 
 module _ {V : Type 0} (text : TextSays V) (next : V → Status → List (List ℕ) → Type 0) where

@@ -1,5 +1,5 @@
 -- What a command does with its files and with the output, from its words to its exit status.
-use Rattle.std.specs.Prelude.{ℕ, ◌≡◌, ◌⊎◌, List, [], ◌∷◌, Option, Some, Result, Err, length, map}
+use Rattle.std.specs.Prelude.{ℕ, ◌≡◌, ◌⊎◌, List, [], ◌∷◌, Option, Some, Result, Err, map}
 use Rattle.std.specs.String.{string_bytes}
 use Rattle.dimacs_runs.specs.declared.jobs.Job.{Job}
 use Rattle.dimacs_runs.specs.declared.jobs.Job.TheVariants.{Convert, Show, Judge, Solve}
@@ -10,7 +10,7 @@ use Rattle.dimacs_runs.specs.declared.jobs.SolveJob.TheVariants as solves
 use Rattle.dimacs_runs.specs.declared.outcome.RunError.{RunError}
 use Rattle.dimacs_runs.specs.declared.outcome.Status.{Status}
 use Rattle.dimacs_runs.specs.Files.{Begins, Closed, Created, FileEvent, Opened, TakesPlace, after_events}
-use Rattle.dimacs_runs.specs.Jobs.{Asks, file_count}
+use Rattle.dimacs_runs.specs.Jobs.{Asks}
 use Rattle.dimacs_runs.specs.Judged.{Judged}
 use Rattle.dimacs_runs.specs.Judgings.{CountsDevices}
 use Rattle.dimacs_runs.specs.Outcomes.{status_number}
@@ -28,13 +28,6 @@ pub record Seen : Type 0 where
   pub output : Option (List ℕ)
   pub faults : List ℕ
 
--- there are as many files as the run has
-abbrev pub HasFiles : Job → Type 0
-HasFiles (Convert kind file) = Unit {0}
-HasFiles (Show kind file) = Unit {0}
-HasFiles (Judge kind files) = length files.now ≡ file_count kind
-HasFiles (Solve job files) = length files.now ≡ 3
-
 -- the files of a judge hold these texts, in the order of their words
 abbrev pub HoldClaim : JudgeKind → List (List ℕ) → Contents → List ℕ → List ℕ → List ℕ → Type 0
 HoldClaim judges.Infeasible (instance ∷ certificate ∷ []) holds a b c = (holds instance ≡ Some a) × (holds certificate ≡ Some c)
@@ -44,7 +37,7 @@ HoldClaim judges.Paths (graph ∷ queries ∷ labels ∷ []) holds a b c = (hold
 HoldClaim kind other holds a b c = ⊥
 
 -- a file could not be opened or created: those before it were, and nothing else was done
-pub record Stops (opening : List FileEvent) (result : Result Status RunError) (old new : Seen) : Type 0 where
+pub record StopsOpening (opening : List FileEvent) (result : Result Status RunError) (old new : Seen) : Type 0 where
   pub error : RunError
   pub failed : result ≡ Err error
   pub begun : Begins opening old.done new.done
@@ -66,11 +59,11 @@ pub record FindsDistances (graph queries labels : List ℕ) (holds : Contents) (
 -- what a producer does with the files of these names: it reads those in front, and writes those after them
 abbrev pub Produces : SolveJob → List (List ℕ) → Contents → Option (List ℕ) → Result Status RunError → Seen → Seen → Type 0
 Produces (solves.Max limit) (instance ∷ claim ∷ certificate ∷ []) holds empty result old new =
-    Stops (Opened instance ∷ Created claim ∷ Created certificate ∷ []) result old new ⊎ FindsFlow (solves.Max limit) instance claim certificate holds empty result old new
+    StopsOpening (Opened instance ∷ Created claim ∷ Created certificate ∷ []) result old new ⊎ FindsFlow (solves.Max limit) instance claim certificate holds empty result old new
 Produces (solves.Min limit) (instance ∷ claim ∷ certificate ∷ []) holds empty result old new =
-    Stops (Opened instance ∷ Created claim ∷ Created certificate ∷ []) result old new ⊎ FindsFlow (solves.Min limit) instance claim certificate holds empty result old new
+    StopsOpening (Opened instance ∷ Created claim ∷ Created certificate ∷ []) result old new ⊎ FindsFlow (solves.Min limit) instance claim certificate holds empty result old new
 Produces solves.Paths (graph ∷ queries ∷ labels ∷ []) holds empty result old new =
-    Stops (Opened graph ∷ Opened queries ∷ Created labels ∷ []) result old new ⊎ FindsDistances graph queries labels holds empty result old new
+    StopsOpening (Opened graph ∷ Opened queries ∷ Created labels ∷ []) result old new ⊎ FindsDistances graph queries labels holds empty result old new
 Produces job other holds empty result old new = ⊥
 
 -- the files are opened in the order of their words, and what is told of the texts that they hold is put to the output

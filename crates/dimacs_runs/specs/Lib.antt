@@ -5,9 +5,8 @@ pub mod Judged
 pub mod Judgings
 pub mod Outcomes
 pub mod Outputs
-pub mod Produced
 pub mod Refusals
 pub mod Runs
 pub mod Solved
-pub mod Told
 pub mod Verdicts
+pub mod inside

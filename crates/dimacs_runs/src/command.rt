@@ -2,14 +2,15 @@
 
 ghost use Rattle.std.specs.Prelude.{◌≡◌, ◌∷◌, [], map};
 ghost use Rattle.std.specs.String.{string_bytes};
-ghost use Rattle.dimacs_runs.specs.Commands.{Commands, HasFiles, RunsJob, Seen};
+ghost use Rattle.dimacs_runs.specs.Commands.{Commands, RunsJob, Seen};
+ghost use Rattle.dimacs_runs.specs.inside.Commands.{HasFiles};
 
 use crate::files::Files;
 use crate::jobs::Job;
 use crate::outcome::{RunError, Status, exit_status};
-use crate::reading::{convert_file, judge_files, show_file};
+use crate::runs_that_read::{convert_file, judge_files, show_file};
+use crate::runs_that_write::solve_files;
 use crate::words::job;
-use crate::writing::solve_files;
 use dimacs_lines::Sink;
 use std::alloc::Global;
 

@@ -1,7 +1,7 @@
 //! How a run ends that reads a text and puts something about it.
 
 ghost use Rattle.std.specs.Prelude.{◌≡◌};
-ghost use Rattle.dimacs_runs.specs.Runs.{done_after, EndsWith};
+ghost use Rattle.dimacs_runs.specs.inside.Runs.{done_after, EndsWith};
 
 use crate::outcome::{RunError, Status};
 use crate::refusal::put_refusal;

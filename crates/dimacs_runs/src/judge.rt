@@ -11,12 +11,12 @@ ghost use Rattle.dimacs_runs.specs.declared.outcome.RunError.TheVariants.{Memory
 ghost use Rattle.dimacs_runs.specs.Judged.{IsClaim, Judged, JudgedInfeasible, JudgedMax, JudgedMin, JudgedPaths, claim_kind, instance_kind};
 ghost use Rattle.dimacs_runs.specs.Judgings.{CountsDevices};
 ghost use Rattle.dimacs_runs.specs.Runs.{Reports};
-ghost use Rattle.dimacs_runs.specs.Told.{ToldAlone};
+ghost use Rattle.dimacs_runs.specs.inside.Told.{ToldAlone};
 
 use crate::jobs::JudgeKind;
 use crate::outcome::{RunError, Status};
+use crate::texts_in_turn::{read, read_placed, read_three, read_two};
 use crate::told::{Told, answer_told, put_told};
-use crate::unread::{read, read_placed, read_three, read_two};
 use dimacs_claims::{Cut, Labels, Potentials};
 use dimacs_instance::{
     ArcView, CapacityArc, Graph, MaxInstance, MinInstance, PlainArcs, Queries, WeightArc,

@@ -10,15 +10,15 @@ mod jobs;
 mod judge;
 mod outcome;
 mod produced;
-mod reading;
 mod refusal;
+mod runs_that_read;
+mod runs_that_write;
 mod show;
 mod solve;
+mod texts_in_turn;
 mod told;
-mod unread;
 mod verdict;
 mod words;
-mod writing;
 
 pub use command::{NO_RUN, run_command};
 pub use convert::run_convert;

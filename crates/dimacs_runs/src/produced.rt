@@ -1,8 +1,8 @@
 //! What a producer's run tells, and how it is put.
 
 ghost use Rattle.std.specs.Prelude.{◌≡◌, ◌∷◌, [], IfOk};
-ghost use Rattle.dimacs_runs.specs.Produced.{CountsPuts, EndsProducing, IsClaimless, PutTexts, least_produced, made_texts, maximum_produced, reported};
-ghost use Rattle.dimacs_runs.specs.Produced as produced;
+ghost use Rattle.dimacs_runs.specs.inside.Produced.{CountsPuts, EndsProducing, IsClaimless, PutTexts, least_produced, made_texts, maximum_produced, reported};
+ghost use Rattle.dimacs_runs.specs.inside.Produced as produced;
 
 use crate::outcome::{RunError, Status};
 use crate::told::Told;

@@ -4,7 +4,7 @@ ghost use Rattle.std.specs.Prelude.{◌≡◌, ◌≢◌, ℕ, List, Some, Err};
 ghost use Rattle.dimacs_lines.specs.Lines.{lines};
 ghost use Rattle.dimacs_records.specs.Faults.{Fault};
 ghost use Rattle.dimacs_runs.specs.declared.outcome.RunError.TheVariants.{Memory};
-ghost use Rattle.dimacs_runs.specs.Runs.{Shown, text_word, Tells, Reports, CountsRun};
+ghost use Rattle.dimacs_runs.specs.Runs.{Shown, text_word, TellsText, Reports, CountsRun};
 
 use crate::ending::{done, refuse};
 use crate::outcome::{RunError, Status};
@@ -46,7 +46,7 @@ fn show<T: Text, S: Source, K: Sink>(
     text: &mut S,
     sink: &mut K,
 ) -> Result<Status, RunError>
-    ensures reports { (bytes : List ℕ) → S.coming text.old ≡ Some bytes → Reports (Tells (T.spells bytes) T.shown (Fault T.kind (lines bytes)) (text_word T.kind)) result (K.accepted sink.old) (K.accepted sink.new) }
+    ensures reports { (bytes : List ℕ) → S.coming text.old ≡ Some bytes → Reports (TellsText (T.spells bytes) T.shown (Fault T.kind (lines bytes)) (text_word T.kind)) result (K.accepted sink.old) (K.accepted sink.new) }
     ensures faults { CountsRun result (S.faults text.old) (S.faults text.new) (K.faults sink.old) (K.faults sink.new) }
     ensures silent { S.faults text.new ≢ S.faults text.old → K.accepted sink.new ≡ K.accepted sink.old }
     ensures memory { result ≡ Err Memory → K.accepted sink.new ≡ K.accepted sink.old }

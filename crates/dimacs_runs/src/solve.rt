@@ -10,7 +10,7 @@ ghost use Rattle.dimacs_runs.specs.declared.jobs.SolveJob.TheVariants as jobs;
 ghost use Rattle.dimacs_runs.specs.declared.outcome.RunError.TheVariants.{Device, Memory};
 ghost use Rattle.dimacs_runs.specs.Judgings.{CountsDevices};
 ghost use Rattle.dimacs_runs.specs.Outputs.{ReportsAll};
-ghost use Rattle.dimacs_runs.specs.Produced.{IsClaimless, MayProduce};
+ghost use Rattle.dimacs_runs.specs.inside.Produced.{IsClaimless, MayProduce};
 ghost use Rattle.dimacs_runs.specs.Solved.{AreQueries, FindsPaths, Solved, SolvedMax, SolvedMin, SolvedPaths, solved_kind};
 
 use crate::jobs::SolveJob;
@@ -18,8 +18,8 @@ use crate::outcome::{RunError, Status};
 use crate::produced::{
     Made, Produced, least_answered, maximum_answered, put_produced, refused, report_alone,
 };
+use crate::texts_in_turn::{read, read_two};
 use crate::told::Told;
-use crate::unread::{read, read_two};
 use dimacs_instance::{
     ArcView, CapacityArc, Graph, MaxInstance, MinInstance, Network, PlainArcs, Queries, WeightArc,
 };

@@ -3,8 +3,8 @@
 ghost use Rattle.std.specs.Prelude.{◌≡◌};
 ghost use Rattle.dimacs_lines.specs.Devices.{CountsFault};
 ghost use Rattle.dimacs_lines.specs.Puts.{Puts};
-ghost use Rattle.dimacs_runs.specs.Judgings as judgings;
-ghost use Rattle.dimacs_runs.specs.Told.{EndsAfter, told_lines, told_status};
+ghost use Rattle.dimacs_runs.specs.inside.Judgings as judgings;
+ghost use Rattle.dimacs_runs.specs.inside.Told.{EndsAfter, told_lines, told_status};
 
 use crate::outcome::{RunError, Status};
 use crate::refusal::put_refusal;

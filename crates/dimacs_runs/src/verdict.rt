@@ -5,7 +5,8 @@ ghost use Rattle.std.specs.List.{flat_map};
 ghost use Rattle.dimacs_lines.specs.Devices.{CountsFault};
 ghost use Rattle.dimacs_lines.specs.Pages.{Appends, CountsOn};
 ghost use Rattle.dimacs_lines.specs.Puts.{Puts};
-ghost use Rattle.dimacs_runs.specs.Verdicts.{verdict_lines, failure_line, gave_up_line, numbered_line, answer_line};
+ghost use Rattle.dimacs_runs.specs.Verdicts.{failure_line, gave_up_line, numbered_line, answer_line};
+ghost use Rattle.dimacs_runs.specs.inside.Verdicts.{verdict_lines};
 
 use crate::refusal::put_refusal;
 use dimacs_judge::{Answer, Verdict, Where};

@@ -22,13 +22,14 @@ use Rattle.dimacs_judge.specs.QueryTests.{HasBlock, HasFullBlock, IsServed, ends
 use Rattle.dimacs_judge.specs.Rows.{arc_at, no_arc}
 use Rattle.dimacs_solve.specs.declared.adjacency.Adjacency.{Adjacency}
 use Rattle.dimacs_solve.specs.declared.adjacency.Hop.{Hop}
-use Rattle.dimacs_solve.specs.Adjacency.{out, hop_to, IsHopOf, IsAdjacencyOf}
-use Rattle.dimacs_solve.specs.Blocks.{AddsBlock, AreSolved}
+use Rattle.dimacs_solve.specs.Adjacency.{out}
+use Rattle.dimacs_solve.specs.inside.Adjacency.{hop_to, IsHopOf, IsAdjacencyOf}
+use Rattle.dimacs_solve.specs.inside.Blocks.{AddsBlock, AreSolved}
 use Rattle.dimacs_solve.specs.Paths.{AreProduced, IsNearestFirst, block_source, distinct_after, noted}
-use Rattle.dimacs_solve.specs.Search.{IsMade, IsTree}
+use Rattle.dimacs_solve.specs.inside.Search.{IsMade, IsPathTree}
 
 -- ---- a search's labels pass
-module _ (g : NetworkValue) (a : Adjacency) (by : IsAdjacencyOf g.nodes g.arcs a) (b : BlockValue) (tree : IsTree a b.source b) where
+module _ (g : NetworkValue) (a : Adjacency) (by : IsAdjacencyOf g.nodes g.arcs a) (b : BlockValue) (tree : IsPathTree a b.source b) where
   made_tight : (l : Label) → IsMade a b l → HasTightArc g.arcs b l
   made_tight l is =
       let arc : IsHopOf g.arcs l.pred (hop_to l.id is.weight) = All-contains (IsHopOf g.arcs l.pred) (out a l.pred) (hop_to l.id is.weight) (by.leaving l.pred).sound is.hop in
@@ -74,7 +75,7 @@ pub solved_none : (a : Adjacency) (labels : LabelsValue) → labels ≡ record {
 solved_none a labels is lawful = record {
   lawful = lawful;
   nodes = ap (λ (l : LabelsValue). l.nodes) is;
-  trees = rw is (All-nil (λ (b : BlockValue). IsTree a b.source b));
+  trees = rw is (All-nil (λ (b : BlockValue). IsPathTree a b.source b));
   sources_are = ap (λ (l : LabelsValue). map block_source l.blocks) is;
   found = All-nil (HasBlock labels.blocks);
 }
@@ -88,7 +89,7 @@ solved_more a sources source old new fresh adds is =
     record {
       lawful = adds.lawful;
       nodes = ap (λ (l : LabelsValue). l.nodes) adds.with ∙ is.nodes;
-      trees = subst (All (λ (b : BlockValue). IsTree a b.source b)) (sym blocks) (All-push (λ (b : BlockValue). IsTree a b.source b) old.blocks b is.trees (subst (λ s. IsTree a s b) (sym from) adds.tree));
+      trees = subst (All (λ (b : BlockValue). IsPathTree a b.source b)) (sym blocks) (All-push (λ (b : BlockValue). IsPathTree a b.source b) old.blocks b is.trees (subst (λ s. IsPathTree a s b) (sym from) adds.tree));
       sources_are = ap (map block_source) blocks ∙ (map-append block_source old.blocks (b ∷ []) ∙ (ap (λ s. map block_source old.blocks ++ s ∷ []) from
           ∙ (ap (λ ms. ms ++ source ∷ []) is.sources_are ∙ (sym (ap (λ t. cond t (distinct_after [] sources) (distinct_after [] sources ++ source ∷ [])) none) ∙ sym (noted_last [] sources source)))));
       found = subst (λ bs. All (HasBlock bs) (sources ++ source ∷ [])) (sym blocks)
@@ -136,7 +137,7 @@ served (Pairs pairs) blocks sources unbounded found = found
 -- ---- the whole
 pub produced : (g : NetworkValue) (q : QueriesValue) (a : Adjacency) (labels : LabelsValue) → PassingShowsLaw → IsAdjacencyOf g.nodes g.arcs a → All (λ id. id ≤ g.nodes) (nodes_asked q) → AreSolved a (sources_asked q) labels → AreProduced g q labels
 produced g q a labels passing_shows by within is =
-    let T : BlockValue → Type 0 = λ b. IsTree a b.source b in
+    let T : BlockValue → Type 0 = λ b. IsPathTree a b.source b in
     let unbounded = All-weaker T (λ (b : BlockValue). b.radius ≡ None) (λ b tree. tree.unbounded) labels.blocks is.trees in
     let passes : PassesPaths g q labels = record {
       nodes = is.nodes ∙ by.of_nodes;

@@ -7,7 +7,8 @@ use Rattle.std.specs.declared.cmp.Reverse.{Reverse}
 use Rattle.std.proofs.lemmas.List.Elements.{All-nil, All-cons, All-head}
 use Rattle.std.proofs.lemmas.List.Sorted.{first_le_from_greatest}
 use Rattle.dimacs_solve.specs.declared.frontier.Reach.{Reach}
-use Rattle.dimacs_solve.specs.Frontiers.{IsNearest, reach_cmp, way_in}
+use Rattle.dimacs_solve.specs.Frontiers.{reach_cmp, way_in}
+use Rattle.dimacs_solve.specs.inside.Frontiers.{IsNearest}
 
 -- the order of the ends of two ways
 abbrev ends_cmp : ℕ × ℕ → ℕ × ℕ → Ordering

@@ -15,10 +15,11 @@ use Rattle.dimacs_claims.specs.Labels.{BlockValue, IsBlock, IsLabel, label, with
 use Rattle.dimacs_solve.specs.declared.adjacency.Adjacency.{Adjacency}
 use Rattle.dimacs_solve.specs.declared.adjacency.Hop.{Hop}
 use Rattle.dimacs_solve.specs.declared.frontier.Reach.{Reach}
-use Rattle.dimacs_solve.specs.Adjacency.{AreByNode, IsHop, hop_to, out}
-use Rattle.dimacs_solve.specs.Marks.{Known, AreUnknown, IsSettled, IsWithin, Sets, reached, settled}
+use Rattle.dimacs_solve.specs.Adjacency.{AreByNode, IsHop, out}
+use Rattle.dimacs_solve.specs.inside.Adjacency.{hop_to}
+use Rattle.dimacs_solve.specs.inside.Marks.{Known, AreUnknown, IsSettled, IsReachedWithin, Sets, reached, settled}
 use Rattle.dimacs_solve.specs.Paths.{IsNearestFirst}
-use Rattle.dimacs_solve.specs.Search.{is_settled, settled_count, settled_label, IsWay, IsWaiting, IsPending, IsFront, Lowers, Offers, IsPassed, IsReady, Relaxes, IsMade, IsSearch, IsPopped, IsClosed, IsTree, work}
+use Rattle.dimacs_solve.specs.inside.Search.{is_settled, settled_count, settled_label, IsWay, IsWayWaiting, IsPending, IsFront, Lowers, Offers, IsHopPassed, IsReady, Relaxes, IsMade, IsPathSearch, IsPopped, IsClosed, IsPathTree, work}
 
 -- ---- lists
 true_or_false : (b : Bool) → (b ≡ true) ⊎ (b ≡ false)
@@ -143,7 +144,7 @@ way_stays a old new kept o w = record {
   adds = w.adds ∙ ap (λ (k : Known). k.dist + w.weight) (sym (kept o.pred w.pred));
 }
 
-waiting_stays : (a : Adjacency) (floor : ℕ) (old new : ℕ → Known) → Lowers old new → (o : Reach ℕ) → IsWaiting a floor old o → IsWaiting a floor new o
+waiting_stays : (a : Adjacency) (floor : ℕ) (old new : ℕ → Known) → Lowers old new → (o : Reach ℕ) → IsWayWaiting a floor old o → IsWayWaiting a floor new o
 waiting_stays a floor old new l o w = record {
   way = way_stays a old new l.kept o w.way;
   beyond = w.beyond;
@@ -155,10 +156,10 @@ waiting_stays a floor old new l o w = record {
 record IsOffered (a : Adjacency) (floor : ℕ) (e : Reach ℕ) (marks : ℕ → Known) (front : List (Reach ℕ)) (marks' : ℕ → Known) (front' : List (Reach ℕ)) : Type 0 where
   waits : IsFront a floor marks' front'
   lowers : Lowers marks marks'
-  within : IsWithin (marks' e.node) e.dist
+  within : IsReachedWithin (marks' e.node) e.dist
   few : length front' ≤ length front + 1
 
-module _ (a : Adjacency) (floor : ℕ) (e : Reach ℕ) (marks marks' : ℕ → Known) (front front' : List (Reach ℕ)) (is : IsFront a floor marks front) (beyond : floor ≤ e.dist) (off : ¬ IsWithin (marks e.node) e.dist)
+module _ (a : Adjacency) (floor : ℕ) (e : Reach ℕ) (marks marks' : ℕ → Known) (front front' : List (Reach ℕ)) (is : IsFront a floor marks front) (beyond : floor ≤ e.dist) (off : ¬ IsReachedWithin (marks e.node) e.dist)
     (sets : Sets marks e.node (reached e.dist) marks') (moved : IsPermutation (e ∷ front) front') (way : IsWay a marks e) (bound : e.dist ≤ a.greatest * settled_count marks a.nodes) where
   unsettled : ¬ IsSettled (marks e.node)
   unsettled s = off (s.0, omega (arith, is.below e.node s, beyond))
@@ -175,20 +176,20 @@ module _ (a : Adjacency) (floor : ℕ) (e : Reach ℕ) (marks marks' : ℕ → K
     ];
     within = λ v d w. elim (cases_eq v e.node) [
       | inl same ↦
-          let w' : IsWithin (marks e.node) d = subst (λ u. IsWithin (marks u) d) same w in
+          let w' : IsReachedWithin (marks e.node) d = subst (λ u. IsReachedWithin (marks u) d) same w in
           elim (lt_or_le e.dist d) [
-            | inl less ↦ subst (λ u. IsWithin (marks' u) d) (sym same) (subst (λ k. IsWithin k d) (sym sets.here) (refl, omega (arith, less)))
+            | inl less ↦ subst (λ u. IsReachedWithin (marks' u) d) (sym same) (subst (λ k. IsReachedWithin k d) (sym sets.here) (refl, omega (arith, less)))
             | inr more ↦ absurd (off (w'.0, omega (arith, w'.1, more)))
           ]
-      | inr apart ↦ subst (λ k. IsWithin k d) (sym (sets.there v apart)) w
+      | inr apart ↦ subst (λ k. IsReachedWithin k d) (sym (sets.there v apart)) w
     ];
   }
 
-  taken_waits : IsWaiting a floor marks' e
+  taken_waits : IsWayWaiting a floor marks' e
   taken_waits = record {
     way = way_stays a marks marks' taken_lowers.kept e way;
     beyond = beyond;
-    within = subst (λ k. IsWithin k e.dist) (sym sets.here) (refl, omega arith);
+    within = subst (λ k. IsReachedWithin k e.dist) (sym sets.here) (refl, omega arith);
     bound = subst (λ n. e.dist ≤ a.greatest * n) (sym (lowers_count marks marks' a.nodes taken_lowers)) bound;
   }
 
@@ -196,7 +197,7 @@ module _ (a : Adjacency) (floor : ℕ) (e : Reach ℕ) (marks marks' : ℕ → K
   taken_front = record {
     adjacent = is.adjacent;
     waiting = λ o h. elim (has_cases e front front' moved o h) [
-      | inl same ↦ subst (IsWaiting a floor marks') same taken_waits
+      | inl same ↦ subst (IsWayWaiting a floor marks') same taken_waits
       | inr old ↦ waiting_stays a floor marks marks' taken_lowers o (is.waiting o old)
     ];
     pending = λ v f n. elim (cases_eq v e.node) [
@@ -240,11 +241,11 @@ hop_at a node hops i d is from inside = All-get_or (IsHop a.nodes a.greatest) ho
 pub record IsRelaxing (a : Adjacency) (dist : ℕ) (old : ℕ → Known) (ways : List (Reach ℕ)) (hops : List Hop) (i : ℕ) (marks : ℕ → Known) (front : List (Reach ℕ)) : Type 0 where
   pub waits : IsFront a dist marks front
   pub lowers : Lowers old marks
-  pub passed : All (IsPassed marks dist) (take i hops)
+  pub passed : All (IsHopPassed marks dist) (take i hops)
   pub few : length front ≤ length ways + i
 
 pub relaxing_none : (a : Adjacency) (node dist : ℕ) (old : ℕ → Known) (ways : List (Reach ℕ)) (hops : List Hop) → IsReady a node dist old ways → IsRelaxing a dist old ways hops 0 old ways
-relaxing_none a node dist old ways hops ready = record { waits = ready.waits; lowers = lowers_none old; passed = All-nil (IsPassed old dist); few = omega arith }
+relaxing_none a node dist old ways hops ready = record { waits = ready.waits; lowers = lowers_none old; passed = All-nil (IsHopPassed old dist); few = omega arith }
 
 pub relaxing_more : (a : Adjacency) (dist node : ℕ) (old : ℕ → Known) (ways : List (Reach ℕ)) (hops : List Hop) (i : ℕ) (d : Hop) (marks : ℕ → Known) (front : List (Reach ℕ)) (marks' : ℕ → Known) (front' : List (Reach ℕ))
     → IsReady a node dist old ways → hops ≡ out a node → i < length hops → IsRelaxing a dist old ways hops i marks front
@@ -266,7 +267,7 @@ relaxing_more a dist node old ways hops i d marks front marks' front' ready from
     record {
       waits = new.waits;
       lowers = lowers_more old marks marks' so_far.lowers new.lowers;
-      passed = All-more (IsPassed marks' dist) hops i d inside (All-weaker (IsPassed marks dist) (IsPassed marks' dist) (λ h p. new.lowers.within h.head (dist + h.weight) p) (take i hops) so_far.passed) new.within;
+      passed = All-more (IsHopPassed marks' dist) hops i d inside (All-weaker (IsHopPassed marks dist) (IsHopPassed marks' dist) (λ h p. new.lowers.within h.head (dist + h.weight) p) (take i hops) so_far.passed) new.within;
       few = omega (arith, new.few, so_far.few);
     }
 
@@ -274,7 +275,7 @@ pub relaxing_all : (a : Adjacency) (dist node : ℕ) (old : ℕ → Known) (ways
 relaxing_all a dist node old ways hops i marks front from all is = record {
   waits = is.waits;
   lowers = is.lowers;
-  passed = subst (All (IsPassed marks dist)) (take_all i hops (omega (arith, all)) ∙ from) is.passed;
+  passed = subst (All (IsHopPassed marks dist)) (take_all i hops (omega (arith, all)) ∙ from) is.passed;
   few = omega (arith, is.few, all, ap length from, out_few a node);
 }
 
@@ -339,13 +340,13 @@ nearest_first_more ls l is low k d h = elim (cases_lt (k + 1) (length ls)) [
 
 -- ---- a way that was taken
 module _ (a : Adjacency) (b : BlockValue) (marks : ℕ → Known) (e : Reach ℕ) (front : List (Reach ℕ)) (p : IsPopped a b marks e front) where
-  abbrev is : IsSearch a b marks p.before
+  abbrev is : IsPathSearch a b marks p.before
   is = p.search
 
   abbrev moved : IsPermutation (e ∷ front) p.before
   moved = IsPermutation-sym p.before (e ∷ front) p.moved
 
-  pub popped_waits : IsWaiting a is.floor marks e
+  pub popped_waits : IsWayWaiting a is.floor marks e
   popped_waits = is.waits.waiting e (has_new e front p.before moved)
 
   pub popped_lawful : IsHop a.nodes a.greatest (hop_to e.node popped_waits.way.weight)
@@ -360,7 +361,7 @@ module _ (a : Adjacency) (b : BlockValue) (marks : ℕ → Known) (e : Reach ℕ
       ]
 
   -- its node was settled before
-  pub popped_again : IsSettled (marks e.node) → IsSearch a b marks front
+  pub popped_again : IsSettled (marks e.node) → IsPathSearch a b marks front
   popped_again s = record {
     floor = is.floor;
     waits = record {
@@ -415,15 +416,15 @@ module _ (a : Adjacency) (b : BlockValue) (marks : ℕ → Known) (e : Reach ℕ
       marked_count : settled_count marked a.nodes ≡ settled_count marks a.nodes + 1
       marked_count = settled_count-more marks marked e.node a.nodes popped_lawful.node sets.there (off_from (marks e.node) not_before) (on_from (marked e.node) marked_settled)
 
-      marked_within : (v d : ℕ) → IsWithin (marks v) d → IsWithin (marked v) d
+      marked_within : (v d : ℕ) → IsReachedWithin (marks v) d → IsReachedWithin (marked v) d
       marked_within v d w = elim (cases_eq v e.node) [
         | inl same ↦
-            let w' : IsWithin (marks e.node) d = subst (λ u. IsWithin (marks u) d) same w in
-            subst (λ u. IsWithin (marked u) d) (sym same) (subst (λ k. IsWithin k d) (sym sets.here) (refl, omega (arith, w'.1, nearest_known)))
-        | inr apart ↦ subst (λ k. IsWithin k d) (sym (sets.there v apart)) w
+            let w' : IsReachedWithin (marks e.node) d = subst (λ u. IsReachedWithin (marks u) d) same w in
+            subst (λ u. IsReachedWithin (marked u) d) (sym same) (subst (λ k. IsReachedWithin k d) (sym sets.here) (refl, omega (arith, w'.1, nearest_known)))
+        | inr apart ↦ subst (λ k. IsReachedWithin k d) (sym (sets.there v apart)) w
       ]
 
-      marked_waiting : (o : Reach ℕ) → Contains front o → IsWaiting a e.dist marked o
+      marked_waiting : (o : Reach ℕ) → Contains front o → IsWayWaiting a e.dist marked o
       marked_waiting o h =
           let w = is.waits.waiting o (has_old e front p.before moved o h) in
           record {
@@ -508,24 +509,24 @@ module _ (a : Adjacency) (b : BlockValue) (marks : ℕ → Known) (e : Reach ℕ
             | inr apart ↦ label_other b added has_none adds u apart ∙ (is.labelled u ∙ sym (lowers_label marked marks' lowers u ∙ ap settled_label (sets.there u (λ same. apart (sym same)))))
           ]
 
-          passed_after : (u : ℕ) → IsSettled (marks' u) → All (IsPassed marks' (marks' u).dist) (out a u)
+          passed_after : (u : ℕ) → IsSettled (marks' u) → All (IsHopPassed marks' (marks' u).dist) (out a u)
           passed_after u s =
               let same_mark = lowers.none u s in
               elim (cases_eq u e.node) [
                 | inl same ↦
                     let at : marks' e.node ≡ settled e.dist = subst (λ w. marks' w ≡ marked w) same same_mark ∙ sets.here in
-                    subst (λ w. All (IsPassed marks' (marks' w).dist) (out a w)) (sym same) (subst (λ (k : Known). All (IsPassed marks' k.dist) (out a e.node)) (sym at) r.passed)
+                    subst (λ w. All (IsHopPassed marks' (marks' w).dist) (out a w)) (sym same) (subst (λ (k : Known). All (IsHopPassed marks' k.dist) (out a e.node)) (sym at) r.passed)
                 | inr apart ↦
                     let at : marks' u ≡ marks u = same_mark ∙ sets.there u apart in
                     let d = (marks u).dist in
-                    subst (λ (k : Known). All (IsPassed marks' k.dist) (out a u)) (sym at)
-                    (All-weaker (IsPassed marks d) (IsPassed marks' d) (λ h q. lowers.within h.head (d + h.weight) (marked_within h.head (d + h.weight) q)) (out a u) (is.passed u (subst IsSettled at s)))
+                    subst (λ (k : Known). All (IsHopPassed marks' k.dist) (out a u)) (sym at)
+                    (All-weaker (IsHopPassed marks d) (IsHopPassed marks' d) (λ h q. lowers.within h.head (d + h.weight) (marked_within h.head (d + h.weight) q)) (out a u) (is.passed u (subst IsSettled at s)))
               ]
 
           nearer_before : All (λ (l : Label). l.dist ≤ℤ pos e.dist) b.labels
           nearer_before = All-weaker (λ (l : Label). l.dist ≤ℤ pos is.floor) (λ (l : Label). l.dist ≤ℤ pos e.dist) (λ l h. omega (arith, ints, h, popped_waits.beyond)) b.labels is.low
 
-          pub visited : IsSearch a (with_label b added) marks' front'
+          pub visited : IsPathSearch a (with_label b added) marks' front'
           visited = record {
             floor = e.dist;
             waits = r.waits;
@@ -592,7 +593,7 @@ module _ (a : Adjacency) (source : ℕ) (marks started : ℕ → Known) (is : Ar
       | inr other ↦ ap (λ t. if t then Some (pos 0) else None) other.0 ∙ sym (lowers_label started marks' fallen u ∙ label_of_other (started u) (λ s. other.1 (sym (only_source u s))))
     ]
 
-    pub start_search : IsSearch a bare marks' front'
+    pub start_search : IsPathSearch a bare marks' front'
     start_search = record {
       floor = 0;
       waits = r.waits;
@@ -607,11 +608,11 @@ module _ (a : Adjacency) (source : ℕ) (marks started : ℕ → Known) (is : Ar
           let at : marks' u ≡ started u = fallen.none u s in
           let same = only_source u (subst IsSettled at s) in
           let mark : marks' source ≡ settled 0 = subst (λ w. marks' w ≡ started w) same at ∙ sets.here in
-          subst (λ w. All (IsPassed marks' (marks' w).dist) (out a w)) (sym same) (subst (λ (k : Known). All (IsPassed marks' k.dist) (out a source)) (sym mark) r.passed);
+          subst (λ w. All (IsHopPassed marks' (marks' w).dist) (out a w)) (sym same) (subst (λ (k : Known). All (IsHopPassed marks' k.dist) (out a source)) (sym mark) r.passed);
     }
 
 -- ---- the end
-module _ (a : Adjacency) (b : BlockValue) (marks : ℕ → Known) (is : IsSearch a b marks []) where
+module _ (a : Adjacency) (b : BlockValue) (marks : ℕ → Known) (is : IsPathSearch a b marks []) where
   over_positive : (v : ℕ) (z : ℤ) → label b v ≡ Some z → (d : ℕ) × (z ≡ pos d)
   over_positive v z h = elim (settled_tells (marks v)) [
     | inl on ↦ let e = sym h ∙ (is.labelled v ∙ label_of_settled (marks v) on.1) in ((marks v).dist, cc)
@@ -629,10 +630,10 @@ module _ (a : Adjacency) (b : BlockValue) (marks : ℕ → Known) (is : IsSearch
     | inl on ↦
         let e : Some (pos d) ≡ Some (pos (marks u).dist) = sym h ∙ (is.labelled u ∙ label_of_settled (marks u) on.1) in
         let same : d ≡ (marks u).dist = cc in
-        All-weaker (IsPassed marks (marks u).dist) (λ hop. (e : ℕ) × (label b hop.head ≡ Some (pos e)) × (e ≤ d + hop.weight))
+        All-weaker (IsHopPassed marks (marks u).dist) (λ hop. (e : ℕ) × (label b hop.head ≡ Some (pos e)) × (e ≤ d + hop.weight))
         (λ hop w. ((marks hop.head).dist, is.labelled hop.head ∙ label_of_settled (marks hop.head) (over_settled hop.head w.0), omega (arith, w.1, same))) (out a u) (is.passed u on.1)
     | inr off ↦ absurd (let e = sym h ∙ (is.labelled u ∙ label_of_other (marks u) off.1) in cc)
   ]
 
-  pub over_tree : (source : ℕ) → b.source ≡ source → IsTree a source b
+  pub over_tree : (source : ℕ) → b.source ≡ source → IsPathTree a source b
   over_tree source from = record { from = from; unbounded = is.unbounded; lawful = is.lawful; made = is.made; nearest_first = is.nearest_first; positive = over_positive; closed = over_closed }

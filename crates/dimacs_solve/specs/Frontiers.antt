@@ -1,5 +1,5 @@
--- Ways that wait. No public clause cites this module.
-use Rattle.std.specs.Prelude.{ℕ, ◌≤◌, List, All}
+-- Ways that wait.
+use Rattle.std.specs.Prelude.{ℕ}
 use Rattle.std.specs.Ordering.{nat_cmp, ordering_then}
 use Rattle.std.specs.declared.cmp.Ordering.{Ordering}
 use Rattle.std.specs.declared.cmp.Reverse.{Reverse}
@@ -15,7 +15,3 @@ way_of value e = record { dist = value e.dist; node = e.node; pred = e.pred }
 
 abbrev pub way_in : {D : Type 0} → (D → ℕ) → Reverse (Reach D) → Reach ℕ
 way_in value e = way_of value e.0
-
--- no way that waits is shorter
-abbrev pub IsNearest : Reach ℕ → List (Reach ℕ) → Type 0
-IsNearest e front = All (λ (other : Reach ℕ). e.dist ≤ other.dist) front

@@ -5,19 +5,11 @@ use Rattle.dimacs_claims.specs.SolutionTexts.{SolutionValue, claimed}
 use Rattle.dimacs_instance.specs.MinFlows.{MinValue}
 use Rattle.dimacs_judge.specs.InfeasibleJudge.{ShowsNoFlow}
 use Rattle.dimacs_judge.specs.MinJudge.{ShowsLeast}
-use Rattle.dimacs_solve.specs.declared.least.candidate.Candidate.{Candidate}
-use Rattle.dimacs_solve.specs.declared.least.candidate.Candidate.TheVariants.{Flow, Set, Neither}
 use Rattle.dimacs_solve.specs.declared.error.SolveError.{SolveError}
 use Rattle.dimacs_solve.specs.declared.error.SolveError.TheVariants.{NegativeWeight, Refused, Memory}
 use Rattle.dimacs_solve.specs.declared.least.MinAnswer.{MinAnswer}
 use Rattle.dimacs_solve.specs.declared.least.MinAnswer.TheVariants.{Optimal, Infeasible, GaveUp}
 use Rattle.dimacs_solve.specs.Entries.{IsSolutionOf}
-
--- a flow has an entry for every arc; nothing else is said before it is judged
-abbrev pub IsCandidate : MinValue → Candidate → Type 0
-IsCandidate i (Flow solution potentials) = IsSolutionOf i.arcs (claimed solution)
-IsCandidate i (Set set) = Unit
-IsCandidate i Neither = Unit
 
 -- the solution has an entry for every arc, and the potentials show that it costs least
 abbrev pub IsLeastAnswer : MinValue → SolutionValue → PotentialsValue → Type 0

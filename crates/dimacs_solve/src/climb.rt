@@ -1,7 +1,7 @@
 //! A maximum flow, by one better flow after another.
 
 ghost use Rattle.std.specs.Prelude.{IfOk};
-ghost use Rattle.dimacs_solve.specs.Climbing.{Climbs};
+ghost use Rattle.dimacs_solve.specs.inside.Climbing.{Climbs};
 
 use crate::improve::improve;
 use dimacs_claims::Cut;

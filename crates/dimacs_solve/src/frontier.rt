@@ -1,7 +1,8 @@
 //! The nodes that a search has come to, the nearest first.
 
 ghost use Rattle.std.specs.Prelude.{◌≡◌, ◌∷◌, [], OnOk, MatchOption, IsPermutation};
-ghost use Rattle.dimacs_solve.specs.Frontiers.{IsNearest, way_of};
+ghost use Rattle.dimacs_solve.specs.Frontiers.{way_of};
+ghost use Rattle.dimacs_solve.specs.inside.Frontiers.{IsNearest};
 
 use crate::distance::Distance;
 use dimacs_lines::Memory;

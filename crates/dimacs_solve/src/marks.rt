@@ -25,7 +25,7 @@ pub(crate) struct Marks<D> {
 }
 
 impl<D: Distance> Marks<D> {
-    ghost use Rattle.dimacs_solve.specs.Marks.{AreUnknown, IsSettled, IsWithin, Sets, known, reached, settled};
+    ghost use Rattle.dimacs_solve.specs.inside.Marks.{AreUnknown, IsSettled, IsReachedWithin, Sets, known, reached, settled};
 
     /// Round 0, in which nothing is marked. Takes no memory.
     pub(crate) fn new(alloc: Global) -> Marks<D>
@@ -54,7 +54,7 @@ impl<D: Distance> Marks<D> {
     /// Whether a way to the node was marked that is no longer than this.
     #[inline]
     pub(crate) fn is_within(&self, node: u32, dist: D) -> bool
-        ensures { IsTrue result ↔ IsWithin (known D.value self.now node) (D.value dist) }
+        ensures { IsTrue result ↔ IsReachedWithin (known D.value self.now node) (D.value dist) }
     {
         let mark = self.marks.get(node);
         mark.round == self.round && mark.dist <= dist

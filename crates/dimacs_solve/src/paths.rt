@@ -7,7 +7,7 @@ ghost use Rattle.dimacs_instance.specs.QueryTexts.{AreLawful, asked, query_lines
 ghost use Rattle.dimacs_claims.specs.Labels.{AreLabels, BlockValue, IsNewSource};
 ghost use Rattle.dimacs_judge.specs.QueryTests.{sources_asked};
 ghost use Rattle.dimacs_solve.specs.Adjacency.{AreByNode};
-ghost use Rattle.dimacs_solve.specs.Blocks.{AddsBlock, AreSolved};
+ghost use Rattle.dimacs_solve.specs.inside.Blocks.{AddsBlock, AreSolved};
 ghost use Rattle.dimacs_solve.specs.Paths.{HasNoNegativeWeight, IsFirstNegative, SolvesPaths};
 
 use crate::adjacency::{Adjacency, by_tail};

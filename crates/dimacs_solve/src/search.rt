@@ -4,8 +4,8 @@ ghost use Rattle.std.specs.Prelude.{◌≡◌, ◌<◌, ◌≤◌, ◌+◌, ◌*
 ghost use Rattle.dimacs_records.specs.Ranges.{IsNode};
 ghost use Rattle.dimacs_solve.specs.Adjacency.{AreByNode};
 ghost use Rattle.dimacs_solve.specs.Frontiers.{way_of};
-ghost use Rattle.dimacs_solve.specs.Marks.{known};
-ghost use Rattle.dimacs_solve.specs.Search.{IsPopped, IsReady, IsSearch, IsTree, Offers, Relaxes, work};
+ghost use Rattle.dimacs_solve.specs.inside.Marks.{known};
+ghost use Rattle.dimacs_solve.specs.inside.Search.{IsPopped, IsReady, IsPathSearch, IsPathTree, Offers, Relaxes, work};
 
 use crate::adjacency::Adjacency;
 use crate::distance::Distance;
@@ -30,7 +30,7 @@ pub(crate) fn search<D: Distance>(
     requires source { IsNode adjacency.now.nodes source }
     requires rounds { marks.old.round + 1 < 4294967296 }
     requires empty { frontier.old ≡ [] }
-    ensures tree { IfOk result (IsTree adjacency.now source) }
+    ensures tree { IfOk result (IsPathTree adjacency.now source) }
     ensures round { OnOk result (marks.new.round ≡ marks.old.round + 1) }
     ensures empty { OnOk result (frontier.new ≡ []) }
 {
@@ -54,7 +54,7 @@ fn visit<D: Distance>(
 ) -> Result<(), Memory>
     requires room { adjacency.now.nodes * adjacency.now.greatest < D.limit }
     requires popped { IsPopped adjacency.now block.old (known D.value marks.old) (way_of D.value reach) frontier.old }
-    ensures search { OnOk result (IsSearch adjacency.now block.new (known D.value marks.new) frontier.new) }
+    ensures search { OnOk result (IsPathSearch adjacency.now block.new (known D.value marks.new) frontier.new) }
     ensures less { OnOk result (work adjacency.now (known D.value marks.new) frontier.new ≤ work adjacency.now (known D.value marks.old) frontier.old) }
     ensures source { OnOk result (block.new.source ≡ block.old.source) }
     ensures round { OnOk result (marks.new.round ≡ marks.old.round) }

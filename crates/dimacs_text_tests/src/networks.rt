@@ -2,7 +2,7 @@
 
 use crate::checks::same;
 use crate::texts::is_made_of;
-use dimacs_instance::{ForwardStar, MAX_ARCS, Network, PlainArcs, WeightArc};
+use dimacs_instance::{ArcIndex, ForwardStar, MAX_ARCS, Network, PlainArcs, WeightArc};
 use dimacs_lines::Memory;
 use std::alloc::Global;
 use std::process::Abort;
@@ -93,9 +93,12 @@ static FOUND: [(&str, u32, u32, u32, Option<u32>); 13] = [
 fn find_counts_the_arcs_between_two_nodes(rt: HostRuntime) -> Result<(), Fail> {
     let network = sample(&rt, rt.alloc())?;
     let star = indexed(rt.alloc(), sample(&rt, rt.alloc())?)?;
+    let mut index = ArcIndex::room(rt.alloc(), &network)?;
+    index.fill(&network);
     for &(name, tail, head, k, found) in &FOUND {
         same(&rt, name, network.find(tail, head, k), found);
         same(&rt, name, star.find(tail, head, k), found);
+        same(&rt, name, index.find(&network, tail, head, k), found);
     }
     Ok(())
 }
@@ -196,6 +199,15 @@ fn arcs_come_back_without_their_index(rt: HostRuntime) -> Result<(), Fail> {
     let star = indexed(rt.alloc(), sample(&rt, rt.alloc())?)?;
     is_made_of(&rt, rt.alloc(), &star, 4, TOLD, 6)?;
     is_made_of(&rt, rt.alloc(), &star.into_plain(), 4, TOLD, 6)
+}
+
+#[test]
+fn a_network_says_whether_it_has_an_index(rt: HostRuntime) -> Result<(), Fail> {
+    let network = sample(&rt, rt.alloc())?;
+    same(&rt, "plain", network.is_indexed(), false);
+    let star = indexed(rt.alloc(), network)?;
+    same(&rt, "indexed", star.is_indexed(), true);
+    Ok(())
 }
 
 #[test]

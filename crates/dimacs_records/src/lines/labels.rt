@@ -3,17 +3,17 @@
 ghost use Rattle.std.specs.Prelude.{◌∷◌, [], codes};
 ghost use Rattle.dimacs_records.specs.declared.kinds.TextKind.TheVariants.{Labels};
 ghost use Rattle.dimacs_records.specs.Forms.{Word, Nodes, Count, Id, Wide};
-ghost use Rattle.dimacs_records.specs.FieldReader.{IsFresh, ReadsForm, ReadsLetter, texts_left};
+ghost use Rattle.dimacs_records.specs.inside.FieldReader.{IsUntouched, ReadsForm, ReadsLetter, texts_left};
 
 use super::unknown_line;
 use crate::faults::LineFault;
+use crate::field_reader::FieldReader;
 use crate::records::Record;
-use crate::typed::FieldReader;
 
 /// What a line says that begins with this field.
 #[inline(always)]
 pub(super) fn record(letter: &[u8], fields: FieldReader) -> Result<Option<Record>, LineFault>
-    requires { IsFresh fields }
+    requires { IsUntouched fields }
     ensures { ReadsLetter Labels letter.now (texts_left fields.entry) result }
 {
     match letter {
@@ -25,7 +25,7 @@ pub(super) fn record(letter: &[u8], fields: FieldReader) -> Result<Option<Record
 }
 
 fn problem(mut fields: FieldReader) -> Result<Option<Record>, LineFault>
-    requires { IsFresh fields }
+    requires { IsUntouched fields }
     ensures { ReadsForm Labels (codes "p") (Word (codes "dist") ∷ Nodes ∷ Count ∷ []) (texts_left fields.entry) result }
 {
     fields.word(2, b"dist");
@@ -35,7 +35,7 @@ fn problem(mut fields: FieldReader) -> Result<Option<Record>, LineFault>
 }
 
 fn block(mut fields: FieldReader) -> Result<Option<Record>, LineFault>
-    requires { IsFresh fields }
+    requires { IsUntouched fields }
     ensures { ReadsLetter Labels (codes "t") (texts_left fields.entry) result }
 {
     let source = fields.id(2);
@@ -50,7 +50,7 @@ fn block(mut fields: FieldReader) -> Result<Option<Record>, LineFault>
 
 #[inline(always)]
 fn node(mut fields: FieldReader) -> Result<Option<Record>, LineFault>
-    requires { IsFresh fields }
+    requires { IsUntouched fields }
     ensures { ReadsForm Labels (codes "d") (Id ∷ Wide ∷ Id ∷ []) (texts_left fields.entry) result }
 {
     let id = fields.id(2);

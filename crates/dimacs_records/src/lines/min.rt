@@ -3,17 +3,17 @@
 ghost use Rattle.std.specs.Prelude.{◌∷◌, [], codes};
 ghost use Rattle.dimacs_records.specs.declared.kinds.TextKind.TheVariants.{Min};
 ghost use Rattle.dimacs_records.specs.Forms.{Word, Nodes, Count, Id, Whole};
-ghost use Rattle.dimacs_records.specs.FieldReader.{IsFresh, ReadsForm, ReadsLetter, texts_left};
+ghost use Rattle.dimacs_records.specs.inside.FieldReader.{IsUntouched, ReadsForm, ReadsLetter, texts_left};
 
 use super::unknown_line;
 use crate::faults::LineFault;
+use crate::field_reader::FieldReader;
 use crate::records::Record;
-use crate::typed::FieldReader;
 
 /// What a line says that begins with this field.
 #[inline(always)]
 pub(super) fn record(letter: &[u8], fields: FieldReader) -> Result<Option<Record>, LineFault>
-    requires { IsFresh fields }
+    requires { IsUntouched fields }
     ensures { ReadsLetter Min letter.now (texts_left fields.entry) result }
 {
     match letter {
@@ -25,7 +25,7 @@ pub(super) fn record(letter: &[u8], fields: FieldReader) -> Result<Option<Record
 }
 
 fn problem(mut fields: FieldReader) -> Result<Option<Record>, LineFault>
-    requires { IsFresh fields }
+    requires { IsUntouched fields }
     ensures { ReadsForm Min (codes "p") (Word (codes "min") ∷ Nodes ∷ Count ∷ []) (texts_left fields.entry) result }
 {
     fields.word(2, b"min");
@@ -35,7 +35,7 @@ fn problem(mut fields: FieldReader) -> Result<Option<Record>, LineFault>
 }
 
 fn node(mut fields: FieldReader) -> Result<Option<Record>, LineFault>
-    requires { IsFresh fields }
+    requires { IsUntouched fields }
     ensures { ReadsForm Min (codes "n") (Id ∷ Whole ∷ []) (texts_left fields.entry) result }
 {
     let id = fields.id(2);
@@ -45,7 +45,7 @@ fn node(mut fields: FieldReader) -> Result<Option<Record>, LineFault>
 
 #[inline(always)]
 fn arc(mut fields: FieldReader) -> Result<Option<Record>, LineFault>
-    requires { IsFresh fields }
+    requires { IsUntouched fields }
     ensures { ReadsForm Min (codes "a") (Id ∷ Id ∷ Whole ∷ Whole ∷ Whole ∷ []) (texts_left fields.entry) result }
 {
     let tail = fields.id(2);

@@ -3,17 +3,17 @@
 ghost use Rattle.std.specs.Prelude.{◌∷◌, [], codes};
 ghost use Rattle.dimacs_records.specs.declared.kinds.TextKind.TheVariants.{Queries};
 ghost use Rattle.dimacs_records.specs.Forms.{Word, Either, Count, Id};
-ghost use Rattle.dimacs_records.specs.FieldReader.{IsFresh, ReadsForm, ReadsLetter, texts_left};
+ghost use Rattle.dimacs_records.specs.inside.FieldReader.{IsUntouched, ReadsForm, ReadsLetter, texts_left};
 
 use super::unknown_line;
 use crate::faults::LineFault;
+use crate::field_reader::FieldReader;
 use crate::records::Record;
-use crate::typed::FieldReader;
 
 /// What a line says that begins with this field.
 #[inline(always)]
 pub(super) fn record(letter: &[u8], fields: FieldReader) -> Result<Option<Record>, LineFault>
-    requires { IsFresh fields }
+    requires { IsUntouched fields }
     ensures { ReadsLetter Queries letter.now (texts_left fields.entry) result }
 {
     match letter {
@@ -25,7 +25,7 @@ pub(super) fn record(letter: &[u8], fields: FieldReader) -> Result<Option<Record
 }
 
 fn problem(mut fields: FieldReader) -> Result<Option<Record>, LineFault>
-    requires { IsFresh fields }
+    requires { IsUntouched fields }
     ensures { ReadsForm Queries (codes "p") (Word (codes "aux") ∷ Word (codes "sp") ∷ Either (codes "ss") (codes "p2p") ∷ Count ∷ []) (texts_left fields.entry) result }
 {
     fields.word(2, b"aux");
@@ -36,7 +36,7 @@ fn problem(mut fields: FieldReader) -> Result<Option<Record>, LineFault>
 }
 
 fn source(mut fields: FieldReader) -> Result<Option<Record>, LineFault>
-    requires { IsFresh fields }
+    requires { IsUntouched fields }
     ensures { ReadsForm Queries (codes "s") (Id ∷ []) (texts_left fields.entry) result }
 {
     let id = fields.id(2);
@@ -44,7 +44,7 @@ fn source(mut fields: FieldReader) -> Result<Option<Record>, LineFault>
 }
 
 fn pair(mut fields: FieldReader) -> Result<Option<Record>, LineFault>
-    requires { IsFresh fields }
+    requires { IsUntouched fields }
     ensures { ReadsForm Queries (codes "q") (Id ∷ Id ∷ []) (texts_left fields.entry) result }
 {
     let from = fields.id(2);

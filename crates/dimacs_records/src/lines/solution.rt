@@ -3,17 +3,17 @@
 ghost use Rattle.std.specs.Prelude.{◌∷◌, [], codes};
 ghost use Rattle.dimacs_records.specs.declared.kinds.TextKind.TheVariants.{Solution};
 ghost use Rattle.dimacs_records.specs.Forms.{Id, Whole, Wide};
-ghost use Rattle.dimacs_records.specs.FieldReader.{IsFresh, ReadsForm, ReadsLetter, texts_left};
+ghost use Rattle.dimacs_records.specs.inside.FieldReader.{IsUntouched, ReadsForm, ReadsLetter, texts_left};
 
 use super::unknown_line;
 use crate::faults::LineFault;
+use crate::field_reader::FieldReader;
 use crate::records::Record;
-use crate::typed::FieldReader;
 
 /// What a line says that begins with this field.
 #[inline(always)]
 pub(super) fn record(letter: &[u8], fields: FieldReader) -> Result<Option<Record>, LineFault>
-    requires { IsFresh fields }
+    requires { IsUntouched fields }
     ensures { ReadsLetter Solution letter.now (texts_left fields.entry) result }
 {
     match letter {
@@ -24,7 +24,7 @@ pub(super) fn record(letter: &[u8], fields: FieldReader) -> Result<Option<Record
 }
 
 fn value(mut fields: FieldReader) -> Result<Option<Record>, LineFault>
-    requires { IsFresh fields }
+    requires { IsUntouched fields }
     ensures { ReadsForm Solution (codes "s") (Wide ∷ []) (texts_left fields.entry) result }
 {
     let value = fields.wide(2);
@@ -33,7 +33,7 @@ fn value(mut fields: FieldReader) -> Result<Option<Record>, LineFault>
 
 #[inline(always)]
 fn entry(mut fields: FieldReader) -> Result<Option<Record>, LineFault>
-    requires { IsFresh fields }
+    requires { IsUntouched fields }
     ensures { ReadsForm Solution (codes "f") (Id ∷ Id ∷ Whole ∷ []) (texts_left fields.entry) result }
 {
     let tail = fields.id(2);

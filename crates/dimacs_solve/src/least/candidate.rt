@@ -2,7 +2,7 @@
 
 ghost use Rattle.std.specs.Prelude.{◌≡◌, IfOk};
 ghost use Rattle.dimacs_solve.specs.Entries.{AreEntriesOf};
-ghost use Rattle.dimacs_solve.specs.SolveMin.{IsCandidate};
+ghost use Rattle.dimacs_solve.specs.inside.SolveMin.{IsCandidate};
 
 use crate::entries::entry_of;
 use crate::least::balancing::{Ending, balance};

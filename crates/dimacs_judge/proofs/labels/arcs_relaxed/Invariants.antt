@@ -1,4 +1,4 @@
-use Rattle.dimacs_judge.specs.Labels.{block_at}
+use Rattle.dimacs_judge.specs.inside.Labels.{block_at}
 use Rattle.dimacs_judge.specs.CertificateTests.{relax_row}
 use Rattle.dimacs_judge.specs.Tests.{ClearBelow}
 use Rattle.dimacs_judge.proofs.labels.arcs_relaxed.Given as goal

@@ -1,5 +1,5 @@
 use Rattle.std.proofs.Common.{IsTrue, false, refl}
-use Rattle.dimacs_judge.specs.Labels.{block_at}
+use Rattle.dimacs_judge.specs.inside.Labels.{block_at}
 use Rattle.dimacs_judge.proofs.BlockLemmas.{label_at-block}
 use Rattle.dimacs_judge.proofs.RowLemmas.{support_clear_more, support_first, support_clear_end}
 use Rattle.dimacs_judge.proofs.labels.labels_supported.Goals as goal

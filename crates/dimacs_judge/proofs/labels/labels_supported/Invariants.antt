@@ -1,4 +1,4 @@
-use Rattle.dimacs_judge.specs.Labels.{block_at}
+use Rattle.dimacs_judge.specs.inside.Labels.{block_at}
 use Rattle.dimacs_judge.specs.CertificateTests.{support_row}
 use Rattle.dimacs_judge.specs.Tests.{ClearBelow}
 use Rattle.dimacs_judge.proofs.labels.labels_supported.Given as goal

@@ -4,7 +4,7 @@ use Rattle.std.specs.Int.{w64, w128}
 use Rattle.std.proofs.lemmas.Int.{to_z-of_z}
 use Rattle.dimacs_records.specs.declared.reasons.Reason.TheVariants.{Escapes}
 use Rattle.dimacs_claims.specs.Labels.{IsNear, label_at}
-use Rattle.dimacs_judge.specs.Tests.{TellsReason}
+use Rattle.dimacs_judge.specs.inside.Tests.{TellsReason}
 use Rattle.dimacs_judge.proofs.MarkLemmas.{told_of_escape}
 use Rattle.dimacs_judge.proofs.labels.relax_fault.Goals as goal
 

@@ -4,7 +4,7 @@ use Rattle.std.proofs.lemmas.Int.{to_z-of_z}
 use Rattle.std.proofs.lemmas.List.Elements.{Contains-get_or}
 use Rattle.dimacs_claims.specs.declared.block.Label.{Label}
 use Rattle.dimacs_claims.specs.Labels.{label, no_label}
-use Rattle.dimacs_judge.specs.Leaving.{ArePassedFrom}
+use Rattle.dimacs_judge.specs.inside.Leaving.{ArePassedFrom}
 use Rattle.dimacs_judge.proofs.LeavingLemmas.{all_clear, all_made, from_still, labels_more}
 use Rattle.dimacs_judge.proofs.MarkLemmas.{label_source}
 use Rattle.dimacs_judge.proofs.leaving.leaving_passed.Goals as goal

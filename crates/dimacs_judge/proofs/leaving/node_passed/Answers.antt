@@ -10,10 +10,10 @@ use Rattle.dimacs_instance.specs.declared.links.Side.TheVariants.{Tail}
 use Rattle.dimacs_instance.specs.Links.{IsLast}
 use Rattle.dimacs_claims.specs.Labels.{IsNear}
 use Rattle.dimacs_judge.specs.CertificateTests.{RelaxFails}
-use Rattle.dimacs_judge.specs.Leaving.{IsPassed, WeightsFall, arcs_in}
-use Rattle.dimacs_judge.specs.Marks.{marked_dist}
+use Rattle.dimacs_judge.specs.inside.Leaving.{IsPassed, WeightsFall, arcs_in}
+use Rattle.dimacs_judge.specs.inside.Marks.{marked_dist}
 use Rattle.dimacs_judge.specs.Rows.{arc_at, no_arc}
-use Rattle.dimacs_judge.specs.Tests.{TellsReason}
+use Rattle.dimacs_judge.specs.inside.Tests.{TellsReason}
 use Rattle.dimacs_judge.proofs.LeavingLemmas.{ArePassedOn, at_place, no_reason, node_beyond, node_done, node_more, passed_still, passed_this}
 use Rattle.dimacs_judge.proofs.MarkLemmas.{alone_after, label_wide, marked_after, marked_wide}
 use Rattle.dimacs_judge.proofs.leaving.node_passed.Goals as goal

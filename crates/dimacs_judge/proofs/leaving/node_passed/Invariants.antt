@@ -1,7 +1,7 @@
 use Rattle.std.proofs.Common.{◌≡◌, ◌<◌, ◌≤◌, ◌-◌, length}
 use Rattle.dimacs_instance.specs.declared.network.ArcView.{ArcView}
-use Rattle.dimacs_judge.specs.Leaving.{IsPassed, arcs_in}
-use Rattle.dimacs_judge.specs.Marks.{AreMadeAlone, IsMarked}
+use Rattle.dimacs_judge.specs.inside.Leaving.{IsPassed, arcs_in}
+use Rattle.dimacs_judge.specs.inside.Marks.{AreMadeAlone, IsMarked}
 use Rattle.dimacs_judge.specs.Rows.{arc_at}
 use Rattle.dimacs_judge.proofs.LeavingLemmas.{ArePassedOn}
 use Rattle.dimacs_judge.proofs.leaving.node_passed.Given as goal

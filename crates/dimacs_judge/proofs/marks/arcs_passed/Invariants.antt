@@ -1,7 +1,7 @@
 use Rattle.std.proofs.Common.{◌<◌, ◌≤◌}
 use Rattle.dimacs_nodes.specs.Tables.{blank_of}
 use Rattle.dimacs_judge.specs.CertificateTests.{relax_row}
-use Rattle.dimacs_judge.specs.Marks.{AreMadeAlone, AreMadeBelow, AreWide, IsMarked, made_count}
+use Rattle.dimacs_judge.specs.inside.Marks.{AreMadeAlone, AreMadeBelow, AreWide, IsMarked, made_count}
 use Rattle.dimacs_judge.specs.Tests.{ClearBelow}
 use Rattle.dimacs_judge.proofs.marks.arcs_passed.Given as goal
 

@@ -1,6 +1,6 @@
 use Rattle.std.proofs.Common.{◌≡◌, ◌∙◌, false, sym, ap, get_or}
 use Rattle.dimacs_nodes.specs.Tables.{value_of}
-use Rattle.dimacs_judge.specs.Marks.{is_made}
+use Rattle.dimacs_judge.specs.inside.Marks.{is_made}
 use Rattle.dimacs_claims.specs.Labels.{no_label}
 use Rattle.dimacs_claims.specs.declared.block.Label.{Label}
 use Rattle.dimacs_judge.proofs.MarkLemmas.{label_made}

@@ -2,7 +2,7 @@ use Rattle.std.proofs.Common.{◌≡◌, List}
 use Rattle.dimacs_instance.specs.declared.network.ArcView.{ArcView}
 use Rattle.dimacs_claims.specs.Labels.{BlockValue}
 use Rattle.dimacs_judge.specs.CertificateTests.{support_row}
-use Rattle.dimacs_judge.specs.Marks.{AreMade}
+use Rattle.dimacs_judge.specs.inside.Marks.{AreMade}
 use Rattle.dimacs_judge.specs.Tests.{ClearBelow}
 use Rattle.dimacs_judge.proofs.marks.labels_made.Given as goal
 

@@ -1,7 +1,7 @@
 use Rattle.std.proofs.Common.{◌+◌, IfSome, take}
 use Rattle.dimacs_judge.specs.CertificateTests.{label_rows}
-use Rattle.dimacs_judge.specs.Leaving.{AreLeast}
-use Rattle.dimacs_judge.specs.Marks.{AreAsTested, AreEarlier}
+use Rattle.dimacs_judge.specs.inside.Leaving.{AreLeast}
+use Rattle.dimacs_judge.specs.inside.Marks.{AreAsTested, AreEarlier}
 use Rattle.dimacs_judge.specs.Tests.{AllClear}
 use Rattle.dimacs_judge.proofs.marks.marked_blocks_hold.Given as goal
 

@@ -1,6 +1,6 @@
 use Rattle.std.proofs.Common.{◌<◌}
 use Rattle.dimacs_nodes.specs.Tables.{blank_of}
-use Rattle.dimacs_judge.specs.Marks.{AreMadeAlone, AreMadeBelow, AreWide, IsMarked}
+use Rattle.dimacs_judge.specs.inside.Marks.{AreMadeAlone, AreMadeBelow, AreWide, IsMarked}
 use Rattle.dimacs_judge.proofs.marks.rest_passed.Given as goal
 
 -- the marks tell what the arcs so far make

@@ -3,7 +3,8 @@ use Rattle.dimacs_instance.specs.declared.network.ArcView.{ArcView}
 use Rattle.dimacs_instance.specs.QueryTexts.{asked}
 use Rattle.dimacs_judge.specs.CertificateTests.{label_rows}
 use Rattle.dimacs_judge.specs.PathsJudge.{paths_rows}
-use Rattle.dimacs_judge.specs.Tests.{AllClear, TellsAll}
+use Rattle.dimacs_judge.specs.Tests.{AllClear}
+use Rattle.dimacs_judge.specs.inside.Tests.{TellsAll}
 use Rattle.dimacs_judge.proofs.PathsPassing.{paths_shown, paths_judged, blocks_refused, labels_refused}
 use Rattle.dimacs_judge.proofs.paths.judge_paths.Goals as goal
 

@@ -1,8 +1,8 @@
 use Rattle.std.proofs.Common.{◌≡◌, Option, None, Some, Ok, refl, subst, false}
 use Rattle.std.specs.Prelude.{is_some}
 use Rattle.std.proofs.lemmas.Result.{err_from_is_err_and}
-use Rattle.dimacs_lines.specs.Reader.{text_left}
-use Rattle.dimacs_records.specs.Driver.{ReadsOne}
+use Rattle.dimacs_lines.specs.inside.Reader.{text_left}
+use Rattle.dimacs_records.specs.inside.Driver.{ReadsNext}
 use Rattle.dimacs_records.proofs.driver.read_lines.Goals as goal
 
 pub returns-in_err-take_held-clause-reads : goal.returns-in_err-take_held-clause-reads
@@ -28,6 +28,6 @@ returns-then-is_none-clause-reads g c = λ all h.
     let held = c.in_ok-take_held.ensures.reads all (g.S.Source.coming c.loop-lines.source) (c.loop-lines.invariant.read all h) in
     let later = text_left c.read_line.new.lines (g.S.Source.coming c.read_line.new.source) in
     let none : c.in_ok-read_line.field-0 ≡ None = none_of c.in_ok-read_line.field-0 c.if-is_none.ensures in
-    let read : ReadsOne c.args.kind all c.take_held.new.lines.given later (g.R.Reading.stands_for c.read_line.new.reading) (Ok None) =
-    subst (λ answer. ReadsOne c.args.kind all c.take_held.new.lines.given later (g.R.Reading.stands_for c.read_line.new.reading) (Ok answer)) none (c.in_ok-read_line.ensures.reads all held) in
+    let read : ReadsNext c.args.kind all c.take_held.new.lines.given later (g.R.Reading.stands_for c.read_line.new.reading) (Ok None) =
+    subst (λ answer. ReadsNext c.args.kind all c.take_held.new.lines.given later (g.R.Reading.stands_for c.read_line.new.reading) (Ok answer)) none (c.in_ok-read_line.ensures.reads all held) in
     rw c.given-count.ensures read

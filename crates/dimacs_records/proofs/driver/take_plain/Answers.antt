@@ -3,8 +3,8 @@ use Rattle.std.proofs.lemmas.List.{drop-drop}
 use Rattle.std.proofs.lemmas.Slice.{between_to_end}
 use Rattle.dimacs_lines.specs.Devices.{before_piece}
 use Rattle.dimacs_lines.specs.Limits.{most_lines}
-use Rattle.dimacs_records.specs.Driver.{IsReadSoFar}
-use Rattle.dimacs_records.specs.Plain.{SaysFirst}
+use Rattle.dimacs_records.specs.inside.Driver.{IsReadSoFar}
+use Rattle.dimacs_records.specs.inside.Plain.{SaysFirst}
 use Rattle.dimacs_records.specs.Spelling.{texts_in}
 use Rattle.dimacs_records.proofs.HeldLines.{plain_step}
 use Rattle.dimacs_records.proofs.TakenLines.{one_taken}

@@ -1,6 +1,6 @@
 use Rattle.std.proofs.Common.{◌≡◌, ◌+◌, ◌-◌, ◌≤◌, ℕ, List, Option, length, drop}
 use Rattle.dimacs_lines.specs.Devices.{before_piece}
-use Rattle.dimacs_records.specs.Driver.{HasTaken, IsReadSoFar}
+use Rattle.dimacs_records.specs.inside.Driver.{HasTaken, IsReadSoFar}
 use Rattle.dimacs_records.proofs.driver.take_plain.Given as goal
 
 -- so many lines were taken, and these bytes of what is held

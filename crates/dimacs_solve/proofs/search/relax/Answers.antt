@@ -1,6 +1,6 @@
 use Rattle.std.proofs.Common.{◌≡◌, ◌∙◌, length, arith, refl}
 use Rattle.dimacs_solve.specs.declared.adjacency.Hop.{Hop}
-use Rattle.dimacs_solve.specs.Marks.{known}
+use Rattle.dimacs_solve.specs.inside.Marks.{known}
 use Rattle.dimacs_solve.proofs.SearchLemmas.{hop_at, hop_within, relaxing_all, relaxing_more, relaxing_none}
 use Rattle.dimacs_solve.proofs.search.relax.Goals as goal
 

@@ -1,5 +1,5 @@
 use Rattle.std.proofs.Common.{◌≡◌}
-use Rattle.dimacs_solve.specs.Marks.{known}
+use Rattle.dimacs_solve.specs.inside.Marks.{known}
 use Rattle.dimacs_solve.proofs.SearchLemmas.{IsRelaxing}
 use Rattle.dimacs_solve.proofs.search.relax.Given as goal
 

@@ -1,8 +1,8 @@
 use Rattle.std.proofs.Common.{◌∙◌, [], None, ap, arith}
 use Rattle.std.proofs.lemmas.List.Sorted.{IsPermutation-sym, length_permutation}
 use Rattle.dimacs_claims.specs.Labels.{BlockValue, IsBlock}
-use Rattle.dimacs_solve.specs.Marks.{Sets, known, settled}
-use Rattle.dimacs_solve.specs.Search.{IsSearch, Relaxes}
+use Rattle.dimacs_solve.specs.inside.Marks.{Sets, known, settled}
+use Rattle.dimacs_solve.specs.inside.Search.{IsPathSearch, Relaxes}
 use Rattle.dimacs_solve.proofs.SearchLemmas.{over_tree, start_ready, start_search}
 use Rattle.dimacs_solve.proofs.search.search.Goals as goal
 
@@ -48,5 +48,5 @@ loop-reach-smaller g c =
 pub returns-clause-tree : goal.returns-clause-tree
 returns-clause-tree g c =
     let marks = known g.D.Distance.value c.loop-reach.marks in
-    let is : IsSearch c.args.adjacency.now c.loop-reach.block marks [] = rw c.in_default.ensures.0 at c.loop-reach.invariant.search in
+    let is : IsPathSearch c.args.adjacency.now c.loop-reach.block marks [] = rw c.in_default.ensures.0 at c.loop-reach.invariant.search in
     over_tree c.args.adjacency.now c.loop-reach.block marks is c.args.source c.loop-reach.invariant.from

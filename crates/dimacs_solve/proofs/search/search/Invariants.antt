@@ -1,11 +1,11 @@
 use Rattle.std.proofs.Common.{◌≡◌, ◌+◌}
-use Rattle.dimacs_solve.specs.Marks.{known}
-use Rattle.dimacs_solve.specs.Search.{IsSearch, work}
+use Rattle.dimacs_solve.specs.inside.Marks.{known}
+use Rattle.dimacs_solve.specs.inside.Search.{IsPathSearch, work}
 use Rattle.dimacs_solve.proofs.search.search.Given as goal
 
 abbrev pub invariant-loop-reach : goal.invariant-loop-reach
 invariant-loop-reach g l = record {
-  search : IsSearch l.adjacency l.block (known g.D.Distance.value l.marks) l.frontier;
+  search : IsPathSearch l.adjacency l.block (known g.D.Distance.value l.marks) l.frontier;
   from : l.block.source ≡ l.source;
   round : l.marks.round ≡ l.fn.marks.round + 1;
 }

@@ -4,7 +4,7 @@ use Rattle.std.specs.Int.{w128}
 use Rattle.std.proofs.lemmas.Int.{to_z-of_z}
 use Rattle.dimacs_claims.specs.Labels.{IsBlock, IsNear, with_label}
 use Rattle.dimacs_solve.specs.Frontiers.{way_of}
-use Rattle.dimacs_solve.specs.Marks.{IsSettled, known}
+use Rattle.dimacs_solve.specs.inside.Marks.{IsSettled, known}
 use Rattle.dimacs_solve.proofs.SearchLemmas.{AddsLabel, added, added_few, added_label, added_pred, has_none, marked_ready, popped_again, popped_small, visited, visited_less}
 use Rattle.dimacs_solve.proofs.search.visit.Goals as goal
 

@@ -1,7 +1,8 @@
 use Rattle.std.proofs.Common.{◌≡◌, ◌<◌, ◌≤◌, length, refl, ap, sym, subst, ◌∙◌, ◌++◌, ◌∷◌, [], arith}
 use Rattle.dimacs_records.specs.declared.records.Record.TheVariants.{LabelsBlock}
 use Rattle.dimacs_records.specs.Readings.{IsAllowed}
-use Rattle.dimacs_claims.specs.LabelsReading.{LabelsBegun, labels_begun_records, with_opened}
+use Rattle.dimacs_claims.specs.LabelsReading.{LabelsBegun, labels_begun_records}
+use Rattle.dimacs_claims.specs.inside.LabelsReading.{with_opened}
 use Rattle.dimacs_claims.proofs.LabelRecords.{begun_block}
 use Rattle.dimacs_claims.proofs.BegunLemmas.{begun_source_above, begun_source_twice, begun_too_many, begun_too_few, begun_block_allowed, pushed_block}
 use Rattle.dimacs_claims.proofs.labels.BegunLabels.start_block.Goals as goal

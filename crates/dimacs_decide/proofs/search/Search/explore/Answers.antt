@@ -1,7 +1,7 @@
 use Rattle.std.proofs.Common.{◌≡◌, ◌∙◌, ◌<◌, length, arith, sym, subst, slice_index}
 use Rattle.dimacs_nodes.specs.Tables.{value_of}
 use Rattle.dimacs_instance.specs.declared.links.Side.TheVariants.{Tail, Head}
-use Rattle.dimacs_decide.specs.Residual.{IsPassed}
+use Rattle.dimacs_decide.specs.inside.Residual.{IsSidePassed}
 use Rattle.dimacs_decide.proofs.SearchLemmas.{passed_still, search_next}
 use Rattle.dimacs_decide.proofs.search.Search.explore.Goals as goal
 
@@ -20,7 +20,7 @@ loop-at-preserved g c =
     record {
       source = two.source ∙ (one.source ∙ c.loop-at.invariant.source);
       search = rw two.source (search_next (g.N.Network.node_count c.args.network.now) arcs x c.pass.new.self.source (value_of c.pass-in-loop-at.new.self.visits) c.pass-in-loop-at.new.self.queue.items at two.search
-          (subst (λ v. IsPassed arcs x (value_of c.pass-in-loop-at.new.self.visits) v Tail) (sym (second ∙ first)) tail)
-          (subst (λ v. IsPassed arcs x (value_of c.pass-in-loop-at.new.self.visits) v Head) (sym second) two.passed));
+          (subst (λ v. IsSidePassed arcs x (value_of c.pass-in-loop-at.new.self.visits) v Tail) (sym (second ∙ first)) tail)
+          (subst (λ v. IsSidePassed arcs x (value_of c.pass-in-loop-at.new.self.visits) v Head) (sym second) two.passed));
       within = omega (arith, between, two.grows.longer);
     }

@@ -1,6 +1,6 @@
 use Rattle.std.proofs.Common.{rules, ◌^◌, arith, w64, SFits}
 use Rattle.std.proofs.lemmas.Int.{ints, to_z-of_z}
-use Rattle.dimacs_judge.specs.Ranges.{IsOfSize}
+use Rattle.dimacs_judge.specs.inside.Ranges.{IsOfSize}
 use Rattle.dimacs_judge.proofs.StepLemmas.{balance_more, balance_none, balance_all}
 use Rattle.dimacs_judge.proofs.balances.Balances.new.Goals as goal
 

@@ -5,7 +5,7 @@ use Rattle.std.specs.Prelude.{codes}
 use Rattle.dimacs_records.specs.declared.kinds.TextKind.TheVariants.{Labels}
 use Rattle.dimacs_records.specs.declared.records.Record.TheVariants.{LabelsNode}
 use Rattle.dimacs_records.specs.Forms.{Id, Wide}
-use Rattle.dimacs_records.specs.FieldReader.{finished}
+use Rattle.dimacs_records.specs.inside.FieldReader.{finished}
 use Rattle.dimacs_records.proofs.FormLemmas.{reads_form}
 use Rattle.dimacs_records.proofs.lines.labels.node.Goals as goal
 

@@ -4,7 +4,7 @@ use Rattle.std.specs.Prelude.{codes}
 use Rattle.dimacs_records.specs.declared.kinds.TextKind.TheVariants.{Min}
 use Rattle.dimacs_records.specs.declared.records.Record.TheVariants.{MinNode}
 use Rattle.dimacs_records.specs.Forms.{Id, Whole}
-use Rattle.dimacs_records.specs.FieldReader.{finished}
+use Rattle.dimacs_records.specs.inside.FieldReader.{finished}
 use Rattle.dimacs_records.proofs.FormLemmas.{reads_form}
 use Rattle.dimacs_records.proofs.lines.min.node.Goals as goal
 

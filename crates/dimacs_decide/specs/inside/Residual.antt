@@ -1,0 +1,101 @@
+-- Inside: what a search over the steps that a flow leaves has found.
+use Rattle.std.specs.Prelude.{ℕ, suc, zero, ◌≡◌, ◌≢◌, ◌⊎◌, ◌<◌, ◌≤◌, ◌+◌, ◌==◌, Bool, nat_lt, cond, List, [], ◌∷◌, ◌++◌, length, slice_index, ℤ, pos, ◌≤ℤ◌, ◌<ℤ◌}
+use Rattle.std.specs.List.{AllZip}
+use Rattle.dimacs_instance.specs.declared.network.ArcView.{ArcView}
+use Rattle.dimacs_judge.specs.Rows.{arc_at, amount_at}
+use Rattle.dimacs_instance.specs.declared.links.Side.{Side}
+use Rattle.dimacs_decide.specs.declared.search.Visit.{Visit}
+use Rattle.dimacs_instance.specs.Links.{end_of, other_end}
+use Rattle.dimacs_decide.specs.inside.Rooms.{room_at}
+
+-- every arc carries from 0 to its capacity
+abbrev pub KeepsBounds : List ArcView → List ℤ → Type 0
+KeepsBounds arcs x = AllZip (λ a z. (pos 0 ≤ℤ z) × (z ≤ℤ a.cap)) arcs x
+
+abbrev pub unvisited : Visit
+unvisited = record { room = pos 0; rank = 0; via = 0 }
+
+abbrev pub rank_of : (ℕ → Visit) → ℕ → ℕ
+rank_of visits v = (visits v).rank
+
+abbrev pub room_of : (ℕ → Visit) → ℕ → ℤ
+room_of visits v = (visits v).room
+
+abbrev pub via_of : (ℕ → Visit) → ℕ → ℕ
+via_of visits v = (visits v).via
+
+-- how much more can be sent along the arc of this index from this side
+abbrev pub room_on : List ArcView → List ℤ → Side → ℕ → ℤ
+room_on arcs x side k = room_at side (arc_at arcs k) (amount_at x k)
+
+-- v was reached along an arc with room, from a node that was reached before with no less room
+pub record IsReachedBy (arcs : List ArcView) (x : List ℤ) (visits : ℕ → Visit) (v : ℕ) : Type 0 where
+  pub side : Side
+  pub within : via_of visits v < length arcs
+  pub to : other_end side (arc_at arcs (via_of visits v)) ≡ v
+  pub reached : 0 < rank_of visits (end_of side (arc_at arcs (via_of visits v)))
+  pub rank : rank_of visits (end_of side (arc_at arcs (via_of visits v))) < rank_of visits v
+  pub some : pos 0 <ℤ room_of visits v
+  pub before : room_of visits v ≤ℤ room_of visits (end_of side (arc_at arcs (via_of visits v)))
+  pub room : room_of visits v ≤ℤ room_on arcs x side (via_of visits v)
+
+abbrev pub IsResidualTree : List ArcView → List ℤ → ℕ → (ℕ → Visit) → Type 0
+IsResidualTree arcs x s visits = (v : ℕ) → v ≢ s → 0 < rank_of visits v → IsReachedBy arcs x visits v
+
+-- how many of the nodes below n are not reached
+abbrev pub unreached : (ℕ → Visit) → ℕ → ℕ
+unreached visits zero = 0
+unreached visits (suc n) = unreached visits n + cond (rank_of visits n == 0) 1 0
+
+abbrev pub is_in : (ℕ → Visit) → ℕ → Bool
+is_in visits v = nat_lt 0 (rank_of visits v)
+
+-- each arc with room that is left from v on this side leads to a node that was reached
+abbrev pub IsSidePassed : List ArcView → List ℤ → (ℕ → Visit) → ℕ → Side → Type 0
+IsSidePassed arcs x visits v side =
+    (k : ℕ) → k < length arcs → end_of side (arc_at arcs k) ≡ v → pos 0 <ℤ room_on arcs x side k → 0 < rank_of visits (other_end side (arc_at arcs k))
+
+-- v stands in the queue after the first so many
+abbrev pub IsQueued : List ℕ → ℕ → ℕ → Type 0
+IsQueued queue done v = (j : ℕ) × (done ≤ j) × (j < length queue) × (slice_index queue j ≡ v)
+
+-- a search from s among so many nodes, of which the first so many of the queue are done
+pub record IsResidualSearch (nodes : ℕ) (arcs : List ArcView) (x : List ℤ) (s : ℕ) (visits : ℕ → Visit) (queue : List ℕ) (done : ℕ) : Type 0 where
+  pub tree : IsResidualTree arcs x s visits
+  pub source : 0 < rank_of visits s
+  pub rooms : (v : ℕ) → 0 < rank_of visits v → pos 0 <ℤ room_of visits v
+  pub ranks : (v : ℕ) → rank_of visits v + unreached visits (nodes + 1) ≤ nodes + 1
+  pub queued : (j : ℕ) → j < length queue → (slice_index queue j ≤ nodes) × (0 < rank_of visits (slice_index queue j))
+  pub pending : (v : ℕ) → 0 < rank_of visits v → IsQueued queue done v ⊎ ((side : Side) → IsSidePassed arcs x visits v side)
+
+-- the entry of a node that is reached from another by an arc that has so much room
+pub record IsNext (from : Visit) (arc : ℕ) (most : ℤ) (e : Visit) : Type 0 where
+  pub rank : e.rank ≡ from.rank + 1
+  pub via : e.via ≡ arc
+  pub some : pos 0 <ℤ e.room
+  pub before : e.room ≤ℤ from.room
+  pub room : e.room ≤ℤ most
+
+-- one entry is another
+pub record Becomes (visits : ℕ → Visit) (at : ℕ) (e : Visit) (visits' : ℕ → Visit) : Type 0 where
+  pub here : visits' at ≡ e
+  pub others : (v : ℕ) → v ≢ at → visits' v ≡ visits v
+
+-- nothing, where there is no room or the node was reached; else the node's entry, and its place in the queue
+abbrev pub Reaches : ℕ → ℕ → ℕ → ℤ → (ℕ → Visit) → List ℕ → (ℕ → Visit) → List ℕ → Type 0
+Reaches from to via room visits queue visits' queue' =
+    ((visits' ≡ visits) × (queue' ≡ queue) × ((room ≤ℤ pos 0) ⊎ (0 < rank_of visits to)))
+    ⊎ ((e : Visit) × IsNext (visits from) via room e × (rank_of visits to ≡ 0) × Becomes visits to e visits' × (queue' ≡ queue ++ to ∷ []))
+
+-- more nodes may be reached, and those in the queue keep their places
+pub record Grows (nodes : ℕ) (visits : ℕ → Visit) (queue : List ℕ) (visits' : ℕ → Visit) (queue' : List ℕ) : Type 0 where
+  pub reached : (v : ℕ) → 0 < rank_of visits v → 0 < rank_of visits' v
+  pub places : (j : ℕ) → j < length queue → slice_index queue' j ≡ slice_index queue j
+  pub longer : length queue ≤ length queue'
+  pub each : unreached visits' (nodes + 1) + length queue' ≡ unreached visits (nodes + 1) + length queue
+
+-- a search from s that came to t, or to all that can be reached
+pub record IsExplored (arcs : List ArcView) (x : List ℤ) (s t : ℕ) (visits : ℕ → Visit) : Type 0 where
+  pub source : 0 < rank_of visits s
+  pub tree : IsResidualTree arcs x s visits
+  pub closed : rank_of visits t ≡ 0 → (v : ℕ) → 0 < rank_of visits v → (side : Side) → IsSidePassed arcs x visits v side

@@ -1,0 +1,9 @@
+pub mod CertificateTests
+pub mod FlowTests
+pub mod Labels
+pub mod Leaving
+pub mod Marks
+pub mod Places
+pub mod QueryTests
+pub mod Ranges
+pub mod Tests

@@ -1,0 +1,14 @@
+-- Inside: the tests of cuts, of potentials and of labels.
+use Rattle.std.specs.Prelude.{List, [], ◌∷◌}
+use Rattle.dimacs_instance.specs.declared.network.ArcView.{ArcView}
+use Rattle.dimacs_claims.specs.Labels.{BlockValue}
+use Rattle.dimacs_judge.specs.Tests.{Row}
+use Rattle.dimacs_judge.specs.CertificateTests.{weight_row, support_row, relax_row}
+
+-- the tests of the labels of one block, and of the arcs between them
+abbrev pub distance_rows : List ArcView → BlockValue → List Row
+distance_rows arcs b = support_row arcs b ∷ relax_row arcs b ∷ []
+
+-- the tests of one block
+abbrev pub block_rows : List ArcView → BlockValue → List Row
+block_rows arcs b = weight_row arcs b ∷ distance_rows arcs b

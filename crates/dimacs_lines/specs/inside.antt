@@ -1,0 +1,4 @@
+pub mod Buffer
+pub mod Pages
+pub mod Plain
+pub mod Reader

@@ -1,0 +1,103 @@
+-- Inside: typed fields, taken from a line one after another, and the first fault among them.
+use Rattle.std.specs.Prelude.{ℕ, suc, ◌≡◌, ◌==◌, true, false, List, [], ◌∷◌, Bool, ◌||◌, not, ℤ, Option, Some, None, Result, Ok, Err, if◌then◌else◌, length, map}
+use Rattle.dimacs_lines.specs.Fields.{Run}
+use Rattle.dimacs_lines.specs.declared.numbers.NumberFault.{NumberFault}
+use Rattle.dimacs_lines.specs.declared.numbers.NumberFault.TheVariants as number_faults
+use Rattle.dimacs_records.specs.declared.kinds.TextKind.{TextKind}
+use Rattle.dimacs_records.specs.declared.records.Record.{Record}
+use Rattle.dimacs_records.specs.declared.reasons.Reason.{Reason}
+use Rattle.dimacs_records.specs.declared.reasons.Reason.TheVariants.{UnknownLine, FieldCount, BadNumber, NumberRange, BadWord}
+use Rattle.dimacs_records.specs.declared.faults.LineFault.{LineFault}
+use Rattle.dimacs_records.specs.declared.field_reader.Choice.{Choice}
+use Rattle.dimacs_records.specs.declared.field_reader.Choice.TheVariants.{Former, Latter}
+use Rattle.dimacs_records.specs.declared.field_reader.FieldReader.{FieldReader}
+use Rattle.dimacs_records.specs.Earlier.{or_else}
+use Rattle.dimacs_records.specs.Forms.{FieldType, Number, Radius, forms}
+use Rattle.dimacs_records.specs.Spelling.{Part, Amount, Says, SayAll, kind_of, letter_of, parts_of}
+use Rattle.dimacs_records.specs.Shapes.{field_condition, types_in}
+
+abbrev pub fault_at : ℕ → Reason → LineFault
+fault_at field reason = record { field = field; reason = reason }
+
+-- the first reason why a field of this type is refused
+abbrev pub field_reason : FieldType → List ℕ → Option Reason
+field_reason type text = if field_condition type text BadNumber then Some BadNumber else if field_condition type text NumberRange then Some NumberRange else if field_condition type text BadWord then Some BadWord else None
+
+abbrev pub fault_in : ℕ → Option Reason → Option LineFault
+fault_in f None = None
+fault_in f (Some reason) = Some (fault_at f reason)
+
+-- the first fault from left to right, the first field being field f
+abbrev pub fields_fault : ℕ → List FieldType → List (List ℕ) → Option LineFault
+fields_fault f (type ∷ types) (text ∷ texts) = or_else (fault_in f (field_reason type text)) (fields_fault (suc f) types texts)
+fields_fault f types texts = None
+
+-- the first fault of the fields behind a letter
+abbrev pub form_fault : List FieldType → List (List ℕ) → Option LineFault
+form_fault types texts = if length types == length texts then fields_fault 2 types texts else Some (fault_at 0 FieldCount)
+
+-- the next field, which is field f and has this type, was taken; it says this where it has no fault
+abbrev pub TakesNext : ℕ → FieldType → List Run → FieldReader → Part → FieldReader → Type 0
+TakesNext f type [] old part new = new.missing ≡ true
+TakesNext f type (run ∷ runs) old part new = (new.scan ≡ runs) × (new.missing ≡ old.missing) × (new.fault ≡ or_else old.fault (fault_in f (field_reason type run.text))) × (field_reason type run.text ≡ None → Says type run.text part)
+
+abbrev pub TakesField : ℕ → FieldType → FieldReader → Part → FieldReader → Type 0
+TakesField f type old part new = TakesNext f type old.scan old part new
+
+-- the last field, which may be left out, was taken: none is left, or the next one is field f of this type
+abbrev pub TakesLast : ℕ → List Run → FieldReader → Option ℤ → FieldReader → Type 0
+TakesLast f [] old None new = new ≡ old
+TakesLast f (run ∷ runs) old (Some radius) new = TakesNext f Radius (run ∷ runs) old (Amount radius) new
+TakesLast f runs old radius new = ⊥
+
+abbrev pub is_none_left : List Run → Bool
+is_none_left [] = true
+is_none_left (run ∷ runs) = false
+
+abbrev pub without_fault : Option LineFault → Record → Result (Option Record) LineFault
+without_fault None r = Ok (Some r)
+without_fault (Some fault) r = Err fault
+
+-- the record, where each field was there and has no fault, and none is left
+abbrev pub finished : FieldReader → Record → Result (Option Record) LineFault
+finished fields r = if fields.missing || not (is_none_left fields.scan) then Err (fault_at 0 FieldCount) else without_fault fields.fault r
+
+-- the word of two that was chosen
+abbrev pub word_of : List ℕ → List ℕ → Choice → List ℕ
+word_of former latter Former = former
+word_of former latter Latter = latter
+
+-- why a field is refused that spells no number in its range
+abbrev pub number_reason : NumberFault → Reason
+number_reason number_faults.BadNumber = BadNumber
+number_reason number_faults.NumberRange = NumberRange
+
+-- the number that a field spells in a range, or the first reason why it spells none
+abbrev pub ReadsAmount : ℤ → ℤ → List ℕ → Result ℤ Reason → Type 0
+ReadsAmount low high text (Ok n) = Says (Number low high) text (Amount n)
+ReadsAmount low high text (Err reason) = field_reason (Number low high) text ≡ Some reason
+
+-- nothing was taken yet
+abbrev pub IsUntouched : FieldReader → Type 0
+IsUntouched fields = (fields.missing ≡ false) × (fields.fault ≡ None)
+
+-- what the fields behind a letter of a kind give
+abbrev pub ReadsForm : TextKind → List ℕ → List FieldType → List (List ℕ) → Result (Option Record) LineFault → Type 0
+ReadsForm kind letter types texts (Ok None) = ⊥
+ReadsForm kind letter types texts (Ok (Some r)) = (kind_of r ≡ kind) × (letter_of r ≡ letter) × (form_fault types texts ≡ None) × SayAll types texts (parts_of r)
+ReadsForm kind letter types texts (Err fault) = form_fault types texts ≡ Some fault
+
+abbrev pub texts_left : FieldReader → List (List ℕ)
+texts_left fields = map (λ (run : Run). run.text) fields.scan
+
+abbrev pub text_of_run : Run → List ℕ
+text_of_run run = run.text
+
+-- what the fields behind a letter give, where they have these types: nothing of a letter that the kind does not know
+abbrev pub ReadsTypes : TextKind → List ℕ → Option (List FieldType) → List (List ℕ) → Result (Option Record) LineFault → Type 0
+ReadsTypes kind letter None behind result = result ≡ Err (fault_at 1 UnknownLine)
+ReadsTypes kind letter (Some types) behind result = ReadsForm kind letter types behind result
+
+-- what the line of a letter gives
+abbrev pub ReadsLetter : TextKind → List ℕ → List (List ℕ) → Result (Option Record) LineFault → Type 0
+ReadsLetter kind letter behind result = ReadsTypes kind letter (types_in (forms kind) letter (length behind)) behind result

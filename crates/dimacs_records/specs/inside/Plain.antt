@@ -1,0 +1,45 @@
+-- Inside: lines in the plain form: a letter, one blank before each field, and the line's end right after the last.
+use Rattle.std.specs.Prelude.{ℕ, ◌+◌, ◌≡◌, ◌≤◌, List, [], ◌∷◌, ◌++◌, length, drop, Option, Some, Result, Ok, Err}
+use Rattle.std.specs.List.{All}
+use Rattle.dimacs_lines.specs.Devices.{before_piece}
+use Rattle.dimacs_lines.specs.Lines.{lines}
+use Rattle.dimacs_lines.specs.Plain.{EndsAt}
+use Rattle.dimacs_lines.specs.Limits.{longest_line}
+use Rattle.dimacs_records.specs.declared.faults.ReadError.{ReadError}
+use Rattle.dimacs_records.specs.declared.kinds.TextKind.{TextKind}
+use Rattle.dimacs_records.specs.declared.records.Record.{Record}
+use Rattle.dimacs_records.specs.declared.plain.PlainLines.{PlainLines}
+use Rattle.dimacs_records.specs.inside.Driver.{IsReadSoFar, RefusesLine}
+use Rattle.dimacs_records.specs.Forms.{FieldType}
+use Rattle.dimacs_records.specs.LineReader.{ReadsLine}
+use Rattle.dimacs_records.specs.Readings.{LineRecord}
+use Rattle.dimacs_records.specs.Spelling.{Part, SayAll, texts_in}
+
+-- these texts stand there one after another: a blank after each but the last, and a line end after that
+abbrev pub Stand : List ℕ → ℕ → List (List ℕ) → ℕ → Type 0
+Stand bytes at [] next = ⊥
+Stand bytes at (text ∷ []) next = EndsAt bytes at 10 text next
+Stand bytes at (text ∷ other ∷ texts) next = (mid : ℕ) × EndsAt bytes at 32 text mid × Stand bytes mid (other ∷ texts) next
+
+-- the bytes begin with a line of this letter, whose fields have these types and say these parts; with its end it takes so many bytes
+pub record IsPlainLine (bytes : List ℕ) (letter : ℕ) (types : List FieldType) (parts : List Part) (size : ℕ) : Type 0 where
+  pub texts : List (List ℕ)
+  pub begins : bytes ≡ letter ∷ 32 ∷ drop 2 bytes
+  pub stand : Stand bytes 2 texts size
+  pub short : All (λ (text : List ℕ). length text ≤ 40) texts
+  pub says : SayAll types texts parts
+
+-- the first line of the bytes is whole and within the limits, and says this record; with its end it takes so many bytes
+pub record SaysFirst (kind : TextKind) (bytes : List ℕ) (r : Record) (size : ℕ) : Type 0 where
+  pub line : List ℕ
+  pub there : bytes ≡ line ++ 10 ∷ drop size bytes
+  pub size_is : size ≡ length line + 1
+  pub within : size ≤ length bytes
+  pub first : (rest : List ℕ) → lines (line ++ 10 ∷ rest) ≡ line ∷ lines rest
+  pub short : length line ≤ longest_line
+  pub reads : ReadsLine kind (texts_in line) (Ok (Some r))
+
+-- the first lines of the bytes held were read, and what follows them is left; or why one of them is refused
+abbrev pub TakesPlain : TextKind → List (List ℕ) → ℕ → List ℕ → Option (List ℕ) → (List LineRecord → Type 0) → Result PlainLines ReadError → Type 0
+TakesPlain kind all given held coming stands_for (Ok taken) = IsReadSoFar kind all (given + taken.lines) (before_piece (drop taken.bytes held) coming) stands_for
+TakesPlain kind all given held coming stands_for (Err error) = RefusesLine kind all error

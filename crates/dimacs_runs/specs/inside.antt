@@ -1,0 +1,6 @@
+pub mod Commands
+pub mod Judgings
+pub mod Produced
+pub mod Runs
+pub mod Told
+pub mod Verdicts

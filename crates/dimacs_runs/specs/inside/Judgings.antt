@@ -1,0 +1,67 @@
+-- Inside: what is told of an instance, a claim and a certificate.
+use Rattle.std.specs.Prelude.{ℕ, ◌≡◌, ◌⊎◌, List, Result, Ok, Err}
+use Rattle.dimacs_records.specs.declared.faults.ReadError.{ReadError}
+use Rattle.dimacs_records.specs.declared.faults.ReadError.TheVariants as read_errors
+use Rattle.dimacs_records.specs.Faults.{Fault}
+use Rattle.dimacs_records.specs.Texts.{Reads}
+use Rattle.dimacs_judge.specs.declared.verdict.JudgeError.{JudgeError}
+use Rattle.dimacs_judge.specs.declared.verdict.JudgeError.TheVariants as judge_errors
+use Rattle.dimacs_judge.specs.declared.verdict.Verdict.{Verdict}
+use Rattle.dimacs_runs.specs.declared.outcome.Status.TheVariants.{Refused}
+use Rattle.dimacs_runs.specs.declared.outcome.RunError.{RunError}
+use Rattle.dimacs_runs.specs.declared.outcome.RunError.TheVariants.{Device, Memory}
+use Rattle.dimacs_runs.specs.declared.told.Told.{Told}
+use Rattle.dimacs_runs.specs.declared.told.Told.TheVariants as told
+use Rattle.dimacs_runs.specs.declared.texts_in_turn.Unread.{Unread}
+use Rattle.dimacs_runs.specs.Judgings.{TextSays, OneMore}
+
+-- what is told of a judge's answer
+abbrev pub answer_told : Result Verdict JudgeError → Result Told RunError
+answer_told (Ok verdict) = Ok (told.Yes verdict)
+answer_told (Err (judge_errors.Refused place reason)) = Ok (told.No place reason)
+answer_told (Err judge_errors.Memory) = Err Memory
+
+-- what is told of a text that could not be read
+abbrev pub error_told : Unread → ReadError → Result Told RunError
+error_told unread (read_errors.Refused place reason) = Ok (told.Fault unread.text place reason)
+error_told unread read_errors.Device = Err Device
+error_told unread read_errors.Memory = Err Memory
+
+abbrev pub ReadsIn : {V : Type 0} → TextSays V → Result V ReadError → Type 0
+ReadsIn text answer = Reads text.spells text.fault answer
+
+-- this text is the one that could not be read
+abbrev pub StopsAt : {V : Type 0} → TextSays V → Unread → Type 0
+StopsAt text unread = (unread.text.now ≡ text.name) × ReadsIn text (Err unread.error)
+
+abbrev pub ReadsOne : {T V : Type 0} → (T → V) → TextSays V → Result T Unread → Type 0
+ReadsOne said text (Ok value) = ReadsIn text (Ok (said value))
+ReadsOne said text (Err unread) = StopsAt text unread
+
+-- the texts are read one after another, up to the first that can't be
+abbrev pub ReadsTwo : {T U V W : Type 0} → (T → V) → (U → W) → TextSays V → TextSays W → Result (T × U) Unread → Type 0
+ReadsTwo f g x y (Ok values) = ReadsIn x (Ok (f values.0)) × ReadsIn y (Ok (g values.1))
+ReadsTwo f g x y (Err unread) = StopsAt x unread ⊎ ((v : _) × ReadsIn x (Ok v) × StopsAt y unread)
+
+abbrev pub ReadsThree : {T U S V W X : Type 0} → (T → V) → (U → W) → (S → X) → TextSays V → TextSays W → TextSays X → Result (T × U × S) Unread → Type 0
+ReadsThree f g h x y z (Ok values) = ReadsIn x (Ok (f values.0)) × ReadsIn y (Ok (g values.1)) × ReadsIn z (Ok (h values.2))
+ReadsThree f g h x y z (Err unread) = StopsAt x unread ⊎ ((v : _) × ReadsIn x (Ok v) × (StopsAt y unread ⊎ ((w : _) × ReadsIn y (Ok w) × StopsAt z unread)))
+
+-- a text of a solution is read into a place: it spells a solution that the placed values stand for
+abbrev pub PlacesOne : {T V : Type 0} → (V → T → Type 0) → TextSays V → Result T Unread → Type 0
+PlacesOne stands text (Ok placed) = (v : _) × stands v placed × ReadsIn text (Ok v)
+PlacesOne stands text (Err unread) = StopsAt text unread
+
+-- and another text after it
+abbrev pub ReadsPlaced : {T U V W : Type 0} → (V → T → Type 0) → (U → W) → TextSays V → TextSays W → Result (T × U) Unread → Type 0
+ReadsPlaced stands g x y (Ok values) = (v : _) × stands v values.0 × ReadsIn x (Ok v) × ReadsIn y (Ok (g values.1))
+ReadsPlaced stands g x y (Err unread) = StopsAt x unread ⊎ ((v : _) × ReadsIn x (Ok v) × StopsAt y unread)
+
+abbrev pub CountsError : ReadError → List ℕ → List ℕ → Type 0
+CountsError (read_errors.Refused place reason) old new = new ≡ old
+CountsError read_errors.Device old new = OneMore old new
+CountsError read_errors.Memory old new = new ≡ old
+
+abbrev pub CountsUnread : {X : Type 0} → Result X Unread → List ℕ → List ℕ → Type 0
+CountsUnread (Ok x) old new = new ≡ old
+CountsUnread (Err unread) old new = CountsError unread.error old new

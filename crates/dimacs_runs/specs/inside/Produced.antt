@@ -1,0 +1,95 @@
+-- Inside: what a producer's run puts, in texts and with a status.
+use Rattle.std.specs.Prelude.{ℕ, ◌≡◌, List, [], ◌∷◌, Option, Result, Ok, Err}
+use Rattle.dimacs_lines.specs.declared.device.DeviceFault.{DeviceFault}
+use Rattle.dimacs_claims.specs.Cuts.{canonical_cut}
+use Rattle.dimacs_claims.specs.LabelTexts.{canonical_labels}
+use Rattle.dimacs_claims.specs.Potentials.{canonical_potentials}
+use Rattle.dimacs_claims.specs.SolutionTexts.{canonical_solution, claimed}
+use Rattle.dimacs_judge.specs.declared.verdict.Verdict.TheVariants as verdicts
+use Rattle.dimacs_judge.specs.declared.verdict.Where.TheVariants.{Arc}
+use Rattle.dimacs_records.specs.declared.reasons.Reason.TheVariants as reasons
+use Rattle.dimacs_solve.specs.declared.error.SolveError.{SolveError}
+use Rattle.dimacs_solve.specs.declared.error.SolveError.TheVariants as solve_errors
+use Rattle.dimacs_solve.specs.declared.maximum.MaxAnswer.{MaxAnswer}
+use Rattle.dimacs_solve.specs.declared.maximum.MaxAnswer.TheVariants as answers
+use Rattle.dimacs_solve.specs.declared.least.MinAnswer.{MinAnswer}
+use Rattle.dimacs_solve.specs.declared.least.MinAnswer.TheVariants as least
+use Rattle.dimacs_runs.specs.declared.outcome.Status.{Status}
+use Rattle.dimacs_runs.specs.declared.outcome.RunError.{RunError}
+use Rattle.dimacs_runs.specs.declared.outcome.RunError.TheVariants.{Device, Memory}
+use Rattle.dimacs_runs.specs.declared.produced.Made.{Made}
+use Rattle.dimacs_runs.specs.declared.produced.Made.TheVariants.{Nothing, Maximum, Least, Set, Distances}
+use Rattle.dimacs_runs.specs.declared.produced.Produced.{Produced}
+use Rattle.dimacs_runs.specs.declared.told.Told.{Told}
+use Rattle.dimacs_runs.specs.declared.told.Told.TheVariants as told
+use Rattle.dimacs_runs.specs.Judgings.{OneMore}
+use Rattle.dimacs_runs.specs.Outputs.{AcceptAll, AcceptInTurn, MayTell}
+use Rattle.dimacs_runs.specs.inside.Told.{told_lines, told_status}
+
+-- the texts of the claim and of the certificate
+abbrev pub made_texts : Made → List (List ℕ)
+made_texts Nothing = [] ∷ [] ∷ []
+made_texts (Maximum solution cut) = canonical_solution (claimed solution) ∷ canonical_cut cut ∷ []
+made_texts (Least solution potentials) = canonical_solution (claimed solution) ∷ canonical_potentials potentials ∷ []
+made_texts (Set set) = [] ∷ canonical_cut set ∷ []
+made_texts (Distances labels) = [] ∷ canonical_labels labels ∷ []
+
+-- these texts and the report
+abbrev pub with_report : List (List ℕ) → List ℕ → List (List ℕ)
+with_report [] report = report ∷ []
+with_report (text ∷ texts) report = text ∷ with_report texts report
+
+abbrev pub produced_texts : Produced → List (List ℕ)
+produced_texts p = with_report (made_texts p.made) (told_lines p.told)
+
+-- nothing is claimed with labels, and with a set
+abbrev pub IsClaimless : Made → Type 0
+IsClaimless Nothing = Unit {0}
+IsClaimless (Maximum solution cut) = ⊥
+IsClaimless (Least solution potentials) = ⊥
+IsClaimless (Set set) = Unit {0}
+IsClaimless (Distances labels) = Unit {0}
+
+-- all texts were put, or some of them in turn
+abbrev pub PutTexts : Result Unit DeviceFault → List (List ℕ) → List (Option (List ℕ)) → List (Option (List ℕ)) → Type 0
+PutTexts (Ok done) texts old new = AcceptAll texts old new
+PutTexts (Err fault) texts old new = AcceptInTurn texts old new
+
+-- one sink has one more fault where a put failed, and none has otherwise
+abbrev pub CountsPuts : Result Unit DeviceFault → List ℕ → List ℕ → Type 0
+CountsPuts (Ok done) old new = new ≡ old
+CountsPuts (Err fault) old new = OneMore old new
+
+abbrev pub reported : Result Told RunError → Result Produced RunError
+reported (Ok t) = Ok (record { made = Nothing; told = t })
+reported (Err error) = Err error
+
+-- what is told of a producer's error
+abbrev pub refused : SolveError → Result Told RunError
+refused (solve_errors.NegativeWeight arc) = Ok (told.No (Arc arc) reasons.NegativeWeight)
+refused (solve_errors.Refused place reason) = Ok (told.No place reason)
+refused solve_errors.Memory = Err Memory
+
+-- what is told of the answer about a maximum flow
+abbrev pub maximum_produced : Result MaxAnswer SolveError → Result Produced RunError
+maximum_produced (Ok (answers.Optimal solution cut)) = Ok (record { made = Maximum solution cut; told = told.Yes (verdicts.Max solution.value) })
+maximum_produced (Ok answers.GaveUp) = reported (Ok told.GaveUp)
+maximum_produced (Err error) = reported (refused error)
+
+-- what is told of the answer about a flow of least cost
+abbrev pub least_produced : Result MinAnswer SolveError → Result Produced RunError
+least_produced (Ok (least.Optimal solution potentials)) = Ok (record { made = Least solution potentials; told = told.Yes (verdicts.Min solution.value) })
+least_produced (Ok (least.Infeasible set)) = Ok (record { made = Set set; told = told.Yes verdicts.Infeasible })
+least_produced (Ok least.GaveUp) = reported (Ok told.GaveUp)
+least_produced (Err error) = reported (refused error)
+
+-- what is produced, where something is, may be told
+abbrev pub MayProduce : (Status → List (List ℕ) → Type 0) → Result Produced RunError → Type 0
+MayProduce tells (Ok p) = MayTell tells (told_status p.told) (produced_texts p)
+MayProduce tells (Err error) = Unit {0}
+
+-- how a run ends that was to put this, or had nothing to tell
+abbrev pub EndsProducing : Result Produced RunError → Result Status RunError → List (Option (List ℕ)) → List (Option (List ℕ)) → List ℕ → List ℕ → Type 0
+EndsProducing (Ok p) (Ok status) old new faults counted = (status ≡ told_status p.told) × AcceptAll (produced_texts p) old new × (counted ≡ faults)
+EndsProducing (Ok p) (Err error) old new faults counted = (error ≡ Device) × AcceptInTurn (produced_texts p) old new × OneMore faults counted
+EndsProducing (Err error) result old new faults counted = (result ≡ Err error) × (new ≡ old) × (counted ≡ faults)

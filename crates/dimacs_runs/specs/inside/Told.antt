@@ -1,0 +1,37 @@
+-- Inside: what a run tells of a claim, in lines and with a status.
+use Rattle.std.specs.Prelude.{ℕ, ◌≡◌, List, Option, Result, Ok, Err}
+use Rattle.dimacs_lines.specs.Devices.{after_piece, one_more}
+use Rattle.dimacs_lines.specs.Puts.{AcceptsFront}
+use Rattle.dimacs_runs.specs.declared.outcome.Status.{Status}
+use Rattle.dimacs_runs.specs.declared.outcome.Status.TheVariants as statuses
+use Rattle.dimacs_runs.specs.declared.outcome.RunError.{RunError}
+use Rattle.dimacs_runs.specs.declared.outcome.RunError.TheVariants.{Device}
+use Rattle.dimacs_runs.specs.declared.told.Told.{Told}
+use Rattle.dimacs_runs.specs.declared.told.Told.TheVariants.{Yes, No, Fault, GaveUp}
+use Rattle.dimacs_runs.specs.Refusals.{refusal_line}
+use Rattle.dimacs_runs.specs.Runs.{TellsAlone}
+use Rattle.dimacs_runs.specs.Verdicts.{failure_line, gave_up_line}
+use Rattle.dimacs_runs.specs.inside.Verdicts.{verdict_lines}
+
+abbrev pub told_status : Told → Status
+told_status (Yes verdict) = statuses.Done
+told_status (No place reason) = statuses.Refused
+told_status (Fault text place reason) = statuses.Refused
+told_status GaveUp = statuses.GaveUp
+
+abbrev pub told_lines : Told → List ℕ
+told_lines (Yes verdict) = verdict_lines verdict
+told_lines (No place reason) = failure_line place reason
+told_lines (Fault text place reason) = refusal_line text.now place.line place.field reason
+told_lines GaveUp = gave_up_line
+
+-- what is told, where something is, is told alone
+abbrev pub ToldAlone : (Status → List ℕ → Type 0) → Result Told RunError → Type 0
+ToldAlone tells (Ok told) = TellsAlone tells (told_status told) (told_lines told)
+ToldAlone tells (Err error) = Unit {0}
+
+-- how a run ends that was to put this, or had nothing to tell
+abbrev pub EndsAfter : Result Told RunError → Result Status RunError → Option (List ℕ) → Option (List ℕ) → ℕ → ℕ → Type 0
+EndsAfter (Ok told) (Ok status) old new faults counted = (status ≡ told_status told) × (new ≡ after_piece old (told_lines told)) × (counted ≡ faults)
+EndsAfter (Ok told) (Err error) old new faults counted = (error ≡ Device) × AcceptsFront old (told_lines told) new × (counted ≡ one_more faults)
+EndsAfter (Err error) result old new faults counted = (result ≡ Err error) × (new ≡ old) × (counted ≡ faults)

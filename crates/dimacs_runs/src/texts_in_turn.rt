@@ -1,0 +1,128 @@
+//! Reading the texts of a claim, one after another.
+
+ghost use Rattle.std.specs.Prelude.{◌≡◌, ℕ, List, [], ◌∷◌, Some, IfOk};
+ghost use Rattle.dimacs_lines.specs.Lines.{lines};
+ghost use Rattle.dimacs_records.specs.declared.reasons.Reason.{Reason};
+ghost use Rattle.dimacs_records.specs.Faults.{Fault};
+ghost use Rattle.dimacs_records.specs.declared.kinds.TextKind.TheVariants as kinds;
+ghost use Rattle.dimacs_claims.specs.SolutionReading.{IsPlaced};
+ghost use Rattle.dimacs_claims.specs.SolutionTexts.{SpellsSolution};
+ghost use Rattle.dimacs_runs.specs.Judgings.{says};
+ghost use Rattle.dimacs_runs.specs.inside.Judgings.{CountsUnread, PlacesOne, ReadsOne, ReadsPlaced, ReadsTwo, ReadsThree, error_told};
+
+use crate::outcome::RunError;
+use crate::refusal::text_name;
+use crate::told::Told;
+use dimacs_claims::{Place, Placed, read_solution_into};
+use dimacs_lines::Source;
+use dimacs_records::{ReadError, Text, TextKind};
+use std::alloc::Global;
+
+/// A text that could not be read, by its name in refusals.
+#[derive(Clone, Copy)]
+pub(crate) struct Unread {
+    text: &'static str,
+    error: ReadError,
+}
+
+impl Unread {
+    /// What is told of it.
+    pub(crate) fn told(self) -> Result<Told, RunError>
+        ensures { result ≡ error_told self self.error }
+    {
+        match self.error {
+            ReadError::Refused(place, reason) => Ok(Told::Fault(self.text, place, reason)),
+            ReadError::Device => Err(RunError::Device),
+            ReadError::Memory => Err(RunError::Memory),
+        }
+    }
+}
+
+/// Reads one text.
+pub(crate) fn read<V: Text, P: Source>(alloc: Global, source: &mut P) -> Result<V, Unread>
+    ensures reads { (a : List ℕ) → P.coming source.old ≡ Some a → ReadsOne V.said (says V.kind V.spells a) result }
+    ensures faults { CountsUnread result (P.faults source.old ∷ []) (P.faults source.new ∷ []) }
+    ensures lawful { IfOk result (λ value. V.lawful (V.said value)) }
+{
+    match V::read(alloc, source) {
+        Ok(value) => Ok(value),
+        Err(error) => Err(Unread {
+            text: text_name(V::kind()),
+            error,
+        }),
+    }
+}
+
+/// Reads two texts. The second isn't pulled where the first has a fault.
+pub(crate) fn read_two<V: Text, W: Text, P: Source, Q: Source>(
+    alloc: Global,
+    first: &mut P,
+    second: &mut Q,
+) -> Result<(V, W), Unread>
+    ensures reads { (a b : List ℕ) → P.coming first.old ≡ Some a → Q.coming second.old ≡ Some b → ReadsTwo V.said W.said (says V.kind V.spells a) (says W.kind W.spells b) result }
+    ensures faults { CountsUnread result (P.faults first.old ∷ Q.faults second.old ∷ []) (P.faults first.new ∷ Q.faults second.new ∷ []) }
+    ensures first_alone { (a : List ℕ) (l f : ℕ) (r : Reason) → P.coming first.old ≡ Some a → Fault V.kind (lines a) l f r → second.new ≡ second.old }
+    ensures lawful { IfOk result (λ values. V.lawful (V.said values.0) × W.lawful (W.said values.1)) }
+{
+    let value = read(alloc, first)?;
+    let other = read(alloc, second)?;
+    Ok((value, other))
+}
+
+/// Reads three texts. None is pulled behind one that has a fault.
+pub(crate) fn read_three<V: Text, W: Text, X: Text, P: Source, Q: Source, R: Source>(
+    alloc: Global,
+    first: &mut P,
+    second: &mut Q,
+    third: &mut R,
+) -> Result<(V, W, X), Unread>
+    ensures reads { (a b c : List ℕ) → P.coming first.old ≡ Some a → Q.coming second.old ≡ Some b → R.coming third.old ≡ Some c → ReadsThree V.said W.said X.said (says V.kind V.spells a) (says W.kind W.spells b) (says X.kind X.spells c) result }
+    ensures faults { CountsUnread result (P.faults first.old ∷ Q.faults second.old ∷ R.faults third.old ∷ []) (P.faults first.new ∷ Q.faults second.new ∷ R.faults third.new ∷ []) }
+    ensures first_alone { (a : List ℕ) (l f : ℕ) (r : Reason) → P.coming first.old ≡ Some a → Fault V.kind (lines a) l f r → (second.new ≡ second.old) × (third.new ≡ third.old) }
+    ensures second_alone { (b : List ℕ) (l f : ℕ) (r : Reason) → Q.coming second.old ≡ Some b → Fault W.kind (lines b) l f r → third.new ≡ third.old }
+    ensures lawful { IfOk result (λ values. V.lawful (V.said values.0) × W.lawful (W.said values.1) × X.lawful (X.said values.2)) }
+{
+    let value = read(alloc, first)?;
+    let other = read(alloc, second)?;
+    let last = read(alloc, third)?;
+    Ok((value, other, last))
+}
+
+/// Reads a solution into a place, and the text that certifies it. The second isn't pulled where the first has a fault.
+pub(crate) fn read_placed<E: Place, W: Text, P: Source, Q: Source>(
+    alloc: Global,
+    place: E,
+    first: &mut P,
+    second: &mut Q,
+) -> Result<(Placed<E>, W), Unread>
+    requires empty { E.stands_for place [] }
+    ensures reads { (a b : List ℕ) → P.coming first.old ≡ Some a → Q.coming second.old ≡ Some b
+        → ReadsPlaced (λ solution placed. IsPlaced placed.value placed.value_line (E.stands_for placed.place) solution) W.said (says kinds.Solution SpellsSolution a) (says W.kind W.spells b) result }
+    ensures fixed { IfOk result (λ values. E.fixed values.0.place ≡ E.fixed place) }
+    ensures faults { CountsUnread result (P.faults first.old ∷ Q.faults second.old ∷ []) (P.faults first.new ∷ Q.faults second.new ∷ []) }
+    ensures first_alone { (a : List ℕ) (l f : ℕ) (r : Reason) → P.coming first.old ≡ Some a → Fault kinds.Solution (lines a) l f r → second.new ≡ second.old }
+    ensures lawful { IfOk result (λ values. W.lawful (W.said values.1)) }
+{
+    let placed = place_solution(alloc, place, first)?;
+    let certificate = read(alloc, second)?;
+    Ok((placed, certificate))
+}
+
+fn place_solution<E: Place, P: Source>(
+    alloc: Global,
+    place: E,
+    source: &mut P,
+) -> Result<Placed<E>, Unread>
+    requires empty { E.stands_for place [] }
+    ensures reads { (a : List ℕ) → P.coming source.old ≡ Some a → PlacesOne (λ solution placed. IsPlaced placed.value placed.value_line (E.stands_for placed.place) solution) (says kinds.Solution SpellsSolution a) result }
+    ensures fixed { IfOk result (λ placed. E.fixed placed.place ≡ E.fixed place) }
+    ensures faults { CountsUnread result (P.faults source.old ∷ []) (P.faults source.new ∷ []) }
+{
+    match read_solution_into(alloc, place, source) {
+        Ok(placed) => Ok(placed),
+        Err(error) => Err(Unread {
+            text: text_name(TextKind::Solution),
+            error,
+        }),
+    }
+}

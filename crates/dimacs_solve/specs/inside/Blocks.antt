@@ -1,0 +1,25 @@
+-- Inside: the blocks of all sources.
+use Rattle.std.specs.Prelude.{ℕ, ◌≡◌, List, [], All, map}
+use Rattle.std.specs.Ordering.{nat_cmp}
+use Rattle.std.specs.FinSet as set
+use Rattle.dimacs_claims.specs.Labels.{AreLabels, AreSources, BlockValue, LabelsValue, with_block}
+use Rattle.dimacs_judge.specs.QueryTests.{HasBlock}
+use Rattle.dimacs_solve.specs.declared.adjacency.Adjacency.{Adjacency}
+use Rattle.dimacs_solve.specs.Paths.{block_source, distinct_after}
+use Rattle.dimacs_solve.specs.inside.Search.{IsPathTree}
+
+-- one block more, of this source
+pub record AddsBlock (a : Adjacency) (source : ℕ) (old new : LabelsValue) : Type 0 where
+  pub block : BlockValue
+  pub with : new ≡ with_block old block
+  pub tree : IsPathTree a source block
+  pub lawful : AreLabels new
+  pub sources : (sources : set.FinSet nat_cmp) → AreSources sources old.blocks → AreSources (set.insert sources source) new.blocks
+
+-- a block for each of the sources
+pub record AreSolved (a : Adjacency) (sources : List ℕ) (labels : LabelsValue) : Type 0 where
+  pub lawful : AreLabels labels
+  pub nodes : labels.nodes ≡ a.nodes
+  pub trees : All (λ b. IsPathTree a b.source b) labels.blocks
+  pub sources_are : map block_source labels.blocks ≡ distinct_after [] sources
+  pub found : All (HasBlock labels.blocks) sources

@@ -1,0 +1,128 @@
+-- Inside: a search from one source.
+use Rattle.std.specs.Prelude.{ℕ, zero, suc, ◌≡◌, ◌≤◌, ◌+◌, ◌-◌, ◌*◌, ◌⊎◌, ◌&&◌, if◌then◌else◌, cond, Bool, true, false, List, ◌∷◌, All, Contains, Option, Some, None, length, IsPermutation, ℤ, pos, ◌≤ℤ◌}
+use Rattle.dimacs_records.specs.Ranges.{IsNode}
+use Rattle.dimacs_claims.specs.declared.block.Label.{Label}
+use Rattle.dimacs_claims.specs.Labels.{BlockValue, IsBlock, label}
+use Rattle.dimacs_solve.specs.declared.adjacency.Adjacency.{Adjacency}
+use Rattle.dimacs_solve.specs.declared.adjacency.Hop.{Hop}
+use Rattle.dimacs_solve.specs.declared.frontier.Reach.{Reach}
+use Rattle.dimacs_solve.specs.Adjacency.{AreByNode, out}
+use Rattle.dimacs_solve.specs.inside.Adjacency.{hop_to}
+use Rattle.dimacs_solve.specs.inside.Frontiers.{IsNearest}
+use Rattle.dimacs_solve.specs.inside.Marks.{Known, IsSettled, IsReachedWithin, Sets, reached}
+use Rattle.dimacs_solve.specs.Paths.{IsNearestFirst}
+
+abbrev pub is_settled : Known → Bool
+is_settled k = k.found && k.final
+
+-- how many of the nodes up to n are settled
+unfoldable pub settled_count : (ℕ → Known) → ℕ → ℕ
+settled_count marks zero = 0
+settled_count marks (suc n) = settled_count marks n + cond (is_settled (marks (suc n))) 1 0
+
+-- the distance of a node that is settled
+abbrev pub settled_label : Known → Option ℤ
+settled_label k = if is_settled k then Some (pos k.dist) else None
+
+-- a hop from a settled node leads this way
+pub record IsWay (a : Adjacency) (marks : ℕ → Known) (e : Reach ℕ) : Type 0 where
+  pub weight : ℕ
+  pub node : IsNode a.nodes e.pred
+  pub pred : IsSettled (marks e.pred)
+  pub hop : Contains (out a e.pred) (hop_to e.node weight)
+  pub adds : e.dist ≡ (marks e.pred).dist + weight
+
+-- a way that waits is no shorter than the floor, and no shorter than the node's mark says
+pub record IsWayWaiting (a : Adjacency) (floor : ℕ) (marks : ℕ → Known) (e : Reach ℕ) : Type 0 where
+  pub way : IsWay a marks e
+  pub beyond : floor ≤ e.dist
+  pub within : IsReachedWithin (marks e.node) e.dist
+  pub bound : e.dist ≤ a.greatest * settled_count marks a.nodes
+
+-- a way to v of this length waits
+abbrev pub IsPending : List (Reach ℕ) → ℕ → ℕ → Type 0
+IsPending front v d = (p : ℕ) × Contains front (record { dist = d; node = v; pred = p })
+
+-- the marks and the ways that wait, where no settled node is beyond the floor
+pub record IsFront (a : Adjacency) (floor : ℕ) (marks : ℕ → Known) (front : List (Reach ℕ)) : Type 0 where
+  pub adjacent : AreByNode a
+  pub waiting : (e : Reach ℕ) → Contains front e → IsWayWaiting a floor marks e
+  pub pending : (v : ℕ) → (marks v).found ≡ true → (marks v).final ≡ false → IsPending front v (marks v).dist
+  pub below : (v : ℕ) → IsSettled (marks v) → (marks v).dist ≤ floor
+
+-- settled nodes stay as they are, no more are settled, and no mark rises
+pub record Lowers (old new : ℕ → Known) : Type 0 where
+  pub kept : (v : ℕ) → IsSettled (old v) → new v ≡ old v
+  pub none : (v : ℕ) → IsSettled (new v) → new v ≡ old v
+  pub within : (v d : ℕ) → IsReachedWithin (old v) d → IsReachedWithin (new v) d
+
+-- a way is taken up where it is shorter than the node's mark
+abbrev pub Offers : Reach ℕ → (ℕ → Known) → List (Reach ℕ) → (ℕ → Known) → List (Reach ℕ) → Type 0
+Offers e marks front marks' front' =
+    (IsReachedWithin (marks e.node) e.dist × (marks' ≡ marks) × (front' ≡ front))
+    ⊎ ((¬ IsReachedWithin (marks e.node) e.dist) × Sets marks e.node (reached e.dist) marks' × IsPermutation (e ∷ front) front')
+
+-- the hop's head is reached, at no more than d and the weight
+abbrev pub IsHopPassed : (ℕ → Known) → ℕ → Hop → Type 0
+IsHopPassed marks d hop = IsReachedWithin (marks hop.head) (d + hop.weight)
+
+-- the node was settled at this distance, no settled node is farther, and a hop more stays below the product
+pub record IsReady (a : Adjacency) (v dist : ℕ) (marks : ℕ → Known) (front : List (Reach ℕ)) : Type 0 where
+  pub node : IsNode a.nodes v
+  pub settled : IsSettled (marks v)
+  pub at : (marks v).dist ≡ dist
+  pub bound : dist + a.greatest ≤ a.greatest * settled_count marks a.nodes
+  pub waits : IsFront a dist marks front
+
+-- the ways that lead on from the node were offered
+pub record Relaxes (a : Adjacency) (v dist : ℕ) (old : ℕ → Known) (ways : List (Reach ℕ)) (new : ℕ → Known) (front : List (Reach ℕ)) : Type 0 where
+  pub waits : IsFront a dist new front
+  pub lowers : Lowers old new
+  pub passed : All (IsHopPassed new dist) (out a v)
+  pub few : length front ≤ length ways + length a.hops.items
+
+-- a hop from the label's predecessor makes it
+pub record IsMade (a : Adjacency) (b : BlockValue) (l : Label) : Type 0 where
+  pub base : ℕ
+  pub weight : ℕ
+  pub pred : label b l.pred ≡ Some (pos base)
+  pub hop : Contains (out a l.pred) (hop_to l.id weight)
+  pub adds : l.dist ≡ pos (base + weight)
+
+-- between two ways
+pub record IsPathSearch (a : Adjacency) (b : BlockValue) (marks : ℕ → Known) (front : List (Reach ℕ)) : Type 0 where
+  pub floor : ℕ
+  pub waits : IsFront a floor marks front
+  pub labelled : (v : ℕ) → label b v ≡ settled_label (marks v)
+  pub counted : settled_count marks a.nodes ≡ length b.labels + 1
+  pub unbounded : b.radius ≡ None
+  pub lawful : IsBlock a.nodes b
+  pub made : All (IsMade a b) b.labels
+  pub low : All (λ (l : Label). l.dist ≤ℤ pos floor) b.labels
+  pub nearest_first : IsNearestFirst b.labels
+  pub passed : (u : ℕ) → IsSettled (marks u) → All (IsHopPassed marks (marks u).dist) (out a u)
+
+-- the nearest way was taken from those that waited
+pub record IsPopped (a : Adjacency) (b : BlockValue) (marks : ℕ → Known) (e : Reach ℕ) (front : List (Reach ℕ)) : Type 0 where
+  pub before : List (Reach ℕ)
+  pub moved : IsPermutation before (e ∷ front)
+  pub nearest : IsNearest e front
+  pub search : IsPathSearch a b marks before
+
+-- how much is left to do
+abbrev pub work : Adjacency → (ℕ → Known) → List (Reach ℕ) → ℕ
+work a marks front = (a.nodes - settled_count marks a.nodes) * (length a.hops.items + 1) + length front
+
+-- where v has a label, each hop from it leads to a node with a label, which is at most the label of v and the weight
+abbrev pub IsClosed : Adjacency → BlockValue → Type 0
+IsClosed a b = (u d : ℕ) → label b u ≡ Some (pos d) → All (λ hop. (e : ℕ) × (label b hop.head ≡ Some (pos e)) × (e ≤ d + hop.weight)) (out a u)
+
+-- the labels of a search that is over
+pub record IsPathTree (a : Adjacency) (source : ℕ) (b : BlockValue) : Type 0 where
+  pub from : b.source ≡ source
+  pub unbounded : b.radius ≡ None
+  pub lawful : IsBlock a.nodes b
+  pub made : All (IsMade a b) b.labels
+  pub nearest_first : IsNearestFirst b.labels
+  pub positive : (v : ℕ) (z : ℤ) → label b v ≡ Some z → (d : ℕ) × (z ≡ pos d)
+  pub closed : IsClosed a b
