@@ -1,6 +1,6 @@
 -- The records of a solution.
-use Rattle.std.proofs.Common.{◌≡◌, ℕ, suc, ◌≤◌, ◌∷◌, ◌++◌, [], List, true, false, Option, Some, None, Result, Ok, Err, length, map, ◌+◌, refl, ap, sym, ◌∙◌, arith, append_assoc}
-use Rattle.std.specs.Prelude.{ℤ, pos, neg_ℤ, ◌^◌, codes, is_some, IfOk, IfErr, OnOk, OnErr, IsErrAnd, ◌↔◌}
+use Rattle.std.proofs.Common.{◌≡◌, ℕ, suc, ◌≤◌, ◌∷◌, ◌++◌, [], List, Bool, true, false, Option, Some, None, Result, Ok, Err, length, map, ◌+◌, refl, ap, ap₂, sym, ◌∙◌, arith, append_assoc}
+use Rattle.std.specs.Prelude.{ℤ, pos, neg_ℤ, ◌^◌, codes, is_some, not, IfOk, IfErr, OnOk, OnErr, IsErrAnd, ◌↔◌}
 use Rattle.std.specs.List.{All, list_any}
 use Rattle.std.specs.Result.{result_map_both}
 use Rattle.std.proofs.lemmas.Int.{ints}
@@ -12,30 +12,30 @@ use Rattle.dimacs_lines.specs.Number.{IsWithin}
 use Rattle.dimacs_records.specs.declared.kinds.TextKind.TheVariants as kinds
 use Rattle.dimacs_records.specs.declared.records.Record.{Record}
 use Rattle.dimacs_records.specs.declared.records.Record.TheVariants as records
-use Rattle.dimacs_records.specs.declared.reasons.Reason.TheVariants.{SolutionTwice, SolutionMissing}
 use Rattle.dimacs_records.specs.declared.faults.TakeError.{TakeError}
 use Rattle.dimacs_records.specs.declared.faults.ReadError.{ReadError}
 use Rattle.dimacs_records.specs.declared.faults.ReadError.TheVariants as read_errors
-use Rattle.dimacs_records.specs.Earlier.{problem_in, is_value}
-use Rattle.dimacs_records.specs.Faults.{FirstAtEnd, Spell}
-use Rattle.dimacs_records.specs.inside.FieldReader.{fault_at}
+use Rattle.dimacs_records.specs.Earlier.{counted_in, is_short, is_value, problem_in}
+use Rattle.dimacs_records.specs.Faults.{Spell}
 use Rattle.dimacs_records.specs.Spelling.{parts_of, texts_in}
 use Rattle.dimacs_records.specs.Forms.{form, Wide, Id, Whole}
 use Rattle.dimacs_records.specs.Canonical.{CanBeSpelled, FitAll, canonical_text}
-use Rattle.dimacs_records.specs.Readings.{LineRecord, AreBefore, AreSpelledBefore, IsOfKind, ReadsLines, IsAllowed, RefusesRecord, IsFirstCondition, IsComplete, on_line, records_of, numbered}
+use Rattle.dimacs_records.specs.Readings.{LineRecord, AreBefore, AreSpelledBefore, IsOfKind, ReadsLines, IsAllowed, RefusesRecord, on_line, records_of, numbered}
+use Rattle.dimacs_records.specs.Tests.{Passes, IsToldOf, TellsEnd}
 use Rattle.dimacs_records.specs.Texts.{AreSpelled}
 use Rattle.dimacs_records.specs.inside.Texts.{AreFaultless}
 use Rattle.dimacs_records.proofs.CanonicalLaws.{canonical_spelled}
-use Rattle.dimacs_records.proofs.ConditionLemmas.{is_first_condition, is_allowed, is_first_at_end, is_complete}
+use Rattle.dimacs_records.proofs.ConditionLemmas.{is_allowed, is_complete}
 use Rattle.dimacs_records.proofs.FitLaws.{fits_of}
+use Rattle.dimacs_records.proofs.OrderLemmas.{allowed_told}
 use Rattle.dimacs_records.proofs.ReadLaws.{reads_exactly, spelled_of_faultless}
 use Rattle.dimacs_records.proofs.SplitLemmas.{image_at}
 use Rattle.dimacs_claims.specs.declared.solution.Entry.{Entry}
 use Rattle.dimacs_claims.specs.declared.solution.Solution.{Solution}
 use Rattle.dimacs_claims.specs.declared.solution.ValueLine.{ValueLine}
-use Rattle.dimacs_claims.specs.SolutionTexts.{SolutionValue, StandsAmong, GivesSolution, SpellsSolution, IsLawful, IsLawfulEntry, canonical_solution, claimed, entry_line, entry_record, on_lines_from, renumbered, solution_records}
+use Rattle.dimacs_claims.specs.SolutionTexts.{SolutionValue, GivesSolution, SpellsSolution, IsLawful, IsLawfulEntry, canonical_solution, claimed, entry_line, entry_record, on_lines_from, renumbered, solution_records}
 use Rattle.dimacs_claims.specs.SolutionReading.{AreTaken, StandsForSolution, GivesPlaced, IsPlaced, IsPlacedLawful, AnswersAlike, ReadsLike}
-use Rattle.dimacs_claims.specs.inside.SolutionReading.{TakesSolutionLine}
+use Rattle.dimacs_claims.specs.inside.SolutionReading.{TakesSolutionLine, earlier_value}
 
 abbrev IsSolutionLine : LineRecord → Type 0
 IsSolutionLine r = IsOfKind kinds.Solution r.says
@@ -48,70 +48,26 @@ records_of-entries : (es : List Entry) → records_of (map entry_line es) ≡ ma
 records_of-entries [] = refl
 records_of-entries (e ∷ es) = ap (λ rs. entry_record e ∷ rs) (records_of-entries es)
 
-no_value_in_entries : (es : List Entry) → list_any is_value (records_of (map entry_line es)) ≡ false
-no_value_in_entries [] = refl
-no_value_in_entries (e ∷ es) = no_value_in_entries es
+-- no problem line and no line that one counts; and whether a value is among them
+abbrev Say : Bool → List Record → Type 0
+Say valued rs = (problem_in rs ≡ None) × ((counted_in rs ≡ 0) × (list_any is_value rs ≡ valued))
 
-no_problem_in_entries : (es : List Entry) → problem_in (records_of (map entry_line es)) ≡ None
-no_problem_in_entries [] = refl
-no_problem_in_entries (e ∷ es) = no_problem_in_entries es
+entries_say : (es : List Entry) → Say false (records_of (map entry_line es))
+entries_say [] = (refl, (refl, refl))
+entries_say (e ∷ es) = entries_say es
 
 -- the records of entries, and among them that of a value
-value_among : (es : List Entry) (before after : List LineRecord) (line : ℕ) (value : ℤ) → map entry_line es ≡ before ++ after
-    → list_any is_value (records_of (before ++ on_line line (value_record value) ∷ after)) ≡ true
-value_among es [] after line value e = refl
-value_among (x ∷ es) (b ∷ before) after line value e =
+value_says : (es : List Entry) (before after : List LineRecord) (line : ℕ) (value : ℤ) → map entry_line es ≡ before ++ after
+    → Say true (records_of (before ++ on_line line (value_record value) ∷ after))
+value_says es [] after line value e = let says = rw e at (entries_say es) in (says.0, (says.1.0, refl))
+value_says (x ∷ es) (b ∷ before) after line value e =
     let first : b ≡ entry_line x = cc in
-    rw first (value_among es before after line value (cc))
-value_among [] (b ∷ before) after line value e = absurd (cc)
-
-no_problem_among : (es : List Entry) (before after : List LineRecord) (line : ℕ) (value : ℤ) → map entry_line es ≡ before ++ after
-    → problem_in (records_of (before ++ on_line line (value_record value) ∷ after)) ≡ None
-no_problem_among es [] after line value e = rw (← e) (no_problem_in_entries es)
-no_problem_among (x ∷ es) (b ∷ before) after line value e =
-    let first : b ≡ entry_line x = cc in
-    rw first (no_problem_among es before after line value (cc))
-no_problem_among [] (b ∷ before) after line value e = absurd (cc)
+    rw first (value_says es before after line value (cc))
+value_says [] (b ∷ before) after line value e = absurd (cc)
 
 -- an entry is taken behind any records
 entry_allowed : (earlier : List Record) (e : Entry) → IsAllowed earlier (entry_record e)
 entry_allowed earlier e = is_allowed earlier (entry_record e) refl
-
--- a value is taken where none came before
-first_value_allowed : (earlier : List Record) (value : ℤ) → list_any is_value earlier ≡ false → IsAllowed earlier (value_record value)
-first_value_allowed earlier value none = is_allowed earlier (value_record value) (rw none refl)
-
-value_allowed : (es : List Entry) (rs : List LineRecord) (value : ℤ) → rs ≡ map entry_line es → IsAllowed (records_of rs) (value_record value)
-value_allowed es rs value rs_are = rw rs_are (first_value_allowed (records_of (map entry_line es)) value (no_value_in_entries es))
-
-value_twice : (es : List Entry) (rs : List LineRecord) (line : ℕ) (first value : ℤ) → StandsAmong (on_line line (value_record first)) (map entry_line es) rs
-    → IsFirstCondition (records_of rs) (value_record value) (fault_at 0 SolutionTwice)
-value_twice es rs line first value h =
-    let twice : list_any is_value (records_of rs) ≡ true = rw h.all_are (value_among es h.before h.after line first h.others_are) in
-    is_first_condition (records_of rs) (value_record value) (fault_at 0 SolutionTwice) (rw twice refl)
-
-pub no_value_at_end : (es : List Entry) (rs : List LineRecord) → rs ≡ map entry_line es → FirstAtEnd kinds.Solution (records_of rs) SolutionMissing
-no_value_at_end es rs rs_are = rw rs_are (is_first_at_end kinds.Solution (records_of (map entry_line es)) SolutionMissing (rw (no_problem_in_entries es, no_value_in_entries es) refl))
-
-pub complete_with_value : (es : List Entry) (rs : List LineRecord) (line : ℕ) (value : ℤ) → StandsAmong (on_line line (value_record value)) (map entry_line es) rs → IsComplete kinds.Solution (records_of rs)
-complete_with_value es rs line value h =
-    let has : list_any is_value (records_of rs) ≡ true = rw h.all_are (value_among es h.before h.after line value h.others_are) in
-    let none : problem_in (records_of rs) ≡ None = rw h.all_are (no_problem_among es h.before h.after line value h.others_are) in
-    is_complete kinds.Solution (records_of rs) (rw (none, has) refl)
-
--- what is taken behind a reading's records
-value_taken : (es : List Entry) (rs : List LineRecord) (line : ℕ) (value : ℤ) → rs ≡ map entry_line es → StandsAmong (on_line line (value_record value)) (map entry_line es) (rs ++ on_line line (value_record value) ∷ [])
-value_taken es rs line value rs_are = record { before = rs; after = []; others_are = sym rs_are ∙ sym (append-nil rs); all_are = refl }
-
--- behind a value, and behind none
-pub value_came : (value : Option ValueLine) (es : List Entry) (rs : List LineRecord) (other : ℤ) → is_some value ≡ true → AreTaken value es rs → IsFirstCondition (records_of rs) (value_record other) (fault_at 0 SolutionTwice)
-value_came (Some v) es rs other came h = value_twice es rs v.line v.value other h
-value_came None es rs other came h = absurd (cc)
-
-pub value_first : (value : Option ValueLine) (es : List Entry) (rs : List LineRecord) (line : ℕ) (said : ℤ) → is_some value ≡ false → AreTaken value es rs
-    → IsAllowed (records_of rs) (value_record said) × StandsAmong (on_line line (value_record said)) (map entry_line es) (rs ++ on_line line (value_record said) ∷ [])
-value_first None es rs line said none h = (value_allowed es rs said h, value_taken es rs line said h)
-value_first (Some v) es rs line said none h = absurd (cc)
 
 -- a record among those of a solution is an entry's, or that of a value behind entries alone
 data Place (before : List Record) (r : Record) : Type 0 where
@@ -141,14 +97,16 @@ place_of [] (b ∷ before) after line value earlier more r e h = absurd (cc)
 
 allowed_at : (before : List Record) (r : Record) → Place before r → IsAllowed before r
 allowed_at before r (of_entry e r_is) = rw r_is (entry_allowed before e)
-allowed_at before r (of_value value r_is none) = rw r_is (first_value_allowed before value none)
+allowed_at before r (of_value value r_is none) = rw r_is (is_allowed before (value_record value) (rw none refl))
 
 -- the records of a solution are refused for nothing
 pub solution_faultless : (rs : List LineRecord) (s : SolutionValue) → GivesSolution rs s → AreFaultless kinds.Solution (records_of rs)
-solution_faultless rs s h = record {
-  allowed = λ before after r e. allowed_at before r (place_of s.entries h.before h.after s.value_line s.value before after r h.others_are (rw h.all_are at e));
-  complete = complete_with_value s.entries rs s.value_line s.value h;
-}
+solution_faultless rs s h =
+    let says : Say true (records_of rs) = rw h.all_are (value_says s.entries h.before h.after s.value_line s.value h.others_are) in
+    record {
+      allowed = λ before after r e. allowed_at before r (place_of s.entries h.before h.after s.value_line s.value before after r h.others_are (rw h.all_are at e));
+      complete = is_complete kinds.Solution (records_of rs) (rw (says.0, says.1.1) refl);
+    }
 
 -- the solution that records give
 with_line : ℕ → Record → SolutionValue → SolutionValue
@@ -320,19 +278,25 @@ module _ (holds : List Entry → Type 0) (rs : List LineRecord) where
   pub none_taken : (entries : List Entry) → holds entries → StandsForSolution None holds (map entry_line entries)
   none_taken entries stands = (entries, stands, refl)
 
-  pub no_value_placed : (value : Option ValueLine) → value ≡ None → StandsForSolution value holds rs → FirstAtEnd kinds.Solution (records_of rs) SolutionMissing
-  no_value_placed None none h = no_value_at_end h.0 rs h.2
-  no_value_placed (Some v) none h = absurd (cc)
+  -- what is told of the records is so
+  say : (value : Option ValueLine) → StandsForSolution value holds rs → Say (is_some value) (records_of rs)
+  say None h = rw h.2 (entries_say h.0)
+  say (Some v) h = rw h.2.all_are (value_says h.0 h.2.before h.2.after v.line v.value h.2.others_are)
 
-  pub complete_placed : (v : ValueLine) → StandsForSolution (Some v) holds rs → IsComplete kinds.Solution (records_of rs)
-  complete_placed v h = complete_with_value h.0 rs v.line v.value h.2
+  pub value_tells : (value : Option ValueLine) (other : ℤ) → StandsForSolution value holds rs → IsToldOf (earlier_value value) (records_of rs) (value_record other)
+  value_tells value other h =
+      let says = say value h in
+      record { counts = record { problem_is = says.0; counted_is = says.1.0 }; misplaced = refl; named = refl; end_named = refl; lacks_end = refl; block_full = refl; block_short = refl; valued = says.1.1; pred_unknown = refl; past_radius = refl }
 
-  pub value_refused : (value : Option ValueLine) (other : ℤ) → is_some value ≡ true → StandsForSolution value holds rs → IsFirstCondition (records_of rs) (value_record other) (fault_at 0 SolutionTwice)
-  value_refused value other came h = value_came value h.0 rs other came h.2
+  pub end_tells : (value : Option ValueLine) → StandsForSolution value holds rs → TellsEnd kinds.Solution (earlier_value value) (records_of rs)
+  end_tells value h =
+      let says = say value h in
+      record { counts = record { problem_is = says.0; counted_is = says.1.0 }; lacks_end = refl; unfinished = ap₂ is_short says.0 says.1.0; valued = ap not says.1.1 }
 
-  pub value_placed : (value : Option ValueLine) (line : ℕ) (said : ℤ) → is_some value ≡ false → StandsForSolution value holds rs
+  pub value_placed : (value : Option ValueLine) (line : ℕ) (said : ℤ) → Passes (earlier_value value) (value_record said) → StandsForSolution value holds rs
       → IsAllowed (records_of rs) (value_record said) × StandsForSolution (Some (record { value = said; line = line })) holds (rs ++ on_line line (value_record said) ∷ [])
-  value_placed value line said none h = let both = value_first value h.0 rs line said none h.2 in (both.0, (h.0, h.1, both.1))
+  value_placed None line said p h = (allowed_told (earlier_value None) (records_of rs) (value_record said) p (value_tells None said h), (h.0, h.1, record { before = rs; after = []; others_are = sym h.2 ∙ sym (append-nil rs); all_are = refl }))
+  value_placed (Some v) line said p h = absurd (cc (p.one_value))
 
   pub entry_placed : (value : Option ValueLine) (e : Entry) (more : List Entry → Type 0) → ((es : List Entry) → holds es → more (es ++ e ∷ [])) → StandsForSolution value holds rs
       → IsAllowed (records_of rs) (entry_record e) × StandsForSolution value more (rs ++ entry_line e ∷ [])

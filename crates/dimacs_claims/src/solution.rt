@@ -13,12 +13,13 @@ ghost use Rattle.dimacs_records.specs.Readings.{CountsRead, on_line};
 ghost use Rattle.dimacs_records.specs.Texts.{Reads};
 ghost use Rattle.dimacs_claims.specs.SolutionTexts.{SolutionValue, IsLawful, SpellsSolution, canonical_solution, claimed, entry_line, entry_record, renumbered};
 ghost use Rattle.dimacs_claims.specs.SolutionReading.{GivesPlaced, IsPlaced, IsPlacedLawful, ReadsLike, StandsForSolution};
-ghost use Rattle.dimacs_claims.specs.inside.SolutionReading.{TakesSolutionLine};
+ghost use Rattle.dimacs_claims.specs.inside.SolutionReading.{TakesSolutionLine, earlier_value};
 
 use crate::place::{Place, Placed};
 use dimacs_lines::{DeviceFault, Page, Sink, Source};
 use dimacs_records::{
-    ReadError, Reading, Reason, Record, TakeError, TextKind, read_text, write_record,
+    Earlier, ReadError, Reading, Record, TakeError, TextKind, read_text, test_end, test_record,
+    write_record,
 };
 use std::alloc::Global;
 
@@ -79,13 +80,22 @@ impl<P: Place> SolutionReading<P> {
         SolutionReading { value: None, place }
     }
 
+    /// What the earlier records say of a value, or of the end.
+    #[inline(always)]
+    fn earlier(&self) -> Earlier
+        ensures { result ≡ earlier_value self.now.value }
+    {
+        Earlier {
+            valued: self.value.is_some(),
+            ..Earlier::of(None, 0)
+        }
+    }
+
     fn take_value(&mut self, said: ValueLine) -> Result<(), TakeError>
         ensures takes { TakesSolutionLine (StandsForSolution self.old.value (P.stands_for self.old.place)) (on_line said.line (records.SolutionValue said.value)) result (StandsForSolution self.new.value (P.stands_for self.new.place)) }
         ensures fixed { P.fixed self.new.place ≡ P.fixed self.old.place }
     {
-        if self.value.is_some() {
-            return Err(TakeError::refused(0, Reason::SolutionTwice));
-        }
+        test_record(self.earlier(), Record::SolutionValue { value: said.value })?;
         self.value = Some(said);
         Ok(())
     }
@@ -126,8 +136,9 @@ impl<P: Place> Reading for SolutionReading<P> {
     }
 
     fn finish(self) -> Result<Placed<P>, TakeError> {
+        test_end(TextKind::Solution, self.earlier())?;
         let Some(said) = self.value else {
-            return Err(TakeError::refused(0, Reason::SolutionMissing));
+            unreachable!()
         };
         Ok(Placed {
             value: said.value,

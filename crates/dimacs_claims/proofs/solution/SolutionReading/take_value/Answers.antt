@@ -1,10 +1,19 @@
-use Rattle.std.proofs.Common.{sym}
-use Rattle.dimacs_claims.proofs.SolutionLemmas.{value_placed, value_refused}
+use Rattle.std.proofs.Common.{SFits, rules}
+use Rattle.std.specs.Int.{w128}
+use Rattle.std.proofs.lemmas.Int.{to_z-of_z}
+use Rattle.std.proofs.lemmas.Result.{err_from_is_err_and}
+use Rattle.dimacs_claims.proofs.SolutionLemmas.{value_placed, value_tells}
 use Rattle.dimacs_claims.proofs.solution.SolutionReading.take_value.Goals as goal
 
-pub returns-then-is_some-clause-takes : goal.returns-then-is_some-clause-takes
-returns-then-is_some-clause-takes g c = λ rs.
-    (((λ h. h), (λ h. h)), (λ h. rw c.refused.ensures (value_refused (g.P.Place.stands_for c.args.self.now.place) rs c.args.self.now.value c.args.said.value (sym c.if-is_some.ensures) h)))
+pub returns-in_err-test_record-clause-takes : goal.returns-in_err-test_record-clause-takes
+returns-in_err-test_record-clause-takes g c =
+    let fits : SFits w128 c.args.said.value = search rules in
+    let refused = rw (c.earlier.ensures, to_z-of_z w128 c.args.said.value fits) at c.in_err-test_record.ensures.refused in
+    let p = err_from_is_err_and c.from_residual.result c.from_residual.ensures.1 in
+    rw (p.1, p.2) (λ rs. (((λ h. h), (λ h. h)), (λ h. refused _ (value_tells (g.P.Place.stands_for c.args.self.now.place) rs c.args.self.now.value c.args.said.value h))))
 
 pub returns-clause-takes : goal.returns-clause-takes
-returns-clause-takes g c = λ rs h. value_placed (g.P.Place.stands_for c.args.self.now.place) rs c.args.self.now.value c.args.said.line c.args.said.value (sym c.if-is_some.ensures) h
+returns-clause-takes g c =
+    let fits : SFits w128 c.args.said.value = search rules in
+    let passes = rw (c.earlier.ensures, to_z-of_z w128 c.args.said.value fits) at c.in_ok-test_record.ensures.passes in
+    λ rs h. value_placed (g.P.Place.stands_for c.args.self.now.place) rs c.args.self.now.value c.args.said.line c.args.said.value passes h
