@@ -1,5 +1,6 @@
 pub mod GraphReading
 pub mod MaxReading
 pub mod MinReading
+pub mod QueriesReading
 pub mod Star
 pub mod StarKeys

@@ -1,8 +1,8 @@
 //! Queries for shortest paths.
 
-ghost use Rattle.std.specs.Prelude.{◌≡◌, ◌≤◌, ◌<◌, ◌++◌, [], ℕ, List, Option, Some, IfOk, length, slice_get};
+ghost use Rattle.std.specs.Prelude.{◌≡◌, ◌≤◌, ◌<◌, [], ℕ, List, Option, Some, IfOk, length, slice_get};
 ghost use Rattle.std.specs.Result.{result_map_both};
-ghost use Rattle.dimacs_lines.specs.Limits.{most_count, most_nodes};
+ghost use Rattle.dimacs_lines.specs.Limits.{most_count};
 ghost use Rattle.dimacs_lines.specs.Devices.{CountsFault};
 ghost use Rattle.dimacs_lines.specs.Lines.{lines};
 ghost use Rattle.dimacs_lines.specs.Pages.{Appends, CountsOn};
@@ -11,16 +11,18 @@ ghost use Rattle.dimacs_records.specs.declared.kinds.TextKind.TheVariants as kin
 ghost use Rattle.dimacs_records.specs.declared.records.Record.TheVariants.{QueriesProblem, SourceQuery, PairQuery};
 ghost use Rattle.dimacs_records.specs.Canonical.{canonical_line};
 ghost use Rattle.dimacs_records.specs.Faults.{Fault};
+ghost use Rattle.dimacs_records.specs.Ranges.{IsId};
 ghost use Rattle.dimacs_records.specs.Readings.{CountsRead, records_of};
 ghost use Rattle.dimacs_records.specs.inside.Readings.{TakesRecord};
+ghost use Rattle.dimacs_records.specs.Tests.{Counts, earlier_of};
 ghost use Rattle.dimacs_records.specs.Texts.{Reads};
 ghost use Rattle.dimacs_instance.specs.QueryTexts.{QueriesValue, AreLawful, GivesQueries, SpellsQueries, asked, canonical_queries, kind_asked, query_lines};
-ghost use Rattle.dimacs_instance.specs.QueriesReading.{queries_begun_records};
+ghost use Rattle.dimacs_instance.specs.inside.QueriesReading.{are_asked};
 
 use dimacs_lines::{DeviceFault, Page, Sink, Source};
 use dimacs_records::{
-    Part, QueryKind, ReadError, Reading, Reason, Record, TakeError, TextKind, read_text,
-    write_line, write_record,
+    Declared, Earlier, Part, QueryKind, ReadError, Reading, Record, TakeError, TextKind, read_text,
+    test_end, test_record, write_line, write_record,
 };
 use std::alloc::Global;
 use std::marker::Model;
@@ -129,40 +131,6 @@ impl Model for BegunQueries {
     ghost invariant = { λ b. AreBegun (record { declared = b.declared; queries = asked b.queries }) };
 }
 
-impl BegunQueries {
-    fn add_source(&mut self, id: u32) -> Result<(), TakeError>
-        requires least { 1 ≤ id }
-        requires most { id ≤ most_nodes }
-        ensures { TakesRecord (queries_begun_records self.old) (SourceQuery id) result (queries_begun_records self.new) }
-    {
-        let Queries::Sources(ids) = &mut self.queries else {
-            return Err(TakeError::refused(0, Reason::RecordOrder));
-        };
-        if ids.len() == self.declared as usize {
-            return Err(TakeError::refused(0, Reason::TooMany));
-        }
-        ids.push(id)?;
-        Ok(())
-    }
-
-    fn add_pair(&mut self, from: u32, to: u32) -> Result<(), TakeError>
-        requires from_least { 1 ≤ from }
-        requires from_most { from ≤ most_nodes }
-        requires to_least { 1 ≤ to }
-        requires to_most { to ≤ most_nodes }
-        ensures { TakesRecord (queries_begun_records self.old) (PairQuery from to) result (queries_begun_records self.new) }
-    {
-        let Queries::Pairs(pairs) = &mut self.queries else {
-            return Err(TakeError::refused(0, Reason::RecordOrder));
-        };
-        if pairs.len() == self.declared as usize {
-            return Err(TakeError::refused(0, Reason::TooMany));
-        }
-        pairs.push((from, to))?;
-        Ok(())
-    }
-}
-
 impl QueriesReading {
     pub fn new(alloc: Global) -> QueriesReading
         ensures { result ≡ [] }
@@ -170,45 +138,74 @@ impl QueriesReading {
         QueriesReading { alloc, begun: None }
     }
 
-    fn start(&mut self, asks: QueryKind, declared: u32) -> Result<(), TakeError>
-        requires declared { declared ≤ most_count }
-        ensures { TakesRecord self.old (QueriesProblem asks declared) result self.new }
+    /// What the earlier records say of one more, which is misplaced among these other queries.
+    #[inline(always)]
+    fn earlier(&self, others: Option<QueryKind>) -> Earlier
+        ensures counts { Counts result.problem result.counted self.now }
+        ensures told { result ≡ record (earlier_of result.problem result.counted) { misplaced = are_asked others self.now } }
     {
-        if self.begun.is_some() {
-            return Err(TakeError::refused(0, Reason::ProblemTwice));
+        let Some(begun) = &self.begun else {
+            return Earlier::of(None, 0);
+        };
+        let problem = Declared {
+            nodes: None,
+            count: begun.declared,
+        };
+        Earlier {
+            misplaced: others == Some(begun.queries.kind()),
+            ..Earlier::of(Some(problem), begun.queries.len() as u32)
         }
+    }
+
+    fn start(&mut self, asks: QueryKind, count: u32) -> Result<(), TakeError>
+        requires { count ≤ most_count }
+        ensures { TakesRecord self.old (QueriesProblem asks count) result self.new }
+    {
+        test_record(self.earlier(None), Record::QueriesProblem { asks, count })?;
         let queries = match asks {
             QueryKind::Sources => Queries::Sources(Vec::new(self.alloc)),
             QueryKind::Pairs => Queries::Pairs(Vec::new(self.alloc)),
         };
-        self.begun = Some(BegunQueries { declared, queries });
+        self.begun = Some(BegunQueries {
+            declared: count,
+            queries,
+        });
         Ok(())
     }
 
     #[inline(always)]
     fn add_source(&mut self, id: u32) -> Result<(), TakeError>
-        requires least { 1 ≤ id }
-        requires most { id ≤ most_nodes }
+        requires { IsId id }
         ensures { TakesRecord self.old (SourceQuery id) result self.new }
     {
+        let earlier = self.earlier(Some(QueryKind::Pairs));
+        test_record(earlier, Record::SourceQuery { id })?;
         let Some(begun) = &mut self.begun else {
-            return Err(TakeError::refused(0, Reason::ProblemMissing));
+            unreachable!()
         };
-        begun.add_source(id)
+        let Queries::Sources(ids) = &mut begun.queries else {
+            unreachable!()
+        };
+        ids.push(id)?;
+        Ok(())
     }
 
     #[inline(always)]
     fn add_pair(&mut self, from: u32, to: u32) -> Result<(), TakeError>
-        requires from_least { 1 ≤ from }
-        requires from_most { from ≤ most_nodes }
-        requires to_least { 1 ≤ to }
-        requires to_most { to ≤ most_nodes }
+        requires from { IsId from }
+        requires to { IsId to }
         ensures { TakesRecord self.old (PairQuery from to) result self.new }
     {
+        let earlier = self.earlier(Some(QueryKind::Sources));
+        test_record(earlier, Record::PairQuery { from, to })?;
         let Some(begun) = &mut self.begun else {
-            return Err(TakeError::refused(0, Reason::ProblemMissing));
+            unreachable!()
         };
-        begun.add_pair(from, to)
+        let Queries::Pairs(pairs) = &mut begun.queries else {
+            unreachable!()
+        };
+        pairs.push((from, to))?;
+        Ok(())
     }
 }
 
@@ -232,12 +229,10 @@ impl Reading for QueriesReading {
     }
 
     fn finish(self) -> Result<LawfulQueries, TakeError> {
+        test_end(TextKind::Queries, self.earlier(None))?;
         let Some(begun) = self.begun else {
-            return Err(TakeError::refused(0, Reason::ProblemMissing));
+            unreachable!()
         };
-        if begun.queries.len() < begun.declared as usize {
-            return Err(TakeError::refused(0, Reason::TooFew));
-        }
         Ok(LawfulQueries {
             queries: begun.queries,
         })

@@ -1,6 +1,13 @@
-use Rattle.std.proofs.Common.{refl}
-use Rattle.dimacs_instance.proofs.QueriesLemmas.{source_without_problem}
+use Rattle.std.proofs.Common.{◌≡◌, ◌<◌, length, refl, rules, arith}
+use Rattle.std.proofs.lemmas.Grind.{common_steps}
+use Rattle.dimacs_instance.specs.QueryTexts.{Sources, query_lines}
+use Rattle.dimacs_instance.specs.QueriesReading.{queries_begun_records}
+use Rattle.dimacs_instance.proofs.QueriesLemmas.{room_told}
 use Rattle.dimacs_instance.proofs.queries.QueriesReading.add_source.Goals as goal
 
-pub returns-in_default : goal.returns-in_default
-returns-in_default c = rw (← c.self.view_is, c.in_default.is, c.refused.ensures) (source_without_problem c.args.id, refl)
+pub invariant_of-begun-2 : goal.invariant_of-begun-2
+invariant_of-begun-2 c =
+    let ids = Sources c.in-Sources.ids.items in
+    let now : c.args.self.now ≡ queries_begun_records (record { declared = c.begun.inside.declared; queries = ids }) = rw (← c.self.view_is, c.in-Some.is, ← c.begun.view_is, c.in-Sources.is) refl in
+    let room : length (query_lines ids) < c.begun.inside.declared = room_told _ ids _ _ c.args.self.now now c.earlier-earlier.ensures.counts c.in_ok-test_record.ensures.passes.room in
+    record { few = c.begun.invariant.few; no_more = grind (arith, common_steps); ids = search rules }
