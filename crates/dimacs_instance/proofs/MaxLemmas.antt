@@ -1,13 +1,12 @@
 -- Records behind those of a maximum flow instance that was begun.
-use Rattle.std.proofs.Common.{◌≡◌, ◌≢◌, ℕ, suc, ◌<◌, ◌≤◌, ◌∷◌, ◌++◌, [], List, Bool, true, false, Option, Some, None, length, map, refl, ap, ap₂, sym, ◌∙◌, arith, append_assoc}
+use Rattle.std.proofs.Common.{◌≡◌, ℕ, suc, ◌<◌, ◌≤◌, ◌∷◌, ◌++◌, [], List, Bool, false, Option, Some, None, length, map, refl, ap, ap₂, sym, ◌∙◌, arith}
 use Rattle.std.specs.Prelude.{ℤ, pos, ◌≤ℤ◌, ◌||◌, nat_lt, nat_le, int_lt}
 use Rattle.std.specs.List.{list_any, filter}
 use Rattle.std.proofs.Math.Bool.{or-false}
 use Rattle.std.proofs.lemmas.Bool.{lt-ltb, le-ltb}
 use Rattle.std.proofs.lemmas.Bool.Decides.{nat_tests}
 use Rattle.std.proofs.lemmas.Int.{ints}
-use Rattle.std.proofs.lemmas.List.{map-append, length_push, nil_from_length}
-use Rattle.std.proofs.lemmas.List.Elements.{All-push}
+use Rattle.std.proofs.lemmas.List.{nil_from_length}
 use Rattle.std.proofs.lemmas.List.Folds.{list_any-append}
 use Rattle.std.proofs.lemmas.List.Sums.{length-filter}
 use Rattle.dimacs_records.specs.declared.kinds.TextKind.TheVariants.{Max}
@@ -19,7 +18,7 @@ use Rattle.dimacs_records.specs.Earlier.{counted_in, is_counted, is_short, names
 use Rattle.dimacs_records.specs.Conditions.{lacks_end}
 use Rattle.dimacs_records.specs.Readings.{IsAllowed, IsComplete}
 use Rattle.dimacs_records.specs.Takings.{StandsFor}
-use Rattle.dimacs_records.specs.Tests.{Counts, Passes, PassesEnd, IsToldOf, TellsEnd}
+use Rattle.dimacs_records.specs.Tests.{Counts, Passes, IsToldOf, TellsEnd}
 use Rattle.dimacs_records.proofs.ConditionLemmas.{is_allowed, is_complete}
 use Rattle.dimacs_records.proofs.TakingLemmas.{stands}
 use Rattle.dimacs_instance.specs.declared.network.ArcView.{ArcView}
@@ -27,12 +26,9 @@ use Rattle.dimacs_instance.specs.declared.max.EndLine.{EndLine}
 use Rattle.dimacs_instance.specs.declared.max.EndLines.{EndLines}
 use Rattle.dimacs_instance.specs.declared.max.EndLines.TheVariants.{Neither, One, Both}
 use Rattle.dimacs_instance.specs.MaxTexts.{max_arc}
-use Rattle.dimacs_instance.specs.Plain.{capacity_arc}
-use Rattle.dimacs_instance.specs.Arcs.{JoinsNodes}
-use Rattle.dimacs_instance.specs.MaxFlows.{HasCapacityAlone}
-use Rattle.dimacs_records.specs.Ranges.{IsNode, IsWhole}
-use Rattle.dimacs_instance.specs.MaxReading.{MaxBegun, IsMaxBegun, IsMaxBegunBy, end_records, max_begun_records, max_node}
-use Rattle.dimacs_instance.specs.inside.MaxReading.{earlier_ends, earlier_lines, earlier_names, ends_by, with_arc}
+use Rattle.dimacs_records.specs.Ranges.{IsNode}
+use Rattle.dimacs_instance.specs.MaxReading.{MaxBegun, IsMaxBegunBy, end_records, max_begun_records, max_node}
+use Rattle.dimacs_instance.specs.inside.MaxReading.{earlier_ends, earlier_lines, earlier_names, ends_by}
 
 none_of_arcs : (test : Record → Bool) → ((a : ArcView) → test (max_arc a) ≡ false) → (arcs : List ArcView) → list_any test (map max_arc arcs) ≡ false
 none_of_arcs test none [] = refl

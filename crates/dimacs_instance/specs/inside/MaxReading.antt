@@ -1,5 +1,5 @@
 -- Inside: how far a maximum flow instance has been read.
-use Rattle.std.specs.Prelude.{ℕ, [], ◌∷◌, ◌++◌, length, nat_lt, Option, None, Some}
+use Rattle.std.specs.Prelude.{ℕ, length, nat_lt, Option, None, Some}
 use Rattle.std.specs.List.{list_any}
 use Rattle.dimacs_records.specs.declared.order.Declared.{Declared}
 use Rattle.dimacs_records.specs.declared.order.Earlier.{Earlier}
@@ -7,14 +7,9 @@ use Rattle.dimacs_records.specs.declared.records.End.{End}
 use Rattle.dimacs_records.specs.Conditions.{lacks_end}
 use Rattle.dimacs_records.specs.Earlier.{is_end_node, names}
 use Rattle.dimacs_records.specs.inside.Tests.{earlier_begun}
-use Rattle.dimacs_instance.specs.declared.network.ArcView.{ArcView}
 use Rattle.dimacs_instance.specs.declared.max.EndLines.{EndLines}
 use Rattle.dimacs_instance.specs.declared.max.EndLines.TheVariants.{Neither}
 use Rattle.dimacs_instance.specs.MaxReading.{MaxBegun, end_records}
-
--- with one arc more
-abbrev pub with_arc : MaxBegun → ArcView → MaxBegun
-with_arc begun a = record begun { arcs = begun.arcs ++ a ∷ [] }
 
 abbrev pub declared_by : MaxBegun → Declared
 declared_by begun = record { nodes = Some begun.nodes; count = begun.declared }
