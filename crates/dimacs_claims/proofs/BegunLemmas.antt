@@ -1,11 +1,11 @@
 -- Records behind those of labels that were begun.
 use Rattle.std.proofs.Common.{◌≡◌, ◌≢◌, ℕ, zero, suc, ◌<◌, ◌≤◌, ◌+◌, ◌-◌, ◌∷◌, ◌++◌, [], List, Bool, true, false, inl, inr, Option, Some, None, length, map, refl, ap, ap₂, sym, ◌∙◌, subst, arith, append_assoc}
-use Rattle.std.specs.Prelude.{ℤ, ◌||◌, pos, is_some, is_none, nat_le, slice_get, slice_index_or, slice_set, ◌==◌}
+use Rattle.std.specs.Prelude.{ℤ, IfSome, ◌||◌, not, pos, is_some, is_none, nat_le, slice_get, slice_index_or, slice_set, ◌==◌}
 use Rattle.std.specs.List.{All, list_any}
 use Rattle.std.specs.Ordering.{nat_cmp}
 use Rattle.std.specs.FinSet as set
 use Rattle.std.proofs.Math.Seq.{get_or-append_seam}
-use Rattle.std.proofs.lemmas.Bool.{cases_eq, eq-eqb, le-leb}
+use Rattle.std.proofs.lemmas.Bool.{cases_eq, eq-eqb, false_from_ne_true, le-leb, leb-false, lt-leb, ltb-false, ne_eqb, not-false, or_parts}
 use Rattle.std.proofs.lemmas.Bool.Decides.{eqb_tells, nat_tests}
 use Rattle.std.proofs.lemmas.List.{length-append, length-map}
 use Rattle.std.proofs.lemmas.List.Elements.{All-pop, All-push, All-nil}
@@ -13,151 +13,181 @@ use Rattle.std.proofs.lemmas.List.Folds.{list_any-append}
 use Rattle.dimacs_nodes.specs.declared.node_table.NodeTable.{NodeTable}
 use Rattle.dimacs_nodes.specs.Tables.{value_of}
 use Rattle.dimacs_records.specs.declared.kinds.TextKind.TheVariants.{Labels}
+use Rattle.dimacs_records.specs.declared.order.Declared.{Declared}
+use Rattle.dimacs_records.specs.declared.records.Record.{Record}
 use Rattle.dimacs_records.specs.declared.records.Record.TheVariants.{LabelsProblem, LabelsBlock}
-use Rattle.dimacs_records.specs.declared.reasons.Reason.TheVariants.{ProblemTwice, RecordOrder, NodeRange, NodeTwice, TooMany, TooFew, PredUnknown, PastRadius}
-use Rattle.dimacs_records.specs.Blocks.{is_full_block, is_past}
-use Rattle.dimacs_records.specs.Faults.{FirstAtEnd}
-use Rattle.dimacs_records.specs.inside.FieldReader.{fault_at}
-use Rattle.dimacs_records.specs.Readings.{IsAllowed, IsFirstCondition, IsComplete}
+use Rattle.dimacs_records.specs.declared.reasons.Reason.TheVariants.{RecordOrder, NodeRange, NodeTwice, TooMany, TooFew, PredUnknown, PastRadius}
+use Rattle.dimacs_records.specs.Blocks.{block_in, is_full_block, is_labelled, is_past, is_past_block, is_short_block}
+use Rattle.dimacs_records.specs.Conditions.{is_unfinished}
+use Rattle.dimacs_records.specs.Earlier.{counted_in, is_above, is_full, is_short, names, problem_in}
+use Rattle.dimacs_records.specs.Ranges.{IsRadius, IsWide}
+use Rattle.dimacs_records.specs.Readings.{IsAllowed, IsComplete, LineRecord, records_of}
+use Rattle.dimacs_records.specs.Tests.{Counts, IsToldOf, TellsEnd, earlier_of, problem_told}
 use Rattle.dimacs_claims.specs.declared.block.Label.{Label}
-use Rattle.dimacs_claims.specs.Labels.{AreSources, BlockValue, AreLabels, EachBehind, IsBlock, IsLabel, IsNewSource, distance_in, label, with_label, has_source}
-use Rattle.dimacs_claims.specs.LabelTexts.{label_line, label_records}
-use Rattle.dimacs_claims.specs.LabelsReading.{LabelsBegun, AreLabelled, AreLabelsBegun, lines_of_blocks, labels_begun_records, label_records_so_far}
-use Rattle.dimacs_claims.specs.inside.LabelsReading.{with_opened}
-use Rattle.dimacs_claims.proofs.BlockLemmas.{label_id, near_radius, is_some-label, is_some-push, some_if, block_push, each_behind_nil, each_behind_push}
-use Rattle.dimacs_claims.proofs.LabelStates.{Say, second_problem, source_above, source_twice, too_many_blocks, block_before_short, block_allowed, label_outside, id_above, pred_above, label_twice, too_many_labels, pred_unknown, past_radius, label_allowed, too_few_blocks, too_few_labels, all_there}
-use Rattle.dimacs_claims.proofs.LabelRecords.{source_of, opened_with, last_after, last_is, say_taken, not_short, is_short, list_any-has_source, lines_of_blocks-push_block, lines_of_blocks-push_label, lines_of_blocks-zero, push_same}
+use Rattle.dimacs_claims.specs.Labels.{AreSources, BlockValue, EachBehind, IsBlock, IsNewSource, distance_in, label, with_label, has_source}
+use Rattle.dimacs_claims.specs.LabelTexts.{GivesLabels, label_line}
+use Rattle.dimacs_claims.specs.LabelsReading.{LabelsBegun, AreLabelled, AreLabelsBegun, lines_of_blocks, labels_begun_records}
+use Rattle.dimacs_claims.proofs.BlockLemmas.{label_id, near_radius, is_some-label, is_some-push, some_if, block_empty, block_push, each_behind_nil, each_behind_push}
+use Rattle.dimacs_claims.proofs.LabelRecords.{source_of, opened_with, last_after, last_cases, last_is, say_taken, short_told, list_any-has_source, lines_of_blocks-push_block, lines_of_blocks-push_label, lines_of_blocks-zero, new_source, push_same}
 
--- behind what was taken
-module _ (begun : LabelsBegun) (source count : ℕ) (radius : Option ℤ) where
-  abbrev sources : List ℕ
-  sources = map source_of begun.blocks
+-- what is told of the records is so
+pub counts : (begun : LabelsBegun) → Counts (Some (record { nodes = Some begun.nodes; count = begun.declared })) (length begun.blocks) (labels_begun_records begun)
+counts begun = record { problem_is = (say_taken begun).problem; counted_is = (say_taken begun).counted ∙ length-map begun.blocks source_of }
 
-  pub begun_source_above : begun.nodes < source → IsFirstCondition (labels_begun_records begun) (LabelsBlock source count radius) (fault_at 2 NodeRange)
-  begun_source_above = source_above (labels_begun_records begun) begun.nodes begun.declared sources (last_after begun.missing None begun.blocks) (say_taken begun) source count radius
+pub source_told : (begun : LabelsBegun) (source : ℕ) → list_any (names source) (labels_begun_records begun) ≡ list_any (has_source source) begun.blocks
+source_told begun source = (say_taken begun).named source ∙ sym (list_any-has_source source begun.blocks)
 
-  pub begun_source_twice : source ≤ begun.nodes → list_any (has_source source) begun.blocks ≡ true → IsFirstCondition (labels_begun_records begun) (LabelsBlock source count radius) (fault_at 2 NodeTwice)
-  begun_source_twice within twice = source_twice (labels_begun_records begun) begun.nodes begun.declared sources (last_after begun.missing None begun.blocks) (say_taken begun) source count radius within (sym (list_any-has_source source begun.blocks) ∙ twice)
+pub end_tells : (p : Option Declared) (k : ℕ) (rs : List Record) → Counts p k rs → TellsEnd Labels (record (earlier_of p k) { block_short = is_short_block (block_in rs) }) rs
+end_tells p k rs so = record {
+  counts = so;
+  lacks_end = refl;
+  unfinished = ap₂ (λ q n. is_short q n || is_short_block (block_in rs)) so.problem_is so.counted_is ∙ or_swap (is_short (problem_told p) k) (is_short_block (block_in rs));
+  valued = refl;
+}
+  where
+    or_swap : (x y : Bool) → (x || y) ≡ (y || x)
+    or_swap true true = refl
+    or_swap true false = refl
+    or_swap false true = refl
+    or_swap false false = refl
 
-  -- a source within its range that no block has
-  module _ (within : source ≤ begun.nodes) (fresh : list_any (has_source source) begun.blocks ≡ false) where
-    new_here : list_any (λ (s : ℕ). s == source) sources ≡ false
-    new_here = sym (list_any-has_source source begun.blocks) ∙ fresh
+-- what was begun and is complete gives its labels
+pub gives_labels : (begun : LabelsBegun) → AreLabelsBegun begun → (rs : List LineRecord) → records_of rs ≡ labels_begun_records begun → IsComplete Labels (records_of rs) → GivesLabels rs (record { nodes = begun.nodes; blocks = begun.blocks })
+gives_labels begun are rs is complete =
+    let so = counts begun in
+    let whole = subst (λ rs. is_unfinished Labels rs ≡ false) is (false_from_ne_true _ (complete TooFew)) in
+    let parts = or_parts (is_short (problem_in (labels_begun_records begun)) (counted_in (labels_begun_records begun))) (is_short_block (block_in (labels_begun_records begun))) whole in
+    let full : begun.declared ≡ length begun.blocks = omega (arith, ltb-false (length begun.blocks) begun.declared (ap₂ is_short (sym so.problem_is) (sym so.counted_is) ∙ parts.0), are.no_more) in
+    let none : begun.missing ≡ 0 = omega (arith, ltb-false 0 begun.missing (sym (short_told begun are.none_lack) ∙ parts.1)) in (
+      is ∙ ap₂ (λ n rs. LabelsProblem begun.nodes n ∷ rs) full (ap (λ m. lines_of_blocks m begun.blocks) none ∙ lines_of_blocks-zero begun.blocks),
+      record { nodes_few = are.nodes_few; blocks_few = omega (arith, are.no_more, are.blocks_few); blocks = are.blocks; sources = are.sources },
+    )
 
-    pub begun_too_many : begun.declared ≤ length begun.blocks → IsFirstCondition (labels_begun_records begun) (LabelsBlock source count radius) (fault_at 0 TooMany)
-    begun_too_many full = too_many_blocks (labels_begun_records begun) begun.nodes begun.declared sources (last_after begun.missing None begun.blocks) (say_taken begun) source count radius within new_here (omega (arith, full, length-map begun.blocks source_of))
+-- one block more, which is allowed and lacks all of its labels
+module _ (begun : LabelsBegun) (are : AreLabelsBegun begun) (source count : ℕ) (radius : Option ℤ) (allowed : IsAllowed (labels_begun_records begun) (LabelsBlock source count radius)) where
+  abbrev pub opened_block : BlockValue
+  opened_block = record { source = source; radius = radius; labels = [] }
 
-    pub begun_too_few : length begun.blocks < begun.declared → 0 < begun.missing → (begun.blocks ≡ [] → begun.missing ≡ 0) → IsFirstCondition (labels_begun_records begun) (LabelsBlock source count radius) (fault_at 0 TooFew)
-    begun_too_few room lacks only = block_before_short (labels_begun_records begun) begun.nodes begun.declared sources (last_after begun.missing None begun.blocks) (say_taken begun) source count radius within new_here (omega (arith, room, length-map begun.blocks source_of)) (is_short begun.blocks begun.missing lacks only)
+  abbrev pub with_opened : LabelsBegun
+  with_opened = record { nodes = begun.nodes; declared = begun.declared; missing = count; blocks = begun.blocks ++ opened_block ∷ [] }
 
-    pub begun_block_allowed : length begun.blocks < begun.declared → begun.missing ≡ 0 → IsAllowed (labels_begun_records begun) (LabelsBlock source count radius)
-    begun_block_allowed room none = block_allowed (labels_begun_records begun) begun.nodes begun.declared sources (last_after begun.missing None begun.blocks) (say_taken begun) source count radius within new_here (omega (arith, room, length-map begun.blocks source_of)) (not_short begun.blocks begun.missing none)
-
-  pub pushed_block : begun.missing ≡ 0 → labels_begun_records (with_opened begun source count radius) ≡ labels_begun_records begun ++ LabelsBlock source count radius ∷ []
-  pushed_block none = ap (λ rs. LabelsProblem begun.nodes begun.declared ∷ rs) (lines_of_blocks-push_block begun.blocks source count radius ∙ ap (λ m. lines_of_blocks m begun.blocks ++ LabelsBlock source count radius ∷ []) (sym none))
-
-pub labels_begun_twice : (begun : Option LabelsBegun) (nodes blocks : ℕ) → is_some begun ≡ true → IsFirstCondition (label_records_so_far begun) (LabelsProblem nodes blocks) (fault_at 0 ProblemTwice)
-labels_begun_twice (Some begun) nodes blocks h = second_problem (labels_begun_records begun) begun.nodes begun.declared (map source_of begun.blocks) (last_after begun.missing None begun.blocks) (say_taken begun) nodes blocks
-labels_begun_twice None nodes blocks h = absurd (cc)
-
--- the end
-pub begun_lacks_blocks : (begun : LabelsBegun) → length begun.blocks < begun.declared → FirstAtEnd Labels (labels_begun_records begun) TooFew
-begun_lacks_blocks begun room = too_few_blocks (labels_begun_records begun) begun.nodes begun.declared (map source_of begun.blocks) (last_after begun.missing None begun.blocks) (say_taken begun) (omega (arith, room, length-map begun.blocks source_of))
-
-pub begun_lacks_labels : (begun : LabelsBegun) → begun.declared ≤ length begun.blocks → 0 < begun.missing → (begun.blocks ≡ [] → begun.missing ≡ 0) → FirstAtEnd Labels (labels_begun_records begun) TooFew
-begun_lacks_labels begun full lacks only = too_few_labels (labels_begun_records begun) begun.nodes begun.declared (map source_of begun.blocks) (last_after begun.missing None begun.blocks) (say_taken begun) (omega (arith, full, length-map begun.blocks source_of)) (is_short begun.blocks begun.missing lacks only)
-
-pub begun_whole : (begun : LabelsBegun) → begun.declared ≤ length begun.blocks → begun.missing ≡ 0 → IsComplete Labels (labels_begun_records begun)
-begun_whole begun full none = all_there (labels_begun_records begun) begun.nodes begun.declared (map source_of begun.blocks) (last_after begun.missing None begun.blocks) (say_taken begun) (omega (arith, full, length-map begun.blocks source_of)) (not_short begun.blocks begun.missing none)
-
-pub whole_records : (begun : LabelsBegun) → length begun.blocks ≡ begun.declared → begun.missing ≡ 0 → labels_begun_records begun ≡ label_records (record { nodes = begun.nodes; blocks = begun.blocks })
-whole_records begun all none = ap₂ (λ n rs. LabelsProblem begun.nodes n ∷ rs) (sym all) (ap (λ m. lines_of_blocks m begun.blocks) none ∙ lines_of_blocks-zero begun.blocks)
-
-pub whole_lawful : (begun : LabelsBegun) → AreLabelsBegun begun → AreLabels (record { nodes = begun.nodes; blocks = begun.blocks })
-whole_lawful begun are = record { nodes_few = are.nodes_few; blocks_few = omega (arith, are.no_more, are.blocks_few); blocks = are.blocks; sources = are.sources }
-
--- no block came
-pub label_before_blocks : (begun : LabelsBegun) (l : Label) → begun.blocks ≡ [] → IsFirstCondition (labels_begun_records begun) (label_line l) (fault_at 0 RecordOrder)
-label_before_blocks begun l none = label_outside (labels_begun_records begun) begun.nodes begun.declared (map source_of begun.blocks) (last_after begun.missing None begun.blocks) (say_taken begun) l.id l.dist l.pred (ap (λ bs. is_none (last_after begun.missing None bs)) none)
-
--- one label less is lacking
-abbrev pub with_blocks : LabelsBegun → List BlockValue → LabelsBegun
-with_blocks begun blocks = record { nodes = begun.nodes; declared = begun.declared; missing = begun.missing - 1; blocks = blocks }
-
--- behind these blocks, of which b is the last
-module _ (begun : LabelsBegun) (front : List BlockValue) (b : BlockValue) (is : begun.blocks ≡ front ++ b ∷ []) (l : Label) where
-  say_in : Say (labels_begun_records begun) begun.nodes begun.declared (map source_of begun.blocks) (Some (opened_with begun.missing b))
-  say_in = subst (Say (labels_begun_records begun) begun.nodes begun.declared (map source_of begun.blocks)) (last_is begun.blocks begun.missing (front, b, is)) (say_taken begun)
-
-  pub begun_id_above : begun.nodes < l.id → IsFirstCondition (labels_begun_records begun) (label_line l) (fault_at 2 NodeRange)
-  begun_id_above = id_above (labels_begun_records begun) begun.nodes begun.declared (map source_of begun.blocks) (Some (opened_with begun.missing b)) say_in l.id l.dist l.pred refl
-
-  pub begun_pred_above : l.id ≤ begun.nodes → begun.nodes < l.pred → IsFirstCondition (labels_begun_records begun) (label_line l) (fault_at 4 NodeRange)
-  begun_pred_above = pred_above (labels_begun_records begun) begun.nodes begun.declared (map source_of begun.blocks) (Some (opened_with begun.missing b)) say_in l.id l.dist l.pred refl
-
-  module _ (id_within : l.id ≤ begun.nodes) (pred_within : l.pred ≤ begun.nodes) where
-    pub begun_label_twice : is_some (label b l.id) ≡ true → IsFirstCondition (labels_begun_records begun) (label_line l) (fault_at 2 NodeTwice)
-    begun_label_twice twice = label_twice (labels_begun_records begun) begun.nodes begun.declared (map source_of begun.blocks) (Some (opened_with begun.missing b)) say_in l.id l.dist l.pred refl id_within pred_within (sym (is_some-label b l.id) ∙ twice)
-
-    pub begun_too_many_labels : is_some (label b l.id) ≡ false → begun.missing ≡ 0 → IsFirstCondition (labels_begun_records begun) (label_line l) (fault_at 0 TooMany)
-    begun_too_many_labels fresh none = too_many_labels (labels_begun_records begun) begun.nodes begun.declared (map source_of begun.blocks) (Some (opened_with begun.missing b)) say_in l.id l.dist l.pred refl id_within pred_within (sym (is_some-label b l.id) ∙ fresh)
-        (le-leb (length b.labels + begun.missing) (length (map label_id b.labels)) (omega (arith, none, length-map b.labels label_id)))
-
-    has_room : 0 < begun.missing → is_full_block (Some (opened_with begun.missing b)) ≡ false
-    has_room lacks = not_full (length b.labels + begun.missing) (length (map label_id b.labels)) (omega (arith, lacks, length-map b.labels label_id))
-      where
-        not_full : (count n : ℕ) → n < count → nat_le count n ≡ false
-        not_full count n room = grind (arith, nat_tests, room)
-
-    pub begun_pred_unknown : is_some (label b l.id) ≡ false → 0 < begun.missing → is_some (label b l.pred) ≡ false → IsFirstCondition (labels_begun_records begun) (label_line l) (fault_at 0 PredUnknown)
-    begun_pred_unknown fresh lacks unknown = pred_unknown (labels_begun_records begun) begun.nodes begun.declared (map source_of begun.blocks) (Some (opened_with begun.missing b)) say_in l.id l.dist l.pred refl id_within pred_within (sym (is_some-label b l.id) ∙ fresh) (has_room lacks) (sym (is_some-label b l.pred) ∙ unknown)
-
-    pub begun_past_radius : is_some (label b l.id) ≡ false → 0 < begun.missing → is_some (label b l.pred) ≡ true → is_past b.radius l.dist ≡ true → IsFirstCondition (labels_begun_records begun) (label_line l) (fault_at 3 PastRadius)
-    begun_past_radius fresh lacks known past = past_radius (labels_begun_records begun) begun.nodes begun.declared (map source_of begun.blocks) (Some (opened_with begun.missing b)) say_in l.id l.dist l.pred refl id_within pred_within (sym (is_some-label b l.id) ∙ fresh) (has_room lacks) (sym (is_some-label b l.pred) ∙ known) past
-
-    pub begun_label_allowed : is_some (label b l.id) ≡ false → 0 < begun.missing → is_some (label b l.pred) ≡ true → is_past b.radius l.dist ≡ false → IsAllowed (labels_begun_records begun) (label_line l)
-    begun_label_allowed fresh lacks known near = label_allowed (labels_begun_records begun) begun.nodes begun.declared (map source_of begun.blocks) (Some (opened_with begun.missing b)) say_in l.id l.dist l.pred refl id_within pred_within (sym (is_some-label b l.id) ∙ fresh) (has_room lacks) (sym (is_some-label b l.pred) ∙ known) near
-
-  -- with the label
-  abbrev pub more : LabelsBegun
-  more = with_blocks begun (front ++ with_label b l ∷ [])
-
-  pub pushed_label : 0 < begun.missing → labels_begun_records more ≡ labels_begun_records begun ++ label_line l ∷ []
-  pushed_label lacks =
-      let same : suc (begun.missing - 1) ≡ begun.missing = omega (arith, lacks) in
-      ap (λ rs. LabelsProblem begun.nodes begun.declared ∷ rs) (lines_of_blocks-push_label front b.source b.radius b.labels l (begun.missing - 1) ∙ ap₂ (λ m bs. lines_of_blocks m bs ++ label_line l ∷ []) same (sym is))
-
-  pub sources_stay : (seen : set.FinSet nat_cmp) → AreSources seen begun.blocks → AreSources seen (front ++ with_label b l ∷ [])
-  sources_stay seen are id = are id ∙ (ap (list_any (has_source id)) is ∙ (list_any-append (has_source id) front (b ∷ []) ∙ sym (list_any-append (has_source id) front (with_label b l ∷ []))))
-
-  pub begun_label : AreLabelsBegun begun → IsLabel begun.nodes l → is_some (label b l.id) ≡ false → is_some (label b l.pred) ≡ true → is_past b.radius l.dist ≡ false → 0 < begun.missing → AreLabelsBegun more
-  begun_label are label_is fresh known near lacks =
-      let blocks = All-pop (IsBlock begun.nodes) (front ++ b ∷ []) front (Some b) refl (subst (All (IsBlock begun.nodes)) is are.blocks) in
-      let sources = subst (EachBehind IsNewSource) is are.sources in
-      let few = are.last_few front b is in
+  pub begun_block : 1 ≤ source → count ≤ 268435456 → IfSome radius IsRadius → AreLabelsBegun with_opened
+  begun_block least few radius_within =
+      let so = counts begun in
+      let within = ltb-false begun.nodes source (ap (λ p. is_above p source) (sym so.problem_is) ∙ false_from_ne_true _ (allowed 2 NodeRange)) in
+      let new = sym (source_told begun source) ∙ false_from_ne_true _ (allowed 2 NodeTwice) in
+      let room = leb-false begun.declared (length begun.blocks) (ap₂ is_full (sym so.problem_is) (sym so.counted_is) ∙ false_from_ne_true _ (allowed 0 TooMany)) in
+      let longer = length-append begun.blocks (opened_block ∷ []) in
       record {
         nodes_few = are.nodes_few;
         blocks_few = are.blocks_few;
-        no_more = omega (arith, are.no_more, ap length is, length-append front (b ∷ []), length-append front (with_label b l ∷ []));
-        last_few = λ f last e. omega (arith, few, lacks, length-append b.labels (l ∷ []), ap (λ (x : BlockValue). length x.labels) (push_same front f (with_label b l) last e));
-        none_lack = λ e. absurd (omega (arith, ap length e, length-append front (with_label b l ∷ [])));
-        blocks = All-push (IsBlock begun.nodes) front (with_label b l) blocks.0 (block_push begun.nodes b l blocks.1 label_is (omega (arith, few, lacks)) fresh known (near_radius b.radius l.dist near));
-        sources = each_behind_push IsNewSource front (with_label b l) (before_last IsNewSource front b sources) (sources front [] b refl);
+        no_more = omega (arith, room, longer);
+        last_few = λ front last e. omega (arith, few, ap (λ (x : BlockValue). length x.labels) (push_same begun.blocks front opened_block last e));
+        none_lack = λ e. absurd (omega (arith, ap length e, longer));
+        blocks = All-push (IsBlock begun.nodes) begun.blocks opened_block are.blocks (block_empty begun.nodes source radius (least, within) radius_within);
+        sources = each_behind_push IsNewSource begun.blocks opened_block are.sources (new_source begun.blocks opened_block new);
+      }
+
+  pub pushed_block : labels_begun_records with_opened ≡ labels_begun_records begun ++ LabelsBlock source count radius ∷ []
+  pushed_block =
+      let none : begun.missing ≡ 0 = omega (arith, ltb-false _ _ (sym (short_told begun are.none_lack) ∙ false_from_ne_true _ (allowed 0 TooFew))) in
+      ap (λ rs. LabelsProblem begun.nodes begun.declared ∷ rs) (lines_of_blocks-push_block begun.blocks source count radius ∙ ap (λ m. lines_of_blocks m begun.blocks ++ LabelsBlock source count radius ∷ []) (sym none))
+
+-- after these blocks, of which b is the last
+module _ (begun : LabelsBegun) (front : List BlockValue) (b : BlockValue) (is : begun.blocks ≡ front ++ b ∷ []) (l : Label) where
+  in_last : block_in (labels_begun_records begun) ≡ Some (opened_with begun.missing b)
+  in_last = (say_taken begun).block ∙ last_is begun.blocks begun.missing (front, b, is)
+
+  pub label_tells : (p : Option Declared) (k : ℕ) → Counts p k (labels_begun_records begun)
+      → IsToldOf (record (earlier_of p k) { named = is_some (label b l.id); block_full = begun.missing == 0; pred_unknown = not (is_some (label b l.pred)); past_radius = is_past b.radius l.dist }) (labels_begun_records begun) (label_line l)
+  label_tells p k so = record {
+    counts = so;
+    misplaced = ap is_none in_last;
+    named = ap (λ o. is_labelled o l.id) in_last ∙ sym (is_some-label b l.id);
+    end_named = refl;
+    lacks_end = refl;
+    block_full = ap is_full_block in_last ∙ full (length b.labels) begun.missing (length (map label_id b.labels)) (length-map b.labels label_id);
+    block_short = refl;
+    valued = refl;
+    pred_unknown = ap (λ o. not (is_labelled o l.pred)) in_last ∙ ap not (sym (is_some-label b l.pred));
+    past_radius = ap (λ o. is_past_block o l.dist) in_last;
+  }
+    where
+      full : (n m k : ℕ) → k ≡ n → nat_le (n + m) k ≡ (m == 0)
+      full n zero k same = le-leb (n + 0) k (omega (arith, same))
+      full n (suc m) k same = lt-leb (n + suc m) k (omega (arith, same)) ∙ sym (ne_eqb (suc m) 0 (λ e. absurd (omega (arith, e))))
+
+-- a label that may come next: b is the last block
+pub record Fits (begun : LabelsBegun) (l : Label) : Type 0 where
+  pub front : List BlockValue
+  pub b : BlockValue
+  pub is : begun.blocks ≡ front ++ b ∷ []
+  pub id : l.id ≤ begun.nodes
+  pub pred : l.pred ≤ begun.nodes
+  pub fresh : is_some (label b l.id) ≡ false
+  pub lacks : 0 < begun.missing
+  pub known : is_some (label b l.pred) ≡ true
+  pub near : is_past b.radius l.dist ≡ false
+
+pub fits : (begun : LabelsBegun) (l : Label) → IsAllowed (labels_begun_records begun) (label_line l) → Fits begun l
+fits begun l allowed = elim (last_cases begun.blocks) [
+  | inl none ↦ absurd (allowed 0 RecordOrder (ap is_none ((say_taken begun).block ∙ ap (last_after begun.missing None) none)))
+  | inr h ↦
+      let problem = sym (counts begun).problem_is in
+      let b = h.1 in
+      let last = sym (in_last begun h.0 b h.2 l) in
+      record {
+        front = h.0;
+        b = b;
+        is = h.2;
+        id = ltb-false begun.nodes l.id (ap (λ p. is_above p l.id) problem ∙ false_from_ne_true _ (allowed 2 NodeRange));
+        pred = ltb-false begun.nodes l.pred (ap (λ p. is_above p l.pred) problem ∙ false_from_ne_true _ (allowed 4 NodeRange));
+        fresh = is_some-label b l.id ∙ (ap (λ o. is_labelled o l.id) last ∙ false_from_ne_true _ (allowed 2 NodeTwice));
+        lacks = omega (arith, leb-false _ _ (ap is_full_block last ∙ false_from_ne_true _ (allowed 0 TooMany)), length-map b.labels label_id);
+        known = is_some-label b l.pred ∙ (ap (λ o. is_labelled o l.pred) last ∙ not-false _ (false_from_ne_true _ (allowed 0 PredUnknown)));
+        near = ap (λ o. is_past_block o l.dist) last ∙ false_from_ne_true _ (allowed 3 PastRadius);
+      }
+]
+
+-- the same with the label
+module _ (begun : LabelsBegun) (l : Label) (fit : Fits begun l) where
+  abbrev pub kept : List BlockValue
+  kept = fit.front ++ with_label fit.b l ∷ []
+
+  abbrev pub with_kept : LabelsBegun
+  with_kept = record { nodes = begun.nodes; declared = begun.declared; missing = begun.missing - 1; blocks = kept }
+
+  same_length : length kept ≡ length begun.blocks
+  same_length = omega (arith, ap length fit.is, length-append fit.front (fit.b ∷ []), length-append fit.front (with_label fit.b l ∷ []))
+
+  pub pushed_label : labels_begun_records with_kept ≡ labels_begun_records begun ++ label_line l ∷ []
+  pushed_label =
+      let same : suc (begun.missing - 1) ≡ begun.missing = omega (arith, fit.lacks) in
+      ap (λ rs. LabelsProblem begun.nodes begun.declared ∷ rs) (lines_of_blocks-push_label fit.front fit.b.source fit.b.radius fit.b.labels l (begun.missing - 1) ∙ ap₂ (λ m bs. lines_of_blocks m bs ++ label_line l ∷ []) same (sym fit.is))
+
+  pub sources_stay : (seen : set.FinSet nat_cmp) → AreSources seen begun.blocks → AreSources seen kept
+  sources_stay seen are id = are id ∙ (ap (list_any (has_source id)) fit.is ∙ (list_any-append (has_source id) fit.front (fit.b ∷ []) ∙ sym (list_any-append (has_source id) fit.front (with_label fit.b l ∷ []))))
+
+  pub begun_label : AreLabelsBegun begun → 1 ≤ l.id → 1 ≤ l.pred → IsWide l.dist → AreLabelsBegun with_kept
+  begun_label are id pred dist =
+      let last = with_label fit.b l in
+      let blocks = All-pop (IsBlock begun.nodes) (fit.front ++ fit.b ∷ []) fit.front (Some fit.b) refl (subst (All (IsBlock begun.nodes)) fit.is are.blocks) in
+      let sources = subst (EachBehind IsNewSource) fit.is are.sources in
+      let few = are.last_few fit.front fit.b fit.is in
+      record {
+        nodes_few = are.nodes_few;
+        blocks_few = are.blocks_few;
+        no_more = omega (arith, are.no_more, same_length);
+        last_few = λ f c e. omega (arith, few, fit.lacks, length-append fit.b.labels (l ∷ []), ap (λ (x : BlockValue). length x.labels) (push_same fit.front f last c e));
+        none_lack = λ e. absurd (omega (arith, ap length e, length-append fit.front (last ∷ [])));
+        blocks = All-push (IsBlock begun.nodes) fit.front last blocks.0 (block_push begun.nodes fit.b l blocks.1 (record { id = (id, fit.id); dist = dist; pred = (pred, fit.pred) }) (omega (arith, few, fit.lacks)) fit.fresh fit.known (near_radius fit.b.radius l.dist fit.near));
+        sources = each_behind_push IsNewSource fit.front last (before_last IsNewSource fit.front fit.b sources) (sources fit.front [] fit.b refl);
       }
     where
       before_last : {X : Type 0} (P : List X → X → Type 0) (xs : List X) (x : X) → EachBehind P (xs ++ x ∷ []) → EachBehind P xs
       before_last P xs x each before after y e = each before (after ++ x ∷ []) y (ap (λ ys. ys ++ x ∷ []) e ∙ append_assoc before (y ∷ after) (x ∷ []))
 
 -- the last block, as a look-up gives it
-got_none : {X : Type 0} (xs : List X) (k : ℕ) → k < length xs → slice_get xs k ≡ None → ⊥
-got_none [] k below e = absurd (omega (arith, below))
-got_none (x ∷ xs) zero below e = absurd (cc)
-got_none (x ∷ xs) (suc k) below e = got_none xs k (omega (arith, below)) e
-
-pub no_last : {X : Type 0} (xs : List X) → None ≡ slice_get xs (length xs - 1) → xs ≡ []
-no_last [] e = refl
-no_last (x ∷ xs) e = absurd (got_none (x ∷ xs) (length (x ∷ xs) - 1) (omega arith) (sym e))
-
 pub last_got : {X : Type 0} (xs : List X) (x : X) → Some x ≡ slice_get xs (length xs - 1) → (front : List X) × (xs ≡ front ++ x ∷ [])
 last_got [] x e = absurd (cc)
 last_got (y ∷ []) x e = let same : y ≡ x = cc in ([], ap (λ z. z ∷ []) same)

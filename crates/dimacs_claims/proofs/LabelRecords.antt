@@ -1,6 +1,6 @@
 -- The records of labels.
-use Rattle.std.proofs.Common.{◌≡◌, ℕ, suc, ◌<◌, ◌≤◌, ◌+◌, ◌∷◌, ◌++◌, [], List, Bool, true, false, Option, Some, None, length, map, refl, ap, ap₂, sym, ◌∙◌, arith, append_assoc, inl, inr, ◌⊎◌, zero}
-use Rattle.std.specs.Prelude.{ℤ, IfSome, ◌==◌, ◌||◌}
+use Rattle.std.proofs.Common.{◌≡◌, ℕ, suc, ◌+◌, ◌∷◌, ◌++◌, [], List, Bool, true, false, Option, Some, None, length, map, refl, ap, ap₂, sym, ◌∙◌, arith, append_assoc, inl, inr, ◌⊎◌, zero}
+use Rattle.std.specs.Prelude.{ℤ, nat_lt, ◌==◌, ◌||◌}
 use Rattle.std.specs.List.{list_any, flat_map}
 use Rattle.std.specs.Ordering.{nat_cmp, eq_by_cmp}
 use Rattle.std.specs.Cmp.{nat_cmp_total, nat_eq_equiv, unsigned_tied}
@@ -8,17 +8,14 @@ use Rattle.std.specs.FinSet as set
 use Rattle.std.proofs.lemmas.Bool.{lt-ltb, le-ltb, eq-eqb}
 use Rattle.std.proofs.lemmas.List.Folds.{list_any-append}
 use Rattle.std.proofs.lemmas.List.{length-append, length-map, append-nil, map-append}
-use Rattle.std.proofs.lemmas.List.Elements.{All-nil, All-cons, All-append}
 use Rattle.dimacs_records.specs.declared.records.Record.{Record}
 use Rattle.dimacs_records.specs.declared.records.Record.TheVariants.{LabelsProblem, LabelsBlock}
-use Rattle.dimacs_records.specs.Blocks.{Block, is_short_block}
+use Rattle.dimacs_records.specs.Blocks.{Block, block_in, is_short_block}
 use Rattle.dimacs_claims.specs.declared.block.Label.{Label}
-use Rattle.dimacs_claims.specs.Labels.{AreSources, BlockValue, IsBlock, IsNewSource, has_source}
-use Rattle.dimacs_records.specs.Ranges.{IsNode, IsRadius}
+use Rattle.dimacs_claims.specs.Labels.{AreSources, BlockValue, IsNewSource, has_source}
 use Rattle.dimacs_claims.specs.LabelTexts.{label_line, block_lines}
-use Rattle.dimacs_claims.specs.LabelsReading.{LabelsBegun, AreLabelsBegun, lines_of_short, lacking, lines_of_blocks, labels_begun_records}
-use Rattle.dimacs_claims.specs.inside.LabelsReading.{with_opened}
-use Rattle.dimacs_claims.proofs.BlockLemmas.{label_id, block_empty, each_behind_push}
+use Rattle.dimacs_claims.specs.LabelsReading.{LabelsBegun, lines_of_short, lacking, lines_of_blocks, labels_begun_records}
+use Rattle.dimacs_claims.proofs.BlockLemmas.{label_id}
 use Rattle.dimacs_claims.proofs.LabelStates.{Say, opened, is_source, say_problem, say_block, say_label}
 
 abbrev pub source_of : BlockValue → ℕ
@@ -112,17 +109,16 @@ last_cases (b ∷ more) = elim (last_cases more) [
 pub last_is : (blocks : List BlockValue) (missing : ℕ) (h : HasLast blocks) → last_after missing None blocks ≡ Some (opened_with missing h.1)
 last_is blocks missing h = ap (last_after missing None) h.2 ∙ last_after-push h.0 h.1 missing None
 
-pub not_short : (blocks : List BlockValue) (missing : ℕ) → missing ≡ 0 → is_short_block (last_after missing None blocks) ≡ false
-not_short blocks missing none = elim (last_cases blocks) [
-  | inl e ↦ ap (λ bs. is_short_block (last_after missing None bs)) e
-  | inr h ↦ ap is_short_block (last_is blocks missing h) ∙ le-ltb (length (map label_id h.1.labels)) (length h.1.labels + missing) (omega (arith, none, length-map h.1.labels label_id))
-]
-
-pub is_short : (blocks : List BlockValue) (missing : ℕ) → 0 < missing → (blocks ≡ [] → missing ≡ 0) → is_short_block (last_after missing None blocks) ≡ true
-is_short blocks missing lacks only = elim (last_cases blocks) [
-  | inl e ↦ absurd (omega (arith, only e, lacks))
-  | inr h ↦ ap is_short_block (last_is blocks missing h) ∙ lt-ltb (length (map label_id h.1.labels)) (length h.1.labels + missing) (omega (arith, lacks, length-map h.1.labels label_id))
-]
+-- the last block lacks as many labels as were left out of it
+pub short_told : (begun : LabelsBegun) → (begun.blocks ≡ [] → begun.missing ≡ 0) → is_short_block (block_in (labels_begun_records begun)) ≡ nat_lt 0 begun.missing
+short_told begun only = ap is_short_block (say_taken begun).block ∙ (elim (last_cases begun.blocks) [
+  | inl none ↦ ap (λ bs. is_short_block (last_after begun.missing None bs)) none ∙ sym (ap (nat_lt 0) (only none))
+  | inr h ↦ ap is_short_block (last_is begun.blocks begun.missing h) ∙ fewer (length h.1.labels) begun.missing (length (map label_id h.1.labels)) (length-map h.1.labels label_id)
+])
+  where
+    fewer : (n m k : ℕ) → k ≡ n → nat_lt k (n + m) ≡ nat_lt 0 m
+    fewer n zero k same = le-ltb k (n + 0) (omega (arith, same))
+    fewer n (suc m) k same = lt-ltb k (n + suc m) (omega (arith, same)) ∙ sym (lt-ltb 0 (suc m) (omega arith))
 
 pub list_any-has_source : (id : ℕ) (blocks : List BlockValue) → list_any (has_source id) blocks ≡ list_any (is_source id) (map source_of blocks)
 list_any-has_source id [] = refl
@@ -159,17 +155,3 @@ push_same [] [] x y e = cc
 push_same [] (d ∷ ys) x y e = absurd (omega (arith, ap length e, length-append ys (y ∷ [])))
 push_same (d ∷ xs) [] x y e = absurd (omega (arith, ap length e, length-append xs (x ∷ [])))
 push_same (c ∷ xs) (d ∷ ys) x y e = push_same xs ys x y (cc)
-
--- a beginning with one block more
-pub begun_block : (begun : LabelsBegun) (source count : ℕ) (radius : Option ℤ) → AreLabelsBegun begun → IsNode begun.nodes source → IfSome radius IsRadius → count ≤ 268435456 → list_any (has_source source) begun.blocks ≡ false → length begun.blocks < begun.declared → AreLabelsBegun (with_opened begun source count radius)
-begun_block begun source count radius are within radius_within few fresh room =
-    let b : BlockValue = record { source = source; radius = radius; labels = [] } in
-    record {
-      nodes_few = are.nodes_few;
-      blocks_few = are.blocks_few;
-      no_more = omega (arith, room, length-append begun.blocks (b ∷ []));
-      last_few = λ front last e. omega (arith, few, ap (λ (x : BlockValue). length x.labels) (push_same begun.blocks front b last e));
-      none_lack = λ e. absurd (omega (arith, ap length e, length-append begun.blocks (b ∷ [])));
-      blocks = All-append (IsBlock begun.nodes) begun.blocks (b ∷ []) are.blocks (All-cons (IsBlock begun.nodes) b [] (block_empty begun.nodes source radius within radius_within) (All-nil (IsBlock begun.nodes)));
-      sources = each_behind_push IsNewSource begun.blocks b are.sources (new_source begun.blocks b fresh);
-    }

@@ -2,7 +2,7 @@
 use Rattle.std.proofs.Common.{◌≡◌, ℕ, ◌<◌, ◌≤◌, ◌+◌, ◌∷◌, ◌++◌, [], List, Bool, true, false, Option, Some, None, length, refl, ap, sym, ◌∙◌, arith}
 use Rattle.std.specs.Prelude.{ℤ, is_none, nat_le, ◌==◌, ◌||◌}
 use Rattle.std.specs.List.{list_any}
-use Rattle.std.proofs.lemmas.Bool.{lt-ltb, le-ltb, le-leb}
+use Rattle.std.proofs.lemmas.Bool.{le-ltb}
 use Rattle.std.proofs.lemmas.Bool.Decides.{nat_tests}
 use Rattle.std.proofs.lemmas.List.{length-append}
 use Rattle.std.proofs.lemmas.List.Elements.{filter-append}
@@ -11,13 +11,10 @@ use Rattle.std.proofs.lemmas.List.Sums.{fold-append}
 use Rattle.dimacs_records.specs.declared.kinds.TextKind.TheVariants.{Labels}
 use Rattle.dimacs_records.specs.declared.records.Record.{Record}
 use Rattle.dimacs_records.specs.declared.records.Record.TheVariants.{LabelsProblem, LabelsBlock, LabelsNode}
-use Rattle.dimacs_records.specs.declared.reasons.Reason.TheVariants.{ProblemMissing, ProblemTwice, RecordOrder, NodeRange, NodeTwice, TooMany, TooFew, PredUnknown, PastRadius}
 use Rattle.dimacs_records.specs.Blocks.{Block, block_in, block_after, is_labelled, is_full_block, is_past_block, is_short_block}
 use Rattle.dimacs_records.specs.Earlier.{Problem, declares, problem_in, problem_of, or_else, counted_in, is_counted, names}
-use Rattle.dimacs_records.specs.Faults.{FirstAtEnd}
-use Rattle.dimacs_records.specs.inside.FieldReader.{fault_at}
-use Rattle.dimacs_records.specs.Readings.{IsAllowed, IsFirstCondition, IsComplete}
-use Rattle.dimacs_records.proofs.ConditionLemmas.{is_first_condition, is_allowed, is_first_at_end, is_complete}
+use Rattle.dimacs_records.specs.Readings.{IsAllowed, IsComplete}
+use Rattle.dimacs_records.proofs.ConditionLemmas.{is_allowed, is_complete}
 
 abbrev pub is_source : ℕ → ℕ → Bool
 is_source id source = source == id
@@ -60,59 +57,14 @@ module _ (earlier : List Record) (nodes declared : ℕ) (sources : List ℕ) (la
     block = block_in-push earlier (LabelsBlock source count radius);
   }
 
-  pub second_problem : (n m : ℕ) → IsFirstCondition earlier (LabelsProblem n m) (fault_at 0 ProblemTwice)
-  second_problem n m = is_first_condition earlier (LabelsProblem n m) (fault_at 0 ProblemTwice) (rw say.problem refl)
-
-  pub source_above : (source count : ℕ) (radius : Option ℤ) → nodes < source → IsFirstCondition earlier (LabelsBlock source count radius) (fault_at 2 NodeRange)
-  source_above source count radius above = is_first_condition earlier (LabelsBlock source count radius) (fault_at 2 NodeRange) (rw (say.problem, lt-ltb nodes source above) refl)
-
-  pub source_twice : (source count : ℕ) (radius : Option ℤ) → source ≤ nodes → list_any (is_source source) sources ≡ true → IsFirstCondition earlier (LabelsBlock source count radius) (fault_at 2 NodeTwice)
-  source_twice source count radius within twice = is_first_condition earlier (LabelsBlock source count radius) (fault_at 2 NodeTwice) (rw (say.problem, le-ltb nodes source within, say.named source, twice) refl)
-
-  pub too_many_blocks : (source count : ℕ) (radius : Option ℤ) → source ≤ nodes → list_any (is_source source) sources ≡ false → declared ≤ length sources → IsFirstCondition earlier (LabelsBlock source count radius) (fault_at 0 TooMany)
-  too_many_blocks source count radius within fresh full = is_first_condition earlier (LabelsBlock source count radius) (fault_at 0 TooMany) (rw (say.problem, say.counted, le-ltb nodes source within, say.named source, fresh, le-leb declared (length sources) full) refl)
-
-  pub block_before_short : (source count : ℕ) (radius : Option ℤ) → source ≤ nodes → list_any (is_source source) sources ≡ false → length sources < declared → is_short_block last ≡ true → IsFirstCondition earlier (LabelsBlock source count radius) (fault_at 0 TooFew)
-  block_before_short source count radius within fresh room short =
-      let counted : nat_le declared (length sources) ≡ false = grind (arith, nat_tests, room) in
-      is_first_condition earlier (LabelsBlock source count radius) (fault_at 0 TooFew) (rw (say.problem, say.counted, say.block, le-ltb nodes source within, say.named source, fresh, counted, short) refl)
-
   pub block_allowed : (source count : ℕ) (radius : Option ℤ) → source ≤ nodes → list_any (is_source source) sources ≡ false → length sources < declared → is_short_block last ≡ false → IsAllowed earlier (LabelsBlock source count radius)
   block_allowed source count radius within fresh room short =
       let counted : nat_le declared (length sources) ≡ false = grind (arith, nat_tests, room) in
       is_allowed earlier (LabelsBlock source count radius) (rw (say.problem, say.counted, say.block, le-ltb nodes source within, say.named source, fresh, counted, short) refl)
 
-  pub label_outside : (id : ℕ) (dist : ℤ) (pred : ℕ) → is_none last ≡ true → IsFirstCondition earlier (LabelsNode id dist pred) (fault_at 0 RecordOrder)
-  label_outside id dist pred outside = is_first_condition earlier (LabelsNode id dist pred) (fault_at 0 RecordOrder) (rw (say.problem, say.block, outside) refl)
-
-  pub id_above : (id : ℕ) (dist : ℤ) (pred : ℕ) → is_none last ≡ false → nodes < id → IsFirstCondition earlier (LabelsNode id dist pred) (fault_at 2 NodeRange)
-  id_above id dist pred inside above = is_first_condition earlier (LabelsNode id dist pred) (fault_at 2 NodeRange) (rw (say.problem, say.block, inside, lt-ltb nodes id above) refl)
-
-  pub pred_above : (id : ℕ) (dist : ℤ) (pred : ℕ) → is_none last ≡ false → id ≤ nodes → nodes < pred → IsFirstCondition earlier (LabelsNode id dist pred) (fault_at 4 NodeRange)
-  pred_above id dist pred inside within above = is_first_condition earlier (LabelsNode id dist pred) (fault_at 4 NodeRange) (rw (say.problem, say.block, inside, le-ltb nodes id within, lt-ltb nodes pred above) refl)
-
-  -- a label of nodes in their range, in a block
-  module _ (id : ℕ) (dist : ℤ) (pred : ℕ) (inside : is_none last ≡ false) (id_within : id ≤ nodes) (pred_within : pred ≤ nodes) where
-    pub label_twice : is_labelled last id ≡ true → IsFirstCondition earlier (LabelsNode id dist pred) (fault_at 2 NodeTwice)
-    label_twice twice = is_first_condition earlier (LabelsNode id dist pred) (fault_at 2 NodeTwice) (rw (say.problem, say.block, inside, le-ltb nodes id id_within, le-ltb nodes pred pred_within, twice) refl)
-
-    pub too_many_labels : is_labelled last id ≡ false → is_full_block last ≡ true → IsFirstCondition earlier (LabelsNode id dist pred) (fault_at 0 TooMany)
-    too_many_labels fresh full = is_first_condition earlier (LabelsNode id dist pred) (fault_at 0 TooMany) (rw (say.problem, say.block, inside, le-ltb nodes id id_within, le-ltb nodes pred pred_within, fresh, full) refl)
-
-    pub pred_unknown : is_labelled last id ≡ false → is_full_block last ≡ false → is_labelled last pred ≡ false → IsFirstCondition earlier (LabelsNode id dist pred) (fault_at 0 PredUnknown)
-    pred_unknown fresh room unknown = is_first_condition earlier (LabelsNode id dist pred) (fault_at 0 PredUnknown) (rw (say.problem, say.block, inside, le-ltb nodes id id_within, le-ltb nodes pred pred_within, fresh, room, unknown) refl)
-
-    pub past_radius : is_labelled last id ≡ false → is_full_block last ≡ false → is_labelled last pred ≡ true → is_past_block last dist ≡ true → IsFirstCondition earlier (LabelsNode id dist pred) (fault_at 3 PastRadius)
-    past_radius fresh room known past = is_first_condition earlier (LabelsNode id dist pred) (fault_at 3 PastRadius) (rw (say.problem, say.block, inside, le-ltb nodes id id_within, le-ltb nodes pred pred_within, fresh, room, known, past) refl)
-
-    pub label_allowed : is_labelled last id ≡ false → is_full_block last ≡ false → is_labelled last pred ≡ true → is_past_block last dist ≡ false → IsAllowed earlier (LabelsNode id dist pred)
-    label_allowed fresh room known near = is_allowed earlier (LabelsNode id dist pred) (rw (say.problem, say.block, inside, le-ltb nodes id id_within, le-ltb nodes pred pred_within, fresh, room, known, near) refl)
-
-  pub too_few_blocks : length sources < declared → FirstAtEnd Labels earlier TooFew
-  too_few_blocks room = is_first_at_end Labels earlier TooFew (rw (say.problem, say.counted, lt-ltb (length sources) declared room) refl)
-
-  pub too_few_labels : declared ≤ length sources → is_short_block last ≡ true → FirstAtEnd Labels earlier TooFew
-  too_few_labels full short = is_first_at_end Labels earlier TooFew (rw (say.problem, say.counted, say.block, le-ltb (length sources) declared full, short) refl)
+  pub label_allowed : (id : ℕ) (dist : ℤ) (pred : ℕ) → is_none last ≡ false → id ≤ nodes → pred ≤ nodes → is_labelled last id ≡ false → is_full_block last ≡ false → is_labelled last pred ≡ true → is_past_block last dist ≡ false → IsAllowed earlier (LabelsNode id dist pred)
+  label_allowed id dist pred inside id_within pred_within fresh room known near =
+      is_allowed earlier (LabelsNode id dist pred) (rw (say.problem, say.block, inside, le-ltb nodes id id_within, le-ltb nodes pred pred_within, fresh, room, known, near) refl)
 
   pub all_there : declared ≤ length sources → is_short_block last ≡ false → IsComplete Labels earlier
   all_there full short = is_complete Labels earlier (rw (say.problem, say.counted, say.block, le-ltb (length sources) declared full, short) refl)
@@ -131,15 +83,6 @@ say_label earlier nodes declared sources source count radius ids say id dist pre
     or_false true = refl
     or_false false = refl
 
--- behind nothing
-pub block_without_problem : (source count : ℕ) (radius : Option ℤ) → IsFirstCondition [] (LabelsBlock source count radius) (fault_at 0 ProblemMissing)
-block_without_problem source count radius = is_first_condition [] (LabelsBlock source count radius) (fault_at 0 ProblemMissing) refl
-
-pub label_without_problem : (id : ℕ) (dist : ℤ) (pred : ℕ) → IsFirstCondition [] (LabelsNode id dist pred) (fault_at 0 ProblemMissing)
-label_without_problem id dist pred = is_first_condition [] (LabelsNode id dist pred) (fault_at 0 ProblemMissing) refl
-
+-- after nothing
 pub first_problem : (nodes blocks : ℕ) → IsAllowed [] (LabelsProblem nodes blocks)
 first_problem nodes blocks = is_allowed [] (LabelsProblem nodes blocks) refl
-
-pub nothing_read : FirstAtEnd Labels [] ProblemMissing
-nothing_read = is_first_at_end Labels [] ProblemMissing refl

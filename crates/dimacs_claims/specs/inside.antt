@@ -1,5 +1,4 @@
 pub mod ById
 pub mod CutReading
-pub mod LabelsReading
 pub mod PotentialsReading
 pub mod SolutionReading

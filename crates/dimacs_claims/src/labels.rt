@@ -9,27 +9,30 @@ ghost use Rattle.dimacs_lines.specs.Puts.{Puts};
 ghost use Rattle.dimacs_records.specs.declared.kinds.TextKind.TheVariants as kinds;
 ghost use Rattle.dimacs_records.specs.declared.records.Record.TheVariants.{LabelsProblem, LabelsBlock, LabelsNode};
 ghost use Rattle.dimacs_records.specs.Canonical.{canonical_text};
+ghost use Rattle.dimacs_records.specs.Blocks.{block_in, is_short_block};
+ghost use Rattle.dimacs_records.specs.Earlier.{names};
 ghost use Rattle.dimacs_records.specs.Faults.{Fault};
-ghost use Rattle.dimacs_records.specs.Readings.{CountsRead, records_of};
+ghost use Rattle.dimacs_records.specs.Readings.{CountsRead, IsAllowed, records_of};
 ghost use Rattle.dimacs_records.specs.inside.Readings.{TakesRecord};
+ghost use Rattle.dimacs_records.specs.Tests.{Counts, IsToldOf, earlier_of};
 ghost use Rattle.dimacs_records.specs.Texts.{Reads};
 ghost use Rattle.dimacs_claims.specs.ById.{AreIndexed};
 ghost use Rattle.dimacs_claims.specs.Labels as claims;
 ghost use Rattle.dimacs_claims.specs.Labels.{AreLabels, AreSources, BlockValue, IsBlock, IsNewSource, LabelsValue, label_at, with_block, with_label};
 ghost use Rattle.std.specs.FinSet as set;
-ghost use Rattle.std.specs.List.{All};
+ghost use Rattle.std.specs.List.{All, list_any};
 ghost use Rattle.std.specs.Ordering.{nat_cmp};
 ghost use Rattle.dimacs_records.specs.Ranges.{IsRadius, IsWide};
 ghost use Rattle.dimacs_claims.specs.LabelTexts.{FitText, GivesLabels, SpellsLabels, block_lines, canonical_labels, label_line};
-ghost use Rattle.dimacs_claims.specs.LabelsReading.{AreLabelsBegun, labels_begun_records};
-ghost use Rattle.dimacs_claims.specs.inside.LabelsReading.{with_opened};
+ghost use Rattle.dimacs_claims.specs.LabelsReading.{labels_begun_records};
 
 use crate::block::{Block, Label};
 use crate::by_id::ById;
 use dimacs_lines::{DeviceFault, Memory, Page, Sink, Source};
 use dimacs_nodes::{NodeSet, NodeTable};
 use dimacs_records::{
-    ReadError, Reading, Reason, Record, TakeError, TextKind, read_text, write_record,
+    Declared, Earlier, ReadError, Reading, Record, TakeError, TextKind, read_text, test_end,
+    test_record, write_record,
 };
 use std::alloc::Global;
 use std::marker::Model;
@@ -185,37 +188,29 @@ impl Model for BegunLabels {
 }
 
 impl BegunLabels {
-    fn start_block(
-        &mut self,
-        source: u32,
-        count: u32,
-        radius: Option<i128>,
-    ) -> Result<(), TakeError>
+    /// The number of blocks.
+    #[inline(always)]
+    fn len(&self) -> u32
+        ensures { result ≡ length self.now.blocks }
+    {
+        self.blocks.len() as u32
+    }
+
+    /// Whether the last block, which has this source, has a label of a node.
+    #[inline(always)]
+    fn has_label(&self, source: u32, id: u32) -> bool
+        ensures { (front : List BlockValue) (b : BlockValue) → self.now.blocks ≡ front ++ b ∷ [] → b.source ≡ source → result ≡ is_some (claims.label b id) }
+    {
+        source == id || self.labelled.get(id) == self.len()
+    }
+
+    /// Opens a block after the others.
+    fn open(&mut self, source: u32, count: u32, radius: Option<i128>) -> Result<(), Memory>
         requires source { 1 ≤ source }
         requires count { count ≤ most_count }
         requires radius { IfSome radius IsRadius }
-        ensures { TakesRecord (labels_begun_records self.old) (LabelsBlock source count radius) result (labels_begun_records self.new) }
-    {
-        if source > self.nodes {
-            return Err(TakeError::refused(2, Reason::NodeRange));
-        }
-        if self.sources.contains(source) {
-            return Err(TakeError::refused(2, Reason::NodeTwice));
-        }
-        if self.blocks.len() >= self.declared as usize {
-            return Err(TakeError::refused(0, Reason::TooMany));
-        }
-        if self.missing > 0 {
-            return Err(TakeError::refused(0, Reason::TooFew));
-        }
-        self.open(source, count, radius)?;
-        Ok(())
-    }
-
-    /// Opens a block behind the others.
-    fn open(&mut self, source: u32, count: u32, radius: Option<i128>) -> Result<(), Memory>
-        requires { AreLabelsBegun (with_opened self.old source count radius) }
-        ensures opened { OnOk result (self.new ≡ with_opened self.old source count radius) }
+        requires allowed { IsAllowed (labels_begun_records self.old) (LabelsBlock source count radius) }
+        ensures opened { OnOk result (labels_begun_records self.new ≡ labels_begun_records self.old ++ LabelsBlock source count radius ∷ []) }
         ensures unchanged { OnErr result (self.new ≡ self.old) }
     {
         let block = Block::within(*self.blocks.allocator(), source, radius);
@@ -228,48 +223,22 @@ impl BegunLabels {
         Ok(())
     }
 
-    fn add_label(&mut self, label: Label) -> Result<(), TakeError>
+    /// Keeps a label of the last block.
+    #[inline(always)]
+    fn keep_label(&mut self, label: Label) -> Result<(), Memory>
         requires id { 1 ≤ label.id }
         requires pred { 1 ≤ label.pred }
         requires dist { IsWide label.dist }
-        ensures { TakesRecord (labels_begun_records self.old) (label_line label) result (labels_begun_records self.new) }
+        requires allowed { IsAllowed (labels_begun_records self.old) (label_line label) }
+        ensures kept { OnOk result (labels_begun_records self.new ≡ labels_begun_records self.old ++ label_line label ∷ []) }
+        ensures unchanged { OnErr result (self.new ≡ self.old) }
     {
-        let Some(block) = self.blocks.last() else {
-            return Err(TakeError::refused(0, Reason::RecordOrder));
-        };
-        let source = block.source();
-        if label.id > self.nodes {
-            return Err(TakeError::refused(2, Reason::NodeRange));
-        }
-        if label.pred > self.nodes {
-            return Err(TakeError::refused(4, Reason::NodeRange));
-        }
-        if self.has_label(source, label.id) {
-            return Err(TakeError::refused(2, Reason::NodeTwice));
-        }
-        if self.missing == 0 {
-            return Err(TakeError::refused(0, Reason::TooMany));
-        }
-        if !self.has_label(source, label.pred) {
-            return Err(TakeError::refused(0, Reason::PredUnknown));
-        }
-        if block.is_past(label.dist) {
-            return Err(TakeError::refused(3, Reason::PastRadius));
-        }
-        let number = self.blocks.len() as u32;
+        let number = self.len();
         self.labelled.reserve(label.id)?;
         add_to_last(&mut self.blocks, label)?;
         self.labelled.put(label.id, number);
         self.missing -= 1;
         Ok(())
-    }
-
-    /// Whether the last block, which has this source, has a label of a node.
-    #[inline(always)]
-    fn has_label(&self, source: u32, id: u32) -> bool
-        ensures { (front : List BlockValue) (b : BlockValue) → self.now.blocks ≡ front ++ b ∷ [] → b.source ≡ source → result ≡ is_some (claims.label b id) }
-    {
-        source == id || self.labelled.get(id) as usize == self.blocks.len()
     }
 }
 
@@ -289,17 +258,80 @@ impl LabelsReading {
         LabelsReading { alloc, begun: None }
     }
 
-    fn start(&mut self, nodes: u32, declared: u32) -> Result<(), TakeError>
-        requires nodes { nodes ≤ most_nodes }
-        requires declared { declared ≤ most_count }
-        ensures { TakesRecord self.old (LabelsProblem nodes declared) result self.new }
+    /// What the earlier records say of one that asks for no block.
+    #[inline(always)]
+    fn earlier(&self) -> Earlier
+        ensures counts { Counts result.problem result.counted self.now }
+        ensures others { result ≡ earlier_of result.problem result.counted }
     {
-        if self.begun.is_some() {
-            return Err(TakeError::refused(0, Reason::ProblemTwice));
+        match &self.begun {
+            Some(begun) => {
+                let nodes = Some(begun.nodes);
+                let count = begun.declared;
+                Earlier::of(Some(Declared { nodes, count }), begun.len())
+            }
+            None => Earlier::of(None, 0),
         }
+    }
+
+    /// Whether a block has this source.
+    #[inline(always)]
+    fn names(&self, source: u32) -> bool
+        ensures { result ≡ list_any (names source) self.now }
+    {
+        match &self.begun {
+            Some(begun) => begun.sources.contains(source),
+            None => false,
+        }
+    }
+
+    /// Whether the last block has fewer labels than it declares.
+    #[inline(always)]
+    fn lacks_labels(&self) -> bool
+        ensures { result ≡ is_short_block (block_in self.now) }
+    {
+        match &self.begun {
+            Some(begun) => begun.missing > 0,
+            None => false,
+        }
+    }
+
+    /// What the earlier records say of a label.
+    #[inline(always)]
+    fn before_label(&self, label: Label) -> Earlier
+        ensures { IsToldOf result self.now (label_line label) }
+    {
+        let outside = Earlier {
+            misplaced: true,
+            pred_unknown: true,
+            ..self.earlier()
+        };
+        let Some(begun) = &self.begun else {
+            return outside;
+        };
+        let Some(block) = begun.blocks.last() else {
+            return outside;
+        };
+        let source = block.source();
+        Earlier {
+            misplaced: false,
+            named: begun.has_label(source, label.id),
+            block_full: begun.missing == 0,
+            pred_unknown: !begun.has_label(source, label.pred),
+            past_radius: block.is_past(label.dist),
+            ..outside
+        }
+    }
+
+    fn start(&mut self, nodes: u32, blocks: u32) -> Result<(), TakeError>
+        requires nodes { nodes ≤ most_nodes }
+        requires blocks { blocks ≤ most_count }
+        ensures { TakesRecord self.old (LabelsProblem nodes blocks) result self.new }
+    {
+        test_record(self.earlier(), Record::LabelsProblem { nodes, blocks })?;
         self.begun = Some(BegunLabels {
             nodes,
-            declared,
+            declared: blocks,
             missing: 0,
             sources: NodeSet::new(self.alloc),
             labelled: NodeTable::new(self.alloc, 0),
@@ -319,10 +351,24 @@ impl LabelsReading {
         requires radius { IfSome radius IsRadius }
         ensures { TakesRecord self.old (LabelsBlock source count radius) result self.new }
     {
-        let Some(begun) = &mut self.begun else {
-            return Err(TakeError::refused(0, Reason::ProblemMissing));
+        let earlier = Earlier {
+            named: self.names(source),
+            block_short: self.lacks_labels(),
+            ..self.earlier()
         };
-        begun.start_block(source, count, radius)
+        test_record(
+            earlier,
+            Record::LabelsBlock {
+                source,
+                count,
+                radius,
+            },
+        )?;
+        let Some(begun) = &mut self.begun else {
+            unreachable!()
+        };
+        begun.open(source, count, radius)?;
+        Ok(())
     }
 
     #[inline(always)]
@@ -332,10 +378,12 @@ impl LabelsReading {
         requires dist { IsWide label.dist }
         ensures { TakesRecord self.old (label_line label) result self.new }
     {
+        test_record(self.before_label(label), label_record(label))?;
         let Some(begun) = &mut self.begun else {
-            return Err(TakeError::refused(0, Reason::ProblemMissing));
+            unreachable!()
         };
-        begun.add_label(label)
+        begun.keep_label(label)?;
+        Ok(())
     }
 }
 
@@ -363,15 +411,14 @@ impl Reading for LabelsReading {
     }
 
     fn finish(self) -> Result<Labels, TakeError> {
-        let Some(begun) = self.begun else {
-            return Err(TakeError::refused(0, Reason::ProblemMissing));
+        let earlier = Earlier {
+            block_short: self.lacks_labels(),
+            ..self.earlier()
         };
-        if begun.blocks.len() < begun.declared as usize {
-            return Err(TakeError::refused(0, Reason::TooFew));
-        }
-        if begun.missing > 0 {
-            return Err(TakeError::refused(0, Reason::TooFew));
-        }
+        test_end(TextKind::Labels, earlier)?;
+        let Some(begun) = self.begun else {
+            unreachable!()
+        };
         let labels = Labels::of_blocks(begun.nodes, begun.blocks)?;
         Ok(labels)
     }

@@ -1,15 +1,23 @@
-use Rattle.std.proofs.Common.{[]}
-use Rattle.dimacs_claims.specs.Labels.{BlockValue}
+use Rattle.std.proofs.Common.{ap, ◌∙◌, ◌++◌, ◌∷◌, []}
+use Rattle.dimacs_records.specs.declared.records.Record.TheVariants.{LabelsBlock}
+use Rattle.dimacs_claims.specs.LabelsReading.{LabelsBegun, labels_begun_records}
 use Rattle.dimacs_claims.proofs.LabelRecords.{are_sources_more}
-use Rattle.dimacs_claims.proofs.BegunLemmas.{labelled_opened}
+use Rattle.dimacs_claims.proofs.BegunLemmas.{begun_block, labelled_opened, pushed_block}
 use Rattle.dimacs_claims.proofs.labels.BegunLabels.open.Goals as goal
 
 pub invariant_of-self-2 : goal.invariant_of-self-2
 invariant_of-self-2 c =
-    let b : BlockValue = record { source = c.args.source; radius = c.args.radius; labels = [] } in
-    let blocks = c.self.inside.blocks.items in
+    let inside = c.self.inside in
+    let begun : LabelsBegun = record { nodes = inside.nodes; declared = inside.declared; missing = inside.missing; blocks = inside.blocks.items } in
     rw (c.in_ok-push.ensures.items, c.within-block.ensures, c.in-Ok.ensures.inserted) (
-      rw (← c.self.view_is) at c.requires,
-      are_sources_more c.self.inside.sources blocks b c.self.invariant.1,
-      labelled_opened c.self.inside.labelled blocks c.args.source c.args.radius c.self.invariant.2,
+      begun_block begun c.self.invariant.0 c.args.source c.args.count c.args.radius (rw (← c.self.view_is) at c.requires.allowed) c.requires.source c.requires.count c.requires.radius,
+      are_sources_more inside.sources begun.blocks _ c.self.invariant.1,
+      labelled_opened inside.labelled begun.blocks c.args.source c.args.radius c.self.invariant.2,
     )
+
+pub returns-clause-opened : goal.returns-clause-opened
+returns-clause-opened c =
+    let inside = c.self.inside in
+    let begun : LabelsBegun = record { nodes = inside.nodes; declared = inside.declared; missing = inside.missing; blocks = inside.blocks.items } in
+    let line = LabelsBlock c.args.source c.args.count c.args.radius in
+    rw (c.in_ok-push.ensures.items, c.within-block.ensures) (pushed_block begun c.self.invariant.0 c.args.source c.args.count c.args.radius (rw (← c.self.view_is) at c.requires.allowed) ∙ ap (λ t. labels_begun_records t ++ line ∷ []) c.self.view_is)
