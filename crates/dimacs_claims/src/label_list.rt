@@ -1,7 +1,7 @@
 //! The labels of a block, in little memory.
 
 ghost use Rattle.std.specs.Prelude.{◌≡◌, ◌<◌, ◌++◌, ◌∷◌, [], length, map, slice_index_or, IfOk, OnOk, OnErr};
-ghost use Rattle.dimacs_claims.specs.Labels.{no_label};
+ghost use Rattle.dimacs_claims.specs.Labels.{distance_in, no_label};
 ghost use Rattle.dimacs_claims.specs.LabelLists.{widened};
 
 use crate::block::Label;
@@ -102,6 +102,19 @@ impl LabelList {
         } else {
             self.long[place]
         }
+    }
+
+    /// The distance of a node; none where it has no label. Goes over the labels in order.
+    pub(crate) fn distance(&self, id: u32) -> Option<i128>
+        ensures { result ≡ distance_in self.now id }
+    {
+        for place in 0..self.len() {
+            let label = self.at(place);
+            if label.id == id {
+                return Some(label.dist);
+            }
+        }
+        None
     }
 }
 

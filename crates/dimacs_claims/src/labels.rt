@@ -27,7 +27,7 @@ ghost use Rattle.dimacs_claims.specs.LabelTexts.{FitText, GivesLabels, SpellsLab
 ghost use Rattle.dimacs_claims.specs.LabelsReading.{labels_begun_records};
 
 use crate::block::{Block, Label};
-use crate::by_id::ById;
+use crate::by_id::{ById, distance_by};
 use dimacs_lines::{DeviceFault, Memory, Page, Sink, Source};
 use dimacs_nodes::{NodeSet, NodeTable};
 use dimacs_records::{
@@ -42,12 +42,11 @@ use std::marker::Model;
 pub struct Labels {
     nodes: u32,
     blocks: Vec<Block>,
-    /// Of each block.
+    /// Of the blocks that there were when the index was built last.
     indices: Vec<ById>,
 }
 
 impl Model for Labels {
-    ghost use Rattle.std.specs.Prelude.{◌≡◌, length};
     ghost use Rattle.dimacs_claims.specs.ById.{AreIndexed};
     ghost use Rattle.dimacs_claims.specs.Labels.{LabelsValue, AreLabels};
 
@@ -55,7 +54,7 @@ impl Model for Labels {
 
     ghost view = { λ l. record { nodes = l.nodes; blocks = l.blocks.items } };
 
-    ghost invariant = { λ l. AreLabels (record { nodes = l.nodes; blocks = l.blocks.items }) × AreIndexed l.blocks.items l.indices.items × (length l.indices.items ≡ length l.blocks.items) };
+    ghost invariant = { λ l. AreLabels (record { nodes = l.nodes; blocks = l.blocks.items }) × AreIndexed l.blocks.items l.indices.items };
 }
 
 impl Labels {
@@ -72,20 +71,7 @@ impl Labels {
         }
     }
 
-    /// Labels of so many nodes, with these blocks.
-    fn of_blocks(nodes: u32, blocks: Vec<Block>) -> Result<Labels, Memory>
-        requires { AreLabels (record { nodes = nodes; blocks = blocks.items }) }
-        ensures { IfOk result (λ labels. labels ≡ record { nodes = nodes; blocks = blocks.items }) }
-    {
-        let indices = indices_of(*blocks.allocator(), &blocks)?;
-        Ok(Labels {
-            nodes,
-            blocks,
-            indices,
-        })
-    }
-
-    /// Adds a block of a source that none of the others has.
+    /// Adds a block of a source that none of the others has. `index` doesn't reach it until it is called again.
     pub fn push(&mut self, block: Block) -> Result<(), Memory>
         requires lawful { IsBlock self.old.nodes block }
         requires source { IsNewSource self.old.blocks block }
@@ -95,13 +81,16 @@ impl Labels {
         ensures sources { OnOk result ((sources : set.FinSet nat_cmp) → AreSources sources self.old.blocks → AreSources (set.insert sources block.source) self.new.blocks) }
         ensures unchanged { OnErr result (self.new ≡ self.old) }
     {
-        let index = ById::new(*self.blocks.allocator(), block.labels())?;
-        self.indices.push(index)?;
-        let Ok(()) = self.blocks.push(block) else {
-            self.indices.pop();
-            return Err(Memory);
-        };
+        self.blocks.push(block)?;
         Ok(())
+    }
+
+    /// Puts the labels of each block in the order of IDs, which takes 4 bytes a label, so that `label` takes logarithmic
+    /// time. Blocks for which that was done are left as they are.
+    pub fn index(&mut self) -> Result<(), Memory>
+        ensures { self.new ≡ self.old }
+    {
+        index_others(&self.blocks, &mut self.indices)
     }
 
     pub fn nodes(&self) -> u32
@@ -119,7 +108,8 @@ impl Labels {
     }
 
     /// The distance that a block claims of a node: 0 at its source, none where it has no label. Blocks count from 0;
-    /// past the last one, and above the number of nodes, there is none. Takes no memory, and logarithmic time.
+    /// past the last one, and above the number of nodes, there is none. Takes no memory; logarithmic time after `index`,
+    /// else time by the number of labels in the block.
     #[inline]
     pub fn label(&self, block: usize, id: u32) -> Option<i128>
         ensures label { result ≡ label_at self.now.blocks block id }
@@ -129,24 +119,24 @@ impl Labels {
         if found.source() == id {
             return Some(0);
         }
-        self.indices[block].distance(found.labels(), id)
+        distance_by(self.indices.get(block), found.labels(), id)
     }
 }
 
-/// The index of each block.
-fn indices_of(alloc: Global, blocks: &[Block]) -> Result<Vec<ById>, Memory>
-    requires { (nodes : ℕ) × All (IsBlock nodes) blocks.now }
-    ensures indices { IfOk result (λ indices. AreIndexed blocks.now indices.items) }
-    ensures all { IfOk result (λ indices. length indices.items ≡ length blocks.now) }
+/// Adds the indices of the blocks that have none.
+fn index_others(blocks: &[Block], indices: &mut Vec<ById>) -> Result<(), Memory>
+    requires lawful { (nodes : ℕ) × All (IsBlock nodes) blocks.now }
+    requires begun { AreIndexed blocks.now indices.old.items }
+    ensures indexed { AreIndexed blocks.now indices.new.items }
+    ensures all { OnOk result (length indices.new.items ≡ length blocks.now) }
 {
-    let mut indices = Vec::with_capacity(alloc, blocks.len())?;
-    for block in blocks {
-        indices.push(ById::new(alloc, block.labels())?)?;
+    for i in indices.len()..blocks.len() {
+        indices.push(ById::new(*indices.allocator(), blocks[i].labels())?)?;
     }
-    Ok(indices)
+    Ok(())
 }
 
-/// Makes labels of the records of a text.
+/// Makes labels of the records of a text, without an index of them.
 #[derive(Drop)]
 pub struct LabelsReading {
     alloc: Global,
@@ -416,16 +406,31 @@ impl Reading for LabelsReading {
             ..self.earlier()
         };
         test_end(TextKind::Labels, earlier)?;
+        let alloc = self.alloc;
         let Some(begun) = self.begun else {
             unreachable!()
         };
-        let labels = Labels::of_blocks(begun.nodes, begun.blocks)?;
-        Ok(labels)
+        Ok(Labels {
+            nodes: begun.nodes,
+            blocks: begun.blocks,
+            indices: Vec::new(alloc),
+        })
     }
 }
 
-/// Reads a text of labels.
+/// Reads a text of labels, and builds their index.
 pub fn read_labels<S: Source>(alloc: Global, source: &mut S) -> Result<Labels, ReadError>
+    ensures reads { (text : List ℕ) → S.coming source.old ≡ Some text → Reads (SpellsLabels text) (Fault kinds.Labels (lines text)) result }
+    ensures fits { (text : List ℕ) → S.coming source.old ≡ Some text → IfOk result (λ labels. FitText labels) }
+    ensures device { CountsRead result (S.faults source.old) (S.faults source.new) }
+{
+    let mut labels = read_plain_labels(alloc, source)?;
+    labels.index()?;
+    Ok(labels)
+}
+
+/// Reads a text of labels, and builds no index of them.
+pub fn read_plain_labels<S: Source>(alloc: Global, source: &mut S) -> Result<Labels, ReadError>
     ensures reads { (text : List ℕ) → S.coming source.old ≡ Some text → Reads (SpellsLabels text) (Fault kinds.Labels (lines text)) result }
     ensures fits { (text : List ℕ) → S.coming source.old ≡ Some text → IfOk result (λ labels. FitText labels) }
     ensures device { CountsRead result (S.faults source.old) (S.faults source.new) }

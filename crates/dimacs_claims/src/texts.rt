@@ -9,7 +9,7 @@ ghost use Rattle.dimacs_claims.specs.Potentials.{PotentialsValue, SpellsPotentia
 ghost use Rattle.dimacs_claims.specs.SolutionTexts.{SolutionValue, SpellsSolution, canonical_solution, claimed, shown_solution};
 
 use crate::cut::{Cut, read_cut, write_cut};
-use crate::labels::{Labels, read_labels, write_labels};
+use crate::labels::{Labels, read_plain_labels, write_labels};
 use crate::potentials::{Potentials, read_potentials, write_potentials};
 use crate::solution::{Solution, read_solution, write_solution};
 use dimacs_lines::{DeviceFault, Sink, Source};
@@ -156,7 +156,7 @@ impl Text for Labels {
     }
 
     fn read<S: Source>(alloc: Global, source: &mut S) -> Result<Self, ReadError> {
-        read_labels(alloc, source)
+        read_plain_labels(alloc, source)
     }
 
     fn write<K: Sink>(&self, sink: &mut K) -> Result<(), DeviceFault> {

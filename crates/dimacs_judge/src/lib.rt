@@ -43,6 +43,6 @@ pub use maximum::{judge_max, judge_max_placed};
 pub use paths::judge_paths;
 pub use places::FlowPlaces;
 pub use potentials::slack_tests;
-pub use queries::{answer_queries, query_nodes_hold, source_asked};
+pub use queries::{answer_queries, index_for, query_nodes_hold, source_asked};
 pub use value::value_of;
 pub use verdict::{Answer, JudgeError, Verdict, Where};

@@ -17,7 +17,8 @@ use std::alloc::Global;
 /// a query asks for it, the label of a node is the least weight of all walks to it from the block's source, and that no
 /// walk leads to a node without a label, whatever its ID; where the block has a radius, that each walk to such a node
 /// weighs more than the radius. `Sources` tells how many sources were asked for; `Pairs` the distance between the nodes
-/// of each pair, in order, or none with the radius of the block, where it has one. `Memory` where there is none for a table
+/// of each pair, in order, or none with the radius of the block, where it has one; each is looked up in the labels, so
+/// `index_for` should come first. `Memory` where there is none for a table
 /// of the nodes that have labels, for links between the arcs, for the numbers of the blocks or for the answers; it says
 /// nothing of the labels.
 ///

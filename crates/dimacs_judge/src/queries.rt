@@ -132,7 +132,18 @@ pub fn source_asked(queries: &Queries, i: usize) -> u32
     }
 }
 
+/// Indexes the labels where the distances of pairs are looked up in them.
+pub fn index_for(queries: &Queries, labels: &mut Labels) -> Result<(), Memory>
+    ensures { labels.new ≡ labels.old }
+{
+    match queries {
+        Queries::Sources(_) => Ok(()),
+        Queries::Pairs(_) => labels.index(),
+    }
+}
+
 /// What labels answer to queries, whether or not they pass a test. A query whose source has no block is answered by none.
+/// Each pair is looked up, in logarithmic time after `index_for`.
 pub fn answer_queries(alloc: Global, queries: &Queries, labels: &Labels) -> Result<Verdict, Memory>
     requires { AreLawful (asked queries.now) }
     ensures { IfOk result (AnswersQueries labels.now.blocks (asked queries.now)) }

@@ -21,7 +21,9 @@ use dimacs_claims::{Cut, Labels, Potentials};
 use dimacs_instance::{
     ArcView, CapacityArc, Graph, MaxInstance, MinInstance, PlainArcs, Queries, WeightArc,
 };
-use dimacs_judge::{FlowPlaces, judge_infeasible, judge_max_placed, judge_min_placed, judge_paths};
+use dimacs_judge::{
+    FlowPlaces, index_for, judge_infeasible, judge_max_placed, judge_min_placed, judge_paths,
+};
 use dimacs_lines::{Sink, Source};
 use std::alloc::Global;
 
@@ -135,7 +137,10 @@ fn tell_paths<P: Source, Q: Source, R: Source>(
     match read_three::<Graph<PlainArcs<WeightArc>>, Queries, Labels, P, Q, R>(
         alloc, graph, queries, labels,
     ) {
-        Ok((graph, queries, labels)) => answer_told(judge_paths(alloc, &graph, &queries, &labels)),
+        Ok((graph, queries, mut labels)) => {
+            index_for(&queries, &mut labels)?;
+            answer_told(judge_paths(alloc, &graph, &queries, &labels))
+        }
         Err(unread) => unread.told(),
     }
 }

@@ -23,7 +23,7 @@ use crate::told::Told;
 use dimacs_instance::{
     ArcView, CapacityArc, Graph, MaxInstance, MinInstance, Network, PlainArcs, Queries, WeightArc,
 };
-use dimacs_judge::answer_queries;
+use dimacs_judge::{answer_queries, index_for};
 use dimacs_lines::{Sink, Source};
 use dimacs_solve::{solve_max, solve_min, solve_paths};
 use std::alloc::Global;
@@ -119,7 +119,8 @@ fn label<N: Network>(
     ensures unclaimed { IfOk result (λ produced. IsClaimless produced.made) }
 {
     match solve_paths(alloc, graph, queries) {
-        Ok(labels) => {
+        Ok(mut labels) => {
+            index_for(queries, &mut labels)?;
             let answers = answer_queries(alloc, queries, &labels)?;
             Ok(Produced {
                 made: Made::Distances(labels),

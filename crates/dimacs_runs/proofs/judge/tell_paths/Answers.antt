@@ -9,14 +9,14 @@ use Rattle.dimacs_runs.proofs.JudgingLemmas.{answer_alone, paths_said, three_tol
 use Rattle.dimacs_runs.proofs.judge.tell_paths.Goals as goal
 
 -- the texts were read, and the judge answered
-pub returns-in-Ok-clause-told : goal.returns-in-Ok-clause-told
-returns-in-Ok-clause-told g c = λ a b d first second third.
+pub returns-in_ok-index_for-in-Ok-clause-told : goal.returns-in_ok-index_for-in-Ok-clause-told
+returns-in_ok-index_for-in-Ok-clause-told g c = λ a b d first second third.
     let read = c.in-Ok.ensures.reads a b d first second third in
     let i = c.in-Ok.graph in
     let q = asked c.in-Ok.queries in
     let l = c.in-Ok.labels in
     rw c.answer_told.ensures (three_values (says kinds.Graph SpellsGraph a) (says kinds.Queries SpellsQueries b) (says kinds.Labels SpellsLabels d) (λ i q l. VerdictOr (ShowsDistances i q l) (paths_rows i q l) (paths_lines l.blocks q)) i q l _ read.0 read.1 read.2
-    (answer_alone (ShowsDistances i q l) (paths_rows i q l) _ (paths_lines l.blocks q) (λ verdict is. paths_said l.blocks q verdict is) c.judge_paths.result c.judge_paths.ensures))
+    (answer_alone (ShowsDistances i q l) (paths_rows i q l) _ (paths_lines l.blocks q) (λ verdict is. paths_said l.blocks q verdict is) c.judge_paths.result (rw c.in_ok-index_for-in-Ok.ensures at c.judge_paths.ensures)))
 
 -- a text could not be read
 pub returns-in-Err-clause-told : goal.returns-in-Err-clause-told

@@ -20,4 +20,4 @@ returns-clause-given c =
     let told = subst (λ (e : Earlier). TellsEnd Labels (record e { block_short = is_short_block (block_in c.args.self) }) c.args.self) (sym c.earlier.ensures.others) (end_tells _ _ _ c.earlier.ensures.counts) in
     let passes = rw c.lacks_labels.ensures at c.in_ok-test_end.ensures.passes in
     let now = sym c.self.view_is ∙ ap label_records_so_far c.in-Some.is ∙ ap labels_begun_records (sym (c.begun.view_is ∙ c.in-Some.begun-is)) in
-    rw c.in_ok-labels.ensures (λ rs h. gives_labels _ c.begun.invariant.0 rs (h ∙ now) (rw h (complete_told Labels _ _ passes told)))
+    (λ rs h. gives_labels _ c.begun.invariant.0 rs (h ∙ now) (rw h (complete_told Labels _ _ passes told)))
