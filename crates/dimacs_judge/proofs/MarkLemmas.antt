@@ -1,5 +1,5 @@
 -- Marks of the nodes that a block labels, and the arcs that make its labels.
-use Rattle.std.proofs.Common.{IsTrue, int_lt, unsigned_abs, ◌^◌, ◌-◌, ◌-ℤ◌, cond, count_by, is_some, ◌≡◌, ◌≢◌, ◌⊎◌, ◌↔◌, inl, inr, ℕ, suc, zero, ◌+◌, ◌<◌, ◌≤◌, Bool, true, false, not, List, [], ◌∷◌, ◌++◌, Contains, length, take, drop, get_or, slice_get, Option, Some, None, IfSome, ℤ, pos, ◌+ℤ◌, ◌<ℤ◌, refl, sym, ap, ap₂, subst, ◌∙◌, arith}
+use Rattle.std.proofs.Common.{IsTrue, int_lt, unsigned_abs, ◌^◌, ◌-◌, ◌-ℤ◌, cond, count_by, is_some, ◌≡◌, ◌≢◌, ◌⊎◌, ◌↔◌, inl, inr, ℕ, suc, zero, ◌+◌, ◌<◌, ◌≤◌, Bool, true, false, List, [], ◌∷◌, ◌++◌, Contains, length, take, drop, get_or, slice_get, Option, Some, None, IfSome, ℤ, pos, ◌+ℤ◌, ◌<ℤ◌, refl, sym, ap, ap₂, subst, ◌∙◌, arith}
 use Rattle.std.specs.Prelude.{◌==◌, if◌then◌else◌, Result, Ok, Err}
 use Rattle.std.specs.Result.{result_and}
 use Rattle.std.specs.Int.{from_bool}
@@ -259,14 +259,6 @@ told_of_escape radius from weight tail head None tail_is head_is told = λ reaso
     ]
 told_of_escape radius from weight tail head (Some reason) tail_is head_is told = (from, tail_is, inl (told.0, head_is, told.1))
 
-pub told_escape : (radius : Option ℤ) (labels : List Label) (number : ℕ) (a : ArcView) (marks : NodeTable Mark) (tail head : Mark) (from : ℤ) (fault : Option Reason) → tail ≡ value_of marks a.tail → head ≡ value_of marks a.head → Some from ≡ marked_dist labels number tail → None ≡ marked_dist labels number head
-    → TellsReason (λ reason. (reason ≡ Escapes) × IsNear radius (from +ℤ a.cost)) fault → TellsReason (RelaxFails radius (marked_dist labels number (value_of marks a.tail)) (marked_dist labels number (value_of marks a.head)) a.cost) fault
-told_escape radius labels number a marks tail head from fault tail_is head_is from_is none told =
-    told_of_escape radius from a.cost (marked_dist labels number (value_of marks a.tail)) (marked_dist labels number (value_of marks a.head)) fault (ap (marked_dist labels number) (sym tail_is) ∙ sym from_is) (ap (marked_dist labels number) (sym head_is) ∙ sym none) told
-
-pub tail_unmarked : (labels : List Label) (number : ℕ) (a : ArcView) (marks : NodeTable Mark) (tail : Mark) → tail ≡ value_of marks a.tail → None ≡ marked_dist labels number tail → ¬ IsTight labels number a marks
-tail_unmarked labels number a marks tail is none tight = let e : None ≡ Some tight.base = none ∙ (ap (marked_dist labels number) is ∙ tight.tail) in cc
-
 pub head_unmarked : (labels : List Label) (number : ℕ) (a : ArcView) (marks : NodeTable Mark) (head : Mark) → head ≡ value_of marks a.head → None ≡ marked_dist labels number head → ¬ IsTight labels number a marks
 head_unmarked labels number a marks head is none tight = let e : None ≡ Some (tight.base +ℤ a.cost) = none ∙ (ap (marked_dist labels number) is ∙ tight.head) in cc
 
@@ -468,16 +460,5 @@ all_counted arcs b marks alone all k place reason (inside, at, why, off) =
     let has = Contains-get_or b.labels k no_label inside in
     off (alone (get_or b.labels k no_label) has (count_all (λ (l : Label). is_made (value_of marks l.id)) b.labels all (get_or b.labels k no_label) has))
 
-pub count_within : (b : BlockValue) (marks : NodeTable Mark) → made_count b marks ≤ length b.labels
-count_within b marks = count_by-le-length (λ (l : Label). is_made (value_of marks l.id)) b.labels
-
 pub label_made : (arcs : List ArcView) (b : BlockValue) (marks : NodeTable Mark) (k : ℕ) → k < length b.labels → AreMade arcs b marks → (is_made (value_of marks (get_or b.labels k no_label).id) ≡ true) ↔ HasTightArc arcs b (get_or b.labels k no_label)
 label_made arcs b marks k inside made = made (get_or b.labels k no_label) (Contains-get_or b.labels k no_label inside)
-
-pub not_true : (b : Bool) → not b ≡ true → b ≡ false
-not_true true e = absurd (cc)
-not_true false e = refl
-
-pub not_false : (b : Bool) → not b ≡ false → b ≡ true
-not_false true e = refl
-not_false false e = absurd (cc)
