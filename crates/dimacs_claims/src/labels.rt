@@ -81,8 +81,7 @@ impl Labels {
         ensures sources { OnOk result ((sources : set.FinSet nat_cmp) → AreSources sources self.old.blocks → AreSources (set.insert sources block.source) self.new.blocks) }
         ensures unchanged { OnErr result (self.new ≡ self.old) }
     {
-        self.blocks.push(block)?;
-        Ok(())
+        Ok(self.blocks.push(block)?)
     }
 
     /// Puts the labels of each block in the order of IDs, which takes 4 bytes a label, so that `label` takes logarithmic

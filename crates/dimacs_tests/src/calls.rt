@@ -13,7 +13,7 @@ use dimacs_instance::{
 };
 use dimacs_judge::{
     Answer, Flow, FlowPlaces, JudgeError, Verdict, Where, cut_tests, feasible_max, feasible_min,
-    flow_of, judge_infeasible, judge_max, judge_max_placed, judge_min, judge_min_placed,
+    flow_of, index_for, judge_infeasible, judge_max, judge_max_placed, judge_min, judge_min_placed,
     judge_paths, label_tests, slack_tests,
 };
 use dimacs_lines::MemorySource;
@@ -325,7 +325,8 @@ fn labels_answer_queries(rt: HostRuntime) -> Result<(), Fail> {
         rt.alloc(),
         &mut MemorySource::new(b"p aux sp p2p 2\nq 1 3\nq 1 2\n"),
     )?;
-    let labels = distances(rt.alloc())?;
+    let mut labels = distances(rt.alloc())?;
+    index_for(&queries, &mut labels)?;
     let Ok(Verdict::Pairs(answers)) = judge_paths(rt.alloc(), &graph, &queries, &labels) else {
         return Err(Fail::new("the labels are distances"));
     };

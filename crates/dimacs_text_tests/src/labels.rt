@@ -6,6 +6,7 @@ use crate::texts::{
 };
 use dimacs_claims::{Label, Labels, LabelsReading};
 use dimacs_records::TextKind;
+use std::process::Abort;
 use std::test::Fail;
 
 const TWO_BLOCKS: &str = "p dist 4 2\nt 1 2\nd 2 5 1\nd 3 -7 2\nt 4 0\n";
@@ -71,11 +72,17 @@ static DISTANCES: [(usize, u32, Option<i128>); 10] = [
 
 #[test]
 fn labels_are_those_of_the_text(rt: HostRuntime) -> Result<(), Fail> {
-    let labels: Labels = spelled(rt.alloc(), TWO_BLOCKS)?;
-    for &(block, id, dist) in &DISTANCES {
-        same_at(&rt, "node", id as u64, labels.label(block, id), dist);
-    }
+    let mut labels: Labels = spelled(rt.alloc(), TWO_BLOCKS)?;
+    has_distances(&rt, &labels);
+    labels.index()?;
+    has_distances(&rt, &labels);
     Ok(())
+}
+
+fn has_distances(rt: &impl Abort, labels: &Labels) {
+    for &(block, id, dist) in &DISTANCES {
+        same_at(rt, "node", id as u64, labels.label(block, id), dist);
+    }
 }
 
 /// Texts that are refused for their first fault.
