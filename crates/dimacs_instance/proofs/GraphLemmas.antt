@@ -1,6 +1,6 @@
 -- Records behind those of a graph that was begun.
-use Rattle.std.proofs.Common.{◌≡◌, ℕ, suc, ◌<◌, ◌≤◌, ◌∷◌, ◌++◌, [], List, true, false, Option, Some, None, length, map, take, ◌+◌, refl, ap, ap₂, sym, ◌∙◌, subst, arith}
-use Rattle.std.specs.Prelude.{ℤ, pos, codes, slice_get, is_some, nat_lt, nat_le}
+use Rattle.std.proofs.Common.{◌≡◌, ℕ, suc, ◌<◌, ◌≤◌, ◌∷◌, ◌++◌, [], List, false, Option, Some, None, length, map, take, ◌+◌, refl, ap, ap₂, sym, ◌∙◌, arith}
+use Rattle.std.specs.Prelude.{ℤ, pos, codes, slice_get, nat_lt, nat_le}
 use Rattle.std.specs.List.{All}
 use Rattle.std.proofs.lemmas.List.{map-append}
 use Rattle.std.proofs.lemmas.Bool.{le-ltb}
@@ -11,10 +11,9 @@ use Rattle.std.proofs.lemmas.Bool.Decides.{nat_tests}
 use Rattle.dimacs_records.specs.declared.kinds.TextKind.TheVariants.{Graph}
 use Rattle.dimacs_records.specs.declared.records.Record.{Record}
 use Rattle.dimacs_records.specs.declared.records.Record.TheVariants.{GraphProblem, GraphArc}
-use Rattle.dimacs_records.specs.Earlier.{counted_in, is_full, is_short, problem_in}
+use Rattle.dimacs_records.specs.Earlier.{counted_in, is_full, is_short}
 use Rattle.dimacs_records.specs.declared.order.Declared.{Declared}
-use Rattle.dimacs_records.specs.declared.order.Earlier.{Earlier}
-use Rattle.dimacs_records.specs.Tests.{Counts, Passes, PassesEnd, IsToldOf, TellsEnd, earlier_of, problem_told}
+use Rattle.dimacs_records.specs.Tests.{Counts, problem_told}
 use Rattle.dimacs_records.specs.Readings.{IsAllowed, IsComplete}
 use Rattle.dimacs_records.proofs.ConditionLemmas.{is_allowed, is_complete}
 use Rattle.dimacs_instance.specs.declared.network.ArcView.{ArcView}
@@ -50,10 +49,6 @@ module _ (nodes declared : ℕ) (arcs : List ArcView) where
       let counted : nat_lt (counted_in earlier) declared ≡ false = rw (counted_in-arcs arcs) (le-ltb (length arcs) declared full) in
       is_complete Graph earlier (rw counted refl)
 
-pub pushed_records : (nodes declared : ℕ) (arcs : List ArcView) (t h : ℕ) (w : ℤ)
-    → GraphProblem nodes declared ∷ map graph_arc (arcs ++ weight_arc t h w ∷ []) ≡ (GraphProblem nodes declared ∷ map graph_arc arcs) ++ GraphArc t h w ∷ []
-pushed_records nodes declared arcs t h w = ap (λ rs. GraphProblem nodes declared ∷ rs) (map-append graph_arc arcs (weight_arc t h w ∷ []))
-
 pub first_problem : (n m : ℕ) → IsAllowed [] (GraphProblem n m)
 first_problem n m = is_allowed [] (GraphProblem n m) refl
 
@@ -62,39 +57,22 @@ pub counts : (begun : Option GraphBegun) → Counts (declared_by begun) (arcs_by
 counts None = record { problem_is = refl; counted_is = refl }
 counts (Some b) = record { problem_is = refl; counted_is = counted_in-arcs b.arcs }
 
-pub problem_tells : (p : Option Declared) (k : ℕ) (rs : List Record) (n m : ℕ) → Counts p k rs → IsToldOf (earlier_of p k) rs (GraphProblem n m)
-problem_tells p k rs n m h = record { counts = h; misplaced = refl; named = refl; end_named = refl; lacks_end = refl; block_full = refl; block_short = refl; valued = refl; pred_unknown = refl; past_radius = refl }
+-- what is told of the records that were begun
+module _ (b : GraphBegun) (p : Option Declared) (k : ℕ) (now : List Record) (is : now ≡ begun_records b) (so : Counts p k now) where
+  -- an arc finds room where not all came that are declared
+  pub room_told : is_full (problem_told p) k ≡ false → length b.arcs < b.declared
+  room_told some =
+      let few = rw (is, counted_in-arcs b.arcs) at (ap₂ is_full so.problem_is so.counted_is ∙ some) in
+      grind (arith, nat_tests, few)
 
-pub arc_tells : (p : Option Declared) (k : ℕ) (rs : List Record) (t h : ℕ) (w : ℤ) → Counts p k rs → IsToldOf (earlier_of p k) rs (GraphArc t h w)
-arc_tells p k rs t h w so = record { counts = so; misplaced = refl; named = refl; end_named = refl; lacks_end = refl; block_full = refl; block_short = refl; valued = refl; pred_unknown = refl; past_radius = refl }
-
-pub end_tells : (p : Option Declared) (k : ℕ) (rs : List Record) → Counts p k rs → TellsEnd Graph (earlier_of p k) rs
-end_tells p k rs h = record { counts = h; lacks_end = refl; unfinished = ap₂ is_short h.problem_is h.counted_is; valued = refl }
-
--- a problem line that passes the tests is the first
-pub starts : (begun : Option GraphBegun) (e : Earlier) (now : List Record) (n m : ℕ) → now ≡ graph_records_so_far begun → Counts e.problem e.counted now → Passes e (GraphProblem n m) → GraphProblem n m ∷ [] ≡ now ++ GraphProblem n m ∷ []
-starts None e now n m is so p = ap (λ rs. rs ++ GraphProblem n m ∷ []) (sym is)
-starts (Some b) e now n m is so p =
-    let some : true ≡ is_some (problem_told e.problem) = ap (λ rs. is_some (problem_in rs)) (sym is) ∙ ap is_some so.problem_is in
-    absurd (cc (some, p.one_problem))
-
--- an arc that passes the tests finds room
-pub room_told : (b : GraphBegun) (e : Earlier) (rs : List Record) (t h : ℕ) (w : ℤ) → rs ≡ begun_records b → Counts e.problem e.counted rs → Passes e (GraphArc t h w) → length b.arcs < b.declared
-room_told b e rs t h w is so p =
-    let room = subst (λ (rs : List Record). is_full (problem_in rs) (counted_in rs) ≡ false) is (ap₂ is_full so.problem_is so.counted_is ∙ p.room) in
-    let all : nat_le b.declared (length b.arcs) ≡ false = rw (counted_in-arcs b.arcs) at room in
-    grind (arith, nat_tests, all)
-
--- what was begun and is whole gives its graph
-pub gives_graph : (b : GraphBegun) (p : Option Declared) (k : ℕ) (now : List Record) → now ≡ begun_records b → Counts p k now → PassesEnd Graph (earlier_of p k) → IsBegun b
-    → (rs : List LineRecord) → records_of rs ≡ now → GivesGraph rs (record { nodes = b.nodes; arcs = b.arcs })
-gives_graph b p k now is so passes law rs same =
-    let short = subst (λ (rs : List Record). is_short (problem_in rs) (counted_in rs) ≡ false) is (ap₂ is_short so.problem_is so.counted_is ∙ passes.finished) in
-    let few : nat_lt (length b.arcs) b.declared ≡ false = rw (counted_in-arcs b.arcs) at short in
-    let full : b.declared ≡ length b.arcs = grind (arith, nat_tests, few, law.no_more) in (
-      same ∙ is ∙ ap (λ n. GraphProblem b.nodes n ∷ map graph_arc b.arcs) full,
-      record { nodes_few = law.nodes_few; arcs_few = omega (arith, law.no_more, law.arcs_few); joined = law.joined; weights = law.weights },
-    )
+  -- what was begun and is whole gives its graph
+  pub gives_graph : is_short (problem_told p) k ≡ false → IsBegun b → (rs : List LineRecord) → records_of rs ≡ now → GivesGraph rs (record { nodes = b.nodes; arcs = b.arcs })
+  gives_graph whole law rs same =
+      let all = rw (is, counted_in-arcs b.arcs) at (ap₂ is_short so.problem_is so.counted_is ∙ whole) in
+      let full : b.declared ≡ length b.arcs = grind (arith, nat_tests, all, law.no_more) in (
+        same ∙ is ∙ ap (λ n. GraphProblem b.nodes n ∷ map graph_arc b.arcs) full,
+        record { nodes_few = law.nodes_few; arcs_few = omega (arith, law.no_more, law.arcs_few); joined = law.joined; weights = law.weights },
+      )
 
 arc_allowed : (nodes declared : ℕ) (arcs : List ArcView) (a : ArcView) (before : List Record) (r : Record) → before ≡ GraphProblem nodes declared ∷ map graph_arc arcs → r ≡ graph_arc a
     → JoinsNodes nodes a → length arcs < declared → IsAllowed before r
