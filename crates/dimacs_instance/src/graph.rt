@@ -114,14 +114,14 @@ impl Model for BegunGraph {
 
 impl BegunGraph {
     #[inline(always)]
-    fn add(&mut self, tail: u32, head: u32, weight: i64) -> Result<(), Memory>
-        requires tail { IsNode self.old.nodes tail }
-        requires head { IsNode self.old.nodes head }
+    fn add(&mut self, arc: WeightArc) -> Result<(), Memory>
+        requires tail { IsNode self.old.nodes arc.tail }
+        requires head { IsNode self.old.nodes arc.head }
         requires room { length self.old.arcs < self.old.declared }
-        ensures added { OnOk result (begun_records self.new ≡ begun_records self.old ++ GraphArc tail head weight ∷ []) }
+        ensures added { OnOk result (begun_records self.new ≡ begun_records self.old ++ GraphArc arc.tail arc.head arc.weight ∷ []) }
         ensures unchanged { OnErr result (self.new ≡ self.old) }
     {
-        self.network.push(WeightArc { tail, head, weight })
+        self.network.push(arc)
     }
 }
 
@@ -162,16 +162,16 @@ impl PlainGraphReading {
     }
 
     #[inline(always)]
-    fn add(&mut self, tail: u32, head: u32, weight: i64) -> Result<(), TakeError>
-        requires tail { 1 ≤ tail }
-        requires head { 1 ≤ head }
-        ensures { TakesRecord self.old (GraphArc tail head weight) result self.new }
+    fn add(&mut self, arc: WeightArc) -> Result<(), TakeError>
+        requires tail { 1 ≤ arc.tail }
+        requires head { 1 ≤ arc.head }
+        ensures { TakesRecord self.old (GraphArc arc.tail arc.head arc.weight) result self.new }
     {
-        test_record(self.earlier(), Record::GraphArc { tail, head, weight })?;
+        test_record(self.earlier(), arc_record(arc.view()))?;
         let Some(begun) = &mut self.begun else {
             unreachable!()
         };
-        begun.add(tail, head, weight)?;
+        begun.add(arc)?;
         Ok(())
     }
 }
@@ -189,7 +189,7 @@ impl Reading for PlainGraphReading {
     fn take(&mut self, _line: u64, said: Record) -> Result<(), TakeError> {
         match said {
             Record::GraphProblem { nodes, arcs } => self.start(nodes, arcs),
-            Record::GraphArc { tail, head, weight } => self.add(tail, head, weight),
+            Record::GraphArc { tail, head, weight } => self.add(WeightArc { tail, head, weight }),
             _ => unreachable!(),
         }
     }
