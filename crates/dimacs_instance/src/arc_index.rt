@@ -48,8 +48,8 @@ impl ArcIndex {
         requires { Indexes (N.node_count network.now) (N.list network.now) self.now }
         ensures { IsKthBetween (N.list network.now) tail head k result }
     {
-        let (from, to) = self.starts.range(network, &self.outs, tail);
-        let leaving = &self.outs[from..to];
+        let places = self.starts.range(network, &self.outs, tail);
+        let leaving = &self.outs[places.from..places.to];
         let first = leaving.partition_point(|out| out.head < head);
         let out = leaving.get(first + k as usize)?;
         if out.head == head {
