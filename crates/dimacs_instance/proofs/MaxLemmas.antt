@@ -1,12 +1,10 @@
 -- Records behind those of a maximum flow instance that was begun.
 use Rattle.std.proofs.Common.{◌≡◌, ℕ, suc, ◌<◌, ◌≤◌, ◌∷◌, ◌++◌, [], List, Bool, false, Option, Some, None, length, map, refl, ap, ap₂, sym, ◌∙◌, arith}
-use Rattle.std.specs.Prelude.{ℤ, pos, ◌≤ℤ◌, ◌||◌, nat_lt, nat_le, int_lt}
+use Rattle.std.specs.Prelude.{ℤ, pos, ◌||◌, nat_lt, nat_le, int_lt}
 use Rattle.std.specs.List.{list_any, filter}
 use Rattle.std.proofs.Math.Bool.{or-false}
 use Rattle.std.proofs.lemmas.Bool.{lt-ltb, le-ltb}
 use Rattle.std.proofs.lemmas.Bool.Decides.{nat_tests}
-use Rattle.std.proofs.lemmas.Int.{ints}
-use Rattle.std.proofs.lemmas.List.{nil_from_length}
 use Rattle.std.proofs.lemmas.List.Folds.{list_any-append}
 use Rattle.std.proofs.lemmas.List.Sums.{length-filter}
 use Rattle.dimacs_records.specs.declared.kinds.TextKind.TheVariants.{Max}
@@ -18,7 +16,7 @@ use Rattle.dimacs_records.specs.Earlier.{counted_in, is_counted, is_short, names
 use Rattle.dimacs_records.specs.Conditions.{lacks_end}
 use Rattle.dimacs_records.specs.Readings.{IsAllowed, IsComplete}
 use Rattle.dimacs_records.specs.Takings.{StandsFor}
-use Rattle.dimacs_records.specs.Tests.{Counts, Passes, IsToldOf, TellsEnd}
+use Rattle.dimacs_records.specs.Tests.{Counts, IsToldOf, TellsEnd}
 use Rattle.dimacs_records.proofs.ConditionLemmas.{is_allowed, is_complete}
 use Rattle.dimacs_records.proofs.TakingLemmas.{stands}
 use Rattle.dimacs_instance.specs.declared.network.ArcView.{ArcView}
@@ -26,7 +24,6 @@ use Rattle.dimacs_instance.specs.declared.max.EndLine.{EndLine}
 use Rattle.dimacs_instance.specs.declared.max.EndLines.{EndLines}
 use Rattle.dimacs_instance.specs.declared.max.EndLines.TheVariants.{Neither, One, Both}
 use Rattle.dimacs_instance.specs.MaxTexts.{max_arc}
-use Rattle.dimacs_records.specs.Ranges.{IsNode}
 use Rattle.dimacs_instance.specs.MaxReading.{MaxBegun, IsMaxBegunBy, end_records, max_begun_records, max_node}
 use Rattle.dimacs_instance.specs.inside.MaxReading.{earlier_ends, earlier_lines, earlier_names, ends_by}
 
@@ -113,9 +110,6 @@ module _ (nodes declared : ℕ) (ends : EndLines) (arcs : List ArcView) where
       let few : nat_lt (counted_in earlier) declared ≡ false = rw counted (le-ltb (length arcs) declared full) in
       is_complete Max earlier (rw (ended_twice, few) refl)
 
-from_zero : (cap : ℤ) → int_lt cap (pos 0) ≡ false → pos 0 ≤ℤ cap
-from_zero cap test = grind (arith, ints)
-
 pub first_problem : (n m : ℕ) → IsAllowed [] (MaxProblem n m)
 first_problem n m = is_allowed [] (MaxProblem n m) refl
 
@@ -141,39 +135,6 @@ arc_tells o t h cap rs so = record { counts = counts o rs so; misplaced = refl; 
 pub end_tells : (o : Option MaxBegun) (rs : List Record) → StandsFor IsMaxBegunBy o rs → TellsEnd Max (earlier_ends o) rs
 end_tells o rs h = record { counts = counts o rs h; lacks_end = lacks_told o rs h; unfinished = ap₂ is_short (counts o rs h).problem_is (counts o rs h).counted_is; valued = refl }
 
--- a problem line begins an instance, and another record goes on with it
-pub begins : (o : Option MaxBegun) (n m : ℕ) → Passes (earlier_lines o) (MaxProblem n m) → (rs : List Record) → StandsFor IsMaxBegunBy o rs
-    → IsMaxBegunBy (record { nodes = n; declared = m; ends = Neither; arcs = [] }) (rs ++ MaxProblem n m ∷ [])
-begins None n m p rs h = ap (λ rs. rs ++ MaxProblem n m ∷ []) h
-begins (Some b) n m p rs h = absurd (cc (p.one_problem))
-
+-- another record goes on with an instance
 pub goes_on : (o : Option MaxBegun) (b new : MaxBegun) (r : Record) → o ≡ Some b → max_begun_records new ≡ max_begun_records b ++ r ∷ [] → (rs : List Record) → StandsFor IsMaxBegunBy o rs → IsMaxBegunBy new (rs ++ r ∷ [])
 goes_on o b new r is more rs h = ap (λ rs. rs ++ r ∷ []) (stands IsMaxBegunBy o b rs is h) ∙ sym more
-
--- a node line that passes the tests
-module _ (o : Option MaxBegun) (b : MaxBegun) (id : ℕ) (end : End) (is : o ≡ Some b) (passes : Passes (earlier_names o id end) (MaxNode id end)) where
-  pub node_told : Passes (earlier_names (Some b) id end) (MaxNode id end)
-  node_told = rw is at passes
-
-  pub node_within : 1 ≤ id → IsNode b.nodes id
-  node_within least = (least, grind (arith, nat_tests, node_told.second_within))
-
-  pub before_arcs : b.arcs ≡ []
-  before_arcs = nil_from_length b.arcs (grind (arith, nat_tests, node_told.placed))
-
--- an arc that passes the tests
-module _ (o : Option MaxBegun) (b : MaxBegun) (t h : ℕ) (cap : ℤ) (is : o ≡ Some b) (passes : Passes (earlier_ends o) (MaxArc t h cap)) where
-  arc_told : Passes (earlier_ends (Some b)) (MaxArc t h cap)
-  arc_told = rw is at passes
-
-  pub tail_within : 1 ≤ t → IsNode b.nodes t
-  tail_within least = (least, grind (arith, nat_tests, arc_told.second_within))
-
-  pub head_within : 1 ≤ h → IsNode b.nodes h
-  head_within least = (least, grind (arith, nat_tests, arc_told.third_within))
-
-  pub cap_least : pos 0 ≤ℤ cap
-  cap_least = from_zero cap arc_told.low
-
-  pub arc_room : length b.arcs < b.declared
-  arc_room = grind (arith, nat_tests, arc_told.room)

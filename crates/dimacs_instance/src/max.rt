@@ -210,15 +210,15 @@ impl BegunMax {
     }
 
     #[inline(always)]
-    fn keep_arc(&mut self, tail: u32, head: u32, cap: i64) -> Result<(), Memory>
-        requires tail { IsNode self.old.nodes tail }
-        requires head { IsNode self.old.nodes head }
-        requires capacity { pos 0 ≤ℤ cap }
+    fn keep_arc(&mut self, arc: CapacityArc) -> Result<(), Memory>
+        requires tail { IsNode self.old.nodes arc.tail }
+        requires head { IsNode self.old.nodes arc.head }
+        requires capacity { pos 0 ≤ℤ arc.cap }
         requires room { length self.old.arcs < self.old.declared }
-        ensures kept { OnOk result (max_begun_records self.new ≡ max_begun_records self.old ++ MaxArc tail head cap ∷ []) }
+        ensures kept { OnOk result (max_begun_records self.new ≡ max_begun_records self.old ++ MaxArc arc.tail arc.head arc.cap ∷ []) }
         ensures unchanged { OnErr result (self.new ≡ self.old) }
     {
-        self.network.push(CapacityArc { tail, head, cap })
+        self.network.push(arc)
     }
 }
 
@@ -293,21 +293,21 @@ impl PlainMaxReading {
     }
 
     #[inline(always)]
-    fn add_arc(&mut self, tail: u32, head: u32, cap: i64) -> Result<(), TakeError>
-        requires tail { 1 ≤ tail }
-        requires head { 1 ≤ head }
-        ensures { Takes IsMaxBegunBy self.old (MaxArc tail head cap) result self.new }
+    fn add_arc(&mut self, arc: CapacityArc) -> Result<(), TakeError>
+        requires tail { 1 ≤ arc.tail }
+        requires head { 1 ≤ arc.head }
+        ensures { Takes IsMaxBegunBy self.old (MaxArc arc.tail arc.head arc.cap) result self.new }
     {
         let lacks_end = self.ends().lack_one();
         let earlier = Earlier {
             lacks_end,
             ..self.earlier()
         };
-        test_record(earlier, Record::MaxArc { tail, head, cap })?;
+        test_record(earlier, arc_record(arc.view()))?;
         let Some(begun) = &mut self.begun else {
             unreachable!()
         };
-        begun.keep_arc(tail, head, cap)?;
+        begun.keep_arc(arc)?;
         Ok(())
     }
 }
@@ -326,7 +326,7 @@ impl Reading for PlainMaxReading {
         match said {
             Record::MaxProblem { nodes, arcs } => self.start(nodes, arcs),
             Record::MaxNode { id, end } => self.add_node(id, end),
-            Record::MaxArc { tail, head, cap } => self.add_arc(tail, head, cap),
+            Record::MaxArc { tail, head, cap } => self.add_arc(CapacityArc { tail, head, cap }),
             _ => unreachable!(),
         }
     }
