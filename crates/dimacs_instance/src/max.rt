@@ -377,7 +377,7 @@ pub fn write_max<N: Network, S: Sink>(max: &MaxInstance<N>, sink: &mut S) -> Res
     let network = max.network();
     let nodes = network.nodes();
     let arcs = network.arcs();
-    let (first, second) = node_lines(max.source(), max.sink());
+    let (first, second) = node_lines(max);
     let mut page = Page::new();
     write_record(&mut page, sink, &Record::MaxProblem { nodes, arcs });
     write_record(&mut page, sink, &first);
@@ -389,18 +389,18 @@ pub fn write_max<N: Network, S: Sink>(max: &MaxInstance<N>, sink: &mut S) -> Res
 }
 
 /// The node lines by ID.
-fn node_lines(source: u32, sink: u32) -> (Record, Record)
-    ensures { result ≡ nodes_by_id source sink }
+fn node_lines<N: Network>(max: &MaxInstance<N>) -> (Record, Record)
+    ensures { result ≡ nodes_by_id max.now.source max.now.sink }
 {
     let from = Record::MaxNode {
-        id: source,
+        id: max.source(),
         end: End::Source,
     };
     let to = Record::MaxNode {
-        id: sink,
+        id: max.sink(),
         end: End::Sink,
     };
-    if source < sink {
+    if max.source() < max.sink() {
         (from, to)
     } else {
         (to, from)

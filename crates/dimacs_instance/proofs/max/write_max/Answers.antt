@@ -18,7 +18,7 @@ loop-i-init g c =
     let problem = MaxProblem c.nodes-nodes.result c.arcs-arcs.result in
     let lines = c.node_lines-first.result in
     let same : MaxProblem max.nodes (length max.arcs) ∷ ends.0 ∷ ends.1 ∷ [] ≡ problem ∷ lines.0 ∷ lines.1 ∷ [] =
-    rw (c.nodes-nodes.ensures, c.arcs-arcs.ensures, c.network-network.ensures.nodes, c.network-network.ensures.arcs, c.node_lines-first.ensures, c.source.ensures, c.sink.ensures) refl in
+    rw (c.nodes-nodes.ensures, c.arcs-arcs.ensures, c.network-network.ensures.nodes, c.network-network.ensures.arcs, c.node_lines-first.ensures) refl in
     let one = written_first start _ _ problem (problem ∷ []) refl (c.write_record.ensures.written start [] (c.new-page.ensures.written start)) in
     let two = written_more start _ _ lines.0 (problem ∷ []) (problem ∷ lines.0 ∷ []) refl (c.write_record-2.ensures.written start _ one) in
     record {
