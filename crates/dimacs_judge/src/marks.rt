@@ -229,6 +229,7 @@ fn marked_block_holds<N: Network>(
 }
 
 /// Marks the nodes that a block labels.
+#[inline(never)]
 fn mark_labels(block: &Block, number: u32, marks: &mut NodeTable<Mark>) -> Result<(), Memory>
     requires lawful { (nodes : ℕ) × (nodes ≤ most_nodes) × IsBlock nodes block.now }
     requires earlier { AreEarlier number marks.old }
@@ -296,6 +297,7 @@ fn few_passed<N: Network>(
 /// Marks the labels that arcs make, and tells the first label that none makes, else the first arc with a labelled tail whose
 /// head has no label, and isn't past the radius, or a label that is too great. The labels are looked up again only where
 /// one of them wasn't counted as made.
+#[inline(never)]
 fn arcs_passed<N: Network>(
     network: &N,
     block: &Block,
