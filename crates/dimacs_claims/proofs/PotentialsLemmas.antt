@@ -1,19 +1,16 @@
 -- Potentials, and records behind those of potentials that were begun.
 use Rattle.std.proofs.Common.{◌≡◌, ◌≢◌, ℕ, suc, ◌<◌, ◌≤◌, ◌∷◌, ◌++◌, [], List, Bool, true, false, Option, Some, None, length, map, cond, ◌+◌, ◌-◌, ◌==◌, ◌||◌, refl, ap, ap₂, sym, ◌∙◌, subst, arith}
-use Rattle.std.specs.Prelude.{ℤ, pos, codes, nat_lt, nat_le, not, count_by, unwrap_or, if◌then◌else◌}
+use Rattle.std.specs.Prelude.{ℤ, pos, codes, is_some, nat_lt, nat_le, not, count_by, unwrap_or}
 use Rattle.std.specs.List.{All, filter, list_any, range_with_len}
-use Rattle.std.specs.Ordering.{nat_cmp, int_eq}
+use Rattle.std.specs.Ordering.{nat_cmp}
 use Rattle.std.specs.Cmp.{nat_cmp_total, unsigned_tied}
-use Rattle.std.specs.FinMap.{FinMap, get, insert, from_entries, from_entries_push, same_map, get-empty, get-from_entries, nat_cmp-IsAntisymmetric}
+use Rattle.std.specs.FinMap.{FinMap, empty, get, insert, from_entries, same_map, get-from_entries, nat_cmp-IsAntisymmetric}
 use Rattle.std.specs.FinMap.Entries.{find}
-use Rattle.std.specs.FinSet.{contains}
-use Rattle.std.specs.FinSet as set
-use Rattle.std.proofs.lemmas.List.{map-append, length-append, length-map, append-nil}
+use Rattle.std.proofs.lemmas.List.{map-append, length-append, length-map}
 use Rattle.std.proofs.lemmas.List.Elements.{All-nil, All-cons, All-head, All-tail}
 use Rattle.std.proofs.lemmas.Bool.{le-ltb, eqb-true}
 use Rattle.std.proofs.lemmas.Bool.Decides.{nat_tests}
 use Rattle.std.proofs.lemmas.Int.{ints}
-use Rattle.dimacs_nodes.proofs.Nodes.{contains-insert, contains-empty, get-insert}
 use Rattle.dimacs_records.specs.declared.kinds.TextKind.TheVariants as kinds
 use Rattle.dimacs_records.specs.declared.records.Record.{Record}
 use Rattle.dimacs_records.specs.declared.records.Record.TheVariants.{PotentialsProblem, PotentialsNode}
@@ -28,15 +25,14 @@ use Rattle.dimacs_records.proofs.SplitLemmas.{image_at, All-at}
 use Rattle.dimacs_claims.specs.Cuts.{is_id}
 use Rattle.dimacs_records.specs.Ranges.{IsNode, IsWide}
 use Rattle.dimacs_claims.specs.Potentials.{PotentialsValue, ArePotentials, GivesPotentials, SpellsPotentials, canonical_potentials, node_line, nonzero_ids, potential_of, potentials_records, with_values, zero_potentials}
-use Rattle.dimacs_records.specs.NodeValues.{NameNodes, has_value, is_nonzero, is_of}
-use Rattle.dimacs_claims.specs.PotentialsReading.{PotentialsBegun, AreBegunBy, has_line}
-use Rattle.dimacs_claims.specs.inside.PotentialsReading.{earlier_lines, is_named, with_line, with_value, with_zero}
+use Rattle.dimacs_records.specs.NodeValues.{NameNodes, has_value, is_nonzero, is_of, without_zeros}
+use Rattle.dimacs_claims.specs.PotentialsReading.{PotentialsBegun, AreBegunBy, potentials_begun}
+use Rattle.dimacs_claims.specs.inside.PotentialsReading.{has_line, earlier_lines, is_named}
 use Rattle.dimacs_records.specs.Tests.{Counts, Passes, PassesEnd, IsToldOf, TellsEnd}
 use Rattle.dimacs_records.specs.Takings.{StandsFor}
 use Rattle.dimacs_claims.proofs.NodeLists.{All-passing, count_map, passing, passing_below, passing_few, passing_listed, passing_once}
-use Rattle.dimacs_claims.proofs.ValueLemmas.{law_with_potential, not_zero, zero_law}
 use Rattle.dimacs_records.proofs.CountLemmas.{once_before, same_test}
-use Rattle.dimacs_records.proofs.NameLemmas.{named_more, any_more, valued_more, zero_more}
+use Rattle.dimacs_records.proofs.NameLemmas.{has-from_entries, map_more, named_more, not_zero, without_zeros-named}
 
 any_names : (id : ℕ) (named : List (ℕ × ℤ)) → list_any (names id) (map node_line named) ≡ list_any (is_of id) named
 any_names id [] = refl
@@ -65,42 +61,17 @@ module _ (nodes declared : ℕ) (named : List (ℕ × ℤ)) where
 allows_problem : (n k : ℕ) → IsAllowed [] (PotentialsProblem n k)
 allows_problem n k = is_allowed [] (PotentialsProblem n k) refl
 
-value_more : (b g z e : Bool) → b ≡ (e || g) → (b || z) ≡ ((g || z) || (e || false))
-value_more b g z true is = ap (λ x. x || z) is ∙ or_true (g || z)
-  where
-    or_true : (a : Bool) → true ≡ (a || true)
-    or_true true = refl
-    or_true false = refl
-value_more b g z false is = ap (λ x. x || z) is ∙ or_false (g || z)
-  where
-    or_false : (a : Bool) → a ≡ (a || false)
-    or_false true = refl
-    or_false false = refl
-
-no_value : (g z : Bool) → (g || z) ≡ false → g ≡ false
-no_value false z e = refl
-no_value true z e = absurd (cc)
-
--- where the potential is 0 the map has none
-no_entry : (p : PotentialsValue) (id : ℕ) → ArePotentials p → is_nonzero (potential_of p id) ≡ false → get p.values id ≡ None
-no_entry p id law e = by_case (get p.values id) refl e
-  where
-    by_case : (o : Option ℤ) → get p.values id ≡ o → is_nonzero (unwrap_or o (pos 0)) ≡ false → o ≡ None
-    by_case None is e = refl
-    by_case (Some v) is e = absurd (cc (e, ap not (not_zero v (law.within id v is).1)))
-
-potential_at : (e : Bool) (v : ℤ) (found : Option ℤ) → int_eq v (pos 0) ≡ false → is_nonzero (unwrap_or (cond e (Some v) found) (pos 0)) ≡ (e || is_nonzero (unwrap_or found (pos 0)))
-potential_at true v found some = ap not some
-potential_at false v found some = refl
-
 -- what is told of the records is so
 counts : (o : Option PotentialsBegun) (rs : List Record) → StandsFor AreBegunBy o rs → Counts (earlier_lines o).problem (earlier_lines o).counted rs
 counts None rs h = rw h (record { problem_is = refl; counted_is = refl })
 counts (Some b) rs h = rw h.records (record { problem_is = refl; counted_is = counted h.named ∙ sym h.count })
 
+has_named : (b : PotentialsBegun) (id : ℕ) {rs : List Record} (h : AreBegunBy b rs) → has_line b id ≡ list_any (is_of id) h.named
+has_named b id h = ap (λ m. is_some (get m id)) h.values ∙ has-from_entries h.named id
+
 named_told : (o : Option PotentialsBegun) (rs : List Record) (id : ℕ) → StandsFor AreBegunBy o rs → list_any (names id) rs ≡ is_named o id
 named_told None rs id h = rw h refl
-named_told (Some b) rs id h = rw h.records (any_names id h.named ∙ sym (h.nodes_named id))
+named_told (Some b) rs id h = rw h.records (any_names id h.named ∙ sym (has_named b id h))
 
 pub problem_tells : (o : Option PotentialsBegun) (n k : ℕ) (rs : List Record) → StandsFor AreBegunBy o rs → IsToldOf (earlier_lines o) rs (PotentialsProblem n k)
 problem_tells o n k rs h = record { counts = counts o rs h; misplaced = refl; named = refl; end_named = refl; lacks_end = refl; block_full = refl; block_short = refl; valued = refl; pred_unknown = refl; past_radius = refl }
@@ -112,81 +83,50 @@ pub end_tells : (o : Option PotentialsBegun) (rs : List Record) → StandsFor Ar
 end_tells o rs h = record { counts = counts o rs h; lacks_end = refl; unfinished = ap₂ is_short (counts o rs h).problem_is (counts o rs h).counted_is; valued = refl }
 
 -- a problem line begins potentials
-pub begins : (o : Option PotentialsBegun) (n k : ℕ) → n ≤ 134217728 → Passes (earlier_lines o) (PotentialsProblem n k) → (rs : List Record) → StandsFor AreBegunBy o rs
-    → AreBegunBy (record { declared = k; taken = 0; potentials = zero_potentials n; zeros = set.empty }) (rs ++ PotentialsProblem n k ∷ [])
-begins None n k few p rs h = record {
+pub begins : (o : Option PotentialsBegun) (n k : ℕ) → Passes (earlier_lines o) (PotentialsProblem n k) → (rs : List Record) → StandsFor AreBegunBy o rs
+    → AreBegunBy (record { nodes = n; declared = k; taken = 0; values = empty }) (rs ++ PotentialsProblem n k ∷ [])
+begins None n k p rs h = record {
   named = [];
   name_nodes = record { within = All-nil (λ (m : ℕ × ℤ). IsNode n m.0); once = λ id. omega arith };
   values = refl;
-  nodes_named = λ id. ap₂ (λ o z. is_nonzero (unwrap_or o (pos 0)) || z) (get-empty nat_cmp id) (contains-empty id);
   count = refl;
   no_more = omega arith;
-  are_potentials = zero_law n few;
   records = ap (λ rs. rs ++ PotentialsProblem n k ∷ []) h;
 }
-begins (Some b) n k few p rs h = absurd (cc (p.one_problem))
+begins (Some b) n k p rs h = absurd (cc (p.one_problem))
 
 -- a node that passes the tests is one more
-module _ (b : PotentialsBegun) (id : ℕ) (v : ℤ) (least : 1 ≤ id) (wide : IsWide v) (p : Passes (record (earlier_lines (Some b)) { named = is_named (Some b) id }) (PotentialsNode id v)) where
-  node : IsNode b.potentials.nodes id
-  node = (least, grind (arith, nat_tests, p.second_within))
+module _ (o : Option PotentialsBegun) (b : PotentialsBegun) (id : ℕ) (v : ℤ) (is : o ≡ Some b) (least : 1 ≤ id) (passes : Passes (record (earlier_lines o) { named = is_named o id }) (PotentialsNode id v)) where
+  told : Passes (record (earlier_lines (Some b)) { named = is_named (Some b) id }) (PotentialsNode id v)
+  told = rw is at passes
+
+  pub node : IsNode b.nodes id
+  node = (least, grind (arith, nat_tests, told.second_within))
 
   pub room : b.taken < b.declared
-  room = grind (arith, nat_tests, p.room)
+  room = grind (arith, nat_tests, told.room)
 
-  module _ (rs : List Record) (h : AreBegunBy b rs) where
-    abbrev more : List (ℕ × ℤ)
-    more = h.named ++ (id, v) ∷ []
-
-    name_more : NameNodes b.potentials.nodes more
-    name_more = named_more h.named id v b.potentials.nodes h.name_nodes node (sym (h.nodes_named id) ∙ p.new_node)
-
-    records_more : rs ++ PotentialsNode id v ∷ [] ≡ potentials_records b.potentials.nodes b.declared more
-    records_more = ap (λ rs. rs ++ PotentialsNode id v ∷ []) h.records ∙ ap (λ rs. PotentialsProblem b.potentials.nodes b.declared ∷ rs) (sym (map-append node_line h.named ((id, v) ∷ [])))
-
-    count_more : b.taken + 1 ≡ length more
-    count_more = omega (arith, h.count, length-append h.named ((id, v) ∷ []))
-
-    not_found : find nat_cmp id (filter has_value h.named) ≡ None
-    not_found =
-        sym (get-from_entries nat_cmp_total (filter has_value h.named) id) ∙ ap (λ m. get m id) (sym h.values)
-        ∙ no_entry b.potentials id h.are_potentials (no_value (is_nonzero (potential_of b.potentials id)) (contains b.zeros id) p.new_node)
-
-    begun_with : (t : Bool) → int_eq v (pos 0) ≡ t → AreBegunBy (if t then with_zero b id else with_value b id v) (rs ++ PotentialsNode id v ∷ [])
-    begun_with true e = record {
-      named = more;
-      name_nodes = name_more;
-      values = h.values ∙ ap from_entries (sym (valued_more h.named id v true e ∙ append-nil (filter has_value h.named)));
-      nodes_named = λ other. ap (λ z. is_nonzero (potential_of b.potentials other) || z) (contains-insert b.zeros id other) ∙ zero_more (is_nonzero (potential_of b.potentials other)) (contains b.zeros other) (other == id) ∙ any_more h.named id v (has_line b other) other (h.nodes_named other);
-      count = count_more;
-      no_more = omega (arith, room);
-      are_potentials = h.are_potentials;
-      records = records_more;
-    }
-    begun_with false e = record {
-      named = more;
-      name_nodes = name_more;
-      values = ap (λ m. insert m id v) h.values
-          ∙ sym (ap from_entries (valued_more h.named id v false e) ∙ from_entries_push nat_cmp_total nat_cmp-IsAntisymmetric (filter has_value h.named) id v not_found);
-      nodes_named = λ other. value_more (is_nonzero (unwrap_or (get (insert b.potentials.values id v) other) (pos 0))) (is_nonzero (potential_of b.potentials other)) (contains b.zeros other) (other == id) (ap (λ o. is_nonzero (unwrap_or o (pos 0))) (get-insert b.potentials.values id other v) ∙ potential_at (other == id) v (get b.potentials.values other) e)
-          ∙ any_more h.named id v (has_line b other) other (h.nodes_named other);
-      count = count_more;
-      no_more = omega (arith, room);
-      are_potentials = rw e at (law_with_potential b.potentials id v h.are_potentials node wide);
-      records = records_more;
-    }
-
-pub adds : (o : Option PotentialsBegun) (b : PotentialsBegun) (id : ℕ) (v : ℤ) → o ≡ Some b → 1 ≤ id → IsWide v → Passes (record (earlier_lines o) { named = is_named o id }) (PotentialsNode id v) → (rs : List Record)
-    → StandsFor AreBegunBy o rs → AreBegunBy (with_line b id v) (rs ++ PotentialsNode id v ∷ [])
-adds o b id v is least wide p rs h = begun_with b id v least wide (rw is at p) rs (rw is at h) (int_eq v (pos 0)) refl
+  pub adds : (rs : List Record) → StandsFor AreBegunBy o rs → AreBegunBy (record b { taken = b.taken + 1; values = insert b.values id v }) (rs ++ PotentialsNode id v ∷ [])
+  adds rs stands =
+      let h : AreBegunBy b rs = rw is at stands in
+      let new : list_any (is_of id) h.named ≡ false = sym (has_named b id h) ∙ told.new_node in
+      record {
+        named = h.named ++ (id, v) ∷ [];
+        name_nodes = named_more h.named id v new b.nodes h.name_nodes node;
+        values = ap (λ m. insert m id v) h.values ∙ sym (map_more h.named id v new);
+        count = omega (arith, h.count, length-append h.named ((id, v) ∷ []));
+        no_more = omega (arith, room);
+        records = ap (λ rs. rs ++ PotentialsNode id v ∷ []) h.records ∙ ap (λ rs. PotentialsProblem b.nodes b.declared ∷ rs) (sym (map-append node_line h.named ((id, v) ∷ [])));
+      }
 
 -- potentials that were begun and are whole are given
-pub gives_potentials : (o : Option PotentialsBegun) (b : PotentialsBegun) → o ≡ Some b → PassesEnd kinds.Potentials (earlier_lines o) → (rs : List LineRecord) → StandsFor AreBegunBy o (records_of rs) → GivesPotentials rs b.potentials
-gives_potentials o b is passes rs stands =
+pub gives_potentials : (o : Option PotentialsBegun) (b : PotentialsBegun) → o ≡ Some b → ArePotentials (potentials_begun b) → PassesEnd kinds.Potentials (earlier_lines o) → (rs : List LineRecord) → StandsFor AreBegunBy o (records_of rs)
+    → GivesPotentials rs (potentials_begun b)
+gives_potentials o b is law passes rs stands =
     let p : PassesEnd kinds.Potentials (earlier_lines (Some b)) = rw is at passes in
     let h : AreBegunBy b (records_of rs) = rw is at stands in
     let full : b.declared ≡ length h.named = grind (arith, nat_tests, p.finished, h.count, h.no_more) in
-    record { named = h.named; name_nodes = h.name_nodes; values = h.values; records = h.records ∙ ap (λ k. potentials_records b.potentials.nodes k h.named) full; are_potentials = h.are_potentials }
+    record { named = h.named; name_nodes = h.name_nodes; values = ap without_zeros h.values ∙ without_zeros-named h.named b.nodes h.name_nodes; records = h.records ∙ ap (λ k. potentials_records b.nodes k h.named) full; are_potentials = law }
 
 -- the lines of potentials are refused for nothing
 lines_allowed : (nodes : ℕ) (named : List (ℕ × ℤ)) → NameNodes nodes named → (before after : List Record) (r : Record) → potentials_records nodes (length named) named ≡ before ++ r ∷ after → IsAllowed before r

@@ -1,52 +1,16 @@
 -- Maps of potentials, with and without those that are 0.
-use Rattle.std.proofs.Common.{◌≡◌, ◌≢◌, ◌≤◌, ℕ, ◌==◌, Bool, true, false, Option, Some, None, cond, refl, sym, ◌∙◌, ap, arith}
+use Rattle.std.proofs.Common.{◌≡◌, ◌≤◌, ℕ, ◌==◌, Bool, true, false, Option, Some, None, cond, refl, sym, ◌∙◌, ap, arith}
 use Rattle.std.specs.Prelude.{ℤ, pos, not, unwrap_or, if◌then◌else◌, Result, Ok, Err, OnOk, OnErr}
 use Rattle.std.specs.Ordering.{nat_cmp, int_eq}
-use Rattle.std.specs.Cmp.{nat_cmp_total, unsigned_tied, signed_Decides}
-use Rattle.std.specs.FinMap.{FinMap, empty, get, insert, remove, same_map, get-empty, get-remove, get-retain_keys, nat_cmp-IsAntisymmetric}
+use Rattle.std.specs.Cmp.{nat_cmp_total, unsigned_tied}
+use Rattle.std.specs.FinMap.{FinMap, get, insert, remove, same_map, get-empty, get-remove, nat_cmp-IsAntisymmetric}
 use Rattle.std.proofs.lemmas.Bool.{eqb-true}
 use Rattle.std.proofs.lemmas.Int.{ints}
 use Rattle.dimacs_nodes.proofs.Nodes.{get-insert}
 use Rattle.dimacs_records.specs.Ranges.{IsNode, IsWide}
 use Rattle.dimacs_claims.specs.Potentials.{PotentialsValue, ArePotentials, IsPotential, potential_of, with_potential, zero_potentials}
-use Rattle.dimacs_records.specs.NodeValues.{is_nonzero}
-use Rattle.dimacs_claims.specs.PotentialsReading.{without_zeros}
-
--- what is found, unless it is 0
-abbrev pub unless_zero : Option ℤ → Option ℤ
-unless_zero found = cond (is_nonzero (unwrap_or found (pos 0))) found None
-
-pub get-without_zeros : (m : FinMap nat_cmp ℤ) (id : ℕ) → get (without_zeros m) id ≡ unless_zero (get m id)
-unfolding without_zeros
-get-without_zeros m id = get-retain_keys m (λ id. is_nonzero (unwrap_or (get m id) (pos 0))) id (λ x e. ap (λ n. is_nonzero (unwrap_or (get m n) (pos 0))) (sym (nat_cmp-IsAntisymmetric id x e)))
-
-zero_is : (n : ℤ) → int_eq n (pos 0) ≡ true → n ≡ pos 0
-zero_is n e = (signed_Decides n (pos 0)).0 e
-
-pub not_zero : (n : ℤ) → n ≢ pos 0 → int_eq n (pos 0) ≡ false
-not_zero n some = by_test (int_eq n (pos 0)) refl
-  where
-    by_test : (b : Bool) → int_eq n (pos 0) ≡ b → b ≡ false
-    by_test true e = absurd (some (zero_is n e))
-    by_test false e = refl
-
-pub isnt_zero : (n : ℤ) → int_eq n (pos 0) ≡ false → n ≢ pos 0
-isnt_zero n e is = absurd (cc (e, (signed_Decides n (pos 0)).1 is))
-
--- the potential is the same without the zeros
-same_potential : (found : Option ℤ) → unwrap_or (unless_zero found) (pos 0) ≡ unwrap_or found (pos 0)
-same_potential None = refl
-same_potential (Some n) = by_test (int_eq n (pos 0)) refl
-  where
-    by_test : (b : Bool) → int_eq n (pos 0) ≡ b → unwrap_or (cond (not b) (Some n) None) (pos 0) ≡ n
-    by_test true e = sym (zero_is n e)
-    by_test false e = refl
-
-pub potential-without_zeros : (m : FinMap nat_cmp ℤ) (id : ℕ) → unwrap_or (get (without_zeros m) id) (pos 0) ≡ unwrap_or (get m id) (pos 0)
-potential-without_zeros m id = ap (λ o. unwrap_or o (pos 0)) (get-without_zeros m id) ∙ same_potential (get m id)
-
-pub without_zeros-empty : without_zeros empty ≡ empty
-without_zeros-empty = same_map nat_cmp_total nat_cmp-IsAntisymmetric (without_zeros empty) empty (λ id. get-without_zeros empty id ∙ ap unless_zero (get-empty nat_cmp id) ∙ sym (get-empty nat_cmp id))
+use Rattle.dimacs_records.specs.NodeValues.{without_zeros}
+use Rattle.dimacs_records.proofs.NameLemmas.{get-without_zeros, isnt_zero, unless_zero}
 
 pub get-removed : (m : FinMap nat_cmp ℤ) (id other : ℕ) → get (remove m id) other ≡ cond (other == id) None (get m other)
 get-removed m id other = get-remove nat_cmp_total m id other ∙ ap (λ b. cond b None (get m other)) (unsigned_tied other id)

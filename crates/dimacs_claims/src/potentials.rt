@@ -19,10 +19,10 @@ ghost use Rattle.dimacs_records.specs.Ranges.{IsNode, IsWide};
 ghost use Rattle.dimacs_claims.specs.Potentials.{PotentialsValue, ArePotentials, GivesPotentials, SpellsPotentials, canonical_potentials, node_line, nonzero_ids, potential_of, with_potential, with_values, zero_potentials};
 ghost use Rattle.dimacs_records.specs.NodeValues.{is_nonzero};
 ghost use Rattle.dimacs_claims.specs.PotentialsReading.{AreBegunBy};
-ghost use Rattle.dimacs_claims.specs.inside.PotentialsReading.{earlier_lines, is_named, with_line};
+ghost use Rattle.dimacs_claims.specs.inside.PotentialsReading.{earlier_lines, is_named};
 
 use dimacs_lines::{DeviceFault, Memory, Page, Sink, Source};
-use dimacs_nodes::{NodeMap, NodeSet};
+use dimacs_nodes::NodeMap;
 use dimacs_records::{
     Declared, Earlier, ReadError, Reading, Record, TakeError, TextKind, read_text, test_end,
     test_record, write_record,
@@ -40,7 +40,8 @@ pub struct Potentials {
 
 impl Model for Potentials {
     ghost use Rattle.dimacs_claims.specs.Potentials.{PotentialsValue, ArePotentials};
-    ghost use Rattle.dimacs_claims.specs.PotentialsReading.{potentials_code, without_zeros};
+    ghost use Rattle.dimacs_claims.specs.PotentialsReading.{potentials_code};
+    ghost use Rattle.dimacs_records.specs.NodeValues.{without_zeros};
 
     ghost Value = { PotentialsValue };
 
@@ -126,42 +127,25 @@ impl Model for PotentialsReading {
 /// The potentials that came behind the problem line.
 #[derive(Drop)]
 pub(crate) struct BegunPotentials {
+    nodes: u32,
     declared: u32,
     /// The number of lines that came.
     taken: u32,
-    potentials: Potentials,
-    /// The nodes that are named with 0.
-    zeros: NodeSet,
+    /// Those of the nodes that were named, also with 0.
+    values: NodeMap<i128>,
 }
 
 impl Model for BegunPotentials {
-    ghost use Rattle.dimacs_claims.specs.PotentialsReading.{PotentialsBegun, begun_code};
+    ghost use Rattle.dimacs_claims.specs.Potentials.{ArePotentials};
+    ghost use Rattle.dimacs_claims.specs.PotentialsReading.{PotentialsBegun, begun_code, potentials_begun};
 
     ghost Value = { PotentialsBegun };
 
     ghost coded = { begun_code };
 
-    ghost view = { λ b. record { declared = b.declared; taken = b.taken; potentials = b.potentials; zeros = b.zeros } };
-}
+    ghost view = { λ b. record { nodes = b.nodes; declared = b.declared; taken = b.taken; values = b.values } };
 
-impl BegunPotentials {
-    fn keep(&mut self, id: u32, value: i128) -> Result<(), Memory>
-        requires room { self.old.taken < self.old.declared }
-        requires node { IsNode self.old.potentials.nodes id }
-        requires wide { IsWide value }
-        ensures kept { OnOk result (self.new ≡ with_line self.old id value) }
-        ensures unchanged { OnErr result (self.new ≡ self.old) }
-    {
-        let has_room = self.taken < self.declared;
-        prove!(has_room);
-        if value == 0 {
-            self.zeros.insert(id)?;
-        } else {
-            self.potentials.set(id, value)?;
-        }
-        self.taken += 1;
-        Ok(())
-    }
+    ghost invariant = { λ b. ArePotentials (potentials_begun (record { nodes = b.nodes; declared = b.declared; taken = b.taken; values = b.values })) };
 }
 
 impl PotentialsReading {
@@ -178,7 +162,7 @@ impl PotentialsReading {
     {
         match &self.begun {
             Some(begun) => {
-                let nodes = Some(begun.potentials.nodes());
+                let nodes = Some(begun.nodes);
                 let count = begun.declared;
                 Earlier::of(Some(Declared { nodes, count }), begun.taken)
             }
@@ -192,7 +176,7 @@ impl PotentialsReading {
         ensures { result ≡ is_named self.now id }
     {
         match &self.begun {
-            Some(begun) => begun.potentials.of(id) != 0 || begun.zeros.contains(id),
+            Some(begun) => begun.values.get(id).is_some(),
             None => false,
         }
     }
@@ -203,10 +187,10 @@ impl PotentialsReading {
     {
         test_record(self.earlier(), Record::PotentialsProblem { nodes, count })?;
         self.begun = Some(BegunPotentials {
+            nodes,
             declared: count,
             taken: 0,
-            potentials: Potentials::new(self.alloc, nodes),
-            zeros: NodeSet::new(self.alloc),
+            values: NodeMap::new(self.alloc),
         });
         Ok(())
     }
@@ -226,7 +210,8 @@ impl PotentialsReading {
         let Some(begun) = &mut self.begun else {
             unreachable!()
         };
-        begun.keep(id, value)?;
+        begun.values.set(id, value)?;
+        begun.taken += 1;
         Ok(())
     }
 }
@@ -254,7 +239,10 @@ impl Reading for PotentialsReading {
         let Some(begun) = self.begun else {
             unreachable!()
         };
-        Ok(begun.potentials)
+        Ok(Potentials {
+            nodes: begun.nodes,
+            values: begun.values,
+        })
     }
 }
 

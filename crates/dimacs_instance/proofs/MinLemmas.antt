@@ -1,20 +1,15 @@
 -- Records behind those of a minimum cost flow instance that was begun.
-use Rattle.std.proofs.Common.{◌≡◌, ◌≢◌, ℕ, suc, ◌<◌, ◌≤◌, ◌∷◌, ◌++◌, [], List, Bool, true, false, Option, Some, None, length, map, cond, ◌==◌, ◌||◌, refl, ap, ap₂, sym, ◌∙◌, subst, append_assoc, arith}
-use Rattle.std.specs.Prelude.{ℤ, pos, ◌≤ℤ◌, is_some, nat_lt, nat_le, int_lt, if◌then◌else◌, Result, Ok, Err, OnOk, OnErr}
-use Rattle.std.specs.List.{filter, list_any}
-use Rattle.std.specs.Ordering.{nat_cmp, int_eq}
-use Rattle.std.specs.Cmp.{nat_cmp_total}
-use Rattle.std.specs.FinMap.{FinMap, from_entries, from_entries_push, get-from_entries, nat_cmp-IsAntisymmetric}
-use Rattle.std.specs.FinMap.Entries.{find}
-use Rattle.std.specs.FinMap as map
-use Rattle.std.specs.FinSet as set
+use Rattle.std.proofs.Common.{◌≡◌, ℕ, suc, ◌+◌, ◌<◌, ◌≤◌, ◌∷◌, ◌++◌, [], List, false, Option, Some, None, length, map, ◌==◌, ◌||◌, refl, ap, ap₂, sym, ◌∙◌, subst, append_assoc, arith}
+use Rattle.std.specs.Prelude.{ℤ, pos, ◌≤ℤ◌, is_some, nat_lt, nat_le, int_lt, Result, Ok, Err, OnOk, OnErr}
+use Rattle.std.specs.List.{list_any}
+use Rattle.std.specs.Ordering.{nat_cmp}
+use Rattle.std.specs.FinMap.{FinMap, empty, get, insert}
 use Rattle.std.proofs.lemmas.List.{map-append, length-append, append-nil, nil_from_length}
 use Rattle.std.proofs.lemmas.Int.{ints}
 use Rattle.std.proofs.lemmas.List.Elements.{All-nil, All-push}
 use Rattle.std.proofs.lemmas.Bool.{lt-ltb, le-ltb}
 use Rattle.std.proofs.lemmas.Bool.Decides.{nat_tests}
-use Rattle.dimacs_nodes.proofs.Entries.{All-empty, All-insert}
-use Rattle.dimacs_nodes.proofs.Nodes.{get-insert, contains-insert, get-empty, contains-empty}
+use Rattle.dimacs_nodes.proofs.Entries.{All-empty, All-entries, All-get, All-insert}
 use Rattle.dimacs_records.specs.declared.kinds.TextKind.TheVariants.{Min}
 use Rattle.dimacs_records.specs.declared.records.Record.{Record}
 use Rattle.dimacs_records.specs.declared.records.Record.TheVariants.{MinProblem, MinNode}
@@ -25,13 +20,13 @@ use Rattle.dimacs_records.proofs.ConditionLemmas.{is_allowed, is_complete}
 use Rattle.dimacs_instance.specs.declared.network.ArcView.{ArcView}
 use Rattle.dimacs_instance.specs.Arcs.{JoinsNodes}
 use Rattle.dimacs_records.specs.Ranges.{IsNode, IsWhole}
-use Rattle.dimacs_instance.specs.MinFlows.{IsSupply, HasBounds}
+use Rattle.dimacs_instance.specs.MinFlows.{IsMin, IsSupply, HasBounds}
 use Rattle.dimacs_instance.specs.MinTexts.{GivesMin, min_node, min_arc, min_records}
-use Rattle.dimacs_records.specs.NodeValues.{NameNodes, is_of, has_value}
-use Rattle.dimacs_instance.specs.MinReading.{MinBegun, IsMinBegun, IsBegunBy, has_line}
-use Rattle.dimacs_instance.specs.inside.MinReading.{earlier_lines, earlier_names, is_named, with_supply, with_arc}
+use Rattle.dimacs_records.specs.NodeValues.{is_of, without_zeros}
+use Rattle.dimacs_instance.specs.MinReading.{MinBegun, IsMinBegun, IsBegunBy, IsNamed}
+use Rattle.dimacs_instance.specs.inside.MinReading.{has_line, earlier_lines, earlier_names, is_named, with_arc}
 use Rattle.dimacs_records.specs.Takings.{StandsFor}
-use Rattle.dimacs_records.proofs.NameLemmas.{named_more, any_more, valued_more, zero_more}
+use Rattle.dimacs_records.proofs.NameLemmas.{get_nonzero, has-from_entries, map_more, named_more, without_zeros-named}
 
 -- the lines of arcs, and the node lines before them
 any_flow_arc : (named : List (ℕ × ℤ)) (arcs : List ArcView) → list_any is_flow_arc (map min_node named ++ map min_arc arcs) ≡ nat_lt 0 (length arcs)
@@ -85,9 +80,12 @@ arcs_told : (o : Option MinBegun) (rs : List Record) → StandsFor IsBegunBy o r
 arcs_told None rs h = rw h refl
 arcs_told (Some b) rs h = rw h.records (any_flow_arc h.named b.arcs)
 
+has_named : (b : MinBegun) (id : ℕ) {rs : List Record} (h : IsBegunBy b rs) → has_line b id ≡ list_any (is_of id) h.named
+has_named b id h = ap (λ m. is_some (get m id)) h.supplies ∙ has-from_entries h.named id
+
 named_told : (o : Option MinBegun) (rs : List Record) (id : ℕ) → StandsFor IsBegunBy o rs → list_any (names id) rs ≡ is_named o id
 named_told None rs id h = rw h refl
-named_told (Some b) rs id h = rw h.records (any_names id h.named b.arcs ∙ sym (h.nodes_named id))
+named_told (Some b) rs id h = rw h.records (any_names id h.named b.arcs ∙ sym (has_named b id h))
 
 pub problem_tells : (o : Option MinBegun) (n m : ℕ) (rs : List Record) → StandsFor IsBegunBy o rs → IsToldOf (earlier_lines o) rs (MinProblem n m)
 problem_tells o n m rs h = record { counts = counts o rs h; misplaced = refl; named = refl; end_named = refl; lacks_end = refl; block_full = refl; block_short = refl; valued = refl; pred_unknown = refl; past_radius = refl }
@@ -103,12 +101,11 @@ end_tells o rs h = record { counts = counts o rs h; lacks_end = refl; unfinished
 
 -- a problem line begins an instance
 pub begins : (o : Option MinBegun) (n m : ℕ) → Passes (earlier_lines o) (MinProblem n m) → (rs : List Record) → StandsFor IsBegunBy o rs
-    → IsBegunBy (record { nodes = n; declared = m; supplies = map.empty; zeros = set.empty; arcs = [] }) (rs ++ MinProblem n m ∷ [])
+    → IsBegunBy (record { nodes = n; declared = m; supplies = empty; arcs = [] }) (rs ++ MinProblem n m ∷ [])
 begins None n m p rs h = record {
   named = [];
   name_nodes = record { within = All-nil (λ (s : ℕ × ℤ). IsNode n s.0); once = λ id. omega arith };
   supplies = refl;
-  nodes_named = λ id. ap₂ (λ o z. is_some o || z) (get-empty id) (contains-empty id);
   records = ap (λ rs. rs ++ MinProblem n m ∷ []) h;
 }
 begins (Some b) n m p rs h = absurd (cc (p.one_problem))
@@ -122,62 +119,28 @@ records_more nodes declared id s rs named arcs is none =
     ∙ ap (λ rs. MinProblem nodes declared ∷ rs) (sym (map-append min_node named ((id, s) ∷ [])) ∙ sym (append-nil (map min_node (named ++ (id, s) ∷ []))))
     ∙ ap (λ (arcs : List ArcView). min_records nodes declared (named ++ (id, s) ∷ []) arcs) (sym none)
 
-value_more : (g : Option ℤ) (z e : Bool) (s : ℤ) → (is_some (cond e (Some s) g) || z) ≡ ((is_some g || z) || (e || false))
-value_more (Some v) z true s = refl
-value_more (Some v) z false s = refl
-value_more None true true s = refl
-value_more None true false s = refl
-value_more None false true s = refl
-value_more None false false s = refl
-
-no_value : (g : Option ℤ) (z : Bool) → (is_some g || z) ≡ false → g ≡ None
-no_value None z e = refl
-no_value (Some v) z e = absurd (cc)
-
 -- a node that passes the tests is one more
-module _ (b : MinBegun) (id : ℕ) (s : ℤ) (least : 1 ≤ id) (p : Passes (earlier_names (Some b) id) (MinNode id s)) where
-  node : IsNode b.nodes id
-  node = (least, grind (arith, nat_tests, p.second_within))
+module _ (o : Option MinBegun) (b : MinBegun) (id : ℕ) (s : ℤ) (is : o ≡ Some b) (least : 1 ≤ id) (passes : Passes (earlier_names o id) (MinNode id s)) where
+  node_told : Passes (earlier_names (Some b) id) (MinNode id s)
+  node_told = rw is at passes
 
-  no_arcs : b.arcs ≡ []
-  no_arcs = nil_from_length b.arcs (grind (arith, nat_tests, p.placed))
+  pub node : IsNode b.nodes id
+  node = (least, grind (arith, nat_tests, node_told.second_within))
 
-  module _ (rs : List Record) (h : IsBegunBy b rs) where
-    abbrev more : List (ℕ × ℤ)
-    more = h.named ++ (id, s) ∷ []
-
-    name_more : NameNodes b.nodes more
-    name_more = named_more h.named id s b.nodes h.name_nodes node (sym (h.nodes_named id) ∙ p.new_node)
-
-    not_found : find nat_cmp id (filter has_value h.named) ≡ None
-    not_found = sym (get-from_entries nat_cmp_total (filter has_value h.named) id) ∙ ap (λ m. map.get m id) (sym h.supplies) ∙ no_value (map.get b.supplies id) (set.contains b.zeros id) p.new_node
-
-    begun_with : (t : Bool) → int_eq s (pos 0) ≡ t → IsBegunBy (if t then record b { zeros = set.insert b.zeros id } else record b { supplies = map.insert b.supplies id s }) (rs ++ MinNode id s ∷ [])
-    begun_with true e = record {
-      named = more;
-      name_nodes = name_more;
-      supplies = h.supplies ∙ ap from_entries (sym (valued_more h.named id s true e ∙ append-nil (filter has_value h.named)));
-      nodes_named = λ other. ap (λ z. is_some (map.get b.supplies other) || z) (contains-insert b.zeros id other) ∙ zero_more (is_some (map.get b.supplies other)) (set.contains b.zeros other) (other == id) ∙ any_more h.named id s (has_line b other) other (h.nodes_named other);
-      records = records_more b.nodes b.declared id s rs h.named b.arcs h.records no_arcs;
-    }
-    begun_with false e = record {
-      named = more;
-      name_nodes = name_more;
-      supplies = ap (λ m. map.insert m id s) h.supplies
-          ∙ sym (ap from_entries (valued_more h.named id s false e) ∙ from_entries_push nat_cmp_total nat_cmp-IsAntisymmetric (filter has_value h.named) id s not_found);
-      nodes_named = λ other. ap (λ o. is_some o || set.contains b.zeros other) (get-insert b.supplies id other s) ∙ value_more (map.get b.supplies other) (set.contains b.zeros other) (other == id) s ∙ any_more h.named id s (has_line b other) other (h.nodes_named other);
-      records = records_more b.nodes b.declared id s rs h.named b.arcs h.records no_arcs;
-    }
+  pub names_one : (rs : List Record) → StandsFor IsBegunBy o rs → IsBegunBy (record b { supplies = insert b.supplies id s }) (rs ++ MinNode id s ∷ [])
+  names_one rs stands =
+      let h : IsBegunBy b rs = rw is at stands in
+      let new : list_any (is_of id) h.named ≡ false = sym (has_named b id h) ∙ node_told.new_node in
+      let no_arcs : b.arcs ≡ [] = nil_from_length b.arcs (grind (arith, nat_tests, node_told.placed)) in
+      record {
+        named = h.named ++ (id, s) ∷ [];
+        name_nodes = named_more h.named id s new b.nodes h.name_nodes node;
+        supplies = ap (λ m. insert m id s) h.supplies ∙ sym (map_more h.named id s new);
+        records = records_more b.nodes b.declared id s rs h.named b.arcs h.records no_arcs;
+      }
 
 not_below : (x y : ℤ) → int_lt x y ≡ false → y ≤ℤ x
 not_below x y test = grind (arith, ints)
-
-pub names_one : (o : Option MinBegun) (b : MinBegun) (id : ℕ) (s : ℤ) → o ≡ Some b → 1 ≤ id → Passes (earlier_names o id) (MinNode id s) → (rs : List Record) → StandsFor IsBegunBy o rs
-    → IsBegunBy (with_supply b id s) (rs ++ MinNode id s ∷ [])
-names_one o b id s is least p rs h = begun_with b id s least (rw is at p) rs (rw is at h) (int_eq s (pos 0)) refl
-
-pub node_told : (o : Option MinBegun) (b : MinBegun) (id : ℕ) (s : ℤ) → o ≡ Some b → 1 ≤ id → Passes (earlier_names o id) (MinNode id s) → IsNode b.nodes id
-node_told o b id s is least p = node b id s least (rw is at p)
 
 -- an arc that passes the tests joins nodes, has bounds and finds room
 module _ (o : Option MinBegun) (b : MinBegun) (a : ArcView) (is : o ≡ Some b) (passes : Passes (earlier_lines o) (min_arc a)) where
@@ -200,15 +163,35 @@ module _ (o : Option MinBegun) (b : MinBegun) (a : ArcView) (is : o ≡ Some b) 
         named = h.named;
         name_nodes = h.name_nodes;
         supplies = h.supplies;
-        nodes_named = h.nodes_named;
         records = ap (λ rs. rs ++ min_arc a ∷ []) h.records
             ∙ ap (λ rs. MinProblem b.nodes b.declared ∷ rs) (append_assoc (map min_node h.named) (map min_arc b.arcs) (min_arc a ∷ []))
             ∙ ap (λ arcs. MinProblem b.nodes b.declared ∷ map min_node h.named ++ arcs) (sym (map-append min_arc b.arcs (a ∷ [])));
       }
 
+-- what was begun, without the supplies that are 0
+module _ (b : MinBegun) (law : IsMinBegun b) where
+  supply_begun : (id : ℕ) (v : ℤ) → get (without_zeros b.supplies) id ≡ Some v → IsSupply b.nodes (id, v)
+  supply_begun id v e =
+      let found = get_nonzero b.supplies id v e in
+      let named = All-get (IsNamed b.nodes) b.supplies id v law.supplied found.0 in
+      (named.0, found.1, named.1)
+
+  none_past : (id : ℕ) → b.nodes + 1 ≤ id → (o : Option ℤ) → get (without_zeros b.supplies) id ≡ o → o ≡ None
+  none_past id past None e = refl
+  none_past id past (Some v) e = absurd (omega (arith, past, (supply_begun id v e).0.1))
+
+  pub min_law : IsMin (record { nodes = b.nodes; supplies = without_zeros b.supplies; arcs = b.arcs })
+  min_law = record {
+    nodes_few = law.nodes_few;
+    arcs_few = omega (arith, law.no_more, law.arcs_few);
+    supplied = All-entries (IsSupply b.nodes) (without_zeros b.supplies) (b.nodes + 1) (λ id past. none_past id past _ refl) supply_begun;
+    joined = law.joined;
+    bounds = law.bounds;
+  }
+
 -- what was begun and is whole gives its instance
 pub gives_min : (o : Option MinBegun) (b : MinBegun) → o ≡ Some b → IsMinBegun b → PassesEnd Min (earlier_lines o) → (rs : List LineRecord) → StandsFor IsBegunBy o (records_of rs)
-    → GivesMin rs (record { nodes = b.nodes; supplies = b.supplies; arcs = b.arcs })
+    → GivesMin rs (record { nodes = b.nodes; supplies = without_zeros b.supplies; arcs = b.arcs })
 gives_min o b is law passes rs stands =
     let p : PassesEnd Min (earlier_lines (Some b)) = rw is at passes in
     let h : IsBegunBy b (records_of rs) = rw is at stands in
@@ -216,28 +199,28 @@ gives_min o b is law passes rs stands =
     record {
       named = h.named;
       name_nodes = h.name_nodes;
-      supplies = h.supplies;
+      supplies = ap without_zeros h.supplies ∙ without_zeros-named h.named b.nodes h.name_nodes;
       records = h.records ∙ ap (λ k. min_records b.nodes k h.named b.arcs) full;
-      is_min = record { nodes_few = law.nodes_few; arcs_few = omega (arith, law.no_more, law.arcs_few); supplied = law.supplied; joined = law.joined; bounds = law.bounds };
+      is_min = min_law b law;
     }
 
 -- the law of what was begun
-pub new_law : (nodes declared : ℕ) → nodes ≤ 134217728 → declared ≤ 268435456 → IsMinBegun (record { nodes = nodes; declared = declared; supplies = map.empty; zeros = set.empty; arcs = [] })
+pub new_law : (nodes declared : ℕ) → nodes ≤ 134217728 → declared ≤ 268435456 → IsMinBegun (record { nodes = nodes; declared = declared; supplies = empty; arcs = [] })
 new_law nodes declared nodes_few arcs_few = record {
   nodes_few = nodes_few;
   arcs_few = arcs_few;
   no_more = omega arith;
-  supplied = All-empty (IsSupply nodes);
+  supplied = All-empty (IsNamed nodes);
   joined = All-nil (JoinsNodes nodes);
   bounds = All-nil HasBounds;
 }
 
-pub law_with_supply : (b : MinBegun) (id : ℕ) (s : ℤ) → IsMinBegun b → IsNode b.nodes id → s ≢ pos 0 → IsWhole s → IsMinBegun (record b { supplies = map.insert b.supplies id s })
-law_with_supply b id s law is_node some whole = record {
+law_with_supply : (b : MinBegun) (id : ℕ) (s : ℤ) → IsMinBegun b → IsNode b.nodes id → IsWhole s → IsMinBegun (record b { supplies = insert b.supplies id s })
+law_with_supply b id s law is_node whole = record {
   nodes_few = law.nodes_few;
   arcs_few = law.arcs_few;
   no_more = law.no_more;
-  supplied = All-insert (IsSupply b.nodes) b.supplies id s law.supplied (is_node, some, whole);
+  supplied = All-insert (IsNamed b.nodes) b.supplies id s law.supplied (is_node, whole);
   joined = law.joined;
   bounds = law.bounds;
 }
@@ -253,7 +236,7 @@ law_with_arc b a law joined bounds room = record {
 }
 
 -- where a value was set, or not
-pub law_after_set : {E : Type 0} (b : MinBegun) (id : ℕ) (s : ℤ) (supplies : FinMap nat_cmp ℤ) (r : Result Unit E) → OnOk r (supplies ≡ map.insert b.supplies id s) → OnErr r (supplies ≡ b.supplies)
-    → IsMinBegun b → IsNode b.nodes id → s ≢ pos 0 → IsWhole s → IsMinBegun (record b { supplies = supplies })
-law_after_set b id s supplies (Ok done) set unset law is_node some whole = subst (λ (m : FinMap nat_cmp ℤ). IsMinBegun (record b { supplies = m })) (sym set) (law_with_supply b id s law is_node some whole)
-law_after_set b id s supplies (Err e) set unset law _ some whole = subst (λ (m : FinMap nat_cmp ℤ). IsMinBegun (record b { supplies = m })) (sym unset) law
+pub law_after_set : {E : Type 0} (b : MinBegun) (id : ℕ) (s : ℤ) (supplies : FinMap nat_cmp ℤ) (r : Result Unit E) → OnOk r (supplies ≡ insert b.supplies id s) → OnErr r (supplies ≡ b.supplies)
+    → IsMinBegun b → IsNode b.nodes id → IsWhole s → IsMinBegun (record b { supplies = supplies })
+law_after_set b id s supplies (Ok done) set unset law is_node whole = subst (λ (m : FinMap nat_cmp ℤ). IsMinBegun (record b { supplies = m })) (sym set) (law_with_supply b id s law is_node whole)
+law_after_set b id s supplies (Err e) set unset law is_node whole = subst (λ (m : FinMap nat_cmp ℤ). IsMinBegun (record b { supplies = m })) (sym unset) law

@@ -2,11 +2,9 @@
 use Rattle.std.proofs.Common.{◌≡◌, ◌≢◌, ℕ, ◌<◌, ◌≤◌, ◌∷◌, ◌++◌, [], List, Bool, true, false, Option, Some, None, length, map, cond, ◌+◌, refl, ap, ap₂, sym, ◌∙◌, arith}
 use Rattle.std.specs.Prelude.{ℤ, pos, codes, not, int_lt, ◌≤ℤ◌, ◌<ℤ◌, count_by}
 use Rattle.std.specs.List.{All, filter, list_any}
-use Rattle.std.specs.Ordering.{int_eq}
 use Rattle.std.specs.Int.Signed.{lt_z_yes}
 use Rattle.std.specs.FinMap.{from_entries, entries, get}
 use Rattle.std.proofs.lemmas.Bool.{eq-eqb, false_from_ne_true}
-use Rattle.std.proofs.lemmas.Bool.Decides.{Decides-int_eq}
 use Rattle.std.proofs.lemmas.Int.{ints}
 use Rattle.std.proofs.lemmas.List.{append-nil, length-append, length-map}
 use Rattle.std.proofs.lemmas.List.Elements.{All-nil, All-cons, All-head, All-tail, All-append, All-map, All-weaker}
@@ -28,6 +26,7 @@ use Rattle.dimacs_instance.specs.MinTexts.{min_node, min_arc, min_records, Gives
 use Rattle.dimacs_records.specs.NodeValues.{is_of, has_value, NameNodes}
 use Rattle.dimacs_instance.proofs.MinLemmas.{node_new, one_more_arc, all_arcs, allows_problem}
 use Rattle.dimacs_records.proofs.CountLemmas.{once_before}
+use Rattle.dimacs_records.proofs.NameLemmas.{not_zero}
 
 -- an element of two lists, one behind the other, is one of the first or one of the second
 pub data InEither {A : Type 0} (xs ys before : List A) (y : A) : Type 0 where
@@ -195,7 +194,7 @@ pub no_supply_past : (m : MinValue) → IsMin m → (id : ℕ) → m.nodes + 1 �
 no_supply_past m law id past = no_supply m law id (λ node. omega (arith, node.1))
 
 pub supplied_test : (s : ℕ × ℤ) → s.1 ≢ pos 0 → has_value s ≡ true
-supplied_test s some = ap not (false_from_ne_true (int_eq s.1 (pos 0)) (λ e. some ((Decides-int_eq s.1 (pos 0)).0 e)))
+supplied_test s some = ap not (not_zero s.1 some)
 
 all_pass : {A : Type 0} (p : A → Bool) (xs : List A) → All (λ x. p x ≡ true) xs → filter p xs ≡ xs
 all_pass p [] h = refl

@@ -4,8 +4,6 @@ use Rattle.std.specs.Coded.{Coded, code_by, coded×, coded_ℕ, coded_ℤ, coded
 use Rattle.std.specs.Ordering.{nat_cmp}
 use Rattle.std.specs.FinMap.{FinMap}
 use Rattle.std.specs.FinMap as map
-use Rattle.std.specs.FinSet.{FinSet}
-use Rattle.std.specs.FinSet as set
 use Rattle.dimacs_instance.specs.declared.network.ArcView.{ArcView}
 use Rattle.dimacs_instance.specs.MinFlows.{MinValue}
 use Rattle.dimacs_instance.specs.MinReading.{MinBegun}
@@ -25,6 +23,5 @@ min_code =
 
 abbrev pub begun_code : Coded MinBegun
 begun_code =
-    code_by (ℕ × (ℕ × (FinMap nat_cmp ℤ × (FinSet nat_cmp × List ArcView)))) (coded× coded_ℕ (coded× coded_ℕ (coded× supplies_code (coded× (set.code coded_ℕ) (coded_list arc_code)))))
-    (λ b. (b.nodes, (b.declared, (b.supplies, (b.zeros, b.arcs)))))
-    (λ p. record { nodes = p.0; declared = p.1.0; supplies = p.1.1.0; zeros = p.1.1.1.0; arcs = p.1.1.1.1 }) (λ _. refl)
+    code_by (ℕ × (ℕ × (FinMap nat_cmp ℤ × List ArcView))) (coded× coded_ℕ (coded× coded_ℕ (coded× supplies_code (coded_list arc_code)))) (λ b. (b.nodes, (b.declared, (b.supplies, b.arcs))))
+    (λ p. record { nodes = p.0; declared = p.1.0; supplies = p.1.1.0; arcs = p.1.1.1 }) (λ _. refl)

@@ -15,12 +15,11 @@ ghost use Rattle.dimacs_records.specs.Readings.{CountsRead, records_of};
 ghost use Rattle.dimacs_records.specs.Faults.{Fault};
 ghost use Rattle.dimacs_records.specs.Texts.{Reads};
 ghost use Rattle.dimacs_instance.specs.MinFlows.{HasBounds, MinValue, IsMin, supply_of, positive_part, negative_part, supplied, demanded};
-ghost use Rattle.dimacs_records.specs.Ranges.{IsNode};
 ghost use Rattle.dimacs_instance.specs.MinTexts.{GivesMin, SpellsMin, canonical_min, min_node, min_arc};
 ghost use Rattle.dimacs_records.specs.NodeValues.{has_value};
 ghost use Rattle.dimacs_instance.specs.Arcs.{JoinsNodes};
 ghost use Rattle.dimacs_instance.specs.MinReading.{IsBegunBy};
-ghost use Rattle.dimacs_instance.specs.inside.MinReading.{earlier_lines, is_named, with_arc, with_supply};
+ghost use Rattle.dimacs_instance.specs.inside.MinReading.{earlier_lines, is_named, with_arc};
 ghost use Rattle.dimacs_records.specs.Takings.{StandsFor};
 ghost use Rattle.dimacs_records.specs.inside.Takings.{Takes};
 
@@ -28,7 +27,7 @@ use crate::network::{ArcView, Network};
 use crate::plain::{KeptArc, PlainArcs};
 use crate::star::ForwardStar;
 use dimacs_lines::{DeviceFault, Memory, Page, Sink, Source};
-use dimacs_nodes::{NodeMap, NodeSet};
+use dimacs_nodes::NodeMap;
 use dimacs_records::{
     Declared, Earlier, ReadError, Reading, Record, TakeError, TextKind, read_text, test_end,
     test_record, write_record,
@@ -40,7 +39,7 @@ use std::marker::Model;
 /// takes it out.
 #[derive(Drop)]
 pub struct MinInstance<N: Network> {
-    /// The supplies that aren't 0.
+    /// Those of the nodes that were named, also with 0.
     supplies: NodeMap<i64>,
     network: N,
 }
@@ -48,14 +47,15 @@ pub struct MinInstance<N: Network> {
 impl<N: Network> Model for MinInstance<N> {
     ghost use Rattle.dimacs_instance.specs.MinFlows.{MinValue, IsMin};
     ghost use Rattle.dimacs_instance.specs.MinCodes.{min_code};
+    ghost use Rattle.dimacs_records.specs.NodeValues.{without_zeros};
 
     ghost Value = { MinValue };
 
     ghost coded = { min_code };
 
-    ghost view = { λ m. record { nodes = N.node_count m.network; supplies = m.supplies; arcs = N.list m.network } };
+    ghost view = { λ m. record { nodes = N.node_count m.network; supplies = without_zeros m.supplies; arcs = N.list m.network } };
 
-    ghost invariant = { λ m. IsMin (record { nodes = N.node_count m.network; supplies = m.supplies; arcs = N.list m.network }) };
+    ghost invariant = { λ m. IsMin (record { nodes = N.node_count m.network; supplies = without_zeros m.supplies; arcs = N.list m.network }) };
 }
 
 /// How much all nodes together put into the network, and how much they take out.
@@ -173,9 +173,8 @@ impl Model for PlainMinReading {
 #[derive(Drop)]
 pub(crate) struct BegunMin {
     declared: u32,
+    /// Those of the nodes that were named, also with 0.
     supplies: NodeMap<i64>,
-    /// The nodes that are named with supply 0.
-    zeros: NodeSet,
     network: PlainArcs<ArcView>,
 }
 
@@ -187,24 +186,12 @@ impl Model for BegunMin {
 
     ghost coded = { begun_code };
 
-    ghost view = { λ b. record { nodes = b.network.nodes; declared = b.declared; supplies = b.supplies; zeros = b.zeros; arcs = b.network.arcs } };
+    ghost view = { λ b. record { nodes = b.network.nodes; declared = b.declared; supplies = b.supplies; arcs = b.network.arcs } };
 
-    ghost invariant = { λ b. IsMinBegun (record { nodes = b.network.nodes; declared = b.declared; supplies = b.supplies; zeros = b.zeros; arcs = b.network.arcs }) };
+    ghost invariant = { λ b. IsMinBegun (record { nodes = b.network.nodes; declared = b.declared; supplies = b.supplies; arcs = b.network.arcs }) };
 }
 
 impl BegunMin {
-    fn keep_supply(&mut self, id: u32, supply: i64) -> Result<(), Memory>
-        requires { IsNode self.old.nodes id }
-        ensures kept { OnOk result (self.new ≡ with_supply self.old id supply) }
-        ensures unchanged { OnErr result (self.new ≡ self.old) }
-    {
-        if supply == 0 {
-            self.zeros.insert(id)
-        } else {
-            self.supplies.set(id, supply)
-        }
-    }
-
     #[inline(always)]
     fn keep_arc(&mut self, arc: ArcView) -> Result<(), Memory>
         requires joined { JoinsNodes self.old.nodes arc }
@@ -244,7 +231,7 @@ impl PlainMinReading {
         ensures { result ≡ is_named self.now id }
     {
         match &self.begun {
-            Some(begun) => begun.supplies.get(id).is_some() || begun.zeros.contains(id),
+            Some(begun) => begun.supplies.get(id).is_some(),
             None => false,
         }
     }
@@ -258,7 +245,6 @@ impl PlainMinReading {
         self.begun = Some(BegunMin {
             declared: arcs,
             supplies: NodeMap::new(self.alloc),
-            zeros: NodeSet::new(self.alloc),
             network: PlainArcs::new(self.alloc, nodes),
         });
         Ok(())
@@ -280,7 +266,7 @@ impl PlainMinReading {
         let Some(begun) = &mut self.begun else {
             unreachable!()
         };
-        begun.keep_supply(id, supply)?;
+        begun.supplies.set(id, supply)?;
         Ok(())
     }
 

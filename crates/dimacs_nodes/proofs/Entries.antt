@@ -48,16 +48,16 @@ module _ {T : Type 0} where
   unfolding entries_below
   entries_below-next f n = rw (add-one n) refl
 
-  All-entry_of : (P : ℕ × T → Type 0) (id : ℕ) (value : Option T) → ((v : T) → P (id, v)) → All P (entry_of id value)
+  All-entry_of : (P : ℕ × T → Type 0) (id : ℕ) (value : Option T) → ((v : T) → value ≡ Some v → P (id, v)) → All P (entry_of id value)
   All-entry_of P id None h = All-nil P
-  All-entry_of P id (Some v) h = All-cons P (id, v) [] (h v) (All-nil P)
+  All-entry_of P id (Some v) h = All-cons P (id, v) [] (h v refl) (All-nil P)
 
   keys_below : (f : ℕ → Option T) (n : ℕ) → All (λ (e : ℕ × T). e.0 < n) (entries_below f n)
   unfolding entries_below
   keys_below f zero = All-nil _
   keys_below f (suc n) =
       All-append (λ (e : ℕ × T). e.0 < suc n) (entries_below f n) (entry_of n (f n)) (All-weaker (λ (e : ℕ × T). e.0 < n) (λ (e : ℕ × T). e.0 < suc n) (λ e h. omega arith) (entries_below f n) (keys_below f n))
-      (All-entry_of (λ (e : ℕ × T). e.0 < suc n) n (f n) (λ v. omega arith))
+      (All-entry_of (λ (e : ℕ × T). e.0 < suc n) n (f n) (λ v is. omega arith))
 
   -- an entry behind all others
   put_past : (k : ℕ) (v : T) (es : List (ℕ × T)) → All (λ (e : ℕ × T). e.0 < k) es → put nat_cmp k v es ≡ es ++ (k, v) ∷ []
@@ -87,6 +87,15 @@ module _ {T : Type 0} where
         | inr h ↦ none id h ∙ sym (get-values_below_past (get m) n id h)
       ]))
       ∙ entries-values_below (get m) n
+
+  All-entries_below : (P : ℕ × T → Type 0) (f : ℕ → Option T) (n : ℕ) → ((id : ℕ) (v : T) → f id ≡ Some v → P (id, v)) → All P (entries_below f n)
+  unfolding entries_below
+  All-entries_below P f zero each = All-nil P
+  All-entries_below P f (suc n) each = All-append P (entries_below f n) (entry_of n (f n)) (All-entries_below P f n each) (All-entry_of P n (f n) (each n))
+
+  -- what holds of each value that is found holds of each entry
+  pub All-entries : (P : ℕ × T → Type 0) (m : FinMap nat_cmp T) (n : ℕ) → ((id : ℕ) → n ≤ id → get m id ≡ None) → ((id : ℕ) (v : T) → get m id ≡ Some v → P (id, v)) → All P (entries m)
+  All-entries P m n none each = rw (entries_are m n none) (All-entries_below P (get m) n each)
 
   found_here : (P : ℕ × T → Type 0) (x : ℕ × T) (id : ℕ) (v : T) → id ≡ x.0 → x.1 ≡ v → P x → P (id, v)
   found_here P x id v same is p = rw (same, ← is) p

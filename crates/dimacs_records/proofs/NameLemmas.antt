@@ -1,34 +1,106 @@
--- Lists of nodes with numbers, and one more of them.
-use Rattle.std.proofs.Common.{◌≡◌, ℕ, ◌∷◌, ◌++◌, ◌==◌, ◌||◌, [], List, Bool, true, false, refl, ap, ap₂, sym, ◌∙◌, cond}
-use Rattle.std.specs.Prelude.{ℤ, not, pos}
+-- Lists of nodes with numbers, one more of them, and the maps that they make.
+use Rattle.std.proofs.Common.{◌≡◌, ◌≢◌, ◌≤◌, ℕ, ◌∷◌, ◌++◌, ◌||◌, [], List, map, Bool, true, false, Option, Some, None, is_some, refl, ap, ap₂, sym, ◌∙◌, cond, arith}
+use Rattle.std.specs.Prelude.{ℤ, count_by, not, pos, unwrap_or}
 use Rattle.std.specs.List.{filter, list_any}
-use Rattle.std.specs.Ordering.{int_eq}
-use Rattle.std.proofs.lemmas.Bool.{eqb-true}
-use Rattle.std.proofs.lemmas.List.Elements.{All-push, filter-append}
-use Rattle.std.proofs.lemmas.List.Folds.{list_any-append}
-use Rattle.dimacs_records.specs.NodeValues.{NameNodes, has_value, is_of}
+use Rattle.std.specs.Ordering.{eq_by_cmp, int_eq, nat_cmp}
+use Rattle.std.specs.Cmp.{nat_cmp_total, signed_Decides, unsigned_tied}
+use Rattle.std.specs.FinMap.{FinMap, empty, from_entries, from_entries_push, get, get-empty, get-from_entries, get-retain_keys, insert, nat_cmp-IsAntisymmetric, same_map}
+use Rattle.std.specs.FinMap.Entries.{find, is_some-find}
+use Rattle.std.proofs.lemmas.Bool.{eqb-true, false_from_ne_true}
+use Rattle.std.proofs.lemmas.Option.{cond_some}
+use Rattle.std.proofs.lemmas.List.Elements.{All-push}
+use Rattle.dimacs_records.specs.NodeValues.{NameNodes, has_value, is_nonzero, is_of, without_zeros}
 use Rattle.dimacs_records.specs.Ranges.{IsNode}
-use Rattle.dimacs_records.proofs.CountLemmas.{once_more, same_test}
+use Rattle.dimacs_records.proofs.CountLemmas.{count_by-cons, count_yes, none_passes, once_more, same_test}
 
-module _ (named : List (ℕ × ℤ)) (id : ℕ) (n : ℤ) where
-  pub named_more : (nodes : ℕ) → NameNodes nodes named → IsNode nodes id → list_any (is_of id) named ≡ false → NameNodes nodes (named ++ (id, n) ∷ [])
-  named_more nodes are node new = record {
-    within = All-push (λ (m : ℕ × ℤ). IsNode nodes m.0) named (id, n) are.within node;
-    once = once_more is_of named (id, n) (λ other same. ap (λ k. list_any (is_of k) named) (sym (eqb-true id other same)) ∙ new) are.once;
-  }
+pub not_zero : (n : ℤ) → n ≢ pos 0 → int_eq n (pos 0) ≡ false
+not_zero n some = false_from_ne_true (int_eq n (pos 0)) (λ e. some ((signed_Decides n (pos 0)).0 e))
 
-  -- what is known to be named, and whether this is one more
-  pub any_more : (known : Bool) (other : ℕ) → known ≡ list_any (is_of other) named → (known || ((other == id) || false)) ≡ list_any (is_of other) (named ++ (id, n) ∷ [])
-  any_more known other is = ap₂ (λ x y. x || (y || false)) is (same_test other id) ∙ sym (list_any-append (is_of other) named ((id, n) ∷ []))
+pub isnt_zero : (n : ℤ) → int_eq n (pos 0) ≡ false → n ≢ pos 0
+isnt_zero n e is = absurd (cc (e, (signed_Decides n (pos 0)).1 is))
 
-  -- the number where the test for 0 answers false, else none
-  pub valued_more : (t : Bool) → int_eq n (pos 0) ≡ t → filter has_value (named ++ (id, n) ∷ []) ≡ filter has_value named ++ cond (not t) ((id, n) ∷ []) []
-  valued_more t e = filter-append has_value named ((id, n) ∷ []) ∙ ap (λ b. filter has_value named ++ cond (not b) ((id, n) ∷ []) []) e
+-- what is found, unless it is 0
+abbrev pub unless_zero : Option ℤ → Option ℤ
+unless_zero found = cond (is_nonzero (unwrap_or found (pos 0))) found None
 
--- a node is known by a number or as a zero, and one more is a zero
-pub zero_more : (number zero is : Bool) → (number || (is || zero)) ≡ ((number || zero) || (is || false))
-zero_more true zero is = refl
-zero_more false true true = refl
-zero_more false true false = refl
-zero_more false false true = refl
-zero_more false false false = refl
+pub get-without_zeros : (m : FinMap nat_cmp ℤ) (id : ℕ) → get (without_zeros m) id ≡ unless_zero (get m id)
+unfolding without_zeros
+get-without_zeros m id = get-retain_keys m (λ id. is_nonzero (unwrap_or (get m id) (pos 0))) id (λ x e. ap (λ n. is_nonzero (unwrap_or (get m n) (pos 0))) (sym (nat_cmp-IsAntisymmetric id x e)))
+
+pub get_nonzero : (m : FinMap nat_cmp ℤ) (id : ℕ) (n : ℤ) → get (without_zeros m) id ≡ Some n → (get m id ≡ Some n) × (n ≢ pos 0)
+get_nonzero m id n e = of_found (get m id) (sym (get-without_zeros m id) ∙ e)
+  where
+    of_found : (found : Option ℤ) → unless_zero found ≡ Some n → (found ≡ Some n) × (n ≢ pos 0)
+    of_found None e = absurd (cc)
+    of_found (Some x) e = let kept = cond_some (is_nonzero x) x n e in (ap Some kept.1, (λ zero. absurd (cc (kept.0, ap is_nonzero (kept.1 ∙ zero)))))
+
+-- the value is the same without the zeros
+same_value : (found : Option ℤ) → unwrap_or (unless_zero found) (pos 0) ≡ unwrap_or found (pos 0)
+same_value None = refl
+same_value (Some n) = by_test (int_eq n (pos 0)) refl
+  where
+    by_test : (b : Bool) → int_eq n (pos 0) ≡ b → unwrap_or (cond (not b) (Some n) None) (pos 0) ≡ n
+    by_test true e = sym ((signed_Decides n (pos 0)).0 e)
+    by_test false e = refl
+
+pub value-without_zeros : (m : FinMap nat_cmp ℤ) (id : ℕ) → unwrap_or (get (without_zeros m) id) (pos 0) ≡ unwrap_or (get m id) (pos 0)
+value-without_zeros m id = ap (λ o. unwrap_or o (pos 0)) (get-without_zeros m id) ∙ same_value (get m id)
+
+pub without_zeros-empty : without_zeros empty ≡ empty
+without_zeros-empty = same_map nat_cmp_total nat_cmp-IsAntisymmetric (without_zeros empty) empty (λ id. get-without_zeros empty id ∙ ap unless_zero (get-empty nat_cmp id) ∙ sym (get-empty nat_cmp id))
+
+-- a node is found where a line names it
+is_some-find_named : (id : ℕ) (named : List (ℕ × ℤ)) → is_some (find nat_cmp id named) ≡ list_any (is_of id) named
+is_some-find_named id named = is_some-find nat_cmp id named ∙ same named
+  where
+    same : (ns : List (ℕ × ℤ)) → list_any (eq_by_cmp nat_cmp id) (map (λ (n : ℕ × ℤ). n.0) ns) ≡ list_any (is_of id) ns
+    same [] = refl
+    same (n ∷ ns) = ap₂ (λ a b. a || b) (unsigned_tied id n.0 ∙ same_test id n.0) (same ns)
+
+none_found : (id : ℕ) (named : List (ℕ × ℤ)) → list_any (is_of id) named ≡ false → find nat_cmp id named ≡ None
+none_found id named new = not_some (find nat_cmp id named) (is_some-find_named id named ∙ new)
+  where
+    not_some : (o : Option ℤ) → is_some o ≡ false → o ≡ None
+    not_some None e = refl
+    not_some (Some v) e = absurd (cc)
+
+-- what is found among the lines that don't say 0, where no node stands twice
+find_valued : (id : ℕ) (named : List (ℕ × ℤ)) → count_by (is_of id) named ≤ 1 → find nat_cmp id (filter has_value named) ≡ unless_zero (find nat_cmp id named)
+find_valued id [] once = refl
+find_valued id (n ∷ ns) once =
+    by_tests (eq_by_cmp nat_cmp id n.0) (has_value n) refl refl (find_valued id ns (omega (arith, once, count_by-cons (is_of id) n ns)))
+  where
+    others : eq_by_cmp nat_cmp id n.0 ≡ true → find nat_cmp id ns ≡ None
+    others e = none_found id ns (none_passes (is_of id) ns (omega (arith, once, count_yes (is_of id) n ns (same_test n.0 id ∙ sym (unsigned_tied id n.0) ∙ e))))
+
+    by_tests : (t v : Bool) → eq_by_cmp nat_cmp id n.0 ≡ t → has_value n ≡ v → find nat_cmp id (filter has_value ns) ≡ unless_zero (find nat_cmp id ns)
+        → find nat_cmp id (cond v (n ∷ filter has_value ns) (filter has_value ns)) ≡ unless_zero (cond t (Some n.1) (find nat_cmp id ns))
+    by_tests true true here some rest = ap (λ b. cond b (Some n.1) (find nat_cmp id (filter has_value ns))) here ∙ sym (ap (λ b. cond b (Some n.1) None) some)
+    by_tests true false here none rest = rest ∙ ap unless_zero (others here) ∙ sym (ap (λ b. cond b (Some n.1) None) none)
+    by_tests false true apart some rest = ap (λ b. cond b (Some n.1) (find nat_cmp id (filter has_value ns))) apart ∙ rest
+    by_tests false false apart none rest = rest
+
+module _ (named : List (ℕ × ℤ)) where
+  -- the map of these lines knows the nodes that they name
+  pub has-from_entries : (id : ℕ) → is_some (get (from_entries {R = nat_cmp} named) id) ≡ list_any (is_of id) named
+  has-from_entries id = ap is_some (get-from_entries nat_cmp_total named id) ∙ is_some-find_named id named
+
+  -- and without its zeros it has the numbers that they say
+  pub without_zeros-named : (nodes : ℕ) → NameNodes nodes named → without_zeros (from_entries named) ≡ from_entries (filter has_value named)
+  without_zeros-named nodes are =
+      same_map nat_cmp_total nat_cmp-IsAntisymmetric _ _ (λ id.
+      get-without_zeros (from_entries named) id
+      ∙ ap unless_zero (get-from_entries nat_cmp_total named id)
+      ∙ sym (find_valued id named (are.once id))
+      ∙ sym (get-from_entries nat_cmp_total (filter has_value named) id))
+
+  -- one line more
+  module _ (id : ℕ) (n : ℤ) (new : list_any (is_of id) named ≡ false) where
+    pub named_more : (nodes : ℕ) → NameNodes nodes named → IsNode nodes id → NameNodes nodes (named ++ (id, n) ∷ [])
+    named_more nodes are node = record {
+      within = All-push (λ (m : ℕ × ℤ). IsNode nodes m.0) named (id, n) are.within node;
+      once = once_more is_of named (id, n) (λ other same. ap (λ k. list_any (is_of k) named) (sym (eqb-true id other same)) ∙ new) are.once;
+    }
+
+    pub map_more : from_entries {R = nat_cmp} (named ++ (id, n) ∷ []) ≡ insert (from_entries named) id n
+    map_more = from_entries_push nat_cmp_total nat_cmp-IsAntisymmetric named id n (none_found id named new)

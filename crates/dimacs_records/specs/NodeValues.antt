@@ -1,7 +1,8 @@
 -- Lines that name nodes, each with a number.
-use Rattle.std.specs.Prelude.{ℕ, ℤ, ◌==◌, ◌≤◌, Bool, not, List, count_by, pos}
+use Rattle.std.specs.Prelude.{ℕ, ℤ, ◌==◌, ◌≤◌, Bool, not, List, count_by, pos, unwrap_or}
 use Rattle.std.specs.List.{All}
-use Rattle.std.specs.Ordering.{int_eq}
+use Rattle.std.specs.Ordering.{int_eq, nat_cmp}
+use Rattle.std.specs.FinMap.{FinMap, get, retain_keys}
 use Rattle.dimacs_records.specs.Ranges.{IsNode}
 
 abbrev pub is_of : ℕ → ℕ × ℤ → Bool
@@ -17,3 +18,7 @@ has_value n = is_nonzero n.1
 pub record NameNodes (nodes : ℕ) (named : List (ℕ × ℤ)) : Type 0 where
   pub within : All (λ (n : ℕ × ℤ). IsNode nodes n.0) named
   pub once : (id : ℕ) → count_by (is_of id) named ≤ 1
+
+-- the values that aren't 0
+unfoldable pub without_zeros : FinMap nat_cmp ℤ → FinMap nat_cmp ℤ
+without_zeros values = retain_keys values (λ id. is_nonzero (unwrap_or (get values id) (pos 0)))

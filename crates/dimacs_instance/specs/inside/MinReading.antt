@@ -1,21 +1,18 @@
 -- Inside: how far a minimum cost flow instance has been read.
-use Rattle.std.specs.Prelude.{ℕ, ℤ, Bool, [], ◌∷◌, ◌++◌, Option, Some, length, nat_lt, pos, if◌then◌else◌}
-use Rattle.std.specs.Ordering.{int_eq}
-use Rattle.std.specs.FinMap as map
-use Rattle.std.specs.FinSet as set
+use Rattle.std.specs.Prelude.{ℕ, Bool, [], ◌∷◌, ◌++◌, Option, Some, is_some, length, nat_lt}
+use Rattle.std.specs.FinMap.{get}
 use Rattle.dimacs_records.specs.declared.order.Declared.{Declared}
 use Rattle.dimacs_records.specs.declared.order.Earlier.{Earlier}
 use Rattle.dimacs_records.specs.inside.Tests.{earlier_begun, is_named_begun}
 use Rattle.dimacs_instance.specs.declared.network.ArcView.{ArcView}
-use Rattle.dimacs_instance.specs.MinReading.{MinBegun, has_line}
-
--- with one node line more
-abbrev pub with_supply : MinBegun → ℕ → ℤ → MinBegun
-with_supply begun id supply = if int_eq supply (pos 0) then record begun { zeros = set.insert begun.zeros id } else record begun { supplies = map.insert begun.supplies id supply }
+use Rattle.dimacs_instance.specs.MinReading.{MinBegun}
 
 -- with one arc more
 abbrev pub with_arc : MinBegun → ArcView → MinBegun
 with_arc begun arc = record begun { arcs = begun.arcs ++ arc ∷ [] }
+
+abbrev pub has_line : MinBegun → ℕ → Bool
+has_line begun id = is_some (get begun.supplies id)
 
 abbrev pub declared_by : MinBegun → Declared
 declared_by begun = record { nodes = Some begun.nodes; count = begun.declared }

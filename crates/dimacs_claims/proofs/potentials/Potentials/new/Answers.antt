@@ -1,5 +1,6 @@
 use Rattle.std.proofs.Common.{ap}
-use Rattle.dimacs_claims.proofs.ValueLemmas.{without_zeros-empty, zero_law}
+use Rattle.dimacs_records.proofs.NameLemmas.{without_zeros-empty}
+use Rattle.dimacs_claims.proofs.ValueLemmas.{zero_law}
 use Rattle.dimacs_claims.proofs.potentials.Potentials.new.Goals as goal
 
 pub invariant_of-result : goal.invariant_of-result

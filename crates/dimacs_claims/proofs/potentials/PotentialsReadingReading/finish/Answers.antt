@@ -17,4 +17,4 @@ returns-clause-complete c = λ rs h. complete_told kinds.Potentials _ _ (rw c.ea
 pub returns-clause-given : goal.returns-clause-given
 returns-clause-given c =
     let begun = sym c.self.view_is ∙ c.in-Some.is ∙ ap Some (sym (c.begun.view_is ∙ c.in-Some.begun-is)) in
-    gives_potentials c.args.self _ begun (rw c.earlier.ensures at c.in_ok-test_end.ensures.passes)
+    gives_potentials c.args.self _ begun c.begun.invariant (rw c.earlier.ensures at c.in_ok-test_end.ensures.passes)

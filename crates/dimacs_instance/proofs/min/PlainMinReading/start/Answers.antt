@@ -9,10 +9,10 @@ returns-in_err-test_record c =
     let p = err_from_is_err_and c.from_residual.result c.from_residual.ensures.1 in
     rw (p.1, p.2) (refused_told IsBegunBy c.args.self.now _ _ (problem_tells c.args.self.now c.args.nodes c.args.arcs) _ (rw c.earlier.ensures at c.in_err-test_record.ensures.refused))
 
-pub invariant_of-t-18 : goal.invariant_of-t-18
-invariant_of-t-18 c = rw (c.new.ensures, c.new-2.ensures, c.new-3.ensures) (new_law c.args.nodes c.args.arcs c.requires.nodes c.requires.arcs)
+pub invariant_of-t-16 : goal.invariant_of-t-16
+invariant_of-t-16 c = rw (c.new.ensures, c.new-2.ensures) (new_law c.args.nodes c.args.arcs c.requires.nodes c.requires.arcs)
 
 pub returns : goal.returns
 returns c =
     let passes = rw c.earlier.ensures at c.in_ok-test_record.ensures.passes in
-    rw (c.new.ensures, c.new-2.ensures, c.new-3.ensures) (taken_told IsBegunBy c.args.self.now _ _ (problem_tells c.args.self.now c.args.nodes c.args.arcs) _ passes (begins c.args.self.now c.args.nodes c.args.arcs passes))
+    rw (c.new.ensures, c.new-2.ensures) (taken_told IsBegunBy c.args.self.now _ _ (problem_tells c.args.self.now c.args.nodes c.args.arcs) _ passes (begins c.args.self.now c.args.nodes c.args.arcs passes))

@@ -2,8 +2,11 @@ use Rattle.std.proofs.Common.{Some, sym, ◌∙◌, ap}
 use Rattle.std.proofs.lemmas.Result.{err_from_is_err_and}
 use Rattle.dimacs_records.specs.declared.kinds.TextKind.TheVariants.{Min}
 use Rattle.dimacs_records.proofs.OrderLemmas.{complete_told}
-use Rattle.dimacs_instance.proofs.MinLemmas.{end_tells, gives_min}
+use Rattle.dimacs_instance.proofs.MinLemmas.{end_tells, gives_min, min_law}
 use Rattle.dimacs_instance.proofs.min.PlainMinReadingReading.finish.Goals as goal
+
+pub invariant_of-result : goal.invariant_of-result
+invariant_of-result c = min_law _ c.begun.invariant
 
 pub returns-in_err-test_end-clause-refused : goal.returns-in_err-test_end-clause-refused
 returns-in_err-test_end-clause-refused c =
