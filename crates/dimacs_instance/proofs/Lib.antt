@@ -1,12 +1,12 @@
 pub mod ArcLemmas
 mod CountLemmas
 mod GraphLemmas
-mod LinkLemmas
+pub mod LinkLemmas
 mod MaxLemmas
 mod MaxTextLemmas
-pub mod MinLemmas
-pub mod MinSupplies
-pub mod MinTextLemmas
+mod MinLemmas
+mod MinSupplies
+mod MinTextLemmas
 mod PigeonLemmas
 mod QueriesLemmas
 mod StarLemmas

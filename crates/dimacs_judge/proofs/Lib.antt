@@ -26,4 +26,3 @@ pub mod MinJudge
 mod MarkLemmas
 mod LeavingLemmas
 mod LeastLemmas
-mod LinkedLemmas
