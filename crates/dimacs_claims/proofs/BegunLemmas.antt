@@ -10,6 +10,7 @@ use Rattle.std.proofs.lemmas.Bool.Decides.{eqb_tells, nat_tests}
 use Rattle.std.proofs.lemmas.List.{length-append, length-map}
 use Rattle.std.proofs.lemmas.List.Elements.{All-pop, All-push, All-nil}
 use Rattle.std.proofs.lemmas.List.Folds.{list_any-append}
+use Rattle.dimacs_lines.specs.Limits.{most_count, most_nodes}
 use Rattle.dimacs_nodes.specs.declared.node_table.NodeTable.{NodeTable}
 use Rattle.dimacs_nodes.specs.Tables.{value_of}
 use Rattle.dimacs_records.specs.declared.kinds.TextKind.TheVariants.{Labels}
@@ -71,7 +72,7 @@ module _ (begun : LabelsBegun) (are : AreLabelsBegun begun) (source count : ℕ)
   abbrev pub with_opened : LabelsBegun
   with_opened = record { nodes = begun.nodes; declared = begun.declared; missing = count; blocks = begun.blocks ++ opened_block ∷ [] }
 
-  pub begun_block : 1 ≤ source → count ≤ 268435456 → IfSome radius IsRadius → AreLabelsBegun with_opened
+  pub begun_block : 1 ≤ source → count ≤ most_count → IfSome radius IsRadius → AreLabelsBegun with_opened
   begun_block least few radius_within =
       let so = counts begun in
       let within = ltb-false begun.nodes source (ap (λ p. is_above p source) (sym so.problem_is) ∙ false_from_ne_true _ (allowed 2 NodeRange)) in
@@ -196,7 +197,7 @@ last_got (y ∷ z ∷ xs) x e =
     let rest = last_got (z ∷ xs) x (subst (λ k. Some x ≡ slice_get (y ∷ z ∷ xs) k) at e) in
     (y ∷ rest.0, ap (λ t. y ∷ t) rest.1)
 
-pub nothing_begun : (nodes declared : ℕ) → nodes ≤ 134217728 → declared ≤ 268435456 → AreLabelsBegun (record { nodes = nodes; declared = declared; missing = 0; blocks = [] })
+pub nothing_begun : (nodes declared : ℕ) → nodes ≤ most_nodes → declared ≤ most_count → AreLabelsBegun (record { nodes = nodes; declared = declared; missing = 0; blocks = [] })
 nothing_begun nodes declared nodes_few blocks_few = record {
   nodes_few = nodes_few;
   blocks_few = blocks_few;

@@ -6,6 +6,7 @@ use Rattle.std.proofs.lemmas.Bool.{eqb-true, eq-eqb, false_from_ne_true}
 use Rattle.std.proofs.lemmas.List.{length-append}
 use Rattle.std.proofs.lemmas.Int.{ints}
 use Rattle.std.proofs.lemmas.List.Elements.{All-head, All-nil, All-push, All-tail}
+use Rattle.dimacs_lines.specs.Limits.{most_count}
 use Rattle.dimacs_records.specs.Blocks.{is_past}
 use Rattle.dimacs_records.specs.Earlier.{or_else}
 use Rattle.dimacs_records.proofs.SplitLemmas.{two_places, same, sooner, later}
@@ -133,7 +134,7 @@ fresh_has_none b l h = false_from_ne_true _ (λ t. by_test (b.source == l.id) re
     by_test false e t = let m = label_found b.labels l.id t in h.1 m.0 m.1 m.2
 
 -- a block with one label more
-pub block_push : (nodes : ℕ) (b : BlockValue) (l : Label) → IsBlock nodes b → IsLabel nodes l → length b.labels < 268435456 → is_some (label b l.id) ≡ false → is_some (label b l.pred) ≡ true → IsNear b.radius l.dist → IsBlock nodes (with_label b l)
+pub block_push : (nodes : ℕ) (b : BlockValue) (l : Label) → IsBlock nodes b → IsLabel nodes l → length b.labels < most_count → is_some (label b l.id) ≡ false → is_some (label b l.pred) ≡ true → IsNear b.radius l.dist → IsBlock nodes (with_label b l)
 block_push nodes b l is label_is room fresh pred near = record {
   source_within = is.source_within;
   radius_within = is.radius_within;
@@ -166,7 +167,7 @@ not_past None dist near = refl
 not_past (Some r) dist near = false_from_ne_true (int_lt r dist) (λ past. omega (arith, ints, past, near))
 
 -- ---- labels, with a block more
-pub labels_push : (nodes : ℕ) (blocks : List BlockValue) (b : BlockValue) → AreLabels (record { nodes = nodes; blocks = blocks }) → IsBlock nodes b → IsNewSource blocks b → length blocks < 268435456 → AreLabels (record { nodes = nodes; blocks = blocks ++ b ∷ [] })
+pub labels_push : (nodes : ℕ) (blocks : List BlockValue) (b : BlockValue) → AreLabels (record { nodes = nodes; blocks = blocks }) → IsBlock nodes b → IsNewSource blocks b → length blocks < most_count → AreLabels (record { nodes = nodes; blocks = blocks ++ b ∷ [] })
 labels_push nodes blocks b are lawful new few = record {
   nodes_few = are.nodes_few;
   blocks_few = omega (arith, few, length-append blocks (b ∷ []));

@@ -11,6 +11,7 @@ use Rattle.std.proofs.lemmas.List.Elements.{All-nil, All-cons, All-head, All-tai
 use Rattle.std.proofs.lemmas.Bool.{le-ltb, eqb-true}
 use Rattle.std.proofs.lemmas.Bool.Decides.{nat_tests}
 use Rattle.std.proofs.lemmas.Int.{ints}
+use Rattle.dimacs_lines.specs.Limits.{most_count, most_nodes}
 use Rattle.dimacs_nodes.proofs.Nodes.{contains-insert, contains-empty}
 use Rattle.dimacs_records.specs.declared.kinds.TextKind.TheVariants as kinds
 use Rattle.dimacs_records.specs.declared.records.Record.{Record}
@@ -77,7 +78,7 @@ pub no_nodes : (nodes : ℕ) → length (ids_in (empty_cut nodes)) ≡ 0
 no_nodes nodes = ap length (none_passing (contains set.empty) (range_with_len 1 nodes) contains-empty)
 
 -- the laws of sets
-pub empty_law : (nodes : ℕ) → nodes ≤ 134217728 → IsCut (empty_cut nodes)
+pub empty_law : (nodes : ℕ) → nodes ≤ most_nodes → IsCut (empty_cut nodes)
 empty_law nodes few = record { nodes_few = few; within = λ id e. absurd (cc (contains-empty id, e)) }
 
 pub law_with_node : (c : CutValue) (id : ℕ) → IsCut c → IsNode c.nodes id → IsCut (with_node c id)
@@ -106,7 +107,7 @@ pub end_tells : (o : Option CutBegun) (rs : List Record) → StandsFor IsCutBegu
 end_tells o rs h = record { counts = counts o rs h; lacks_end = refl; unfinished = ap₂ is_short (counts o rs h).problem_is (counts o rs h).counted_is; valued = refl }
 
 -- a problem line begins a set
-pub begins : (o : Option CutBegun) (n k : ℕ) → n ≤ 134217728 → Passes (earlier_lines o) (CutProblem n k) → (rs : List Record) → StandsFor IsCutBegunBy o rs
+pub begins : (o : Option CutBegun) (n k : ℕ) → n ≤ most_nodes → Passes (earlier_lines o) (CutProblem n k) → (rs : List Record) → StandsFor IsCutBegunBy o rs
     → IsCutBegunBy (record { declared = k; cut = empty_cut n }) (rs ++ CutProblem n k ∷ [])
 begins None n k few p rs h = record {
   named = [];
@@ -188,7 +189,7 @@ cut_given rs c h = ap cut_of h.records ∙ cut_of-records c.nodes (length h.name
 pub one_cut : (rs : List LineRecord) (c d : CutValue) → GivesCut rs c → GivesCut rs d → c ≡ d
 one_cut rs c d a b = sym (cut_given rs c a) ∙ cut_given rs d b
 
-pub few_ids : (c : CutValue) → IsCut c → length (ids_in c) ≤ 134217728
+pub few_ids : (c : CutValue) → IsCut c → length (ids_in c) ≤ most_nodes
 few_ids c law = omega (arith, passing_few (contains c.ids) c.nodes, law.nodes_few)
 
 ids_named : (c : CutValue) → IsCut c → AreNamed c.nodes (ids_in c)
@@ -209,7 +210,7 @@ again_same s id h = same_set nat_cmp_total nat_cmp-IsAntisymmetric (set.insert s
     by_test other true e = sym (ap (contains s) (eqb-true other id e) ∙ h)
     by_test other false e = refl
 
-problem_fits : (nodes count : ℕ) → nodes ≤ 134217728 → count ≤ 268435456 → CanBeSpelled kinds.Cut (CutProblem nodes count)
+problem_fits : (nodes count : ℕ) → nodes ≤ most_nodes → count ≤ most_count → CanBeSpelled kinds.Cut (CutProblem nodes count)
 problem_fits nodes count nodes_few few = record {
   form = form (codes "p") (Word (codes "cut") ∷ Nodes ∷ Count ∷ []);
   of_kind = (0, omega arith, refl);
@@ -218,7 +219,7 @@ problem_fits nodes count nodes_few few = record {
   fit = (refl, ((omega (arith, ints), omega (arith, ints, nodes_few)), ((omega (arith, ints), omega (arith, ints, few)), tt)));
 }
 
-line_fits : (id : ℕ) → 1 ≤ id → id ≤ 134217728 → CanBeSpelled kinds.Cut (CutNode id)
+line_fits : (id : ℕ) → 1 ≤ id → id ≤ most_nodes → CanBeSpelled kinds.Cut (CutNode id)
 line_fits id least most = record {
   form = form (codes "u") (Id ∷ []);
   of_kind = (1, omega arith, refl);
@@ -227,7 +228,7 @@ line_fits id least most = record {
   fit = ((omega (arith, ints, least), omega (arith, ints, most)), tt);
 }
 
-lines_fit : (nodes : ℕ) (named : List ℕ) → nodes ≤ 134217728 → All (IsNode nodes) named → All (CanBeSpelled kinds.Cut) (map CutNode named)
+lines_fit : (nodes : ℕ) (named : List ℕ) → nodes ≤ most_nodes → All (IsNode nodes) named → All (CanBeSpelled kinds.Cut) (map CutNode named)
 lines_fit nodes [] few are = All-nil (CanBeSpelled kinds.Cut)
 lines_fit nodes (id ∷ named) few are =
     let node : IsNode nodes id = All-head (IsNode nodes) id named are in

@@ -7,6 +7,7 @@ use Rattle.std.proofs.lemmas.Bool.Decides.{nat_tests}
 use Rattle.std.proofs.lemmas.Int.{ints}
 use Rattle.std.proofs.lemmas.List.{length-append, length-map, append-nil, map-append}
 use Rattle.std.proofs.lemmas.List.Elements.{All-nil, All-cons, All-head, All-tail, All-append}
+use Rattle.dimacs_lines.specs.Limits.{most_nodes}
 use Rattle.dimacs_records.specs.declared.kinds.TextKind.TheVariants.{Labels}
 use Rattle.dimacs_records.specs.declared.records.Record.{Record}
 use Rattle.dimacs_records.specs.declared.records.Record.TheVariants.{LabelsProblem, LabelsBlock, LabelsNode}
@@ -176,7 +177,7 @@ problem_fits labels are = record {
   fit = (refl, ((omega (arith, ints), omega (arith, ints, are.nodes_few)), ((omega (arith, ints), omega (arith, ints, are.blocks_few)), tt)));
 }
 
-block_fits : (nodes : ℕ) (b : BlockValue) (radius : Option ℤ) → nodes ≤ 134217728 → IsBlock nodes b → IfSome radius IsRadius → CanBeSpelled Labels (LabelsBlock b.source (length b.labels) radius)
+block_fits : (nodes : ℕ) (b : BlockValue) (radius : Option ℤ) → nodes ≤ most_nodes → IsBlock nodes b → IfSome radius IsRadius → CanBeSpelled Labels (LabelsBlock b.source (length b.labels) radius)
 block_fits nodes b None few is within = record {
   form = form (codes "t") (Id ∷ Count ∷ []);
   of_kind = (1, omega arith, refl);
@@ -192,7 +193,7 @@ block_fits nodes b (Some radius) few is within = record {
   fit = ((omega (arith, ints, is.source_within.0), omega (arith, ints, is.source_within.1, few)), ((omega (arith, ints), omega (arith, ints, is.few)), (within, tt)));
 }
 
-label_fits : (nodes : ℕ) (l : Label) → nodes ≤ 134217728 → IsLabel nodes l → CanBeSpelled Labels (label_line l)
+label_fits : (nodes : ℕ) (l : Label) → nodes ≤ most_nodes → IsLabel nodes l → CanBeSpelled Labels (label_line l)
 label_fits nodes l few is = record {
   form = form (codes "d") (Id ∷ Wide ∷ Id ∷ []);
   of_kind = (3, omega arith, refl);
@@ -201,11 +202,11 @@ label_fits nodes l few is = record {
   fit = ((omega (arith, ints, is.id.0), omega (arith, ints, is.id.1, few)), (is.dist, ((omega (arith, ints, is.pred.0), omega (arith, ints, is.pred.1, few)), tt)));
 }
 
-labels_fit : (nodes : ℕ) (ls : List Label) → nodes ≤ 134217728 → All (IsLabel nodes) ls → All (CanBeSpelled Labels) (map label_line ls)
+labels_fit : (nodes : ℕ) (ls : List Label) → nodes ≤ most_nodes → All (IsLabel nodes) ls → All (CanBeSpelled Labels) (map label_line ls)
 labels_fit nodes [] few are = All-nil (CanBeSpelled Labels)
 labels_fit nodes (l ∷ ls) few are = All-cons (CanBeSpelled Labels) (label_line l) (map label_line ls) (label_fits nodes l few (All-head (IsLabel nodes) l ls are)) (labels_fit nodes ls few (All-tail (IsLabel nodes) l ls are))
 
-blocks_spelled : (nodes : ℕ) (bs : List BlockValue) → nodes ≤ 134217728 → All (IsBlock nodes) bs → All (CanBeSpelled Labels) (flat_map block_lines bs)
+blocks_spelled : (nodes : ℕ) (bs : List BlockValue) → nodes ≤ most_nodes → All (IsBlock nodes) bs → All (CanBeSpelled Labels) (flat_map block_lines bs)
 blocks_spelled nodes [] few are = All-nil (CanBeSpelled Labels)
 blocks_spelled nodes (b ∷ bs) few are =
     let is = All-head (IsBlock nodes) b bs are in

@@ -11,6 +11,7 @@ use Rattle.std.proofs.lemmas.List.Elements.{All-nil, All-cons, All-head, All-tai
 use Rattle.std.proofs.lemmas.Bool.{le-ltb, eqb-true}
 use Rattle.std.proofs.lemmas.Bool.Decides.{nat_tests}
 use Rattle.std.proofs.lemmas.Int.{ints}
+use Rattle.dimacs_lines.specs.Limits.{most_count, most_nodes}
 use Rattle.dimacs_records.specs.declared.kinds.TextKind.TheVariants as kinds
 use Rattle.dimacs_records.specs.declared.records.Record.{Record}
 use Rattle.dimacs_records.specs.declared.records.Record.TheVariants.{PotentialsProblem, PotentialsNode}
@@ -26,7 +27,7 @@ use Rattle.dimacs_claims.specs.Cuts.{is_id}
 use Rattle.dimacs_records.specs.Ranges.{IsNode, IsWide}
 use Rattle.dimacs_claims.specs.Potentials.{PotentialsValue, ArePotentials, GivesPotentials, SpellsPotentials, canonical_potentials, node_line, nonzero_ids, potential_of, potentials_records, with_values, zero_potentials}
 use Rattle.dimacs_records.specs.NodeValues.{NameNodes, has_value, is_nonzero, is_of, without_zeros}
-use Rattle.dimacs_claims.specs.PotentialsReading.{PotentialsBegun, AreBegunBy, potentials_begun}
+use Rattle.dimacs_claims.specs.PotentialsReading.{PotentialsBegun, ArePotentialsBegunBy, potentials_begun}
 use Rattle.dimacs_claims.specs.inside.PotentialsReading.{has_line, earlier_lines, is_named}
 use Rattle.dimacs_records.specs.Tests.{Counts, Passes, PassesEnd, IsToldOf, TellsEnd}
 use Rattle.dimacs_records.specs.Takings.{StandsFor}
@@ -62,29 +63,29 @@ allows_problem : (n k : ℕ) → IsAllowed [] (PotentialsProblem n k)
 allows_problem n k = is_allowed [] (PotentialsProblem n k) refl
 
 -- what is told of the records is so
-counts : (o : Option PotentialsBegun) (rs : List Record) → StandsFor AreBegunBy o rs → Counts (earlier_lines o).problem (earlier_lines o).counted rs
+counts : (o : Option PotentialsBegun) (rs : List Record) → StandsFor ArePotentialsBegunBy o rs → Counts (earlier_lines o).problem (earlier_lines o).counted rs
 counts None rs h = rw h (record { problem_is = refl; counted_is = refl })
 counts (Some b) rs h = rw h.records (record { problem_is = refl; counted_is = counted h.named ∙ sym h.count })
 
-has_named : (b : PotentialsBegun) (id : ℕ) {rs : List Record} (h : AreBegunBy b rs) → has_line b id ≡ list_any (is_of id) h.named
+has_named : (b : PotentialsBegun) (id : ℕ) {rs : List Record} (h : ArePotentialsBegunBy b rs) → has_line b id ≡ list_any (is_of id) h.named
 has_named b id h = ap (λ m. is_some (get m id)) h.values ∙ has-from_entries h.named id
 
-named_told : (o : Option PotentialsBegun) (rs : List Record) (id : ℕ) → StandsFor AreBegunBy o rs → list_any (names id) rs ≡ is_named o id
+named_told : (o : Option PotentialsBegun) (rs : List Record) (id : ℕ) → StandsFor ArePotentialsBegunBy o rs → list_any (names id) rs ≡ is_named o id
 named_told None rs id h = rw h refl
 named_told (Some b) rs id h = rw h.records (any_names id h.named ∙ sym (has_named b id h))
 
-pub problem_tells : (o : Option PotentialsBegun) (n k : ℕ) (rs : List Record) → StandsFor AreBegunBy o rs → IsToldOf (earlier_lines o) rs (PotentialsProblem n k)
+pub problem_tells : (o : Option PotentialsBegun) (n k : ℕ) (rs : List Record) → StandsFor ArePotentialsBegunBy o rs → IsToldOf (earlier_lines o) rs (PotentialsProblem n k)
 problem_tells o n k rs h = record { counts = counts o rs h; misplaced = refl; named = refl; end_named = refl; lacks_end = refl; block_full = refl; block_short = refl; valued = refl; pred_unknown = refl; past_radius = refl }
 
-pub node_tells : (o : Option PotentialsBegun) (id : ℕ) (v : ℤ) (rs : List Record) → StandsFor AreBegunBy o rs → IsToldOf (record (earlier_lines o) { named = is_named o id }) rs (PotentialsNode id v)
+pub node_tells : (o : Option PotentialsBegun) (id : ℕ) (v : ℤ) (rs : List Record) → StandsFor ArePotentialsBegunBy o rs → IsToldOf (record (earlier_lines o) { named = is_named o id }) rs (PotentialsNode id v)
 node_tells o id v rs h = record { counts = counts o rs h; misplaced = refl; named = named_told o rs id h; end_named = refl; lacks_end = refl; block_full = refl; block_short = refl; valued = refl; pred_unknown = refl; past_radius = refl }
 
-pub end_tells : (o : Option PotentialsBegun) (rs : List Record) → StandsFor AreBegunBy o rs → TellsEnd kinds.Potentials (earlier_lines o) rs
+pub end_tells : (o : Option PotentialsBegun) (rs : List Record) → StandsFor ArePotentialsBegunBy o rs → TellsEnd kinds.Potentials (earlier_lines o) rs
 end_tells o rs h = record { counts = counts o rs h; lacks_end = refl; unfinished = ap₂ is_short (counts o rs h).problem_is (counts o rs h).counted_is; valued = refl }
 
 -- a problem line begins potentials
-pub begins : (o : Option PotentialsBegun) (n k : ℕ) → Passes (earlier_lines o) (PotentialsProblem n k) → (rs : List Record) → StandsFor AreBegunBy o rs
-    → AreBegunBy (record { nodes = n; declared = k; taken = 0; values = empty }) (rs ++ PotentialsProblem n k ∷ [])
+pub begins : (o : Option PotentialsBegun) (n k : ℕ) → Passes (earlier_lines o) (PotentialsProblem n k) → (rs : List Record) → StandsFor ArePotentialsBegunBy o rs
+    → ArePotentialsBegunBy (record { nodes = n; declared = k; taken = 0; values = empty }) (rs ++ PotentialsProblem n k ∷ [])
 begins None n k p rs h = record {
   named = [];
   name_nodes = record { within = All-nil (λ (m : ℕ × ℤ). IsNode n m.0); once = λ id. omega arith };
@@ -106,9 +107,9 @@ module _ (o : Option PotentialsBegun) (b : PotentialsBegun) (id : ℕ) (v : ℤ)
   pub room : b.taken < b.declared
   room = grind (arith, nat_tests, told.room)
 
-  pub adds : (rs : List Record) → StandsFor AreBegunBy o rs → AreBegunBy (record b { taken = b.taken + 1; values = insert b.values id v }) (rs ++ PotentialsNode id v ∷ [])
+  pub adds : (rs : List Record) → StandsFor ArePotentialsBegunBy o rs → ArePotentialsBegunBy (record b { taken = b.taken + 1; values = insert b.values id v }) (rs ++ PotentialsNode id v ∷ [])
   adds rs stands =
-      let h : AreBegunBy b rs = rw is at stands in
+      let h : ArePotentialsBegunBy b rs = rw is at stands in
       let new : list_any (is_of id) h.named ≡ false = sym (has_named b id h) ∙ told.new_node in
       record {
         named = h.named ++ (id, v) ∷ [];
@@ -120,11 +121,11 @@ module _ (o : Option PotentialsBegun) (b : PotentialsBegun) (id : ℕ) (v : ℤ)
       }
 
 -- potentials that were begun and are whole are given
-pub gives_potentials : (o : Option PotentialsBegun) (b : PotentialsBegun) → o ≡ Some b → ArePotentials (potentials_begun b) → PassesEnd kinds.Potentials (earlier_lines o) → (rs : List LineRecord) → StandsFor AreBegunBy o (records_of rs)
+pub gives_potentials : (o : Option PotentialsBegun) (b : PotentialsBegun) → o ≡ Some b → ArePotentials (potentials_begun b) → PassesEnd kinds.Potentials (earlier_lines o) → (rs : List LineRecord) → StandsFor ArePotentialsBegunBy o (records_of rs)
     → GivesPotentials rs (potentials_begun b)
 gives_potentials o b is law passes rs stands =
     let p : PassesEnd kinds.Potentials (earlier_lines (Some b)) = rw is at passes in
-    let h : AreBegunBy b (records_of rs) = rw is at stands in
+    let h : ArePotentialsBegunBy b (records_of rs) = rw is at stands in
     let full : b.declared ≡ length h.named = grind (arith, nat_tests, p.finished, h.count, h.no_more) in
     record { named = h.named; name_nodes = h.name_nodes; values = ap without_zeros h.values ∙ without_zeros-named h.named b.nodes h.name_nodes; records = h.records ∙ ap (λ k. potentials_records b.nodes k h.named) full; are_potentials = law }
 
@@ -231,10 +232,10 @@ values_named p law =
     ∙ sym (get-from_entries nat_cmp_total (with_values p (nonzero_ids p)) id))
     ∙ ap from_entries (sym (all_have_values p (range_with_len 1 p.nodes)))
 
-pub few_nonzero : (p : PotentialsValue) → ArePotentials p → length (nonzero_ids p) ≤ 134217728
+pub few_nonzero : (p : PotentialsValue) → ArePotentials p → length (nonzero_ids p) ≤ most_nodes
 few_nonzero p law = omega (arith, passing_few (nonzero_at p) p.nodes, law.nodes_few)
 
-problem_fits : (nodes count : ℕ) → nodes ≤ 134217728 → count ≤ 268435456 → CanBeSpelled kinds.Potentials (PotentialsProblem nodes count)
+problem_fits : (nodes count : ℕ) → nodes ≤ most_nodes → count ≤ most_count → CanBeSpelled kinds.Potentials (PotentialsProblem nodes count)
 problem_fits nodes count nodes_few few = record {
   form = form (codes "p") (Word (codes "pot") ∷ Nodes ∷ Count ∷ []);
   of_kind = (0, omega arith, refl);
@@ -243,7 +244,7 @@ problem_fits nodes count nodes_few few = record {
   fit = (refl, ((omega (arith, ints), omega (arith, ints, nodes_few)), ((omega (arith, ints), omega (arith, ints, few)), tt)));
 }
 
-line_fits : (id : ℕ) (v : ℤ) → 1 ≤ id → id ≤ 134217728 → IsWide v → CanBeSpelled kinds.Potentials (PotentialsNode id v)
+line_fits : (id : ℕ) (v : ℤ) → 1 ≤ id → id ≤ most_nodes → IsWide v → CanBeSpelled kinds.Potentials (PotentialsNode id v)
 line_fits id v least most wide = record {
   form = form (codes "y") (Id ∷ Wide ∷ []);
   of_kind = (1, omega arith, refl);
@@ -252,7 +253,7 @@ line_fits id v least most wide = record {
   fit = ((omega (arith, ints, least), omega (arith, ints, most)), (wide, tt));
 }
 
-lines_fit : (nodes : ℕ) (named : List (ℕ × ℤ)) → nodes ≤ 134217728 → All (λ (n : ℕ × ℤ). IsNode nodes n.0 × IsWide n.1) named → All (CanBeSpelled kinds.Potentials) (map node_line named)
+lines_fit : (nodes : ℕ) (named : List (ℕ × ℤ)) → nodes ≤ most_nodes → All (λ (n : ℕ × ℤ). IsNode nodes n.0 × IsWide n.1) named → All (CanBeSpelled kinds.Potentials) (map node_line named)
 lines_fit nodes [] few are = All-nil (CanBeSpelled kinds.Potentials)
 lines_fit nodes (n ∷ named) few are =
     let here = All-head (λ (n : ℕ × ℤ). IsNode nodes n.0 × IsWide n.1) n named are in

@@ -6,6 +6,7 @@ use Rattle.std.specs.Cmp.{nat_cmp_total, unsigned_tied}
 use Rattle.std.specs.FinMap.{FinMap, get, insert, remove, same_map, get-empty, get-remove, nat_cmp-IsAntisymmetric}
 use Rattle.std.proofs.lemmas.Bool.{eqb-true}
 use Rattle.std.proofs.lemmas.Int.{ints}
+use Rattle.dimacs_lines.specs.Limits.{most_nodes}
 use Rattle.dimacs_nodes.proofs.Nodes.{get-insert}
 use Rattle.dimacs_records.specs.Ranges.{IsNode, IsWide}
 use Rattle.dimacs_claims.specs.Potentials.{PotentialsValue, ArePotentials, IsPotential, potential_of, with_potential, zero_potentials}
@@ -37,7 +38,7 @@ without_zeros-insert m id n = by_test (int_eq n (pos 0)) refl
         same_map nat_cmp_total nat_cmp-IsAntisymmetric _ _ (λ other. after other ∙ value_at (other == id) (get m other) e ∙ ap (cond (other == id) (Some n)) (sym (get-without_zeros m other)) ∙ sym (get-insert (without_zeros m) id other n))
 
 -- the laws of potentials
-pub zero_law : (nodes : ℕ) → nodes ≤ 134217728 → ArePotentials (zero_potentials nodes)
+pub zero_law : (nodes : ℕ) → nodes ≤ most_nodes → ArePotentials (zero_potentials nodes)
 zero_law nodes few = record { nodes_few = few; within = λ id n e. absurd (cc (get-empty nat_cmp id, e)) }
 
 pub law_with_potential : (p : PotentialsValue) (id : ℕ) (n : ℤ) → ArePotentials p → IsNode p.nodes id → IsWide n → ArePotentials (with_potential p id n)

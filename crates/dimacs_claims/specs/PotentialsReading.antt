@@ -20,7 +20,7 @@ abbrev pub potentials_begun : PotentialsBegun → PotentialsValue
 potentials_begun begun = record { nodes = begun.nodes; values = without_zeros begun.values }
 
 -- these records may have been taken
-pub record AreBegunBy (begun : PotentialsBegun) (rs : List Record) : Type 0 where
+pub record ArePotentialsBegunBy (begun : PotentialsBegun) (rs : List Record) : Type 0 where
   pub named : List (ℕ × ℤ)
   pub name_nodes : NameNodes begun.nodes named
   pub values : begun.values ≡ from_entries named

@@ -18,7 +18,7 @@ ghost use Rattle.dimacs_records.specs.inside.Takings.{Takes};
 ghost use Rattle.dimacs_records.specs.Ranges.{IsNode, IsWide};
 ghost use Rattle.dimacs_claims.specs.Potentials.{PotentialsValue, ArePotentials, GivesPotentials, SpellsPotentials, canonical_potentials, node_line, nonzero_ids, potential_of, with_potential, with_values, zero_potentials};
 ghost use Rattle.dimacs_records.specs.NodeValues.{is_nonzero};
-ghost use Rattle.dimacs_claims.specs.PotentialsReading.{AreBegunBy};
+ghost use Rattle.dimacs_claims.specs.PotentialsReading.{ArePotentialsBegunBy};
 ghost use Rattle.dimacs_claims.specs.inside.PotentialsReading.{earlier_lines, is_named};
 
 use dimacs_lines::{DeviceFault, Memory, Page, Sink, Source};
@@ -183,7 +183,7 @@ impl PotentialsReading {
 
     fn start(&mut self, nodes: u32, count: u32) -> Result<(), TakeError>
         requires { nodes ≤ most_nodes }
-        ensures { Takes AreBegunBy self.old (PotentialsProblem nodes count) result self.new }
+        ensures { Takes ArePotentialsBegunBy self.old (PotentialsProblem nodes count) result self.new }
     {
         test_record(self.earlier(), Record::PotentialsProblem { nodes, count })?;
         self.begun = Some(BegunPotentials {
@@ -199,7 +199,7 @@ impl PotentialsReading {
     fn add(&mut self, id: u32, value: i128) -> Result<(), TakeError>
         requires least { 1 ≤ id }
         requires wide { IsWide value }
-        ensures { Takes AreBegunBy self.old (PotentialsNode id value) result self.new }
+        ensures { Takes ArePotentialsBegunBy self.old (PotentialsNode id value) result self.new }
     {
         let named = self.names(id);
         let earlier = Earlier {
@@ -221,7 +221,7 @@ impl Reading for PotentialsReading {
 
     ghost kind = { λ reading. kinds.Potentials };
 
-    ghost stands_for = { λ reading rs. StandsFor AreBegunBy reading (records_of rs) };
+    ghost stands_for = { λ reading rs. StandsFor ArePotentialsBegunBy reading (records_of rs) };
 
     ghost gives = { λ rs p. GivesPotentials rs p };
 

@@ -8,6 +8,7 @@ use Rattle.std.proofs.lemmas.Int.{ints}
 use Rattle.std.proofs.lemmas.List.{length-append, length-map}
 use Rattle.std.proofs.lemmas.List.Elements.{All-nil, All-cons, All-head, All-tail}
 use Rattle.std.proofs.lemmas.Bool.Decides.{nat_tests}
+use Rattle.dimacs_lines.specs.Limits.{most_nodes}
 use Rattle.dimacs_records.specs.declared.kinds.TextKind.TheVariants.{Graph}
 use Rattle.dimacs_records.specs.declared.records.Record.{Record}
 use Rattle.dimacs_records.specs.declared.records.Record.TheVariants.{GraphProblem, GraphArc}
@@ -26,7 +27,7 @@ use Rattle.dimacs_records.proofs.SplitLemmas.{image_at, All-at}
 use Rattle.dimacs_records.proofs.CanonicalLaws.{canonical_spelled, numbered_all}
 use Rattle.dimacs_instance.specs.Arcs.{JoinsNodes, NetworkValue}
 use Rattle.dimacs_instance.specs.Graph.{IsGraph, HasWeightAlone, GivesGraph, SpellsGraph, canonical_graph, graph_records, graph_arc}
-use Rattle.dimacs_instance.specs.GraphReading.{GraphBegun, IsBegun, begun_records, graph_records_so_far}
+use Rattle.dimacs_instance.specs.GraphReading.{GraphBegun, IsGraphBegun, graph_begun_records, graph_records_so_far}
 use Rattle.dimacs_instance.specs.inside.GraphReading.{arcs_by, declared_by}
 use Rattle.dimacs_instance.proofs.ArcLemmas.{take_next}
 
@@ -58,7 +59,7 @@ counts None = record { problem_is = refl; counted_is = refl }
 counts (Some b) = record { problem_is = refl; counted_is = counted_in-arcs b.arcs }
 
 -- what is told of the records that were begun
-module _ (b : GraphBegun) (p : Option Declared) (k : ℕ) (now : List Record) (is : now ≡ begun_records b) (so : Counts p k now) where
+module _ (b : GraphBegun) (p : Option Declared) (k : ℕ) (now : List Record) (is : now ≡ graph_begun_records b) (so : Counts p k now) where
   -- an arc finds room where not all came that are declared
   pub room_told : is_full (problem_told p) k ≡ false → length b.arcs < b.declared
   room_told some =
@@ -66,7 +67,7 @@ module _ (b : GraphBegun) (p : Option Declared) (k : ℕ) (now : List Record) (i
       grind (arith, nat_tests, few)
 
   -- what was begun and is whole gives its graph
-  pub gives_graph : is_short (problem_told p) k ≡ false → IsBegun b → (rs : List LineRecord) → records_of rs ≡ now → GivesGraph rs (record { nodes = b.nodes; arcs = b.arcs })
+  pub gives_graph : is_short (problem_told p) k ≡ false → IsGraphBegun b → (rs : List LineRecord) → records_of rs ≡ now → GivesGraph rs (record { nodes = b.nodes; arcs = b.arcs })
   gives_graph whole law rs same =
       let all = rw (is, counted_in-arcs b.arcs) at (ap₂ is_short so.problem_is so.counted_is ∙ whole) in
       let full : b.declared ≡ length b.arcs = grind (arith, nat_tests, all, law.no_more) in (
@@ -125,7 +126,7 @@ problem_fits g is = record {
   fit = (refl, ((omega (arith, ints), omega (arith, ints, is.nodes_few)), ((omega (arith, ints), omega (arith, ints, is.arcs_few)), tt)));
 }
 
-arc_fits : (nodes : ℕ) (a : ArcView) → nodes ≤ 134217728 → JoinsNodes nodes a → HasWeightAlone a → CanBeSpelled Graph (graph_arc a)
+arc_fits : (nodes : ℕ) (a : ArcView) → nodes ≤ most_nodes → JoinsNodes nodes a → HasWeightAlone a → CanBeSpelled Graph (graph_arc a)
 arc_fits nodes a few joins alone = record {
   form = form (codes "a") (Id ∷ Id ∷ Whole ∷ []);
   of_kind = (1, omega arith, refl);
@@ -134,7 +135,7 @@ arc_fits nodes a few joins alone = record {
   fit = ((omega (arith, ints, joins.0.0), omega (arith, ints, joins.0.1, few)), ((omega (arith, ints, joins.1.0), omega (arith, ints, joins.1.1, few)), (alone.2, tt)));
 }
 
-arcs_fit : (nodes : ℕ) (arcs : List ArcView) → nodes ≤ 134217728 → All (JoinsNodes nodes) arcs → All HasWeightAlone arcs → All (CanBeSpelled Graph) (map graph_arc arcs)
+arcs_fit : (nodes : ℕ) (arcs : List ArcView) → nodes ≤ most_nodes → All (JoinsNodes nodes) arcs → All HasWeightAlone arcs → All (CanBeSpelled Graph) (map graph_arc arcs)
 arcs_fit nodes [] few joined alone = All-nil (CanBeSpelled Graph)
 arcs_fit nodes (a ∷ arcs) few joined alone =
     All-cons (CanBeSpelled Graph) (graph_arc a) (map graph_arc arcs) (arc_fits nodes a few (All-head (JoinsNodes nodes) a arcs joined) (All-head HasWeightAlone a arcs alone))

@@ -9,6 +9,7 @@ use Rattle.std.proofs.lemmas.Int.{ints}
 use Rattle.std.proofs.lemmas.List.Elements.{All-nil, All-push}
 use Rattle.std.proofs.lemmas.Bool.{lt-ltb, le-ltb}
 use Rattle.std.proofs.lemmas.Bool.Decides.{nat_tests}
+use Rattle.dimacs_lines.specs.Limits.{most_count, most_nodes}
 use Rattle.dimacs_nodes.proofs.Entries.{All-empty, All-entries, All-get, All-insert}
 use Rattle.dimacs_records.specs.declared.kinds.TextKind.TheVariants.{Min}
 use Rattle.dimacs_records.specs.declared.records.Record.{Record}
@@ -23,7 +24,7 @@ use Rattle.dimacs_records.specs.Ranges.{IsNode, IsWhole}
 use Rattle.dimacs_instance.specs.MinFlows.{IsMin, IsSupply, HasBounds}
 use Rattle.dimacs_instance.specs.MinTexts.{GivesMin, min_node, min_arc, min_records}
 use Rattle.dimacs_records.specs.NodeValues.{is_of, without_zeros}
-use Rattle.dimacs_instance.specs.MinReading.{MinBegun, IsMinBegun, IsBegunBy, IsNamed}
+use Rattle.dimacs_instance.specs.MinReading.{MinBegun, IsMinBegun, IsMinBegunBy, IsNamed}
 use Rattle.dimacs_instance.specs.inside.MinReading.{has_line, earlier_lines, earlier_names, is_named, with_arc}
 use Rattle.dimacs_records.specs.Takings.{StandsFor}
 use Rattle.dimacs_records.proofs.NameLemmas.{get_nonzero, has-from_entries, map_more, named_more, without_zeros-named}
@@ -72,36 +73,36 @@ pub allows_problem : (n m : ℕ) → IsAllowed [] (MinProblem n m)
 allows_problem n m = is_allowed [] (MinProblem n m) refl
 
 -- what is told of the records is so
-counts : (o : Option MinBegun) (rs : List Record) → StandsFor IsBegunBy o rs → Counts (earlier_lines o).problem (earlier_lines o).counted rs
+counts : (o : Option MinBegun) (rs : List Record) → StandsFor IsMinBegunBy o rs → Counts (earlier_lines o).problem (earlier_lines o).counted rs
 counts None rs h = rw h (record { problem_is = refl; counted_is = refl })
 counts (Some b) rs h = rw h.records (record { problem_is = refl; counted_is = counted h.named b.arcs })
 
-arcs_told : (o : Option MinBegun) (rs : List Record) → StandsFor IsBegunBy o rs → list_any is_flow_arc rs ≡ nat_lt 0 (earlier_lines o).counted
+arcs_told : (o : Option MinBegun) (rs : List Record) → StandsFor IsMinBegunBy o rs → list_any is_flow_arc rs ≡ nat_lt 0 (earlier_lines o).counted
 arcs_told None rs h = rw h refl
 arcs_told (Some b) rs h = rw h.records (any_flow_arc h.named b.arcs)
 
-has_named : (b : MinBegun) (id : ℕ) {rs : List Record} (h : IsBegunBy b rs) → has_line b id ≡ list_any (is_of id) h.named
+has_named : (b : MinBegun) (id : ℕ) {rs : List Record} (h : IsMinBegunBy b rs) → has_line b id ≡ list_any (is_of id) h.named
 has_named b id h = ap (λ m. is_some (get m id)) h.supplies ∙ has-from_entries h.named id
 
-named_told : (o : Option MinBegun) (rs : List Record) (id : ℕ) → StandsFor IsBegunBy o rs → list_any (names id) rs ≡ is_named o id
+named_told : (o : Option MinBegun) (rs : List Record) (id : ℕ) → StandsFor IsMinBegunBy o rs → list_any (names id) rs ≡ is_named o id
 named_told None rs id h = rw h refl
 named_told (Some b) rs id h = rw h.records (any_names id h.named b.arcs ∙ sym (has_named b id h))
 
-pub problem_tells : (o : Option MinBegun) (n m : ℕ) (rs : List Record) → StandsFor IsBegunBy o rs → IsToldOf (earlier_lines o) rs (MinProblem n m)
+pub problem_tells : (o : Option MinBegun) (n m : ℕ) (rs : List Record) → StandsFor IsMinBegunBy o rs → IsToldOf (earlier_lines o) rs (MinProblem n m)
 problem_tells o n m rs h = record { counts = counts o rs h; misplaced = refl; named = refl; end_named = refl; lacks_end = refl; block_full = refl; block_short = refl; valued = refl; pred_unknown = refl; past_radius = refl }
 
-pub node_tells : (o : Option MinBegun) (id : ℕ) (s : ℤ) (rs : List Record) → StandsFor IsBegunBy o rs → IsToldOf (earlier_names o id) rs (MinNode id s)
+pub node_tells : (o : Option MinBegun) (id : ℕ) (s : ℤ) (rs : List Record) → StandsFor IsMinBegunBy o rs → IsToldOf (earlier_names o id) rs (MinNode id s)
 node_tells o id s rs h = record { counts = counts o rs h; misplaced = arcs_told o rs h; named = named_told o rs id h; end_named = refl; lacks_end = refl; block_full = refl; block_short = refl; valued = refl; pred_unknown = refl; past_radius = refl }
 
-pub arc_tells : (o : Option MinBegun) (a : ArcView) (rs : List Record) → StandsFor IsBegunBy o rs → IsToldOf (earlier_lines o) rs (min_arc a)
+pub arc_tells : (o : Option MinBegun) (a : ArcView) (rs : List Record) → StandsFor IsMinBegunBy o rs → IsToldOf (earlier_lines o) rs (min_arc a)
 arc_tells o a rs h = record { counts = counts o rs h; misplaced = refl; named = refl; end_named = refl; lacks_end = refl; block_full = refl; block_short = refl; valued = refl; pred_unknown = refl; past_radius = refl }
 
-pub end_tells : (o : Option MinBegun) (rs : List Record) → StandsFor IsBegunBy o rs → TellsEnd Min (earlier_lines o) rs
+pub end_tells : (o : Option MinBegun) (rs : List Record) → StandsFor IsMinBegunBy o rs → TellsEnd Min (earlier_lines o) rs
 end_tells o rs h = record { counts = counts o rs h; lacks_end = refl; unfinished = ap₂ is_short (counts o rs h).problem_is (counts o rs h).counted_is; valued = refl }
 
 -- a problem line begins an instance
-pub begins : (o : Option MinBegun) (n m : ℕ) → Passes (earlier_lines o) (MinProblem n m) → (rs : List Record) → StandsFor IsBegunBy o rs
-    → IsBegunBy (record { nodes = n; declared = m; supplies = empty; arcs = [] }) (rs ++ MinProblem n m ∷ [])
+pub begins : (o : Option MinBegun) (n m : ℕ) → Passes (earlier_lines o) (MinProblem n m) → (rs : List Record) → StandsFor IsMinBegunBy o rs
+    → IsMinBegunBy (record { nodes = n; declared = m; supplies = empty; arcs = [] }) (rs ++ MinProblem n m ∷ [])
 begins None n m p rs h = record {
   named = [];
   name_nodes = record { within = All-nil (λ (s : ℕ × ℤ). IsNode n s.0); once = λ id. omega arith };
@@ -127,9 +128,9 @@ module _ (o : Option MinBegun) (b : MinBegun) (id : ℕ) (s : ℤ) (is : o ≡ S
   pub node : IsNode b.nodes id
   node = (least, grind (arith, nat_tests, node_told.second_within))
 
-  pub names_one : (rs : List Record) → StandsFor IsBegunBy o rs → IsBegunBy (record b { supplies = insert b.supplies id s }) (rs ++ MinNode id s ∷ [])
+  pub names_one : (rs : List Record) → StandsFor IsMinBegunBy o rs → IsMinBegunBy (record b { supplies = insert b.supplies id s }) (rs ++ MinNode id s ∷ [])
   names_one rs stands =
-      let h : IsBegunBy b rs = rw is at stands in
+      let h : IsMinBegunBy b rs = rw is at stands in
       let new : list_any (is_of id) h.named ≡ false = sym (has_named b id h) ∙ node_told.new_node in
       let no_arcs : b.arcs ≡ [] = nil_from_length b.arcs (grind (arith, nat_tests, node_told.placed)) in
       record {
@@ -156,9 +157,9 @@ module _ (o : Option MinBegun) (b : MinBegun) (a : ArcView) (is : o ≡ Some b) 
   pub arc_room : length b.arcs < b.declared
   arc_room = grind (arith, nat_tests, told.room)
 
-  pub adds_one : (rs : List Record) → StandsFor IsBegunBy o rs → IsBegunBy (with_arc b a) (rs ++ min_arc a ∷ [])
+  pub adds_one : (rs : List Record) → StandsFor IsMinBegunBy o rs → IsMinBegunBy (with_arc b a) (rs ++ min_arc a ∷ [])
   adds_one rs stands =
-      let h : IsBegunBy b rs = rw is at stands in
+      let h : IsMinBegunBy b rs = rw is at stands in
       record {
         named = h.named;
         name_nodes = h.name_nodes;
@@ -190,11 +191,11 @@ module _ (b : MinBegun) (law : IsMinBegun b) where
   }
 
 -- what was begun and is whole gives its instance
-pub gives_min : (o : Option MinBegun) (b : MinBegun) → o ≡ Some b → IsMinBegun b → PassesEnd Min (earlier_lines o) → (rs : List LineRecord) → StandsFor IsBegunBy o (records_of rs)
+pub gives_min : (o : Option MinBegun) (b : MinBegun) → o ≡ Some b → IsMinBegun b → PassesEnd Min (earlier_lines o) → (rs : List LineRecord) → StandsFor IsMinBegunBy o (records_of rs)
     → GivesMin rs (record { nodes = b.nodes; supplies = without_zeros b.supplies; arcs = b.arcs })
 gives_min o b is law passes rs stands =
     let p : PassesEnd Min (earlier_lines (Some b)) = rw is at passes in
-    let h : IsBegunBy b (records_of rs) = rw is at stands in
+    let h : IsMinBegunBy b (records_of rs) = rw is at stands in
     let full : b.declared ≡ length b.arcs = grind (arith, nat_tests, p.finished, law.no_more) in
     record {
       named = h.named;
@@ -205,7 +206,7 @@ gives_min o b is law passes rs stands =
     }
 
 -- the law of what was begun
-pub new_law : (nodes declared : ℕ) → nodes ≤ 134217728 → declared ≤ 268435456 → IsMinBegun (record { nodes = nodes; declared = declared; supplies = empty; arcs = [] })
+pub new_law : (nodes declared : ℕ) → nodes ≤ most_nodes → declared ≤ most_count → IsMinBegun (record { nodes = nodes; declared = declared; supplies = empty; arcs = [] })
 new_law nodes declared nodes_few arcs_few = record {
   nodes_few = nodes_few;
   arcs_few = arcs_few;

@@ -7,6 +7,7 @@ use Rattle.std.proofs.lemmas.Int.{ints}
 use Rattle.std.proofs.lemmas.List.{map-append, append-nil, take_more}
 use Rattle.std.proofs.lemmas.List.Sums.{sum_by-append, sum_by-cons}
 use Rattle.std.proofs.lemmas.Option.{slice_get_within, get_or_from_slice_get}
+use Rattle.dimacs_lines.specs.Limits.{most_nodes}
 use Rattle.dimacs_lines.specs.Pages.{PageState, IsWritten}
 use Rattle.dimacs_nodes.proofs.Entries.{entry_of, entries_below, entries_below-none, entries_below-next, entries_are, All-get}
 use Rattle.dimacs_records.specs.declared.records.Record.TheVariants.{MinProblem}
@@ -79,7 +80,7 @@ module _ (part : ℤ → ℕ) (nothing : part (pos 0) ≡ 0) (m : MinValue) wher
   pub sum_all : IsMin m → sum_below part m (m.nodes + 1) ≡ sum_by part (values m.supplies)
   sum_all law = ap (λ es. sum_by part (map (λ (s : ℕ × ℤ). s.1) es)) (all_supplies m law)
 
-  pub sum_fits : ((id : ℕ) → part (supply_of m id) ≤ 2 ^ 63) → (n : ℕ) → n ≤ 134217728 → (pos 0 ≤ℤ pos (sum_below part m n)) × (pos (sum_below part m n) <ℤ pos (2 ^ 100))
+  pub sum_fits : ((id : ℕ) → part (supply_of m id) ≤ 2 ^ 63) → (n : ℕ) → n ≤ most_nodes → (pos 0 ≤ℤ pos (sum_below part m n)) × (pos (sum_below part m n) <ℤ pos (2 ^ 100))
   sum_fits few n h = (omega (arith, ints), omega (arith, ints, sum_bound few n, h))
 
 pub positive_few : (s : ℤ) → IsWhole s → positive_part s ≤ 2 ^ 63

@@ -8,6 +8,7 @@ use Rattle.std.proofs.lemmas.Bool.{eq-eqb, false_from_ne_true}
 use Rattle.std.proofs.lemmas.Int.{ints}
 use Rattle.std.proofs.lemmas.List.{append-nil, length-append, length-map}
 use Rattle.std.proofs.lemmas.List.Elements.{All-nil, All-cons, All-head, All-tail, All-append, All-map, All-weaker}
+use Rattle.dimacs_lines.specs.Limits.{most_nodes}
 use Rattle.dimacs_nodes.proofs.Entries.{from_entries-entries, entries_once, length-entries, All-get}
 use Rattle.dimacs_records.specs.declared.kinds.TextKind.TheVariants.{Min}
 use Rattle.dimacs_records.specs.declared.records.Record.{Record}
@@ -145,7 +146,7 @@ problem_fits m law = record {
   fit = (refl, ((omega (arith, ints), omega (arith, ints, law.nodes_few)), ((omega (arith, ints), omega (arith, ints, law.arcs_few)), tt)));
 }
 
-node_fits : (nodes : ℕ) → nodes ≤ 134217728 → (s : ℕ × ℤ) → IsSupply nodes s → CanBeSpelled Min (min_node s)
+node_fits : (nodes : ℕ) → nodes ≤ most_nodes → (s : ℕ × ℤ) → IsSupply nodes s → CanBeSpelled Min (min_node s)
 node_fits nodes few s h = record {
   form = form (codes "n") (Id ∷ Whole ∷ []);
   of_kind = (1, omega arith, refl);
@@ -154,7 +155,7 @@ node_fits nodes few s h = record {
   fit = ((omega (arith, ints, h.0.0), omega (arith, ints, h.0.1, few)), (h.2, tt));
 }
 
-arc_fits : (nodes : ℕ) (a : ArcView) → nodes ≤ 134217728 → JoinsNodes nodes a → HasBounds a → CanBeSpelled Min (min_arc a)
+arc_fits : (nodes : ℕ) (a : ArcView) → nodes ≤ most_nodes → JoinsNodes nodes a → HasBounds a → CanBeSpelled Min (min_arc a)
 arc_fits nodes a few joined bounds = record {
   form = form (codes "a") (Id ∷ Id ∷ Whole ∷ Whole ∷ Whole ∷ []);
   of_kind = (2, omega arith, refl);
@@ -169,7 +170,7 @@ arc_fits nodes a few joined bounds = record {
   );
 }
 
-arcs_fit : (nodes : ℕ) (arcs : List ArcView) → nodes ≤ 134217728 → All (JoinsNodes nodes) arcs → All HasBounds arcs → All (CanBeSpelled Min) (map min_arc arcs)
+arcs_fit : (nodes : ℕ) (arcs : List ArcView) → nodes ≤ most_nodes → All (JoinsNodes nodes) arcs → All HasBounds arcs → All (CanBeSpelled Min) (map min_arc arcs)
 arcs_fit nodes [] few joined bounds = All-nil (CanBeSpelled Min)
 arcs_fit nodes (a ∷ arcs) few joined bounds =
     All-cons (CanBeSpelled Min) (min_arc a) (map min_arc arcs) (arc_fits nodes a few (All-head (JoinsNodes nodes) a arcs joined) (All-head HasBounds a arcs bounds))

@@ -8,6 +8,7 @@ use Rattle.std.proofs.lemmas.List.{length-append, length-map, take_more}
 use Rattle.std.proofs.lemmas.List.Elements.{All-cons, All-map, All-weaker}
 use Rattle.std.proofs.lemmas.Option.{slice_get_within, get_or_from_slice_get}
 use Rattle.std.proofs.lemmas.Bool.Decides.{nat_tests}
+use Rattle.dimacs_lines.specs.Limits.{most_count}
 use Rattle.dimacs_records.specs.declared.kinds.TextKind.TheVariants as kinds
 use Rattle.dimacs_records.specs.declared.order.Declared.{Declared}
 use Rattle.dimacs_records.specs.declared.records.QueryKind.{QueryKind}
@@ -26,7 +27,7 @@ use Rattle.dimacs_records.proofs.CanonicalLaws.{canonical_spelled, numbered_all}
 use Rattle.dimacs_records.proofs.ConditionLemmas.{is_allowed, is_complete, allowed_at}
 use Rattle.dimacs_records.proofs.SplitLemmas.{image_at}
 use Rattle.dimacs_instance.specs.QueryTexts.{QueriesValue, Sources, Pairs, AreIds, AreLawful, GivesQueries, HaveIds, SpellsQueries, canonical_queries, kind_asked, pair_query, query_lines, query_records}
-use Rattle.dimacs_instance.specs.QueriesReading.{QueriesBegun, AreBegun, query_records_so_far}
+use Rattle.dimacs_instance.specs.QueriesReading.{QueriesBegun, AreQueriesBegun, query_records_so_far}
 use Rattle.dimacs_instance.specs.inside.QueriesReading.{are_asked, declared_by, queries_by}
 
 all_counted : {X : Type 0} (say : X → Record) → ((x : X) → is_counted (say x) ≡ true) → (xs : List X) → counted_in (map say xs) ≡ length (map say xs)
@@ -72,7 +73,7 @@ module _ (n : ℕ) (queries : QueriesValue) where
         grind (arith, nat_tests, few)
 
     -- what was begun and is whole gives its queries
-    pub gives_queries : is_short (problem_told p) k ≡ false → AreBegun (record { declared = n; queries = queries }) → (rs : List LineRecord) → records_of rs ≡ now → GivesQueries rs queries
+    pub gives_queries : is_short (problem_told p) k ≡ false → AreQueriesBegun (record { declared = n; queries = queries }) → (rs : List LineRecord) → records_of rs ≡ now → GivesQueries rs queries
     gives_queries whole law rs same =
         let all = rw (is, counted_in-query_lines queries) at (ap₂ is_short so.problem_is so.counted_is ∙ whole) in
         let full : n ≡ length (query_lines queries) = grind (arith, nat_tests, all, law.no_more) in (
@@ -150,7 +151,7 @@ one_of_both : (kind : QueryKind) → (query_word kind ≡ codes "ss") ⊎ (query
 one_of_both asks.Sources = inl refl
 one_of_both asks.Pairs = inr refl
 
-problem_fits : (kind : QueryKind) (count : ℕ) → count ≤ 268435456 → CanBeSpelled kinds.Queries (QueriesProblem kind count)
+problem_fits : (kind : QueryKind) (count : ℕ) → count ≤ most_count → CanBeSpelled kinds.Queries (QueriesProblem kind count)
 problem_fits kind count few = record {
   form = form (codes "p") (Word (codes "aux") ∷ Word (codes "sp") ∷ Either (codes "ss") (codes "p2p") ∷ Count ∷ []);
   of_kind = (0, omega arith, refl);

@@ -15,7 +15,7 @@ pub record GraphBegun : Type 0 where
   pub arcs : List ArcView
 
 -- a beginning of a graph's arcs
-pub record IsBegun (begun : GraphBegun) : Type 0 where
+pub record IsGraphBegun (begun : GraphBegun) : Type 0 where
   pub nodes_few : begun.nodes ≤ most_nodes
   pub arcs_few : begun.declared ≤ most_count
   pub no_more : length begun.arcs ≤ begun.declared
@@ -23,9 +23,9 @@ pub record IsBegun (begun : GraphBegun) : Type 0 where
   pub weights : All HasWeightAlone begun.arcs
 
 -- the records that were taken
-abbrev pub begun_records : GraphBegun → List Record
-begun_records begun = GraphProblem begun.nodes begun.declared ∷ map graph_arc begun.arcs
+abbrev pub graph_begun_records : GraphBegun → List Record
+graph_begun_records begun = GraphProblem begun.nodes begun.declared ∷ map graph_arc begun.arcs
 
 abbrev pub graph_records_so_far : Option GraphBegun → List Record
 graph_records_so_far None = []
-graph_records_so_far (Some begun) = begun_records begun
+graph_records_so_far (Some begun) = graph_begun_records begun

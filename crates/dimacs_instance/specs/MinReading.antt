@@ -33,7 +33,7 @@ pub record IsMinBegun (begun : MinBegun) : Type 0 where
   pub bounds : All HasBounds begun.arcs
 
 -- these records may have been taken
-pub record IsBegunBy (begun : MinBegun) (rs : List Record) : Type 0 where
+pub record IsMinBegunBy (begun : MinBegun) (rs : List Record) : Type 0 where
   pub named : List (ℕ × ℤ)
   pub name_nodes : NameNodes begun.nodes named
   pub supplies : begun.supplies ≡ from_entries named

@@ -11,7 +11,7 @@ pub record QueriesBegun : Type 0 where
   pub queries : QueriesValue
 
 -- a beginning of the queries
-pub record AreBegun (begun : QueriesBegun) : Type 0 where
+pub record AreQueriesBegun (begun : QueriesBegun) : Type 0 where
   pub few : begun.declared ≤ most_count
   pub no_more : length (query_lines begun.queries) ≤ begun.declared
   pub ids : HaveIds begun.queries

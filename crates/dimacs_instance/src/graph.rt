@@ -15,7 +15,7 @@ ghost use Rattle.dimacs_records.specs.Texts.{Reads};
 ghost use Rattle.dimacs_lines.specs.Lines.{lines};
 ghost use Rattle.dimacs_instance.specs.Graph.{IsGraph, GivesGraph, SpellsGraph, canonical_graph, graph_arc};
 ghost use Rattle.dimacs_instance.specs.Arcs.{NetworkValue};
-ghost use Rattle.dimacs_instance.specs.GraphReading.{begun_records};
+ghost use Rattle.dimacs_instance.specs.GraphReading.{graph_begun_records};
 
 use crate::network::{ArcView, Network};
 use crate::plain::{KeptArc, PlainArcs, WeightArc};
@@ -103,13 +103,13 @@ pub(crate) struct BegunGraph {
 }
 
 impl Model for BegunGraph {
-    ghost use Rattle.dimacs_instance.specs.GraphReading.{GraphBegun, IsBegun};
+    ghost use Rattle.dimacs_instance.specs.GraphReading.{GraphBegun, IsGraphBegun};
 
     ghost Value = { GraphBegun };
 
     ghost view = { λ b. record { nodes = b.network.nodes; declared = b.declared; arcs = b.network.arcs } };
 
-    ghost invariant = { λ b. IsBegun (record { nodes = b.network.nodes; declared = b.declared; arcs = b.network.arcs }) };
+    ghost invariant = { λ b. IsGraphBegun (record { nodes = b.network.nodes; declared = b.declared; arcs = b.network.arcs }) };
 }
 
 impl BegunGraph {
@@ -118,7 +118,7 @@ impl BegunGraph {
         requires tail { IsNode self.old.nodes arc.tail }
         requires head { IsNode self.old.nodes arc.head }
         requires room { length self.old.arcs < self.old.declared }
-        ensures added { OnOk result (begun_records self.new ≡ begun_records self.old ++ GraphArc arc.tail arc.head arc.weight ∷ []) }
+        ensures added { OnOk result (graph_begun_records self.new ≡ graph_begun_records self.old ++ GraphArc arc.tail arc.head arc.weight ∷ []) }
         ensures unchanged { OnErr result (self.new ≡ self.old) }
     {
         self.network.push(arc)

@@ -11,7 +11,7 @@ ghost use Rattle.dimacs_records.specs.Texts.{Reads};
 ghost use Rattle.dimacs_instance.specs.Graph.{GivesGraph, SpellsGraph};
 ghost use Rattle.dimacs_instance.specs.MaxTexts.{GivesMax, SpellsMax};
 ghost use Rattle.dimacs_instance.specs.MaxReading.{IsMaxBegunBy};
-ghost use Rattle.dimacs_instance.specs.MinReading.{IsBegunBy};
+ghost use Rattle.dimacs_instance.specs.MinReading.{IsMinBegunBy};
 ghost use Rattle.dimacs_instance.specs.MinTexts.{GivesMin, SpellsMin};
 
 use crate::graph::{Graph, PlainGraphReading};
@@ -115,7 +115,7 @@ impl Reading for MinReading {
 
     ghost kind = { λ reading. kinds.Min };
 
-    ghost stands_for = { λ reading rs. StandsFor IsBegunBy reading (records_of rs) };
+    ghost stands_for = { λ reading rs. StandsFor IsMinBegunBy reading (records_of rs) };
 
     ghost gives = { λ rs m. GivesMin rs m };
 

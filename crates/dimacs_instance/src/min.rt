@@ -18,7 +18,7 @@ ghost use Rattle.dimacs_instance.specs.MinFlows.{HasBounds, MinValue, IsMin, sup
 ghost use Rattle.dimacs_instance.specs.MinTexts.{GivesMin, SpellsMin, canonical_min, min_node, min_arc};
 ghost use Rattle.dimacs_records.specs.NodeValues.{has_value};
 ghost use Rattle.dimacs_instance.specs.Arcs.{JoinsNodes};
-ghost use Rattle.dimacs_instance.specs.MinReading.{IsBegunBy};
+ghost use Rattle.dimacs_instance.specs.MinReading.{IsMinBegunBy};
 ghost use Rattle.dimacs_instance.specs.inside.MinReading.{earlier_lines, is_named, with_arc};
 ghost use Rattle.dimacs_records.specs.Takings.{StandsFor};
 ghost use Rattle.dimacs_records.specs.inside.Takings.{Takes};
@@ -239,7 +239,7 @@ impl PlainMinReading {
     fn start(&mut self, nodes: u32, arcs: u32) -> Result<(), TakeError>
         requires nodes { nodes ≤ most_nodes }
         requires arcs { arcs ≤ most_count }
-        ensures { Takes IsBegunBy self.old (MinProblem nodes arcs) result self.new }
+        ensures { Takes IsMinBegunBy self.old (MinProblem nodes arcs) result self.new }
     {
         test_record(self.earlier(), Record::MinProblem { nodes, arcs })?;
         self.begun = Some(BegunMin {
@@ -252,7 +252,7 @@ impl PlainMinReading {
 
     fn name(&mut self, id: u32, supply: i64) -> Result<(), TakeError>
         requires { 1 ≤ id }
-        ensures { Takes IsBegunBy self.old (MinNode id supply) result self.new }
+        ensures { Takes IsMinBegunBy self.old (MinNode id supply) result self.new }
     {
         let named = self.names(id);
         let earlier = self.earlier();
@@ -274,7 +274,7 @@ impl PlainMinReading {
     fn add(&mut self, arc: ArcView) -> Result<(), TakeError>
         requires tail { 1 ≤ arc.tail }
         requires head { 1 ≤ arc.head }
-        ensures { Takes IsBegunBy self.old (min_arc arc) result self.new }
+        ensures { Takes IsMinBegunBy self.old (min_arc arc) result self.new }
     {
         test_record(self.earlier(), arc_record(arc))?;
         let Some(begun) = &mut self.begun else {
@@ -290,7 +290,7 @@ impl Reading for PlainMinReading {
 
     ghost kind = { λ reading. kinds.Min };
 
-    ghost stands_for = { λ reading rs. StandsFor IsBegunBy reading (records_of rs) };
+    ghost stands_for = { λ reading rs. StandsFor IsMinBegunBy reading (records_of rs) };
 
     ghost gives = { λ rs m. GivesMin rs m };
 

@@ -122,13 +122,13 @@ pub(crate) struct BegunQueries {
 
 impl Model for BegunQueries {
     ghost use Rattle.dimacs_instance.specs.QueryTexts.{asked};
-    ghost use Rattle.dimacs_instance.specs.QueriesReading.{QueriesBegun, AreBegun};
+    ghost use Rattle.dimacs_instance.specs.QueriesReading.{QueriesBegun, AreQueriesBegun};
 
     ghost Value = { QueriesBegun };
 
     ghost view = { λ b. record { declared = b.declared; queries = asked b.queries } };
 
-    ghost invariant = { λ b. AreBegun (record { declared = b.declared; queries = asked b.queries }) };
+    ghost invariant = { λ b. AreQueriesBegun (record { declared = b.declared; queries = asked b.queries }) };
 }
 
 impl QueriesReading {

@@ -2,6 +2,7 @@
 use Rattle.std.proofs.Common.{◌≡◌, ℕ, ◌+◌, ◌-◌, ◌*◌, ◌^◌, ◌≤◌, suc, zero, Bool, true, false, List, take, slice_get, Some, ℤ, ◌+ℤ◌, ◌-ℤ◌, refl, ◌∙◌, arith, w64, SFits, to_z, of_z}
 use Rattle.std.specs.Int.{w128}
 use Rattle.std.proofs.lemmas.Int.{ints, to_z-of_z}
+use Rattle.dimacs_lines.specs.Limits.{most_nodes}
 use Rattle.dimacs_instance.specs.declared.network.ArcView.{ArcView}
 use Rattle.dimacs_judge.specs.inside.Ranges.{IsOfSize}
 use Rattle.dimacs_judge.specs.Flows.{when}
@@ -65,7 +66,7 @@ one_more_node supply set (suc v) old low is =
     let after : suc v + 1 - 1 ≡ suc v = omega arith in
     rw (is, before, after) refl
 
-pub supply_more : (supply : ℕ → ℤ) (set : ℕ → Bool) (v : ℕ) (old share x : ℤ) → 1 ≤ v → v ≤ 134217728 → IsSupplyOf supply set v old → IsOfSize (2 ^ 63) share → share ≡ when (set v) (supply v) → x ≡ to_z w64 (of_z w64 share) → SFits w64 share
+pub supply_more : (supply : ℕ → ℤ) (set : ℕ → Bool) (v : ℕ) (old share x : ℤ) → 1 ≤ v → v ≤ most_nodes → IsSupplyOf supply set v old → IsOfSize (2 ^ 63) share → share ≡ when (set v) (supply v) → x ≡ to_z w64 (of_z w64 share) → SFits w64 share
     → IsSupplyOf supply set (v + 1) (to_z w128 (of_z w128 (old +ℤ to_z w128 (of_z w128 x))))
 supply_more supply set v old share x low high was small is from fits =
     let x_is : x ≡ share = from ∙ to_z-of_z w64 share fits in

@@ -1,6 +1,7 @@
 -- Records and lines with the conditions that come first there.
 use Rattle.std.proofs.Common.{◌≡◌, ℕ, ◌∷◌, [], List, Option, Some, None, refl}
 use Rattle.std.specs.Prelude.{pos, negsuc, codes}
+use Rattle.dimacs_lines.specs.Limits.{most_nodes}
 use Rattle.dimacs_records.specs.declared.kinds.TextKind.{TextKind}
 use Rattle.dimacs_records.specs.declared.kinds.TextKind.TheVariants.{Max, Min, Graph, Queries, Solution, Cut, Potentials, Labels}
 use Rattle.dimacs_records.specs.declared.records.End.TheVariants.{Source, Sink}
@@ -135,7 +136,7 @@ same_source = refl
 all_sources : first_reason_at_end Queries (QueriesProblem Sources 2 ∷ SourceQuery 1 ∷ SourceQuery 1 ∷ []) ≡ None
 all_sources = refl
 
-any_node : first_place (QueriesProblem Pairs 1 ∷ []) (PairQuery 134217728 1) ≡ None
+any_node : first_place (QueriesProblem Pairs 1 ∷ []) (PairQuery most_nodes 1) ≡ None
 any_node = refl
 
 -- a solution

@@ -11,7 +11,7 @@ use Rattle.std.proofs.lemmas.List.Elements.{All-nil, All-cons, All-head, All-tai
 use Rattle.dimacs_lines.specs.Lines.{lines}
 use Rattle.dimacs_lines.specs.Number.{Spells, IsWithin}
 use Rattle.dimacs_lines.specs.Plain.{EndsAt, StandsAt}
-use Rattle.dimacs_lines.specs.Limits.{longest_line}
+use Rattle.dimacs_lines.specs.Limits.{longest_line, most_nodes}
 use Rattle.dimacs_records.specs.declared.kinds.TextKind.{TextKind}
 use Rattle.dimacs_records.specs.declared.records.Record.{Record}
 use Rattle.dimacs_records.specs.Forms.{FieldType, Word, Either, Number, Id, Whole, Wide, Form, forms}
@@ -125,7 +125,7 @@ plain_says kind form bytes letter size r among of_kind of_letter is_letter numbe
     let few : length form.types ≤ 5 = (plain_form kind form among).few in
     by_texts kind form bytes letter size r h.texts among of_kind of_letter is_letter numbers h.begins h.stand h.short h.says (omega (arith, few, as_many form.types h.texts (parts_of r) h.says))
 
-within_id : (id : ℕ) → 1 ≤ id → id < 100000000 → IsWithin (pos 1) (pos 134217728) (pos id)
+within_id : (id : ℕ) → 1 ≤ id → id < 100000000 → IsWithin (pos 1) (pos most_nodes) (pos id)
 within_id id some few = (omega (arith, ints), omega (arith, ints))
 
 within_whole : (n : ℤ) → SFits w64 n → IsWithin (neg_ℤ (pos (2 ^ 63))) (pos (2 ^ 63 - 1)) n

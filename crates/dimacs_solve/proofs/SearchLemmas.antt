@@ -9,6 +9,7 @@ use Rattle.std.proofs.lemmas.List.{length-append, length-take, length-drop, get_
 use Rattle.std.proofs.Math.Seq.{get_or-append_seam}
 use Rattle.std.proofs.lemmas.List.Elements.{All-weaker, All-more, All-nil, All-get_or, All-take, All-drop, All-push, All-contains, Contains-get_or}
 use Rattle.std.proofs.lemmas.List.Sorted.{Contains-permutation, IsPermutation-sym, length_permutation}
+use Rattle.dimacs_lines.specs.Limits.{most_count, most_nodes}
 use Rattle.dimacs_records.specs.Ranges.{IsNode}
 use Rattle.dimacs_claims.specs.declared.block.Label.{Label}
 use Rattle.dimacs_claims.specs.Labels.{BlockValue, IsBlock, IsLabel, label, with_label}
@@ -385,8 +386,8 @@ module _ (a : Adjacency) (b : BlockValue) (marks : ℕ → Known) (e : Reach ℕ
 
   pub popped_small : e.dist < 2 ^ 90
   popped_small =
-      let few : a.nodes ≤ 134217728 = is.waits.adjacent.few in
-      let less : a.greatest * settled_count marks a.nodes ≤ a.greatest * 134217728 = mul-le-mul_left a.greatest (omega (arith, popped_few, few)) in
+      let few : a.nodes ≤ most_nodes = is.waits.adjacent.few in
+      let less : a.greatest * settled_count marks a.nodes ≤ a.greatest * most_nodes = mul-le-mul_left a.greatest (omega (arith, popped_few, few)) in
       omega (arith, popped_waits.bound, less, is.waits.adjacent.small)
 
   module _ (not_before : ¬ IsSettled (marks e.node)) where
@@ -485,7 +486,7 @@ module _ (a : Adjacency) (b : BlockValue) (marks : ℕ → Known) (e : Reach ℕ
           let wide : e.dist ≤ 10 ^ 30 = omega (arith, popped_small) in
           record { id = popped_lawful.node; dist = (omega (arith, ints), omega (arith, ints, wide)); pred = popped_waits.way.node }
 
-      pub added_few : length b.labels < 268435456
+      pub added_few : length b.labels < most_count
       added_few = omega (arith, is.counted, popped_few, is.waits.adjacent.few)
 
       module _ (adds : AddsLabel b added) where

@@ -1,4 +1,5 @@
 use Rattle.std.proofs.Common.{◌≡◌, ◌<◌, ◌++◌, ◌∷◌, [], length}
+use Rattle.dimacs_lines.specs.Limits.{most_count}
 use Rattle.dimacs_claims.specs.Labels.{IsBlock, IsNewSource}
 use Rattle.dimacs_claims.proofs.BlockLemmas.{labels_push}
 use Rattle.dimacs_claims.proofs.ByIdLemmas.{indexed_wider}
@@ -12,7 +13,7 @@ invariant_of-self-2 c =
     let b = c.args.block in
     let lawful : IsBlock inside.nodes b = rw (← c.self.view_is) at c.requires.lawful in
     let new : IsNewSource blocks b = rw (← c.self.view_is) at c.requires.source in
-    let few : length blocks < 268435456 = rw (← c.self.view_is) at c.requires.few in
+    let few : length blocks < most_count = rw (← c.self.view_is) at c.requires.few in
     rw c.in_ok-push.ensures.items (labels_push inside.nodes blocks b c.self.invariant.0 lawful new few, indexed_wider blocks b inside.indices.items c.self.invariant.1)
 
 pub returns-clause-lawful : goal.returns-clause-lawful
@@ -22,7 +23,7 @@ returns-clause-lawful c =
     let b = c.args.block in
     let lawful : IsBlock inside.nodes b = rw (← c.self.view_is) at c.requires.lawful in
     let new : IsNewSource blocks b = rw (← c.self.view_is) at c.requires.source in
-    let few : length blocks < 268435456 = rw (← c.self.view_is) at c.requires.few in
+    let few : length blocks < most_count = rw (← c.self.view_is) at c.requires.few in
     rw c.in_ok-push.ensures.items (labels_push inside.nodes blocks b c.self.invariant.0 lawful new few)
 
 pub returns-clause-sources : goal.returns-clause-sources

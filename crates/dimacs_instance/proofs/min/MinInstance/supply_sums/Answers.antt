@@ -1,6 +1,7 @@
 use Rattle.std.proofs.Common.{◌≡◌, ◌≤◌, ◌+◌, refl, sym, ap, ◌∙◌, w64, SFits, rules, arith}
 use Rattle.std.specs.Prelude.{pos}
 use Rattle.std.proofs.lemmas.Int.{to_z-of_z}
+use Rattle.dimacs_lines.specs.Limits.{most_nodes}
 use Rattle.dimacs_instance.specs.MinFlows.{positive_part, negative_part, supply_of}
 use Rattle.dimacs_instance.proofs.MinSupplies.{sum_below, sum_first, sum_more, sum_all, sum_fits, positive_few, negative_few, whole_supply}
 use Rattle.dimacs_instance.proofs.min.MinInstance.supply_sums.Goals as goal
@@ -16,14 +17,14 @@ pub with-sums-requires-clause-supplied : goal.with-sums-requires-clause-supplied
 with-sums-requires-clause-supplied g c =
     let m = c.args.self.now in
     let law = c.network.ensures.lawful in
-    let inside : c.loop-id.id ≤ 134217728 = omega (arith, c.loop-id-test.true, c.nodes-id-end.ensures, c.network.ensures.nodes, law.nodes_few) in
+    let inside : c.loop-id.id ≤ most_nodes = omega (arith, c.loop-id-test.true, c.nodes-id-end.ensures, c.network.ensures.nodes, law.nodes_few) in
     rw c.loop-id.invariant.supplied (sum_fits positive_part refl m (λ id. positive_few (supply_of m id) (whole_supply m law id)) c.loop-id.id inside)
 
 pub with-sums-requires-clause-demanded : goal.with-sums-requires-clause-demanded
 with-sums-requires-clause-demanded g c =
     let m = c.args.self.now in
     let law = c.network.ensures.lawful in
-    let inside : c.loop-id.id ≤ 134217728 = omega (arith, c.loop-id-test.true, c.nodes-id-end.ensures, c.network.ensures.nodes, law.nodes_few) in
+    let inside : c.loop-id.id ≤ most_nodes = omega (arith, c.loop-id-test.true, c.nodes-id-end.ensures, c.network.ensures.nodes, law.nodes_few) in
     rw c.loop-id.invariant.demanded (sum_fits negative_part refl m (λ id. negative_few (supply_of m id) (whole_supply m law id)) c.loop-id.id inside)
 
 pub loop-id-preserved : goal.loop-id-preserved

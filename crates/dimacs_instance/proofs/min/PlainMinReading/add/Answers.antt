@@ -3,14 +3,14 @@ use Rattle.std.proofs.lemmas.Int.{ints}
 use Rattle.std.proofs.lemmas.Result.{err_from_is_err_and}
 use Rattle.dimacs_records.specs.Ranges.{IsWhole}
 use Rattle.dimacs_records.proofs.OrderLemmas.{refused_told, taken_told}
-use Rattle.dimacs_instance.specs.MinReading.{IsBegunBy}
+use Rattle.dimacs_instance.specs.MinReading.{IsMinBegunBy}
 use Rattle.dimacs_instance.proofs.MinLemmas.{adds_one, arc_bounds, arc_joins, arc_room, arc_tells}
 use Rattle.dimacs_instance.proofs.min.PlainMinReading.add.Goals as goal
 
 pub returns-in_err-test_record : goal.returns-in_err-test_record
 returns-in_err-test_record c =
     let p = err_from_is_err_and c.from_residual.result c.from_residual.ensures.1 in
-    rw (p.1, p.2) (refused_told IsBegunBy c.args.self.now _ _ (arc_tells c.args.self.now c.args.arc) _ (rw (c.earlier.ensures, c.arc_record.ensures) at c.in_err-test_record.ensures.refused))
+    rw (p.1, p.2) (refused_told IsMinBegunBy c.args.self.now _ _ (arc_tells c.args.self.now c.args.arc) _ (rw (c.earlier.ensures, c.arc_record.ensures) at c.in_err-test_record.ensures.refused))
 
 pub keep_arc-requires-clause-joined : goal.keep_arc-requires-clause-joined
 keep_arc-requires-clause-joined c =
@@ -31,4 +31,4 @@ keep_arc-requires-clause-room c =
 pub returns : goal.returns
 returns c =
     let passes = rw (c.earlier.ensures, c.arc_record.ensures) at c.in_ok-test_record.ensures.passes in
-    rw c.in_ok-keep_arc.ensures.kept (taken_told IsBegunBy c.args.self.now _ _ (arc_tells c.args.self.now c.args.arc) _ passes (adds_one c.args.self.now _ c.args.arc (sym c.self.view_is ∙ c.in-Some.is) passes))
+    rw c.in_ok-keep_arc.ensures.kept (taken_told IsMinBegunBy c.args.self.now _ _ (arc_tells c.args.self.now c.args.arc) _ passes (adds_one c.args.self.now _ c.args.arc (sym c.self.view_is ∙ c.in-Some.is) passes))
