@@ -1,8 +1,10 @@
 //! An index of the arcs of a network, by their ends.
 
 ghost use Rattle.std.specs.Prelude.{IfOk};
+ghost use Rattle.std.specs.List.Sorted.{IsNonDecreasingBy};
 ghost use Rattle.dimacs_instance.specs.Arcs.{IsKthBetween};
 ghost use Rattle.dimacs_instance.specs.Star.{HasRoom, Indexes};
+ghost use Rattle.dimacs_instance.specs.inside.StarKeys.{IsHeadPoint};
 
 use crate::network::Network;
 use crate::star_order::{OutArc, put_in_order};
@@ -38,7 +40,6 @@ impl ArcIndex {
         ensures { Indexes (N.node_count network.now) (N.list network.now) self.new }
     {
         put_in_order(network, &mut self.starts, &mut self.outs);
-        self.starts.fill(network, &self.outs);
     }
 
     /// As `Network::find` of the network that it was filled for: where the arcs of the tail begin is looked up, and they
@@ -50,7 +51,7 @@ impl ArcIndex {
     {
         let places = self.starts.range(network, &self.outs, tail);
         let leaving = &self.outs[places.from..places.to];
-        let first = leaving.partition_point(|out| out.head < head);
+        let first = first_of_head(leaving, head);
         let out = leaving.get(first + k as usize)?;
         if out.head == head {
             Some(out.index)
@@ -58,4 +59,33 @@ impl ArcIndex {
             None
         }
     }
+}
+
+/// As many arcs as this are compared all: that is quicker than to halve them, by branches that can't be foreseen.
+const FEW: usize = 16;
+
+/// The first place of arcs that rise by head that has this head or a greater one.
+#[inline(always)]
+fn first_of_head(leaving: &[OutArc], head: u32) -> usize
+    requires { IsNonDecreasingBy (λ out. out.head) leaving.now }
+    ensures { IsHeadPoint leaving.now head result }
+{
+    if leaving.len() <= FEW {
+        count_lesser(leaving, head)
+    } else {
+        leaving.partition_point(|out| out.head < head)
+    }
+}
+
+/// The same, by counting the lesser heads.
+#[inline(always)]
+fn count_lesser(leaving: &[OutArc], head: u32) -> usize
+    requires { IsNonDecreasingBy (λ out. out.head) leaving.now }
+    ensures { IsHeadPoint leaving.now head result }
+{
+    let mut count = 0;
+    for place in 0..leaving.len() {
+        count += usize::from(leaving[place].head < head);
+    }
+    count
 }
