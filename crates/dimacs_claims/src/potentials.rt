@@ -22,7 +22,7 @@ ghost use Rattle.dimacs_claims.specs.PotentialsReading.{ArePotentialsBegunBy};
 ghost use Rattle.dimacs_claims.specs.inside.PotentialsReading.{earlier_lines, is_named};
 
 use dimacs_lines::{DeviceFault, Memory, Page, Sink, Source};
-use dimacs_nodes::NodeMap;
+use dimacs_nodes::WideMap;
 use dimacs_records::{
     Declared, Earlier, ReadError, Reading, Record, TakeError, TextKind, read_text, test_end,
     test_record, write_record,
@@ -35,7 +35,7 @@ use std::marker::Model;
 pub struct Potentials {
     nodes: u32,
     /// Those that were set, also to 0.
-    values: NodeMap<i128>,
+    values: WideMap,
 }
 
 impl Model for Potentials {
@@ -60,7 +60,7 @@ impl Potentials {
     {
         Potentials {
             nodes,
-            values: NodeMap::new(alloc),
+            values: WideMap::new(alloc),
         }
     }
 
@@ -132,7 +132,7 @@ pub(crate) struct BegunPotentials {
     /// The number of lines that came.
     taken: u32,
     /// Those of the nodes that were named, also with 0.
-    values: NodeMap<i128>,
+    values: WideMap,
 }
 
 impl Model for BegunPotentials {
@@ -190,7 +190,7 @@ impl PotentialsReading {
             nodes,
             declared: count,
             taken: 0,
-            values: NodeMap::new(self.alloc),
+            values: WideMap::new(self.alloc),
         });
         Ok(())
     }

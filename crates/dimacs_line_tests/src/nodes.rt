@@ -1,7 +1,7 @@
 //! Values, sets and tables by node.
 
 use crate::checks::{holds, holds_at, same, same_at};
-use dimacs_nodes::{NodeMap, NodeSet, NodeTable};
+use dimacs_nodes::{NodeMap, NodeSet, NodeTable, WideMap};
 use std::alloc::Global;
 use std::test::Fail;
 
@@ -91,6 +91,41 @@ fn values_may_be_set_from_the_last_page_to_the_first(rt: HostRuntime) -> Result<
         same_at(&rt, "node", id as u64, nodes.get(id), Some(id % 7));
     }
     same(&rt, "behind the last", nodes.get(2_000), None);
+    Ok(())
+}
+
+/// Numbers about the ends of 64 bits, and the greatest that a text may have.
+static WIDE: [i128; 8] = [
+    0,
+    i64::MAX as i128,
+    i64::MAX as i128 + 1,
+    i64::MIN as i128,
+    i64::MIN as i128 - 1,
+    1_000_000_000_000_000_000_000_000_000_000,
+    -1_000_000_000_000_000_000_000_000_000_000,
+    -1,
+];
+
+#[test]
+fn nodes_have_the_wide_numbers_that_were_set(rt: HostRuntime) -> Result<(), Fail> {
+    let mut nodes = WideMap::new(rt.alloc());
+    for (id, &number) in (250u32..).zip(&WIDE) {
+        same_at(&rt, "before, node", id as u64, nodes.get(id), None);
+        nodes.set(id, number).ok().ok_or("memory")?;
+    }
+    for (id, &number) in (250u32..).zip(&WIDE) {
+        same_at(&rt, "node", id as u64, nodes.get(id), Some(number));
+    }
+    Ok(())
+}
+
+#[test]
+fn the_last_wide_number_of_a_node_stands(rt: HostRuntime) -> Result<(), Fail> {
+    let mut nodes = WideMap::new(rt.alloc());
+    for (k, &number) in (1u64..).zip(&WIDE) {
+        nodes.set(300, number).ok().ok_or("memory")?;
+        same_at(&rt, "number", k, nodes.get(300), Some(number));
+    }
     Ok(())
 }
 

@@ -1,4 +1,5 @@
 pub mod Entries
+mod LayerLemmas
 pub mod Nodes
 pub mod PageLemmas
 pub mod SetLemmas

@@ -1,3 +1,4 @@
+pub mod Layers
 pub mod Pages
 pub mod Sets
 pub mod Slots

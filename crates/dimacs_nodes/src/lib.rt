@@ -7,7 +7,9 @@
 mod node_map;
 mod node_set;
 mod node_table;
+mod wide_map;
 
 pub use node_map::NodeMap;
 pub use node_set::NodeSet;
 pub use node_table::NodeTable;
+pub use wide_map::WideMap;
