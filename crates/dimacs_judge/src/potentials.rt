@@ -14,7 +14,6 @@ use crate::verdict::Where;
 use dimacs_claims::Potentials;
 use dimacs_instance::{ArcView, MinInstance, Network};
 use dimacs_records::Reason;
-use std::cmp::Ordering;
 
 /// Whether the potentials are slack: each arc of positive reduced cost carries its lower bound, and each of negative
 /// reduced cost its capacity. The reduced cost is the arc's cost, less the potential of its tail, and with that of its
@@ -52,13 +51,16 @@ fn arcs_slack<N: Network>(
     Ok(())
 }
 
+/// Makes both tests of each arc, with no branch between them: which of the two it is can't be foreseen.
 fn slack_fault(reduced: i128, arc: ArcView, amount: i64) -> Option<Reason>
     ensures { TellsReason (SlackFails reduced arc amount) result }
 {
-    match reduced.cmp(&0) {
-        Ordering::Greater if amount != arc.low => Some(Reason::NotTight),
-        Ordering::Less if amount != arc.cap => Some(Reason::NotTight),
-        _ => None,
+    let above_low = (reduced > 0) & (amount != arc.low);
+    let below_cap = (reduced < 0) & (amount != arc.cap);
+    if above_low | below_cap {
+        Some(Reason::NotTight)
+    } else {
+        None
     }
 }
 
