@@ -42,8 +42,8 @@ impl ArcIndex {
         put_in_order(network, &mut self.starts, &mut self.outs);
     }
 
-    /// As `Network::find` of the network that it was filled for: where the arcs of the tail begin is looked up, and they
-    /// are halved by head.
+    /// As `Network::find` of the network that it was filled for: where the arcs of the tail begin is looked up, and among
+    /// them the head is searched.
     #[inline(always)]
     pub fn find<N: Network>(&self, network: &N, tail: u32, head: u32, k: u32) -> Option<u32>
         requires { Indexes (N.node_count network.now) (N.list network.now) self.now }
@@ -61,7 +61,7 @@ impl ArcIndex {
     }
 }
 
-/// As many arcs as this are compared all: that is quicker than to halve them, by branches that can't be foreseen.
+/// Up to so many arcs are all compared: that is quicker than to halve them, by branches that can't be foreseen.
 const FEW: usize = 16;
 
 /// The first place of arcs that rise by head that has this head or a greater one.

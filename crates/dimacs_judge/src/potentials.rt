@@ -51,7 +51,7 @@ fn arcs_slack<N: Network>(
     Ok(())
 }
 
-/// Makes both tests of each arc, with no branch between them: which of the two it is can't be foreseen.
+/// Makes both tests of an arc, with no branch between them: which of the two may fail can't be foreseen.
 fn slack_fault(reduced: i128, arc: ArcView, amount: i64) -> Option<Reason>
     ensures { TellsReason (SlackFails reduced arc amount) result }
 {

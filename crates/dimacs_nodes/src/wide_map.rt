@@ -9,8 +9,8 @@ use dimacs_lines::Memory;
 use std::alloc::Global;
 use std::marker::Model;
 
-/// A number for each node that was given one, by the node's ID. A number takes 16 bytes where it fits 64 bits, and 32 more
-/// where it doesn't.
+/// A number for each node that was given one, by the node's ID. It takes 16 bytes where it fits 64 bits, and else 32: by
+/// pages of 256 nodes, for either sort of number.
 #[derive(Drop)]
 pub struct WideMap {
     /// Numbers of 64 bits.
@@ -56,8 +56,8 @@ impl WideMap {
         Some(i128::from(number))
     }
 
-    /// Gives a node a number, in place of one that it may have. Only a first number may take memory, and the first that
-    /// doesn't fit 64 bits.
+    /// Gives a node a number, in place of one that it may have. Its first number may take memory, and one that doesn't fit
+    /// 64 bits.
     #[inline]
     pub fn set(&mut self, id: u32, number: i128) -> Result<(), Memory>
         ensures set { OnOk result (self.new ≡ map.insert self.old id number) }
