@@ -4,7 +4,7 @@ ghost use Rattle.std.specs.Prelude.{IfOk};
 ghost use Rattle.std.specs.List.Sorted.{IsNonDecreasingBy};
 ghost use Rattle.dimacs_instance.specs.Arcs.{IsKthBetween};
 ghost use Rattle.dimacs_instance.specs.Star.{HasRoom, Indexes};
-ghost use Rattle.dimacs_instance.specs.inside.StarKeys.{IsHeadPoint};
+ghost use Rattle.dimacs_instance.specs.inside.StarGroups.{IsHeadPoint};
 
 use crate::network::Network;
 use crate::star_order::{OutArc, put_in_order};

@@ -1,5 +1,5 @@
 use Rattle.std.proofs.Common.{◌<◌, ◌≤◌, ℕ, slice_index_or}
-use Rattle.dimacs_instance.specs.inside.StarKeys.{no_out}
+use Rattle.dimacs_instance.specs.inside.StarGroups.{no_out}
 use Rattle.dimacs_instance.proofs.arc_index.count_lesser.Given as goal
 
 -- the lesser heads so far are the first

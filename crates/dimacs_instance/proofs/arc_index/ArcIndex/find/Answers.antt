@@ -1,6 +1,6 @@
 use Rattle.std.proofs.Common.{sym, ap, ◌∙◌}
 use Rattle.dimacs_instance.specs.declared.star_order.OutArc.{OutArc}
-use Rattle.dimacs_instance.specs.inside.StarKeys.{no_out}
+use Rattle.dimacs_instance.specs.inside.StarGroups.{no_out}
 use Rattle.dimacs_instance.proofs.StarLemmas.{rise_lent, searched, found, differs, past}
 use Rattle.dimacs_instance.proofs.arc_index.ArcIndex.find.Goals as goal
 
