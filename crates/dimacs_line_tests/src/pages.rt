@@ -8,11 +8,21 @@ use std::test::Fail;
 /// The bytes that a page has room for.
 const ROOM: usize = 16_384;
 
-static NARROW: [i64; 6] = [
+static NARROW: [i64; 16] = [
     0,
     7,
     -7,
     10,
+    99,
+    100,
+    1_005,
+    9_999,
+    10_000,
+    100_007,
+    7_000_000,
+    99_999_999,
+    100_000_000,
+    -100_000_001,
     9_223_372_036_854_775_807,
     -9_223_372_036_854_775_808,
 ];
@@ -32,6 +42,8 @@ fn write_numbers(sink: &mut FlakySink<'_>) -> Result<(), DeviceFault> {
         page.write(sink, b" ");
     }
     page.write(sink, b"");
+    page.line(sink, b'q', &[12, 345]);
+    page.line_of_three(sink, b'a', 1, 20, -3_000);
     for &n in &WIDE {
         page.write(sink, b"w ");
         page.wide(sink, n);
@@ -41,7 +53,7 @@ fn write_numbers(sink: &mut FlakySink<'_>) -> Result<(), DeviceFault> {
 }
 
 const NUMBERS: &str =
-    "0 7 -7 10 9223372036854775807 -9223372036854775808 w 0\nw -1\nw 1000000000000000000000000000000\nw -1000000000000000000000000000000\n";
+    "0 7 -7 10 99 100 1005 9999 10000 100007 7000000 99999999 100000000 -100000001 9223372036854775807 -9223372036854775808 q 12 345\na 1 20 -3000\nw 0\nw -1\nw 1000000000000000000000000000000\nw -1000000000000000000000000000000\n";
 
 /// The sizes of the pieces that a sink takes.
 static SIZES: [usize; 4] = [1, 2, 7, 1_000];

@@ -6,7 +6,7 @@ pub mod NumberLemmas
 mod FieldLemmas
 pub mod DigitLemmas
 mod FieldLaw
-mod DecimalLengths
+mod DecimalLemmas
 mod Lanes
 mod Marks
 mod Pairs

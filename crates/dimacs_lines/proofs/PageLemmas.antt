@@ -1,5 +1,5 @@
 -- Writing through a page.
-use Rattle.std.proofs.Common.{◌++◌, ℕ, List, [], Bool, true, false, Option, ap, sym, ◌∙◌, subst, append_assoc}
+use Rattle.std.proofs.Common.{◌++◌, ℕ, List, [], Bool, true, false, Option, ap, sym, ◌∙◌, subst, append_assoc, refl, ◌≡◌}
 use Rattle.std.proofs.lemmas.List.{append-nil}
 use Rattle.dimacs_lines.specs.Devices.{after_piece}
 use Rattle.dimacs_lines.specs.Puts.{AcceptsFront}
@@ -21,3 +21,7 @@ IsWritten-put false false start old new faults counted text kept put h = record 
   whole = sym (append-nil text);
   accepted = put.0 ∙ (ap (λ o. after_piece o kept) h.accepted ∙ (after_piece-after_piece start h.front kept ∙ ap (after_piece start) (sym h.whole)));
 }
+
+-- a letter, three fields and an end, one behind the other
+pub three_fields : (kept letter a b c end : List ℕ) → ((((kept ++ letter) ++ a) ++ b) ++ c) ++ end ≡ kept ++ (letter ++ ((a ++ (b ++ (c ++ []))) ++ end))
+three_fields kept letter a b c end = rw (append-nil c, append_assoc, append_assoc, append_assoc, append_assoc, append_assoc, append_assoc) refl

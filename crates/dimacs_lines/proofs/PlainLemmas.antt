@@ -1,13 +1,13 @@
 -- Numbers that stand in bytes with one byte right after them.
-use Rattle.std.proofs.Common.{◌≡◌, ◌+◌, ◌*◌, ◌^◌, ◌<◌, ◌≤◌, ◌++◌, ◌∷◌, ℕ, List, length, take, drop, get_or, refl, ap, sym, ◌∙◌, arith, length-drop}
-use Rattle.std.specs.Prelude.{ℤ, pos, neg_ℤ}
+use Rattle.std.proofs.Common.{◌≡◌, ◌+◌, ◌^◌, ◌<◌, ◌≤◌, ◌++◌, ◌∷◌, ℕ, List, length, take, drop, get_or, ap, sym, ◌∙◌, arith, length-drop}
+use Rattle.std.specs.Prelude.{pos, neg_ℤ}
 use Rattle.std.specs.List.{prefix_len}
 use Rattle.std.specs.Char.{is_ascii_digit}
 use Rattle.std.proofs.Math.Nat.{pow-le-pow_right}
 use Rattle.std.proofs.lemmas.List.{take-append-drop, drop-drop, drop_more, length-take, length-take-le}
 use Rattle.std.proofs.lemmas.List.Sums.{prefix_len-le-length}
 use Rattle.dimacs_lines.specs.Number.{place_sum}
-use Rattle.dimacs_lines.specs.Plain.{EndsAt, StandsAt}
+use Rattle.dimacs_lines.specs.Plain.{StandsAt}
 use Rattle.dimacs_lines.specs.inside.Plain.{DigitsAt}
 use Rattle.dimacs_lines.proofs.DigitLemmas.{All-digits, spells_digits, spells_minus}
 use Rattle.dimacs_lines.proofs.NumberLemmas.{place_sum-lt}

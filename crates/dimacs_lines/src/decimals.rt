@@ -1,27 +1,31 @@
-//! How many digits a number has.
+//! Decimal digits, two at a time.
 
-ghost use Rattle.std.specs.Prelude.{◌≡◌, ◌<◌, length};
+ghost use Rattle.std.specs.Prelude.{◌≡◌, ◌<◌, length, take};
 ghost use Rattle.std.specs.Fmt.{decimal};
+ghost use Rattle.dimacs_lines.specs.inside.Pages.{two_digits};
 
-/// The number of decimal digits.
+/// The two digits of each number below a hundred.
+static PAIRS: [u8; 200] =
+    *b"00010203040506070809101112131415161718192021222324252627282930313233343536373839404142434445464748495051525354555657585960616263646566676869707172737475767778798081828384858687888990919293949596979899";
+
+/// The two digits of a number below a hundred, the first of them perhaps a nought.
 #[inline(always)]
-pub(crate) fn decimal_length(n: u64) -> usize
-    ensures { result ≡ length (decimal n) }
+pub(crate) fn two_digits(n: u64) -> [u8; 2]
+    requires { n < 100 }
+    ensures { result ≡ two_digits n }
 {
-    let mut left = n;
-    let mut count = 0;
-    while left >= 10_000 {
-        left /= 10_000;
-        count += 4;
-    }
-    count + short_length(left)
+    let from = n as usize * 2;
+    [PAIRS[from], PAIRS[from + 1]]
 }
 
-/// The number of digits of a number of at most four, with no branch.
+/// The digits of a number below a hundred and how many they are, with no branch. Behind a single digit stands any byte.
 #[inline(always)]
-fn short_length(n: u64) -> usize
-    requires { n < 10000 }
-    ensures { result ≡ length (decimal n) }
+pub(crate) fn first_digits(n: u64) -> ([u8; 2], usize)
+    requires { n < 100 }
+    ensures count { result.1 ≡ length (decimal n) }
+    ensures digits { take result.1 result.0 ≡ decimal n }
 {
-    1 + usize::from(n >= 10) + usize::from(n >= 100) + usize::from(n >= 1_000)
+    let single = usize::from(n < 10);
+    let from = n as usize * 2 + single;
+    ([PAIRS[from], PAIRS[from + 1]], 2 - single)
 }

@@ -1,15 +1,16 @@
 //! Output in large pieces.
 
-ghost use Rattle.std.specs.Prelude.{◌≡◌, ◌+◌, ◌≤◌, [], ◌++◌, ℕ, List, Option, true, false, length};
+ghost use Rattle.std.specs.Prelude.{◌≡◌, ◌+◌, ◌/◌, ◌%◌, ◌<◌, ◌≤◌, [], ◌∷◌, ◌++◌, ℕ, List, Option, true, false, length};
+ghost use Rattle.std.specs.List.{flat_map};
 ghost use Rattle.std.specs.Fmt.{decimal, signed_decimal};
 ghost use Rattle.dimacs_lines.specs.Puts.{Puts};
 ghost use Rattle.dimacs_lines.specs.Devices.{CountsFault};
 ghost use Rattle.dimacs_lines.specs.Pages.{Appends, CountsOn, IsWritten, FaultsAre, number_field, numbers_line};
-ghost use Rattle.dimacs_lines.specs.inside.Pages.{IsPut};
+ghost use Rattle.dimacs_lines.specs.inside.Pages.{IsPut, two_digits};
 
-use crate::decimals::decimal_length;
+use crate::decimals::{first_digits, two_digits};
 use crate::device::{DeviceFault, Sink, put_all};
-use itoa::{Buffer, write_digits};
+use itoa::Buffer;
 use std::marker::Model;
 
 /// The bytes that a page has room for.
@@ -18,8 +19,8 @@ const PAGE: usize = 16_384;
 /// The bytes of the longest number of 64 bits.
 const LONGEST: usize = 20;
 
-/// The bytes of the longest line of a word of up to eight bytes and up to five numbers.
-const LONGEST_LINE: usize = 114;
+/// The bytes of the longest line of a letter and up to five numbers.
+const LONGEST_LINE: usize = 107;
 
 /// The end of what was written, until enough of it has come together to be put at once.
 ///
@@ -87,17 +88,32 @@ impl Page {
         self.append_number(n);
     }
 
-    /// Writes a line of a word of up to eight bytes and up to five numbers, with one blank before each: one test for
-    /// room serves the whole line.
-    #[inline(always)]
-    pub fn line<S: Sink>(&mut self, sink: &mut S, word: &[u8], numbers: &[i64])
-        requires short { length word.now ≤ 8 }
+    /// Writes a line of a letter and up to five numbers, with one blank before each: one test for room serves the whole
+    /// line.
+    pub fn line<S: Sink>(&mut self, sink: &mut S, letter: u8, numbers: &[i64])
         requires few { length numbers.now ≤ 5 }
-        ensures written { Appends (numbers_line word.now numbers.now) (S.accepted sink.old) self.old (S.accepted sink.new) self.new }
+        ensures written { Appends (numbers_line letter numbers.now) (S.accepted sink.old) self.old (S.accepted sink.new) self.new }
         ensures faults { CountsOn (S.faults sink.old) self.old (S.faults sink.new) self.new }
     {
         self.make_room(sink, LONGEST_LINE);
-        self.append_line(word, numbers);
+        self.append_line(letter, numbers);
+    }
+
+    /// Writes a line of a letter and three numbers, as most lines are, without a loop: the branches for each number are
+    /// foreseen apart.
+    pub fn line_of_three<S: Sink>(
+        &mut self,
+        sink: &mut S,
+        letter: u8,
+        first: i64,
+        second: i64,
+        third: i64,
+    )
+        ensures written { Appends (numbers_line letter (first ∷ second ∷ third ∷ [])) (S.accepted sink.old) self.old (S.accepted sink.new) self.new }
+        ensures faults { CountsOn (S.faults sink.old) self.old (S.faults sink.new) self.new }
+    {
+        self.make_room(sink, LONGEST_LINE);
+        self.append_line_of_three(letter, first, second, third);
     }
 
     /// Writes a wide number in decimal.
@@ -169,17 +185,29 @@ impl Page {
     }
 
     #[inline(always)]
-    fn append_line(&mut self, word: &[u8], numbers: &[i64])
-        requires short { length word.now ≤ 8 }
+    fn append_line(&mut self, letter: u8, numbers: &[i64])
         requires few { length numbers.now ≤ 5 }
-        requires room { length self.old.kept + 114 ≤ 16384 }
-        ensures kept { self.new.kept ≡ self.old.kept ++ numbers_line word.now numbers.now }
+        requires room { length self.old.kept + 107 ≤ 16384 }
+        ensures kept { self.new.kept ≡ self.old.kept ++ numbers_line letter numbers.now }
         ensures failed { self.new.failed ≡ self.old.failed }
     {
-        self.append(word);
+        self.append(&[letter]);
         for n in numbers {
             self.append_field(*n);
         }
+        self.append(b"\n");
+    }
+
+    #[inline(always)]
+    fn append_line_of_three(&mut self, letter: u8, first: i64, second: i64, third: i64)
+        requires { length self.old.kept + 107 ≤ 16384 }
+        ensures kept { self.new.kept ≡ self.old.kept ++ numbers_line letter (first ∷ second ∷ third ∷ []) }
+        ensures failed { self.new.failed ≡ self.old.failed }
+    {
+        self.append(&[letter]);
+        self.append_field(first);
+        self.append_field(second);
+        self.append_field(third);
         self.append(b"\n");
     }
 
@@ -206,16 +234,74 @@ impl Page {
         self.append_digits(n.unsigned_abs());
     }
 
-    /// The digits are written where they are kept, so that they need no copy.
+    /// Up to eight digits are written where they are kept, two at a time, so that they need no copy.
     #[inline(always)]
     fn append_digits(&mut self, n: u64)
+        requires short { length (decimal n) ≤ 19 }
+        requires room { length self.old.kept + 19 ≤ 16384 }
+        ensures kept { self.new.kept ≡ self.old.kept ++ decimal n }
+        ensures failed { self.new.failed ≡ self.old.failed }
+    {
+        if n < 10_000 {
+            self.append_short(n);
+        } else if n < 100_000_000 {
+            self.append_short(n / 10_000);
+            self.append_four(n % 10_000);
+        } else {
+            self.append_long(n);
+        }
+    }
+
+    #[inline(never)]
+    fn append_long(&mut self, n: u64)
         requires { length self.old.kept + length (decimal n) ≤ 16384 }
         ensures kept { self.new.kept ≡ self.old.kept ++ decimal n }
         ensures failed { self.new.failed ≡ self.old.failed }
     {
-        let end = self.length + decimal_length(n);
-        write_digits(n, &mut self.bytes, end);
-        self.length = end;
+        let mut digits = Buffer::new();
+        self.append(digits.format(n).as_bytes());
+    }
+
+    /// The digits of a number of at most four.
+    #[inline(always)]
+    fn append_short(&mut self, n: u64)
+        requires short { n < 10000 }
+        requires room { length self.old.kept + 4 ≤ 16384 }
+        ensures kept { self.new.kept ≡ self.old.kept ++ decimal n }
+        ensures failed { self.new.failed ≡ self.old.failed }
+    {
+        if n < 100 {
+            self.append_first(n);
+        } else {
+            self.append_first(n / 100);
+            self.append(&two_digits(n % 100));
+        }
+    }
+
+    /// Four digits, the first of them perhaps noughts.
+    #[inline(always)]
+    fn append_four(&mut self, n: u64)
+        requires short { n < 10000 }
+        requires room { length self.old.kept + 4 ≤ 16384 }
+        ensures kept { self.new.kept ≡ self.old.kept ++ (two_digits (n / 100) ++ two_digits (n % 100)) }
+        ensures failed { self.new.failed ≡ self.old.failed }
+    {
+        self.append(&two_digits(n / 100));
+        self.append(&two_digits(n % 100));
+    }
+
+    /// One digit or two, without a branch: two bytes are written, and so many of them kept.
+    #[inline(always)]
+    fn append_first(&mut self, n: u64)
+        requires short { n < 100 }
+        requires room { length self.old.kept + 2 ≤ 16384 }
+        ensures kept { self.new.kept ≡ self.old.kept ++ decimal n }
+        ensures failed { self.new.failed ≡ self.old.failed }
+    {
+        let (digits, count) = first_digits(n);
+        let end = self.length + 2;
+        self.bytes[self.length..end].copy_from_slice(&digits);
+        self.length += count;
     }
 }
 

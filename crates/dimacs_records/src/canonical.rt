@@ -1,6 +1,6 @@
 //! Records as lines in the canonical form: one blank between fields, numbers in decimal, a line end.
 
-ghost use Rattle.std.specs.Prelude.{◌≡◌, ◌≤◌, ℕ, List, Option, [], ◌∷◌, ◌++◌, length, pos, codes};
+ghost use Rattle.std.specs.Prelude.{◌≡◌, ℕ, List, Option, [], ◌∷◌, ◌++◌, pos, codes};
 ghost use Rattle.dimacs_lines.specs.Devices.{CountsFault};
 ghost use Rattle.dimacs_lines.specs.Puts.{Puts};
 ghost use Rattle.dimacs_lines.specs.Pages.{Appends, CountsOn};
@@ -33,9 +33,9 @@ pub fn write_record<S: Sink>(page: &mut Page, sink: &mut S, said: &Record)
         Record::MaxNode { id, end } => {
             write_line(page, sink, b"n", &[unsigned(id), Part::Word(end.word())])
         }
-        Record::MaxArc { tail, head, cap } => write_arc(page, sink, b"a", tail, head, cap),
+        Record::MaxArc { tail, head, cap } => write_arc(page, sink, b'a', tail, head, cap),
         Record::MinProblem { nodes, arcs } => write_problem(page, sink, b"min", nodes, arcs),
-        Record::MinNode { id, supply } => page.line(sink, b"n", &[i64::from(id), supply]),
+        Record::MinNode { id, supply } => page.line(sink, b'n', &[i64::from(id), supply]),
         Record::MinArc {
             tail,
             head,
@@ -44,11 +44,11 @@ pub fn write_record<S: Sink>(page: &mut Page, sink: &mut S, said: &Record)
             cost,
         } => page.line(
             sink,
-            b"a",
+            b'a',
             &[i64::from(tail), i64::from(head), low, cap, cost],
         ),
         Record::GraphProblem { nodes, arcs } => write_problem(page, sink, b"sp", nodes, arcs),
-        Record::GraphArc { tail, head, weight } => write_arc(page, sink, b"a", tail, head, weight),
+        Record::GraphArc { tail, head, weight } => write_arc(page, sink, b'a', tail, head, weight),
         Record::QueriesProblem { asks, count } => write_line(
             page,
             sink,
@@ -60,14 +60,14 @@ pub fn write_record<S: Sink>(page: &mut Page, sink: &mut S, said: &Record)
                 unsigned(count),
             ],
         ),
-        Record::SourceQuery { id } => page.line(sink, b"s", &[i64::from(id)]),
+        Record::SourceQuery { id } => page.line(sink, b's', &[i64::from(id)]),
         Record::PairQuery { from, to } => {
-            page.line(sink, b"q", &[i64::from(from), i64::from(to)]);
+            page.line(sink, b'q', &[i64::from(from), i64::from(to)]);
         }
         Record::SolutionValue { value } => write_line(page, sink, b"s", &[Part::Wide(value)]),
-        Record::SolutionEntry { tail, head, flow } => write_arc(page, sink, b"f", tail, head, flow),
+        Record::SolutionEntry { tail, head, flow } => write_arc(page, sink, b'f', tail, head, flow),
         Record::CutProblem { nodes, count } => write_problem(page, sink, b"cut", nodes, count),
-        Record::CutNode { id } => page.line(sink, b"u", &[i64::from(id)]),
+        Record::CutNode { id } => page.line(sink, b'u', &[i64::from(id)]),
         Record::PotentialsProblem { nodes, count } => {
             write_problem(page, sink, b"pot", nodes, count)
         }
@@ -81,7 +81,7 @@ pub fn write_record<S: Sink>(page: &mut Page, sink: &mut S, said: &Record)
             source,
             count,
             radius: None,
-        } => page.line(sink, b"t", &[i64::from(source), i64::from(count)]),
+        } => page.line(sink, b't', &[i64::from(source), i64::from(count)]),
         Record::LabelsBlock {
             source,
             count,
@@ -117,12 +117,11 @@ fn write_problem<S: Sink>(page: &mut Page, sink: &mut S, word: &[u8], nodes: u32
 
 /// Writes a line of two ends and a number.
 #[inline(always)]
-fn write_arc<S: Sink>(page: &mut Page, sink: &mut S, letter: &[u8], tail: u32, head: u32, n: i64)
-    requires { length letter.now ≤ 8 }
-    ensures written { Appends (line_of letter.now (Amount (pos tail) ∷ Amount (pos head) ∷ Amount n ∷ [])) (S.accepted sink.old) page.old (S.accepted sink.new) page.new }
+fn write_arc<S: Sink>(page: &mut Page, sink: &mut S, letter: u8, tail: u32, head: u32, n: i64)
+    ensures written { Appends (line_of (letter ∷ []) (Amount (pos tail) ∷ Amount (pos head) ∷ Amount n ∷ [])) (S.accepted sink.old) page.old (S.accepted sink.new) page.new }
     ensures faults { CountsOn (S.faults sink.old) page.old (S.faults sink.new) page.new }
 {
-    page.line(sink, letter, &[i64::from(tail), i64::from(head), n]);
+    page.line_of_three(sink, letter, i64::from(tail), i64::from(head), n);
 }
 
 /// A count or an ID as a field.

@@ -6,4 +6,4 @@ pub returns-clause-written : goal.returns-clause-written
 returns-clause-written g c = λ start text h.
     let roomy = c.make_room.new.self in
     rw (c.append_line.ensures.kept, c.append_line.ensures.failed)
-    (IsWritten-kept roomy.failed start (g.S.Sink.accepted c.make_room.new.sink) text roomy.kept (numbers_line c.args.word.now c.args.numbers.now) (c.make_room.ensures.written start text h))
+    (IsWritten-kept roomy.failed start (g.S.Sink.accepted c.make_room.new.sink) text roomy.kept (numbers_line c.args.letter c.args.numbers.now) (c.make_room.ensures.written start text h))

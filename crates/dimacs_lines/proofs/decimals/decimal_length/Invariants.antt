@@ -1,9 +1,0 @@
-use Rattle.std.proofs.Common.{◌+◌, ◌-◌, ◌≡◌, length}
-use Rattle.std.specs.Fmt.{decimal}
-use Rattle.dimacs_lines.proofs.decimals.decimal_length.Given as goal
-
-abbrev pub invariant-loop-left : goal.invariant-loop-left
-invariant-loop-left l = l.count + length (decimal l.left) ≡ length (decimal l.initial.n)
-
-abbrev pub decreases-loop-left : goal.decreases-loop-left
-decreases-loop-left l = l.left + 1 - 10000
