@@ -99,8 +99,8 @@ impl Page {
         self.append_line(letter, numbers);
     }
 
-    /// Writes a line of a letter and three numbers, as most lines are, without a loop: the branches for each number are
-    /// foreseen apart.
+    /// Writes a line of a letter and three numbers, as most lines are, without a loop: so the processor foresees the
+    /// branches of each number apart.
     pub fn line_of_three<S: Sink>(
         &mut self,
         sink: &mut S,
@@ -252,6 +252,7 @@ impl Page {
         }
     }
 
+    /// Long numbers are few, and a call to write them keeps the lines' own code short.
     #[inline(never)]
     fn append_long(&mut self, n: u64)
         requires { length self.old.kept + length (decimal n) ≤ 16384 }
