@@ -178,7 +178,11 @@ fn flows_of(network: &Network, solution: &Solution) -> Result<Vec<i64>, String> 
     }
     if in_order < entries.len() {
         let index = ArcIndex::build(network);
-        put_others(network, &index, solution, in_order, &mut flows)?;
+        if index.has_parallel_arcs(network) {
+            put_others(network, &index, solution, in_order, &mut flows)?;
+        } else {
+            put_others_alone(network, &index, solution, in_order, &mut flows)?;
+        }
     }
     Ok(flows)
 }
@@ -206,6 +210,39 @@ fn put_others(
         };
         flows[arc] = entry.flow;
         came[first] += 1;
+    }
+    Ok(())
+}
+
+/// How many arcs behind the last one are compared with an entry before it is searched.
+const NEAR: usize = 8;
+
+/// The same where no two arcs have the same ends. Most entries stand in the order of the arcs, with some left out.
+fn put_others_alone(
+    network: &Network,
+    index: &ArcIndex,
+    solution: &Solution,
+    in_order: usize,
+    flows: &mut [i64],
+) -> Result<(), String> {
+    let mut came = vec![false; network.ends.len()];
+    came[..in_order].fill(true);
+    let mut next = in_order;
+    for (k, entry) in solution.entries.iter().enumerate().skip(in_order) {
+        let near = network.ends[next..].iter().take(NEAR);
+        let found = match near.copied().position(|ends| ends == entry.ends) {
+            Some(skipped) => Some(next + skipped),
+            None => index.first_arc(network, entry.ends),
+        };
+        let Some(arc) = found else {
+            return Err(at_solution(solution.entry_line(k), 0, "UnknownArc"));
+        };
+        if came[arc] {
+            return Err(at_solution(solution.entry_line(k), 0, "ArcTwice"));
+        }
+        came[arc] = true;
+        flows[arc] = entry.flow;
+        next = arc + 1;
     }
     Ok(())
 }

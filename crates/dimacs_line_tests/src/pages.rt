@@ -139,6 +139,22 @@ fn writes_many_short_pieces(rt: HostRuntime) -> Result<(), Fail> {
     Ok(())
 }
 
+/// So many lines of eight bytes fill most of a page.
+const LINES: usize = 2_000;
+
+#[test]
+fn puts_nothing_before_a_page_is_full(rt: HostRuntime) -> Result<(), Fail> {
+    let mut sink = MemorySink::new(rt.alloc());
+    let mut page = Page::new();
+    for _ in 0..LINES {
+        page.line_of_three(&mut sink, b'a', 1, 2, 3);
+    }
+    holds(&rt, "nothing was put", sink.bytes().is_empty());
+    page.finish(&mut sink)?;
+    same(&rt, "bytes", sink.bytes().len(), 8 * LINES);
+    Ok(())
+}
+
 /// The put that fails, and how many bytes were put before it.
 static FAULTS: [(&str, u64, usize); 4] = [
     ("a fault at the first put", 1, 0),

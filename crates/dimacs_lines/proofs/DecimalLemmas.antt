@@ -9,7 +9,7 @@ use Rattle.itoa.proofs.Decimal.{PAIRS_at, length_one, length_two, decimal_two}
 use Rattle.dimacs_lines.specs.declared.decimals.TheConstants.{PAIRS}
 use mir.Val.{bool_byte}
 
--- the table is that of the library
+-- the table has the two digits of each number: it is that of itoa
 pub table_at : (n : ℕ) → n < 100 → (get_or PAIRS (n * 2) 0 ≡ 48 + n / 10) × (get_or PAIRS (n * 2 + 1) 0 ≡ 48 + n % 10)
 table_at n few = PAIRS_at n few
 

@@ -22,6 +22,6 @@ IsWritten-put false false start old new faults counted text kept put h = record 
   accepted = put.0 ∙ (ap (λ o. after_piece o kept) h.accepted ∙ (after_piece-after_piece start h.front kept ∙ ap (after_piece start) (sym h.whole)));
 }
 
--- a letter, three fields and an end, one behind the other
-pub three_fields : (kept letter a b c end : List ℕ) → ((((kept ++ letter) ++ a) ++ b) ++ c) ++ end ≡ kept ++ (letter ++ ((a ++ (b ++ (c ++ []))) ++ end))
-three_fields kept letter a b c end = rw (append-nil c, append_assoc, append_assoc, append_assoc, append_assoc, append_assoc, append_assoc) refl
+-- a letter, three fields and an end, one after another
+pub line_of_three_fields : (kept letter a b c end : List ℕ) → ((((kept ++ letter) ++ a) ++ b) ++ c) ++ end ≡ kept ++ (letter ++ ((a ++ (b ++ (c ++ []))) ++ end))
+line_of_three_fields kept letter a b c end = rw (append-nil c, append_assoc, append_assoc, append_assoc, append_assoc, append_assoc, append_assoc) refl

@@ -40,6 +40,6 @@ CountsOn old page new after = (start : ℕ) → FaultsAre start old page → Fau
 abbrev pub number_field : ℤ → List ℕ
 number_field n = 32 ∷ signed_decimal n
 
--- a line of a letter and of numbers behind it
+-- a line: a letter, then each number after a blank
 abbrev pub numbers_line : ℕ → List ℤ → List ℕ
-numbers_line letter numbers = letter ∷ flat_map number_field numbers ++ 10 ∷ []
+numbers_line letter numbers = letter ∷ (flat_map number_field numbers ++ 10 ∷ [])

@@ -1,4 +1,5 @@
 pub mod Buffer
+pub mod Decimals
 pub mod Pages
 pub mod Plain
 pub mod Reader

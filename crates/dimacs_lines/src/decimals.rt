@@ -2,7 +2,7 @@
 
 ghost use Rattle.std.specs.Prelude.{◌≡◌, ◌<◌, length, take};
 ghost use Rattle.std.specs.Fmt.{decimal};
-ghost use Rattle.dimacs_lines.specs.inside.Pages.{two_digits};
+ghost use Rattle.dimacs_lines.specs.inside.Decimals.{two_digits};
 
 /// The two digits of each number below a hundred.
 static PAIRS: [u8; 200] =
@@ -18,7 +18,7 @@ pub(crate) fn two_digits(n: u64) -> [u8; 2]
     [PAIRS[from], PAIRS[from + 1]]
 }
 
-/// The digits of a number below a hundred and how many they are, with no branch. Behind a single digit stands any byte.
+/// The digits of a number below a hundred, and how many they are, with no branch. A single digit has any byte after it.
 #[inline(always)]
 pub(crate) fn first_digits(n: u64) -> ([u8; 2], usize)
     requires { n < 100 }

@@ -6,7 +6,8 @@ ghost use Rattle.std.specs.Fmt.{decimal, signed_decimal};
 ghost use Rattle.dimacs_lines.specs.Puts.{Puts};
 ghost use Rattle.dimacs_lines.specs.Devices.{CountsFault};
 ghost use Rattle.dimacs_lines.specs.Pages.{Appends, CountsOn, IsWritten, FaultsAre, number_field, numbers_line};
-ghost use Rattle.dimacs_lines.specs.inside.Pages.{IsPut, two_digits};
+ghost use Rattle.dimacs_lines.specs.inside.Pages.{IsPut};
+ghost use Rattle.dimacs_lines.specs.inside.Decimals.{two_digits};
 
 use crate::decimals::{first_digits, two_digits};
 use crate::device::{DeviceFault, Sink, put_all};
@@ -99,8 +100,8 @@ impl Page {
         self.append_line(letter, numbers);
     }
 
-    /// Writes a line of a letter and three numbers, as most lines are, without a loop: so the processor foresees the
-    /// branches of each number apart.
+    /// Writes a line of a letter and three numbers, as the lines of arcs are in most kinds of text. There is no loop, so
+    /// that the processor foresees the branches of each number apart.
     pub fn line_of_three<S: Sink>(
         &mut self,
         sink: &mut S,
@@ -234,7 +235,8 @@ impl Page {
         self.append_digits(n.unsigned_abs());
     }
 
-    /// Up to eight digits are written where they are kept, two at a time, so that they need no copy.
+    /// Up to eight digits are written where they are kept, two at a time; longer numbers are copied. The room asked for is
+    /// that of the longest number, since a byte may be written that isn't kept.
     #[inline(always)]
     fn append_digits(&mut self, n: u64)
         requires short { length (decimal n) ≤ 19 }
@@ -263,7 +265,7 @@ impl Page {
         self.append(digits.format(n).as_bytes());
     }
 
-    /// The digits of a number of at most four.
+    /// A number of at most four digits.
     #[inline(always)]
     fn append_short(&mut self, n: u64)
         requires short { n < 10000 }
@@ -279,7 +281,7 @@ impl Page {
         }
     }
 
-    /// Four digits, the first of them perhaps noughts.
+    /// A number as four digits, with noughts in front where it has fewer.
     #[inline(always)]
     fn append_four(&mut self, n: u64)
         requires short { n < 10000 }
@@ -291,7 +293,7 @@ impl Page {
         self.append(&two_digits(n % 100));
     }
 
-    /// One digit or two, without a branch: two bytes are written, and so many of them kept.
+    /// A number of one digit or two, without a branch: two bytes are written, and as many kept as it has digits.
     #[inline(always)]
     fn append_first(&mut self, n: u64)
         requires short { n < 100 }

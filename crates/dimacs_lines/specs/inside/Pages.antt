@@ -1,5 +1,5 @@
 -- Inside: what was written to a sink through a page.
-use Rattle.std.specs.Prelude.{ℕ, ◌≡◌, ◌+◌, ◌/◌, ◌%◌, ◌∷◌, [], List, Bool, true, false, Option}
+use Rattle.std.specs.Prelude.{ℕ, ◌≡◌, List, Bool, true, false, Option}
 use Rattle.dimacs_lines.specs.Devices.{after_piece, one_more}
 use Rattle.dimacs_lines.specs.Puts.{AcceptsFront}
 
@@ -8,7 +8,3 @@ abbrev pub IsPut : Bool → Option (List ℕ) → ℕ → List ℕ → Bool → 
 IsPut true old faults bytes failed new counted = (failed ≡ true) × (new ≡ old) × (counted ≡ faults)
 IsPut false old faults bytes true new counted = AcceptsFront old bytes new × (counted ≡ one_more faults)
 IsPut false old faults bytes false new counted = (new ≡ after_piece old bytes) × (counted ≡ faults)
-
--- the two digits of a number below a hundred, the first of them perhaps a nought
-abbrev pub two_digits : ℕ → List ℕ
-two_digits n = (48 + n / 10) ∷ (48 + n % 10) ∷ []
