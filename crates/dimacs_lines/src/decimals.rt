@@ -4,7 +4,7 @@ ghost use Rattle.std.specs.Prelude.{◌≡◌, ◌<◌, length, take};
 ghost use Rattle.std.specs.Fmt.{decimal};
 ghost use Rattle.dimacs_lines.specs.inside.Decimals.{two_digits};
 
-/// The two digits of each number below a hundred.
+/// The two digits of each number below a hundred. `itoa` has the same table, and keeps it to itself.
 static PAIRS: [u8; 200] =
     *b"00010203040506070809101112131415161718192021222324252627282930313233343536373839404142434445464748495051525354555657585960616263646566676869707172737475767778798081828384858687888990919293949596979899";
 
