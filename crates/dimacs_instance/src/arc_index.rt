@@ -1,13 +1,13 @@
 //! An index of the arcs of a network, by their ends.
 
-ghost use Rattle.std.specs.Prelude.{IfOk};
+ghost use Rattle.std.specs.Prelude.{Some, IfOk, IfSome};
 ghost use Rattle.std.specs.List.Sorted.{IsNonDecreasingBy};
 ghost use Rattle.dimacs_instance.specs.Arcs.{IsKthBetween};
 ghost use Rattle.dimacs_instance.specs.Star.{HasRoom, Indexes};
 ghost use Rattle.dimacs_instance.specs.inside.StarGroups.{IsHeadPoint};
 
 use crate::network::Network;
-use crate::star_order::{OutArc, put_in_order};
+use crate::star_order::{FEW, OutArc, have_no_parallels, put_in_order};
 use crate::star_starts::TailStarts;
 use dimacs_lines::Memory;
 use std::alloc::Global;
@@ -20,7 +20,12 @@ pub struct ArcIndex {
     /// All arcs, by tail, then head, then index.
     pub(crate) outs: Vec<OutArc>,
     pub(crate) starts: TailStarts,
+    /// Whether no two arcs have the same ends.
+    pub(crate) no_parallels: bool,
 }
+
+/// How many arcs are compared with given ends before they are searched.
+const NEAR: u32 = 8;
 
 impl ArcIndex {
     /// Room for the arcs of a network, with nothing in it.
@@ -30,6 +35,7 @@ impl ArcIndex {
         Ok(ArcIndex {
             outs: Vec::with_capacity(alloc, network.arcs() as usize)?,
             starts: TailStarts::room(alloc, network)?,
+            no_parallels: false,
         })
     }
 
@@ -40,6 +46,7 @@ impl ArcIndex {
         ensures { Indexes (N.node_count network.now) (N.list network.now) self.new }
     {
         put_in_order(network, &mut self.starts, &mut self.outs);
+        self.no_parallels = have_no_parallels(network, &self.outs);
     }
 
     /// As `Network::find` of the network that it was filled for: where the arcs of the tail begin is looked up, and among
@@ -59,10 +66,27 @@ impl ArcIndex {
             None
         }
     }
-}
 
-/// Up to so many arcs are all compared: that is quicker than to halve them, by branches that can't be foreseen.
-const FEW: usize = 16;
+    /// The arc with these ends, if it is one of the few from this one on and no two arcs have the same ends. That is a
+    /// quick guess where arcs are looked up in their order: it may be None where `find` gives an arc.
+    #[inline(always)]
+    pub fn find_near<N: Network>(&self, network: &N, tail: u32, head: u32, from: u32) -> Option<u32>
+        requires { Indexes (N.node_count network.now) (N.list network.now) self.now }
+        ensures { IfSome result (λ arc. IsKthBetween (N.list network.now) tail head 0 (Some arc)) }
+    {
+        if !self.no_parallels {
+            return None;
+        }
+        let end = network.arcs().min(from.saturating_add(NEAR));
+        for i in from..end {
+            let arc = network.arc(i);
+            if arc.tail == tail && arc.head == head {
+                return Some(i);
+            }
+        }
+        None
+    }
+}
 
 /// The first place of arcs that rise by head that has this head or a greater one.
 #[inline(always)]

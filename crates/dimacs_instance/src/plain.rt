@@ -3,9 +3,11 @@
 ghost use Rattle.std.specs.Prelude.{◌≡◌, ◌<◌, ◌≤◌, ◌+◌, ◌++◌, ◌∷◌, [], List, Some, length, slice_get, OnOk, OnErr};
 ghost use Rattle.dimacs_lines.specs.Limits.{most_count};
 ghost use Rattle.dimacs_instance.specs.declared.network.ArcView.{ArcView};
-ghost use Rattle.dimacs_instance.specs.Plain.{capacity_arc, weight_arc};
+ghost use Rattle.dimacs_instance.specs.declared.plain.Ends.{Ends};
+ghost use Rattle.dimacs_instance.specs.Plain.{capacity_arc, ends_of, weight_arc};
 
 use crate::network::{ArcView, Network};
+use crate::room::push_within;
 use dimacs_lines::Memory;
 use dimacs_records::MAX_COUNT;
 use std::alloc::Global;
@@ -14,15 +16,33 @@ use std::marker::Model;
 /// The most arcs of an instance.
 pub const MAX_ARCS: u32 = MAX_COUNT;
 
-/// An arc as it is kept: without the numbers that all arcs of its instance have in common.
+/// The nodes of an arc.
+#[derive(Clone, Copy)]
+pub struct Ends {
+    pub tail: u32,
+    pub head: u32,
+}
+
+/// An arc of a kind of instance. Its ends are kept apart from its numbers, of which it has those that not all arcs of
+/// the kind have in common.
 pub trait KeptArc: Copy {
+    type Numbers: Copy;
+
     ghost shows: { Self → ArcView };
+
+    ghost arc_of: { Ends → Self.Numbers → ArcView };
 
     fn view(self) -> ArcView
         ensures { result ≡ shows self };
+
+    fn numbers(self) -> Self::Numbers
+        ensures { arc_of (ends_of (shows self)) result ≡ shows self };
+
+    fn arc(ends: Ends, numbers: Self::Numbers) -> ArcView
+        ensures { result ≡ arc_of ends numbers };
 }
 
-/// An arc of a graph, in 16 bytes.
+/// An arc of a graph, kept in 16 bytes.
 #[derive(Clone, Copy)]
 pub struct WeightArc {
     pub tail: u32,
@@ -31,21 +51,41 @@ pub struct WeightArc {
 }
 
 impl KeptArc for WeightArc {
+    type Numbers = i64;
+
     ghost shows = { λ a. weight_arc a.tail a.head a.weight };
+
+    ghost arc_of = { λ ends weight. weight_arc ends.tail ends.head weight };
 
     #[inline(always)]
     fn view(self) -> ArcView {
+        WeightArc::arc(
+            Ends {
+                tail: self.tail,
+                head: self.head,
+            },
+            self.weight,
+        )
+    }
+
+    #[inline(always)]
+    fn numbers(self) -> i64 {
+        self.weight
+    }
+
+    #[inline(always)]
+    fn arc(ends: Ends, weight: i64) -> ArcView {
         ArcView {
-            tail: self.tail,
-            head: self.head,
+            tail: ends.tail,
+            head: ends.head,
             low: 0,
             cap: 0,
-            cost: self.weight,
+            cost: weight,
         }
     }
 }
 
-/// An arc of a maximum flow, in 16 bytes.
+/// An arc of a maximum flow, kept in 16 bytes.
 #[derive(Clone, Copy)]
 pub struct CapacityArc {
     pub tail: u32,
@@ -54,47 +94,102 @@ pub struct CapacityArc {
 }
 
 impl KeptArc for CapacityArc {
+    type Numbers = i64;
+
     ghost shows = { λ a. capacity_arc a.tail a.head a.cap };
+
+    ghost arc_of = { λ ends cap. capacity_arc ends.tail ends.head cap };
 
     #[inline(always)]
     fn view(self) -> ArcView {
+        CapacityArc::arc(
+            Ends {
+                tail: self.tail,
+                head: self.head,
+            },
+            self.cap,
+        )
+    }
+
+    #[inline(always)]
+    fn numbers(self) -> i64 {
+        self.cap
+    }
+
+    #[inline(always)]
+    fn arc(ends: Ends, cap: i64) -> ArcView {
         ArcView {
-            tail: self.tail,
-            head: self.head,
+            tail: ends.tail,
+            head: ends.head,
             low: 0,
-            cap: self.cap,
+            cap,
             cost: 0,
         }
     }
 }
 
-/// An arc of a minimum cost flow has all numbers.
+/// The numbers of an arc of a minimum cost flow.
+#[derive(Clone, Copy)]
+pub struct CostNumbers {
+    pub low: i64,
+    pub cap: i64,
+    pub cost: i64,
+}
+
+/// An arc of a minimum cost flow has all numbers. It is kept in 32 bytes.
 impl KeptArc for ArcView {
+    type Numbers = CostNumbers;
+
     ghost shows = { λ a. a };
+
+    ghost arc_of = { λ ends numbers. record { tail = ends.tail; head = ends.head; low = numbers.low; cap = numbers.cap; cost = numbers.cost } };
 
     #[inline(always)]
     fn view(self) -> ArcView {
         self
     }
+
+    #[inline(always)]
+    fn numbers(self) -> CostNumbers {
+        CostNumbers {
+            low: self.low,
+            cap: self.cap,
+            cost: self.cost,
+        }
+    }
+
+    #[inline(always)]
+    fn arc(ends: Ends, numbers: CostNumbers) -> ArcView {
+        ArcView {
+            tail: ends.tail,
+            head: ends.head,
+            low: numbers.low,
+            cap: numbers.cap,
+            cost: numbers.cost,
+        }
+    }
 }
 
-/// Arcs in the order of the text, with no index: `find` scans them.
+/// Arcs in the order of the text, with no index: `find` scans them. Their ends stand in a list of their own, since most
+/// passes over arcs read few of the numbers.
 #[derive(Drop)]
 pub struct PlainArcs<A: KeptArc> {
     nodes: u32,
-    arcs: Vec<A>,
+    ends: Vec<Ends>,
+    numbers: Vec<A::Numbers>,
 }
 
 impl<A: KeptArc> Model for PlainArcs<A> {
-    ghost use Rattle.std.specs.Prelude.{◌≤◌, length, map};
+    ghost use Rattle.std.specs.Prelude.{◌≤◌, ◌≡◌, length};
     ghost use Rattle.dimacs_lines.specs.Limits.{most_count};
     ghost use Rattle.dimacs_instance.specs.Arcs.{NetworkValue};
+    ghost use Rattle.dimacs_instance.specs.Plain.{arcs_of};
 
     ghost Value = { NetworkValue };
 
-    ghost view = { λ n. record { nodes = n.nodes; arcs = map A.shows n.arcs.items } };
+    ghost view = { λ n. record { nodes = n.nodes; arcs = arcs_of A.arc_of n.ends.items n.numbers.items } };
 
-    ghost invariant = { λ n. length n.arcs.items ≤ most_count };
+    ghost invariant = { λ n. (length n.ends.items ≤ most_count) × (length n.numbers.items ≡ length n.ends.items) };
 }
 
 impl<A: KeptArc> PlainArcs<A> {
@@ -104,7 +199,8 @@ impl<A: KeptArc> PlainArcs<A> {
     {
         PlainArcs {
             nodes,
-            arcs: Vec::new(alloc),
+            ends: Vec::new(alloc),
+            numbers: Vec::new(alloc),
         }
     }
 
@@ -114,7 +210,10 @@ impl<A: KeptArc> PlainArcs<A> {
         ensures pushed { OnOk result (self.new ≡ record self.old { arcs = self.old.arcs ++ A.shows arc ∷ [] }) }
         ensures unchanged { OnErr result (self.new ≡ self.old) }
     {
-        self.arcs.push(arc)?;
+        let ArcView { tail, head, .. } = arc.view();
+        self.numbers.reserve(1)?;
+        self.ends.push(Ends { tail, head })?;
+        push_within(&mut self.numbers, arc.numbers());
         Ok(())
     }
 }
@@ -129,21 +228,21 @@ impl<A: KeptArc> Network for PlainArcs<A> {
     }
 
     fn arcs(&self) -> u32 {
-        self.arcs.len() as u32
+        self.ends.len() as u32
     }
 
     #[inline(always)]
     fn arc(&self, i: u32) -> ArcView {
-        self.arcs[i as usize].view()
+        A::arc(self.ends[i as usize], self.numbers[i as usize])
     }
 
     fn find(&self, tail: u32, head: u32, k: u32) -> Option<u32> {
         let mut left = k;
-        for (i, arc) in self.arcs.iter().enumerate() {
-            let arc = arc.view();
+        for i in 0..self.arcs() {
+            let arc = self.arc(i);
             if arc.tail == tail && arc.head == head {
                 if left == 0 {
-                    return Some(i as u32);
+                    return Some(i);
                 }
                 left -= 1;
             }

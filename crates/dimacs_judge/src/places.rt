@@ -35,6 +35,8 @@ pub struct FlowPlaces<'a, N: Network> {
     out_of_order: bool,
     /// An index of the arcs, where the network has none of its own. It is filled once an entry comes out of order.
     index: Option<ArcIndex>,
+    /// The arc behind the last one that was found by its ends.
+    next: u32,
     /// The first entry that fails. Nothing is counted or put after it.
     refusal: Option<(Where, Reason)>,
 }
@@ -64,6 +66,7 @@ impl<'a, N: Network> FlowPlaces<'a, N> {
             in_order: 0,
             out_of_order: false,
             index: room_for_index(alloc, network)?,
+            next: 0,
             refusal: None,
         })
     }
@@ -156,7 +159,7 @@ impl<'a, N: Network> FlowPlaces<'a, N> {
         ensures refusal { self.new.refusal ≡ None }
         ensures puts { (before : List Entry) → HavePlaced self.old before → PutsEntry self.old.arcs before entry result self.new }
     {
-        let Some(first) = self.find(entry, 0) else {
+        let Some(first) = self.first(entry) else {
             return Err(Reason::UnknownArc);
         };
         let came = self.came(entry, first);
@@ -165,7 +168,25 @@ impl<'a, N: Network> FlowPlaces<'a, N> {
         };
         self.flow.set(arc, entry.flow);
         self.counts[first as usize] = came + 1;
+        self.next = first + 1;
         Ok(())
+    }
+
+    /// The first arc with the ends of this entry. It is looked for behind the arc of the last entry, and then searched.
+    #[inline(always)]
+    fn first(&self, entry: Entry) -> Option<u32>
+        ensures { IsKthBetween self.now.arcs entry.tail entry.head 0 result }
+    {
+        let near = match &self.index {
+            Some(index) if self.out_of_order => {
+                index.find_near(self.network, entry.tail, entry.head, self.next)
+            }
+            _ => None,
+        };
+        match near {
+            Some(arc) => Some(arc),
+            None => self.find(entry, 0),
+        }
     }
 
     /// How many entries came with the ends of this one, whose first arc is at hand.

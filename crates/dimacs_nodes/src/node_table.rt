@@ -1,6 +1,6 @@
 //! A value for each node, blank but for those that were set.
 
-ghost use Rattle.std.specs.Prelude.{◌≡◌, ◌≢◌, ◌<◌, ◌≤◌, ◌+◌, ◌/◌, ◌⊎◌, ℕ, length, max, OnOk, OnErr};
+ghost use Rattle.std.specs.Prelude.{◌≡◌, ◌≢◌, ◌<◌, ◌≤◌, ◌+◌, ◌/◌, ◌⊎◌, ℕ, length, max, MatchOption, OnOk, OnErr};
 ghost use Rattle.dimacs_nodes.specs.Slots.{place_of};
 ghost use Rattle.dimacs_nodes.specs.inside.Slots.{IsDirectory, SameNumbers};
 
@@ -52,6 +52,16 @@ impl<T: Copy> NodeTable<T> {
         }
     }
 
+    /// The value of a node for which memory was taken, which may be blank.
+    #[inline]
+    pub fn taken(&self, id: u32) -> Option<T>
+        ensures { MatchOption result (¬ HasPlace self.now id) (λ value. (value ≡ value_of self.now id) × HasPlace self.now id) }
+    {
+        let number = *self.directory.get(id as usize / PAGE)?;
+        let place = number as usize * PAGE + id as usize % PAGE;
+        Some(*self.slots.get(place)?)
+    }
+
     /// Sets the value of a node. Only the first value on a page takes memory.
     #[inline]
     pub fn set(&mut self, id: u32, value: T) -> Result<(), Memory>
@@ -61,8 +71,10 @@ impl<T: Copy> NodeTable<T> {
         ensures blank { blank_of self.new ≡ blank_of self.old }
         ensures memory { TakesPageAlone self.old self.new id }
     {
-        self.reserve(id)?;
-        self.put(id, value);
+        match self.slots.get_mut(place(&self.directory, id)) {
+            Some(slot) => *slot = value,
+            None => self.set_on_new_page(id, value)?,
+        }
         Ok(())
     }
 
@@ -113,6 +125,22 @@ impl<T: Copy> NodeTable<T> {
         } else {
             (id as usize / PAGE + 1) * PAGE
         }
+    }
+
+    /// Takes the page of an ID that has none, and sets its value.
+    #[cold]
+    #[inline(never)]
+    fn set_on_new_page(&mut self, id: u32, value: T) -> Result<(), Memory>
+        requires { ¬ HasPlace self.old id }
+        ensures set { OnOk result (value_of self.new id ≡ value) }
+        ensures others { OnOk result ((other : ℕ) → other ≢ id → value_of self.new other ≡ value_of self.old other) }
+        ensures unchanged { OnErr result (SameValues self.old self.new) }
+        ensures blank { blank_of self.new ≡ blank_of self.old }
+        ensures memory { TakesPageAlone self.old self.new id }
+    {
+        self.take_page(id)?;
+        self.put(id, value);
+        Ok(())
     }
 
     /// Takes the page of an ID that has none.

@@ -1,7 +1,17 @@
-use Rattle.std.proofs.Common.{arith, ap, ◌∙◌}
-use Rattle.dimacs_instance.proofs.ArcLemmas.{found_at}
+use Rattle.std.proofs.Common.{arith}
+use Rattle.dimacs_instance.proofs.ArcLemmas.{counts_joined, counts_other}
+use Rattle.dimacs_instance.proofs.plain.PlainArcsNetwork.find.Goals.{then-arc-tail+then-arc-head+else-left-eq0, else-arc-tail, else-arc-tail-via-then-arc-tail+else-arc-head, else-arc-tail-via-else-arc-tail}
 use Rattle.dimacs_instance.proofs.plain.PlainArcsNetwork.find.Goals as goal
 
-pub returns-then-left-eq0 : goal.returns-then-left-eq0
-returns-then-left-eq0 g c = rw (← c.self.view_is, ← c.deref-arc-items.ensures.value)
-    (found_at g.A.KeptArc.shows c.deref-arc-items.result.now c.args.tail c.args.head c.args.k c.loop-i.i c.arc-item.result c.view-arc.result c.loop-i-test.true (c.view-arc.ensures ∙ ap g.A.KeptArc.shows c.arc-item.is) c.if-arc-tail.true c.if-arc-head.true (omega (arith, c.loop-i.invariant, c.if-left-eq0.true)))
+pub loop-i-preserved : goal.loop-i-preserved
+loop-i-preserved g c =
+    let arcs = c.args.self.now.arcs in
+    let i = c.loop-i.i in
+    let got = c.arc-arc.ensures in
+    elim c.if-arc-tail.branch [
+      | then-arc-tail+then-arc-head+else-left-eq0 w ↦ omega (arith, c.loop-i.invariant, w.left-is, w.if-left-eq0.false, counts_joined arcs c.args.tail c.args.head i c.arc-arc.result got w.if-arc-tail.true w.if-arc-head.true)
+      | else-arc-tail w ↦ elim w.else-arc-tail.branch [
+        | else-arc-tail-via-then-arc-tail+else-arc-head w' ↦ omega (arith, c.loop-i.invariant, w.left-is, counts_other arcs c.args.tail c.args.head i c.arc-arc.result got (λ _ same. w'.if-arc-head.false same))
+        | else-arc-tail-via-else-arc-tail w' ↦ omega (arith, c.loop-i.invariant, w.left-is, counts_other arcs c.args.tail c.args.head i c.arc-arc.result got (λ same _. w'.if-arc-tail.false same))
+      ]
+    ]

@@ -1,0 +1,12 @@
+use Rattle.std.proofs.Common.{◌≡◌, length, ap, rules, arith}
+use Rattle.std.specs.Vec.{vec_len}
+use Rattle.dimacs_instance.specs.Arcs.{NetworkValue}
+use Rattle.dimacs_instance.proofs.KeptLemmas.{kept_long}
+use Rattle.dimacs_instance.proofs.plain.PlainArcsNetwork.arcs.Goals as goal
+
+pub returns : goal.returns
+returns g c =
+    let ends = c.self.inside.ends in
+    let long = kept_long g.A.KeptArc.arc_of ends.items c.self.inside.numbers.items c.self.invariant.1 in
+    let len : vec_len ends ≡ length ends.items = search rules in
+    omega (arith, ap (λ (v : NetworkValue). length v.arcs) c.self.view_is, long, len, c.len.ensures, c.self.invariant.0)
