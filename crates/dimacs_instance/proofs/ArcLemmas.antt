@@ -1,13 +1,13 @@
 -- Arcs between given ends.
-use Rattle.std.proofs.Common.{◌≡◌, ℕ, ◌+◌, ◌<◌, ◌∷◌, ◌++◌, [], List, true, false, length, map, take, get_or, count_by, Some, slice_get, ap, ◌∙◌, arith}
+use Rattle.std.proofs.Common.{◌≡◌, ℕ, ◌+◌, ◌∷◌, ◌++◌, [], List, true, false, take, count_by, Some, slice_get, ap, ◌∙◌, arith}
 use Rattle.std.specs.Prelude.{◌==◌}
 use Rattle.std.proofs.lemmas.Bool.{eq-eqb, and_from}
 use Rattle.std.proofs.lemmas.Bool.Decides.{nat_tests}
 use Rattle.std.proofs.lemmas.List.Sums.{count_by_more_yes, count_by_more_no}
-use Rattle.std.proofs.lemmas.List.{length-map, take-map, take_more}
-use Rattle.std.proofs.lemmas.Option.{slice_get-map, slice_get-get_or, slice_get_within, get_or_from_slice_get}
+use Rattle.std.proofs.lemmas.List.{take_more}
+use Rattle.std.proofs.lemmas.Option.{slice_get_within, get_or_from_slice_get}
 use Rattle.dimacs_instance.specs.declared.network.ArcView.{ArcView}
-use Rattle.dimacs_instance.specs.Arcs.{joins, IsKthBetween}
+use Rattle.dimacs_instance.specs.Arcs.{joins}
 
 pub joins_ends : (tail head : ℕ) (a : ArcView) → a.tail ≡ tail → a.head ≡ head → joins tail head a ≡ true
 joins_ends tail head a same_tail same_head = and_from (a.tail == tail) (a.head == head) (eq-eqb a.tail tail same_tail) (eq-eqb a.head head same_head)

@@ -7,7 +7,7 @@ use Rattle.std.proofs.lemmas.List.Sums.{count_by_more_yes, count_by_more_no, sum
 use Rattle.dimacs_instance.specs.declared.network.ArcView.{ArcView}
 use Rattle.dimacs_instance.specs.declared.star_order.OutArc.{OutArc}
 use Rattle.dimacs_instance.specs.Arcs.{joins, HaveNoParallels, IsKthBetween}
-use Rattle.dimacs_instance.specs.Star.{HaveHeads, IsStarOrder, arc_at, no_arc, order_of, star_arc}
+use Rattle.dimacs_instance.specs.Star.{HaveHeads, IsStarOrder, arc_at, order_of, star_arc}
 use Rattle.dimacs_instance.specs.inside.StarGroups.{no_out}
 use Rattle.dimacs_instance.proofs.ArcLemmas.{joins_ends, counts_joined}
 use Rattle.dimacs_instance.proofs.CountLemmas.{taken, count_none}
@@ -46,17 +46,22 @@ module _ (arcs : List ArcView) (order : List ℕ) (star : IsStarOrder arcs order
         apart q (omega arith) u too (omega (arith, heads, star.heads p (q - 1) before (omega arith) same, star.heads (q - 1) q behind u too)))
   ]
 
+  -- no two places have arcs of given ends
+  module _ (tail head : ℕ) where
+    lone : (i j : ℕ) → i < j → j < length order → passes arcs tail head (length arcs) (get_or order i 0) ≡ true → passes arcs tail head (length arcs) (get_or order j 0) ≡ true → ⊥
+    lone i j l u is too =
+        let a = star_arc arcs order i in
+        let b = star_arc arcs order j in
+        let a_is : joins tail head a ≡ true = passes_joins (get_or order i 0) (length arcs) tail head a is in
+        let b_is : joins tail head b ≡ true = passes_joins (get_or order j 0) (length arcs) tail head b too in
+        all_apart i j l u (joins_tail tail head a a_is ∙ sym (joins_tail tail head b b_is)) (joins_head tail head a a_is ∙ sym (joins_head tail head b b_is))
+
   pub no_parallels : HaveNoParallels arcs
   no_parallels tail head =
       let n = length arcs in
       let p = passes arcs tail head n in
       let all : count_by p order ≡ count_by (joins tail head) arcs = star_count arcs order tail head n star (omega arith) ∙ ap (count_by (joins tail head)) (take_all n arcs (omega arith)) in
-      let one : count_by p (take (length order) order) ≤ 1 = count_one p order 0 (λ i j l u is too.
-      let a = star_arc arcs order i in
-      let b = star_arc arcs order j in
-      let a_is : joins tail head a ≡ true = passes_joins (get_or order i 0) n tail head a is in
-      let b_is : joins tail head b ≡ true = passes_joins (get_or order j 0) n tail head b too in
-      all_apart i j l u (joins_tail tail head a a_is ∙ sym (joins_tail tail head b b_is)) (joins_head tail head a a_is ∙ sym (joins_head tail head b b_is))) (length order) (omega arith) in
+      let one : count_by p (take (length order) order) ≤ 1 = count_one p order 0 (lone tail head) (length order) (omega arith) in
       omega (arith, all, one, ap (count_by p) (take_all (length order) order (omega arith)))
 
 -- beside each index stands the head of its arc

@@ -1,6 +1,5 @@
--- The arcs of instances, made of their ends and their numbers.
+-- The arcs of instances, and how they are kept.
 use Rattle.std.specs.Prelude.{ℕ, ℤ, pos, List, [], ◌∷◌}
-use Rattle.dimacs_instance.specs.declared.plain.Ends.{Ends}
 use Rattle.dimacs_instance.specs.declared.network.ArcView.{ArcView}
 
 -- an arc with a weight alone
@@ -11,11 +10,8 @@ weight_arc tail head weight = record { tail = tail; head = head; low = pos 0; ca
 abbrev pub capacity_arc : ℕ → ℕ → ℤ → ArcView
 capacity_arc tail head cap = record { tail = tail; head = head; low = pos 0; cap = cap; cost = pos 0 }
 
-abbrev pub ends_of : ArcView → Ends
-ends_of a = record { tail = a.tail; head = a.head }
-
--- the arcs of these ends with these numbers, one beside the other
-unfoldable pub arcs_of : {N : Type 0} → (Ends → N → ArcView) → List Ends → List N → List ArcView
-arcs_of arc_of [] numbers = []
-arcs_of arc_of (e ∷ ends) [] = []
-arcs_of arc_of (e ∷ ends) (n ∷ numbers) = arc_of e n ∷ arcs_of arc_of ends numbers
+-- the arcs that are kept in these two lists
+unfoldable pub arcs_of : {F B : Type 0} → (F → B → ArcView) → List F → List B → List ArcView
+arcs_of arc_of [] backs = []
+arcs_of arc_of (f ∷ fronts) [] = []
+arcs_of arc_of (f ∷ fronts) (b ∷ backs) = arc_of f b ∷ arcs_of arc_of fronts backs

@@ -20,11 +20,11 @@ pub struct ArcIndex {
     /// All arcs, by tail, then head, then index.
     pub(crate) outs: Vec<OutArc>,
     pub(crate) starts: TailStarts,
-    /// Whether no two arcs have the same ends.
+    /// True only where no two arcs have the same ends.
     pub(crate) no_parallels: bool,
 }
 
-/// How many arcs are compared with given ends before they are searched.
+/// How many arcs `find_near` compares.
 const NEAR: u32 = 8;
 
 impl ArcIndex {
@@ -67,8 +67,8 @@ impl ArcIndex {
         }
     }
 
-    /// The arc with these ends, if it is one of the few from this one on and no two arcs have the same ends. That is a
-    /// quick guess where arcs are looked up in their order: it may be None where `find` gives an arc.
+    /// The arc with these ends, if it is among the next few from `from` on and no two arcs have the same ends. That is
+    /// quick where arcs are looked up in their order. It may be None where `find` gives an arc.
     #[inline(always)]
     pub fn find_near<N: Network>(&self, network: &N, tail: u32, head: u32, from: u32) -> Option<u32>
         requires { Indexes (N.node_count network.now) (N.list network.now) self.now }

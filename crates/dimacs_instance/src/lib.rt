@@ -27,6 +27,6 @@ pub use links::{Links, Side};
 pub use max::{MaxInstance, PlainMaxReading, read_plain_max, write_max};
 pub use min::{MinInstance, PlainMinReading, SupplySums, read_plain_min, write_min};
 pub use network::{ArcView, Network};
-pub use plain::{CapacityArc, KeptArc, MAX_ARCS, PlainArcs, WeightArc};
+pub use plain::{CapacityArc, CostNumbers, Ends, KeptArc, MAX_ARCS, PlainArcs, WeightArc};
 pub use queries::{LawfulQueries, Queries, QueriesReading, read_queries, write_queries};
 pub use star::ForwardStar;

@@ -3,8 +3,7 @@
 ghost use Rattle.std.specs.Prelude.{◌≡◌, ◌<◌, ◌≤◌, ◌+◌, ◌++◌, ◌∷◌, [], List, Some, length, slice_get, OnOk, OnErr};
 ghost use Rattle.dimacs_lines.specs.Limits.{most_count};
 ghost use Rattle.dimacs_instance.specs.declared.network.ArcView.{ArcView};
-ghost use Rattle.dimacs_instance.specs.declared.plain.Ends.{Ends};
-ghost use Rattle.dimacs_instance.specs.Plain.{capacity_arc, ends_of, weight_arc};
+ghost use Rattle.dimacs_instance.specs.Plain.{capacity_arc, weight_arc};
 
 use crate::network::{ArcView, Network};
 use crate::room::push_within;
@@ -16,30 +15,27 @@ use std::marker::Model;
 /// The most arcs of an instance.
 pub const MAX_ARCS: u32 = MAX_COUNT;
 
-/// The nodes of an arc.
-#[derive(Clone, Copy)]
-pub struct Ends {
-    pub tail: u32,
-    pub head: u32,
-}
-
-/// An arc of a kind of instance. Its ends are kept apart from its numbers, of which it has those that not all arcs of
-/// the kind have in common.
+/// An arc of a kind of instance, and how it is kept: in two parts, of which many passes over arcs read the first alone.
+/// Numbers that all arcs of the kind have in common are in neither.
 pub trait KeptArc: Copy {
-    type Numbers: Copy;
+    /// The ends, and what is read with them.
+    type Front: Copy;
+
+    /// All else.
+    type Back: Copy;
 
     ghost shows: { Self → ArcView };
 
-    ghost arc_of: { Ends → Self.Numbers → ArcView };
+    ghost arc_of: { Self.Front → Self.Back → ArcView };
 
     fn view(self) -> ArcView
         ensures { result ≡ shows self };
 
-    fn numbers(self) -> Self::Numbers
-        ensures { arc_of (ends_of (shows self)) result ≡ shows self };
+    fn parts(self) -> (Self::Front, Self::Back)
+        ensures { arc_of result.0 result.1 ≡ shows self };
 
-    fn arc(ends: Ends, numbers: Self::Numbers) -> ArcView
-        ensures { result ≡ arc_of ends numbers };
+    fn arc(front: Self::Front, back: Self::Back) -> ArcView
+        ensures { result ≡ arc_of front back };
 }
 
 /// An arc of a graph, kept in 16 bytes.
@@ -51,37 +47,33 @@ pub struct WeightArc {
 }
 
 impl KeptArc for WeightArc {
-    type Numbers = i64;
+    type Front = WeightArc;
+
+    type Back = ();
 
     ghost shows = { λ a. weight_arc a.tail a.head a.weight };
 
-    ghost arc_of = { λ ends weight. weight_arc ends.tail ends.head weight };
+    ghost arc_of = { λ a none. weight_arc a.tail a.head a.weight };
 
     #[inline(always)]
     fn view(self) -> ArcView {
-        WeightArc::arc(
-            Ends {
-                tail: self.tail,
-                head: self.head,
-            },
-            self.weight,
-        )
-    }
-
-    #[inline(always)]
-    fn numbers(self) -> i64 {
-        self.weight
-    }
-
-    #[inline(always)]
-    fn arc(ends: Ends, weight: i64) -> ArcView {
         ArcView {
-            tail: ends.tail,
-            head: ends.head,
+            tail: self.tail,
+            head: self.head,
             low: 0,
             cap: 0,
-            cost: weight,
+            cost: self.weight,
         }
+    }
+
+    #[inline(always)]
+    fn parts(self) -> (WeightArc, ()) {
+        (self, ())
+    }
+
+    #[inline(always)]
+    fn arc(front: WeightArc, _back: ()) -> ArcView {
+        front.view()
     }
 }
 
@@ -94,38 +86,41 @@ pub struct CapacityArc {
 }
 
 impl KeptArc for CapacityArc {
-    type Numbers = i64;
+    type Front = CapacityArc;
+
+    type Back = ();
 
     ghost shows = { λ a. capacity_arc a.tail a.head a.cap };
 
-    ghost arc_of = { λ ends cap. capacity_arc ends.tail ends.head cap };
+    ghost arc_of = { λ a none. capacity_arc a.tail a.head a.cap };
 
     #[inline(always)]
     fn view(self) -> ArcView {
-        CapacityArc::arc(
-            Ends {
-                tail: self.tail,
-                head: self.head,
-            },
-            self.cap,
-        )
-    }
-
-    #[inline(always)]
-    fn numbers(self) -> i64 {
-        self.cap
-    }
-
-    #[inline(always)]
-    fn arc(ends: Ends, cap: i64) -> ArcView {
         ArcView {
-            tail: ends.tail,
-            head: ends.head,
+            tail: self.tail,
+            head: self.head,
             low: 0,
-            cap,
+            cap: self.cap,
             cost: 0,
         }
     }
+
+    #[inline(always)]
+    fn parts(self) -> (CapacityArc, ()) {
+        (self, ())
+    }
+
+    #[inline(always)]
+    fn arc(front: CapacityArc, _back: ()) -> ArcView {
+        front.view()
+    }
+}
+
+/// The nodes of an arc.
+#[derive(Clone, Copy)]
+pub struct Ends {
+    pub tail: u32,
+    pub head: u32,
 }
 
 /// The numbers of an arc of a minimum cost flow.
@@ -136,9 +131,11 @@ pub struct CostNumbers {
     pub cost: i64,
 }
 
-/// An arc of a minimum cost flow has all numbers. It is kept in 32 bytes.
+/// An arc of a minimum cost flow has all numbers. It is kept in 32 bytes: 8 for the ends, and 24 apart from them.
 impl KeptArc for ArcView {
-    type Numbers = CostNumbers;
+    type Front = Ends;
+
+    type Back = CostNumbers;
 
     ghost shows = { λ a. a };
 
@@ -150,12 +147,17 @@ impl KeptArc for ArcView {
     }
 
     #[inline(always)]
-    fn numbers(self) -> CostNumbers {
-        CostNumbers {
+    fn parts(self) -> (Ends, CostNumbers) {
+        let ends = Ends {
+            tail: self.tail,
+            head: self.head,
+        };
+        let numbers = CostNumbers {
             low: self.low,
             cap: self.cap,
             cost: self.cost,
-        }
+        };
+        (ends, numbers)
     }
 
     #[inline(always)]
@@ -170,13 +172,12 @@ impl KeptArc for ArcView {
     }
 }
 
-/// Arcs in the order of the text, with no index: `find` scans them. Their ends stand in a list of their own, since most
-/// passes over arcs read few of the numbers.
+/// Arcs in the order of the text, with no index: `find` scans them.
 #[derive(Drop)]
 pub struct PlainArcs<A: KeptArc> {
     nodes: u32,
-    ends: Vec<Ends>,
-    numbers: Vec<A::Numbers>,
+    fronts: Vec<A::Front>,
+    backs: Vec<A::Back>,
 }
 
 impl<A: KeptArc> Model for PlainArcs<A> {
@@ -187,9 +188,9 @@ impl<A: KeptArc> Model for PlainArcs<A> {
 
     ghost Value = { NetworkValue };
 
-    ghost view = { λ n. record { nodes = n.nodes; arcs = arcs_of A.arc_of n.ends.items n.numbers.items } };
+    ghost view = { λ n. record { nodes = n.nodes; arcs = arcs_of A.arc_of n.fronts.items n.backs.items } };
 
-    ghost invariant = { λ n. (length n.ends.items ≤ most_count) × (length n.numbers.items ≡ length n.ends.items) };
+    ghost invariant = { λ n. (length n.fronts.items ≤ most_count) × (length n.backs.items ≡ length n.fronts.items) };
 }
 
 impl<A: KeptArc> PlainArcs<A> {
@@ -199,8 +200,8 @@ impl<A: KeptArc> PlainArcs<A> {
     {
         PlainArcs {
             nodes,
-            ends: Vec::new(alloc),
-            numbers: Vec::new(alloc),
+            fronts: Vec::new(alloc),
+            backs: Vec::new(alloc),
         }
     }
 
@@ -210,10 +211,10 @@ impl<A: KeptArc> PlainArcs<A> {
         ensures pushed { OnOk result (self.new ≡ record self.old { arcs = self.old.arcs ++ A.shows arc ∷ [] }) }
         ensures unchanged { OnErr result (self.new ≡ self.old) }
     {
-        let ArcView { tail, head, .. } = arc.view();
-        self.numbers.reserve(1)?;
-        self.ends.push(Ends { tail, head })?;
-        push_within(&mut self.numbers, arc.numbers());
+        let (front, back) = arc.parts();
+        self.backs.reserve(1)?;
+        self.fronts.push(front)?;
+        push_within(&mut self.backs, back);
         Ok(())
     }
 }
@@ -228,12 +229,12 @@ impl<A: KeptArc> Network for PlainArcs<A> {
     }
 
     fn arcs(&self) -> u32 {
-        self.ends.len() as u32
+        self.fronts.len() as u32
     }
 
     #[inline(always)]
     fn arc(&self, i: u32) -> ArcView {
-        A::arc(self.ends[i as usize], self.numbers[i as usize])
+        A::arc(self.fronts[i as usize], self.backs[i as usize])
     }
 
     fn find(&self, tail: u32, head: u32, k: u32) -> Option<u32> {

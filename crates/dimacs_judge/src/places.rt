@@ -128,15 +128,17 @@ impl<'a, N: Network> FlowPlaces<'a, N> {
         self.put_by_search(entry)
     }
 
-    /// From here on entries are searched. The first time, an index is filled for it.
+    /// From here on entries are looked for by their ends. The first time, an index is filled for it.
     fn leave_order(&mut self)
         ensures { self.new ≡ record self.old { out_of_order = true } }
     {
-        match &mut self.index {
-            Some(index) if !self.out_of_order => index.fill(self.network),
-            _ => {}
+        if !self.out_of_order {
+            if let Some(index) = &mut self.index {
+                index.fill(self.network);
+            }
+            self.next = self.in_order;
+            self.out_of_order = true;
         }
-        self.out_of_order = true;
     }
 
     /// Whether all entries came in the order of the arcs, and this one has the ends of the next arc.
@@ -172,7 +174,8 @@ impl<'a, N: Network> FlowPlaces<'a, N> {
         Ok(())
     }
 
-    /// The first arc with the ends of this entry. It is looked for behind the arc of the last entry, and then searched.
+    /// The first arc with the ends of this entry. With an index of its own, the arcs behind that of the last entry are
+    /// compared first.
     #[inline(always)]
     fn first(&self, entry: Entry) -> Option<u32>
         ensures { IsKthBetween self.now.arcs entry.tail entry.head 0 result }
