@@ -188,6 +188,16 @@ fn the_last_value_in_a_table_stands(rt: HostRuntime) -> Result<(), Fail> {
     Ok(())
 }
 
+#[test]
+fn a_value_is_told_where_its_page_was_taken(rt: HostRuntime) -> Result<(), Fail> {
+    let table = table(rt.alloc())?;
+    same(&rt, "a node that was set", table.taken(256), Some(12));
+    same(&rt, "another on its page", table.taken(510), Some(5));
+    same(&rt, "one on no page", table.taken(512), None);
+    same(&rt, "the greatest ID", table.taken(u32::MAX), None);
+    Ok(())
+}
+
 /// IDs, and the first ID from each on that may have been set.
 static SKIPS: [(u32, usize); 8] = [
     (0, 0),
