@@ -1,4 +1,4 @@
--- Records behind those of labels that were begun.
+-- Records after those of labels that were begun.
 use Rattle.std.proofs.Common.{◌≡◌, ◌≢◌, ℕ, zero, suc, ◌<◌, ◌≤◌, ◌+◌, ◌-◌, ◌∷◌, ◌++◌, [], List, Bool, true, false, inl, inr, Option, Some, None, length, map, refl, ap, ap₂, sym, ◌∙◌, subst, arith, append_assoc}
 use Rattle.std.specs.Prelude.{ℤ, IfSome, ◌||◌, not, pos, is_some, is_none, nat_le, slice_get, slice_index_or, slice_set, ◌==◌}
 use Rattle.std.specs.List.{All, list_any}
@@ -25,10 +25,10 @@ use Rattle.dimacs_records.specs.Ranges.{IsRadius, IsWide}
 use Rattle.dimacs_records.specs.Readings.{IsAllowed, IsComplete, LineRecord, records_of}
 use Rattle.dimacs_records.specs.Tests.{Counts, IsToldOf, TellsEnd, earlier_of, problem_told}
 use Rattle.dimacs_claims.specs.declared.block.Label.{Label}
-use Rattle.dimacs_claims.specs.Labels.{AreSources, BlockValue, EachBehind, IsBlock, IsNewSource, distance_in, label, with_label, has_source}
+use Rattle.dimacs_claims.specs.Labels.{AreSources, BlockValue, EachAfter, IsBlock, IsNewSource, distance_in, label, with_label, has_source}
 use Rattle.dimacs_claims.specs.LabelTexts.{GivesLabels, label_line}
 use Rattle.dimacs_claims.specs.LabelsReading.{LabelsBegun, AreLabelled, AreLabelsBegun, lines_of_blocks, labels_begun_records}
-use Rattle.dimacs_claims.proofs.BlockLemmas.{label_id, near_radius, is_some-label, is_some-push, some_if, block_empty, block_push, each_behind_nil, each_behind_push}
+use Rattle.dimacs_claims.proofs.BlockLemmas.{label_id, near_radius, is_some-label, is_some-push, some_if, block_empty, block_push, each_after_nil, each_after_push}
 use Rattle.dimacs_claims.proofs.LabelRecords.{source_of, opened_with, last_after, last_cases, last_is, say_taken, short_told, list_any-has_source, lines_of_blocks-push_block, lines_of_blocks-push_label, lines_of_blocks-zero, new_source, push_same}
 
 -- what is told of the records is so
@@ -86,7 +86,7 @@ module _ (begun : LabelsBegun) (are : AreLabelsBegun begun) (source count : ℕ)
         last_few = λ front last e. omega (arith, few, ap (λ (x : BlockValue). length x.labels) (push_same begun.blocks front opened_block last e));
         none_lack = λ e. absurd (omega (arith, ap length e, longer));
         blocks = All-push (IsBlock begun.nodes) begun.blocks opened_block are.blocks (block_empty begun.nodes source radius (least, within) radius_within);
-        sources = each_behind_push IsNewSource begun.blocks opened_block are.sources (new_source begun.blocks opened_block new);
+        sources = each_after_push IsNewSource begun.blocks opened_block are.sources (new_source begun.blocks opened_block new);
       }
 
   pub pushed_block : labels_begun_records with_opened ≡ labels_begun_records begun ++ LabelsBlock source count radius ∷ []
@@ -173,7 +173,7 @@ module _ (begun : LabelsBegun) (l : Label) (fit : Fits begun l) where
   begun_label are id pred dist =
       let last = with_label fit.b l in
       let blocks = All-pop (IsBlock begun.nodes) (fit.front ++ fit.b ∷ []) fit.front (Some fit.b) refl (subst (All (IsBlock begun.nodes)) fit.is are.blocks) in
-      let sources = subst (EachBehind IsNewSource) fit.is are.sources in
+      let sources = subst (EachAfter IsNewSource) fit.is are.sources in
       let few = are.last_few fit.front fit.b fit.is in
       record {
         nodes_few = are.nodes_few;
@@ -182,10 +182,10 @@ module _ (begun : LabelsBegun) (l : Label) (fit : Fits begun l) where
         last_few = λ f c e. omega (arith, few, fit.lacks, length-append fit.b.labels (l ∷ []), ap (λ (x : BlockValue). length x.labels) (push_same fit.front f last c e));
         none_lack = λ e. absurd (omega (arith, ap length e, length-append fit.front (last ∷ [])));
         blocks = All-push (IsBlock begun.nodes) fit.front last blocks.0 (block_push begun.nodes fit.b l blocks.1 (record { id = (id, fit.id); dist = dist; pred = (pred, fit.pred) }) (omega (arith, few, fit.lacks)) fit.fresh fit.known (near_radius fit.b.radius l.dist fit.near));
-        sources = each_behind_push IsNewSource fit.front last (before_last IsNewSource fit.front fit.b sources) (sources fit.front [] fit.b refl);
+        sources = each_after_push IsNewSource fit.front last (before_last IsNewSource fit.front fit.b sources) (sources fit.front [] fit.b refl);
       }
     where
-      before_last : {X : Type 0} (P : List X → X → Type 0) (xs : List X) (x : X) → EachBehind P (xs ++ x ∷ []) → EachBehind P xs
+      before_last : {X : Type 0} (P : List X → X → Type 0) (xs : List X) (x : X) → EachAfter P (xs ++ x ∷ []) → EachAfter P xs
       before_last P xs x each before after y e = each before (after ++ x ∷ []) y (ap (λ ys. ys ++ x ∷ []) e ∙ append_assoc before (y ∷ after) (x ∷ []))
 
 -- the last block, as a look-up gives it
@@ -205,7 +205,7 @@ nothing_begun nodes declared nodes_few blocks_few = record {
   last_few = λ front b e. absurd (omega (arith, ap length e, length-append front (b ∷ [])));
   none_lack = λ e. refl;
   blocks = All-nil (IsBlock nodes);
-  sources = each_behind_nil IsNewSource;
+  sources = each_after_nil IsNewSource;
 }
 
 set_at : (front : List BlockValue) (x y : BlockValue) (k : ℕ) → k ≡ length front → slice_set (front ++ x ∷ []) k y ≡ front ++ y ∷ []

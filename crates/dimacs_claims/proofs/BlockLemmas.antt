@@ -11,7 +11,7 @@ use Rattle.dimacs_records.specs.Blocks.{is_past}
 use Rattle.dimacs_records.specs.Earlier.{or_else}
 use Rattle.dimacs_records.proofs.SplitLemmas.{two_places, same, sooner, later}
 use Rattle.dimacs_claims.specs.declared.block.Label.{Label}
-use Rattle.dimacs_claims.specs.Labels.{BlockValue, label, label_at, distance_in, with_label, EachBehind, IsFresh, HasPred, IsLabel, IsBlock, IsNear, IsNewSource, AreLabels}
+use Rattle.dimacs_claims.specs.Labels.{BlockValue, label, label_at, distance_in, with_label, EachAfter, IsFresh, HasPred, IsLabel, IsBlock, IsNear, IsNewSource, AreLabels}
 use Rattle.dimacs_records.specs.Ranges.{IsNode, IsRadius, IsWide}
 
 -- a test before a choice
@@ -42,12 +42,12 @@ one_more_at false d x h = sym (or_else-none x)
 pub label-with_label : (b : BlockValue) (l : Label) → label b l.id ≡ None → (v : ℕ) → label (with_label b l) v ≡ (if l.id == v then Some l.dist else label b v)
 label-with_label b l fresh v = label-push b l v ∙ sym (one_more_at (l.id == v) l.dist (label b v) (λ e. subst (λ w. label b w ≡ None) (eqb-true l.id v e) fresh))
 
--- what is behind each other stays, and the last is behind all others
-pub each_behind_nil : {X : Type 0} (P : List X → X → Type 0) → EachBehind P []
-each_behind_nil P before after x e = absurd (omega (arith, ap length e, length-append before (x ∷ after)))
+-- what is after each other stays, and the last is after all others
+pub each_after_nil : {X : Type 0} (P : List X → X → Type 0) → EachAfter P []
+each_after_nil P before after x e = absurd (omega (arith, ap length e, length-append before (x ∷ after)))
 
-pub each_behind_push : {X : Type 0} (P : List X → X → Type 0) (xs : List X) (x : X) → EachBehind P xs → P xs x → EachBehind P (xs ++ x ∷ [])
-each_behind_push P xs x each last before after y e = elim (two_places xs before [] after x y e) [
+pub each_after_push : {X : Type 0} (P : List X → X → Type 0) (xs : List X) (x : X) → EachAfter P xs → P xs x → EachAfter P (xs ++ x ∷ [])
+each_after_push P xs x each last before after y e = elim (two_places xs before [] after x y e) [
   | same before_is y_is ↦ subst (λ ys. P ys y) before_is (subst (P xs) y_is last)
   | sooner rest longer ↦ absurd (omega (arith, ap length e, length-append xs (x ∷ []), length-append before (y ∷ after), ap length longer, length-append xs (x ∷ rest)))
   | later rest longer ↦ each before rest y longer
@@ -141,8 +141,8 @@ block_push nodes b l is label_is room fresh pred near = record {
   few = omega (arith, room, length-append b.labels (l ∷ []));
   within = All-push (IsLabel nodes) b.labels l is.within label_is;
   near = All-push (λ (m : Label). IsNear b.radius m.dist) b.labels l is.near near;
-  fresh = each_behind_push (IsFresh b.source) b.labels l is.fresh (is_fresh b l fresh);
-  preds = each_behind_push (HasPred b.source) b.labels l is.preds (has_pred b l pred);
+  fresh = each_after_push (IsFresh b.source) b.labels l is.fresh (is_fresh b l fresh);
+  preds = each_after_push (HasPred b.source) b.labels l is.preds (has_pred b l pred);
 }
 
 -- a block without labels
@@ -153,8 +153,8 @@ block_empty nodes source radius within radius_within = record {
   few = omega arith;
   within = All-nil (IsLabel nodes);
   near = All-nil (λ (m : Label). IsNear radius m.dist);
-  fresh = each_behind_nil (IsFresh source);
-  preds = each_behind_nil (HasPred source);
+  fresh = each_after_nil (IsFresh source);
+  preds = each_after_nil (HasPred source);
 }
 
 -- a distance that is not past a radius
@@ -172,7 +172,7 @@ labels_push nodes blocks b are lawful new few = record {
   nodes_few = are.nodes_few;
   blocks_few = omega (arith, few, length-append blocks (b ∷ []));
   blocks = All-push (IsBlock nodes) blocks b are.blocks lawful;
-  sources = each_behind_push IsNewSource blocks b are.sources new;
+  sources = each_after_push IsNewSource blocks b are.sources new;
 }
 
 -- ---- claimed distances lie in their range

@@ -1,4 +1,4 @@
--- Sets of nodes, and records behind those of a set that was begun.
+-- Sets of nodes, and records after those of a set that was begun.
 use Rattle.std.proofs.Common.{◌≡◌, ℕ, suc, ◌<◌, ◌≤◌, ◌∷◌, ◌++◌, [], List, Bool, true, false, Option, Some, None, length, map, ◌+◌, ◌-◌, ◌==◌, ◌||◌, refl, ap, ap₂, sym, ◌∙◌, subst, arith}
 use Rattle.std.specs.Prelude.{codes, nat_lt, nat_le, count_by}
 use Rattle.std.specs.List.{All, filter, list_any, range_with_len}
@@ -41,7 +41,7 @@ counted : (named : List ℕ) → counted_in (map CutNode named) ≡ length named
 counted [] = refl
 counted (x ∷ named) = ap suc (counted named)
 
--- behind the problem line and these lines
+-- after the problem line and these lines
 module _ (nodes declared : ℕ) (named : List ℕ) where
   abbrev earlier : List Record
   earlier = cut_records nodes declared named

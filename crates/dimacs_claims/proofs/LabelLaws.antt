@@ -21,14 +21,14 @@ use Rattle.dimacs_records.specs.inside.Texts.{AreFaultless}
 use Rattle.dimacs_records.proofs.CanonicalLaws.{canonical_spelled, numbered_all}
 use Rattle.dimacs_records.proofs.ReadLaws.{spelled_of_faultless}
 use Rattle.dimacs_claims.specs.declared.block.Label.{Label}
-use Rattle.dimacs_claims.specs.Labels.{BlockValue, LabelsValue, AreLabels, EachBehind, IsBlock, IsLabel, IsFresh, HasPred, IsNear, IsNewSource}
+use Rattle.dimacs_claims.specs.Labels.{BlockValue, LabelsValue, AreLabels, EachAfter, IsBlock, IsLabel, IsFresh, HasPred, IsNear, IsNewSource}
 use Rattle.dimacs_claims.specs.LabelTexts.{label_line, block_lines, label_records, GivesLabels, SpellsLabels, canonical_labels, FitText}
 use Rattle.dimacs_claims.proofs.BlockLemmas.{label_id, is_some-label, fresh_has_none, not_past, pred_has_label}
 use Rattle.dimacs_claims.proofs.LineCounts.{one_a_line}
 use Rattle.dimacs_claims.proofs.LabelStates.{Say, opened, is_source, say_problem, say_block, say_label, first_problem, block_allowed, label_allowed, all_there}
 use Rattle.dimacs_claims.proofs.LabelRecords.{source_of, say_labels}
 
--- each record is allowed behind the earlier ones and those before it
+-- each record is allowed after the earlier ones and those before it
 AllAllowed : List Record → List Record → Type 0
 AllAllowed earlier [] = Unit {0}
 AllAllowed earlier (r ∷ rs) = IsAllowed earlier r × AllAllowed (earlier ++ r ∷ []) rs
@@ -46,12 +46,12 @@ allowed_at (b ∷ before) (x ∷ xs) after earlier r a e =
     let first : x ≡ b = cc in
     subst (λ t. IsAllowed t r) (append_assoc earlier (b ∷ []) before) (subst (λ y. IsAllowed ((earlier ++ y ∷ []) ++ before) r) first (allowed_at before xs after (earlier ++ x ∷ []) r a.1 (cc)))
 
--- where each element has something behind the ones before it
-each_here : {X : Type 0} (P : List X → X → Type 0) (done more : List X) (x : X) → EachBehind P (done ++ x ∷ more) → P done x
+-- where each element has something after the ones before it
+each_here : {X : Type 0} (P : List X → X → Type 0) (done more : List X) (x : X) → EachAfter P (done ++ x ∷ more) → P done x
 each_here P done more x each = each done more x refl
 
-each_next : {X : Type 0} (P : List X → X → Type 0) (done more : List X) (x : X) → EachBehind P (done ++ x ∷ more) → EachBehind P ((done ++ x ∷ []) ++ more)
-each_next P done more x each = subst (EachBehind P) (sym (append_assoc done (x ∷ []) more)) each
+each_next : {X : Type 0} (P : List X → X → Type 0) (done more : List X) (x : X) → EachAfter P (done ++ x ∷ more) → EachAfter P ((done ++ x ∷ []) ++ more)
+each_next P done more x each = subst (EachAfter P) (sym (append_assoc done (x ∷ []) more)) each
 
 abbrev with_labels : ℕ → Option ℤ → List Label → BlockValue
 with_labels source radius ls = record { source = source; radius = radius; labels = ls }
@@ -61,7 +61,7 @@ not_full count n room = grind (arith, nat_tests, room)
 
 -- labels of a block that is begun are allowed
 labels_allowed : (ls done : List Label) (earlier : List Record) (nodes declared : ℕ) (sources : List ℕ) (source count : ℕ) (radius : Option ℤ) → Say earlier nodes declared sources (Some (opened source count radius (map label_id done)))
-    → length done + length ls ≡ count → All (IsLabel nodes) ls → All (λ (l : Label). IsNear radius l.dist) ls → EachBehind (IsFresh source) (done ++ ls) → EachBehind (HasPred source) (done ++ ls) → AllAllowed earlier (map label_line ls)
+    → length done + length ls ≡ count → All (IsLabel nodes) ls → All (λ (l : Label). IsNear radius l.dist) ls → EachAfter (IsFresh source) (done ++ ls) → EachAfter (HasPred source) (done ++ ls) → AllAllowed earlier (map label_line ls)
 unfolding AllAllowed
 labels_allowed [] done earlier nodes declared sources source count radius say all within near fresh preds = tt
 labels_allowed (l ∷ ls) done earlier nodes declared sources source count radius say all within near fresh preds =
@@ -85,13 +85,13 @@ other_sources (d ∷ done) b new =
 full_is_not_short : (source count : ℕ) (radius : Option ℤ) (ids : List ℕ) → length ids ≡ count → is_short_block (Some (opened source count radius ids)) ≡ false
 full_is_not_short source count radius ids full = le-ltb (length ids) count (omega (arith, full))
 
--- behind other blocks, blocks are allowed, and with them the text is complete
+-- after other blocks, blocks are allowed, and with them the text is complete
 record BlocksFit (earlier : List Record) (rs : List Record) : Type 0 where
   allowed : AllAllowed earlier rs
   complete : IsComplete Labels (earlier ++ rs)
 
 blocks_fit : (bs done : List BlockValue) (earlier : List Record) (nodes declared : ℕ) (last : Option Block) → Say earlier nodes declared (map source_of done) last → is_short_block last ≡ false
-    → length done + length bs ≡ declared → All (IsBlock nodes) bs → EachBehind IsNewSource (done ++ bs) → BlocksFit earlier (flat_map block_lines bs)
+    → length done + length bs ≡ declared → All (IsBlock nodes) bs → EachAfter IsNewSource (done ++ bs) → BlocksFit earlier (flat_map block_lines bs)
 unfolding AllAllowed
 blocks_fit [] done earlier nodes declared last say full all are sources = record {
   allowed = tt;

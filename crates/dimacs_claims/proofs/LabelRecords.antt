@@ -21,7 +21,7 @@ use Rattle.dimacs_claims.proofs.LabelStates.{Say, opened, is_source, say_problem
 abbrev pub source_of : BlockValue → ℕ
 source_of b = b.source
 
--- what a text says behind these labels
+-- what a text says after these labels
 pub say_labels : (ls : List Label) (earlier : List Record) (nodes declared : ℕ) (sources : List ℕ) (source count : ℕ) (radius : Option ℤ) (ids : List ℕ) → Say earlier nodes declared sources (Some (opened source count radius ids))
     → Say (earlier ++ map label_line ls) nodes declared sources (Some (opened source count radius (ids ++ map label_id ls)))
 say_labels [] earlier nodes declared sources source count radius ids say = rw (append-nil earlier, append-nil ids) say
@@ -81,7 +81,7 @@ lines_of_blocks-push_label (f ∷ front) source radius ls l missing =
     lacking-push [] b c m n = refl
     lacking-push (a ∷ bs) b c m n = refl
 
--- one block more behind those that lack nothing
+-- one block more after those that lack nothing
 pub lines_of_blocks-push_block : (blocks : List BlockValue) (source count : ℕ) (radius : Option ℤ)
     → lines_of_blocks count (blocks ++ record { source = source; radius = radius; labels = [] } ∷ []) ≡ lines_of_blocks 0 blocks ++ LabelsBlock source count radius ∷ []
 lines_of_blocks-push_block [] source count radius = let same : 0 + count ≡ count = omega arith in ap (λ n. LabelsBlock source n radius ∷ []) same
@@ -92,7 +92,7 @@ lines_of_blocks-push_block (f ∷ blocks) source count radius =
     lacking-both [] b n = refl
     lacking-both (a ∷ bs) b n = refl
 
--- behind what was taken
+-- after what was taken
 pub say_taken : (begun : LabelsBegun) → Say (labels_begun_records begun) begun.nodes begun.declared (map source_of begun.blocks) (last_after begun.missing None begun.blocks)
 say_taken begun = say_blocks begun.blocks begun.missing (LabelsProblem begun.nodes begun.declared ∷ []) begun.nodes begun.declared [] None (say_problem begun.nodes begun.declared)
 
@@ -124,17 +124,17 @@ pub list_any-has_source : (id : ℕ) (blocks : List BlockValue) → list_any (ha
 list_any-has_source id [] = refl
 list_any-has_source id (b ∷ blocks) = ap (λ t. (b.source == id) || t) (list_any-has_source id blocks)
 
-or_behind : (a b c : Bool) → a ≡ c → (a || b) ≡ (b || (c || false))
-or_behind true true c same = refl
-or_behind true false c same = ap (λ t. t || false) same
-or_behind false true c same = refl
-or_behind false false c same = ap (λ t. t || false) same
+or_after : (a b c : Bool) → a ≡ c → (a || b) ≡ (b || (c || false))
+or_after true true c same = refl
+or_after true false c same = ap (λ t. t || false) same
+or_after false true c same = refl
+or_after false false c same = ap (λ t. t || false) same
 
 -- the source of one block more
 pub are_sources_more : (sources : set.FinSet nat_cmp) (blocks : List BlockValue) (b : BlockValue) → AreSources sources blocks → AreSources (set.insert sources b.source) (blocks ++ b ∷ [])
 are_sources_more sources blocks b are id =
     set.contains-insert nat_cmp_total sources b.source id ∙ (ap (λ t. eq_by_cmp nat_cmp id b.source || t) (are id)
-    ∙ (or_behind (eq_by_cmp nat_cmp id b.source) (list_any (has_source id) blocks) (b.source == id) (unsigned_tied id b.source ∙ nat_eq_equiv.symm id b.source) ∙ sym (list_any-append (has_source id) blocks (b ∷ []))))
+    ∙ (or_after (eq_by_cmp nat_cmp id b.source) (list_any (has_source id) blocks) (b.source == id) (unsigned_tied id b.source ∙ nat_eq_equiv.symm id b.source) ∙ sym (list_any-append (has_source id) blocks (b ∷ []))))
 
 -- a source that is none of those of the blocks
 pub new_source : (blocks : List BlockValue) (b : BlockValue) → list_any (has_source b.source) blocks ≡ false → IsNewSource blocks b

@@ -1,4 +1,4 @@
--- What the earlier records of a text of labels say, and which records are allowed behind them.
+-- What the earlier records of a text of labels say, and which records are allowed after them.
 use Rattle.std.proofs.Common.{◌≡◌, ℕ, ◌<◌, ◌≤◌, ◌+◌, ◌∷◌, ◌++◌, [], List, Bool, true, false, Option, Some, None, length, refl, ap, sym, ◌∙◌, arith}
 use Rattle.std.specs.Prelude.{ℤ, is_none, nat_le, ◌==◌, ◌||◌}
 use Rattle.std.specs.List.{list_any}
@@ -34,8 +34,8 @@ problem_in-append [] more p h = absurd (cc)
 problem_in-append (r ∷ rs) more p h = by_first (problem_of r) refl h (problem_in-append rs more p)
   where
     by_first : (first : Option Problem) → problem_of r ≡ first → or_else first (problem_in rs) ≡ Some p → (problem_in rs ≡ Some p → problem_in (rs ++ more) ≡ Some p) → or_else (problem_of r) (problem_in (rs ++ more)) ≡ Some p
-    by_first None e t behind = rw e (behind t)
-    by_first (Some q) e t behind = rw e t
+    by_first None e t after = rw e (after t)
+    by_first (Some q) e t after = rw e t
 
 counted_in-append : (rs more : List Record) → counted_in (rs ++ more) ≡ counted_in rs + counted_in more
 counted_in-append rs more = ap length (filter-append is_counted rs more) ∙ length-append _ _
@@ -43,7 +43,7 @@ counted_in-append rs more = ap length (filter-append is_counted rs more) ∙ len
 block_in-push : (rs : List Record) (r : Record) → block_in (rs ++ r ∷ []) ≡ block_after (block_in rs) r
 block_in-push rs r = fold-append block_after None rs (r ∷ [])
 
--- behind the problem line
+-- after the problem line
 pub say_problem : (nodes declared : ℕ) → Say (LabelsProblem nodes declared ∷ []) nodes declared [] None
 say_problem nodes declared = record { problem = refl; counted = refl; named = λ id. refl; block = refl }
 

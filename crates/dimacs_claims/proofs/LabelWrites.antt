@@ -1,4 +1,4 @@
--- Lines of labels behind what was written.
+-- Lines of labels after what was written.
 use Rattle.std.proofs.Common.{◌≡◌, ℕ, ◌<◌, ◌+◌, ◌∷◌, ◌++◌, [], List, Option, length, map, take, get_or, ap, sym, ◌∙◌, subst, append_assoc}
 use Rattle.std.specs.List.{flat_map}
 use Rattle.std.proofs.lemmas.List.{append-nil, map-append, take_more}
@@ -13,13 +13,13 @@ use Rattle.dimacs_claims.specs.LabelTexts.{label_line, block_lines}
 one_line : (r : Record) → canonical_text (r ∷ []) ≡ canonical_line r
 one_line r = append-nil (canonical_line r)
 
--- the first line behind other texts
-pub line_behind : (start new : Option (List ℕ)) (page : PageState) (text : List ℕ) (r : Record) → IsWritten start (text ++ canonical_line r) new page → IsWritten start (text ++ canonical_text (r ∷ [])) new page
-line_behind start new page text r h = subst (λ t. IsWritten start (text ++ t) new page) (sym (one_line r)) h
+-- the first line after other texts
+pub line_after : (start new : Option (List ℕ)) (page : PageState) (text : List ℕ) (r : Record) → IsWritten start (text ++ canonical_line r) new page → IsWritten start (text ++ canonical_text (r ∷ [])) new page
+line_after start new page text r h = subst (λ t. IsWritten start (text ++ t) new page) (sym (one_line r)) h
 
--- more lines behind these
-pub lines_behind : (start new : Option (List ℕ)) (page : PageState) (text : List ℕ) (before more all : List Record) → all ≡ before ++ more → IsWritten start ((text ++ canonical_text before) ++ canonical_text more) new page → IsWritten start (text ++ canonical_text all) new page
-lines_behind start new page text before more all is h =
+-- more lines after these
+pub lines_after : (start new : Option (List ℕ)) (page : PageState) (text : List ℕ) (before more all : List Record) → all ≡ before ++ more → IsWritten start ((text ++ canonical_text before) ++ canonical_text more) new page → IsWritten start (text ++ canonical_text all) new page
+lines_after start new page text before more all is h =
     let same : (text ++ canonical_text before) ++ canonical_text more ≡ text ++ canonical_text all = append_assoc text (canonical_text before) (canonical_text more) ∙ ap (λ t. text ++ t) (sym (flat_map-append canonical_line before more) ∙ ap canonical_text (sym is)) in
     subst (λ t. IsWritten start t new page) same h
 

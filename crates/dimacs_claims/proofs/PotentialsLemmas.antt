@@ -1,4 +1,4 @@
--- Potentials, and records behind those of potentials that were begun.
+-- Potentials, and records after those of potentials that were begun.
 use Rattle.std.proofs.Common.{◌≡◌, ◌≢◌, ℕ, suc, ◌<◌, ◌≤◌, ◌∷◌, ◌++◌, [], List, Bool, true, false, Option, Some, None, length, map, cond, ◌+◌, ◌-◌, ◌==◌, ◌||◌, refl, ap, ap₂, sym, ◌∙◌, subst, arith}
 use Rattle.std.specs.Prelude.{ℤ, pos, codes, is_some, nat_lt, nat_le, not, count_by, unwrap_or}
 use Rattle.std.specs.List.{All, filter, list_any, range_with_len}
@@ -43,7 +43,7 @@ counted : (named : List (ℕ × ℤ)) → counted_in (map node_line named) ≡ l
 counted [] = refl
 counted (n ∷ named) = ap suc (counted named)
 
--- behind the problem line and these lines
+-- after the problem line and these lines
 module _ (nodes declared : ℕ) (named : List (ℕ × ℤ)) where
   abbrev earlier : List Record
   earlier = potentials_records nodes declared named

@@ -65,11 +65,11 @@ value_says (x ∷ es) (b ∷ before) after line value e =
     rw first (value_says es before after line value (cc))
 value_says [] (b ∷ before) after line value e = absurd (cc)
 
--- an entry is taken behind any records
+-- an entry is taken after any records
 entry_allowed : (earlier : List Record) (e : Entry) → IsAllowed earlier (entry_record e)
 entry_allowed earlier e = is_allowed earlier (entry_record e) refl
 
--- a record among those of a solution is an entry's, or that of a value behind entries alone
+-- a record among those of a solution is an entry's, or that of a value after entries alone
 data Place (before : List Record) (r : Record) : Type 0 where
   of_entry : (e : Entry) → r ≡ entry_record e → Place before r
   of_value : (value : ℤ) → r ≡ value_record value → list_any is_value before ≡ false → Place before r
@@ -119,8 +119,8 @@ solution_in [] = record { value = pos 0; value_line = 0; entries = [] }
 solution_in (r ∷ rs) = with_line r.line r.says (solution_in rs)
 
 -- a solution with one entry more in front
-abbrev behind_entry : Entry → SolutionValue → SolutionValue
-behind_entry e s = record { value = s.value; value_line = s.value_line; entries = e ∷ s.entries }
+abbrev after_entry : Entry → SolutionValue → SolutionValue
+after_entry e s = record { value = s.value; value_line = s.value_line; entries = e ∷ s.entries }
 
 entries_in-entries : (es : List Entry) → (solution_in (map entry_line es)).entries ≡ es
 unfolding solution_in with_line
@@ -133,7 +133,7 @@ unfolding solution_in with_line
 solution_in-among es [] after line value e = ap (λ xs. record { value = value; value_line = line; entries = xs }) (ap (λ rs. (solution_in rs).entries) (sym e) ∙ entries_in-entries es)
 solution_in-among (x ∷ es) (b ∷ before) after line value e =
     let first : b ≡ entry_line x = cc in
-    rw first (ap (behind_entry x) (solution_in-among es before after line value (cc)))
+    rw first (ap (after_entry x) (solution_in-among es before after line value (cc)))
 solution_in-among [] (b ∷ before) after line value e = absurd (cc)
 
 solution_in-given : (rs : List LineRecord) (s : SolutionValue) → GivesSolution rs s → solution_in rs ≡ s

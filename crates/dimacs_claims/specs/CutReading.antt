@@ -7,7 +7,7 @@ use Rattle.std.specs.FinSet as set
 use Rattle.dimacs_records.specs.declared.records.Record.{Record}
 use Rattle.dimacs_claims.specs.Cuts.{CutValue, IsCut, AreNamed, cut_records, ids_in}
 
--- what the problem line declares, and the nodes behind it
+-- what the problem line declares, and the nodes after it
 pub record CutBegun : Type 0 where
   pub declared : ℕ
   pub cut : CutValue

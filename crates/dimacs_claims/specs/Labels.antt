@@ -40,9 +40,9 @@ label_at blocks k v = label_in (slice_get blocks k) v
 abbrev pub with_label : BlockValue → Label → BlockValue
 with_label b l = record { source = b.source; radius = b.radius; labels = b.labels ++ l ∷ [] }
 
--- each element has this behind the ones before it
-abbrev pub EachBehind : {X : Type 0} → (List X → X → Type 0) → List X → Type 0
-EachBehind {X} P xs = (before after : List X) (x : X) → xs ≡ before ++ x ∷ after → P before x
+-- each element has this after the ones before it
+abbrev pub EachAfter : {X : Type 0} → (List X → X → Type 0) → List X → Type 0
+EachAfter {X} P xs = (before after : List X) (x : X) → xs ≡ before ++ x ∷ after → P before x
 
 -- a label of a node that is neither the source nor named by an earlier label
 abbrev pub IsFresh : ℕ → List Label → Label → Type 0
@@ -54,7 +54,7 @@ HasPred source before l = (l.pred ≡ source) ⊎ ((m : Label) × Contains befor
 
 -- the predecessor on each label is the source, or has an earlier label
 abbrev pub PredsAreEarlier : BlockValue → Type 0
-PredsAreEarlier b = EachBehind (HasPred b.source) b.labels
+PredsAreEarlier b = EachAfter (HasPred b.source) b.labels
 
 -- the label's numbers lie in their ranges
 pub record IsLabel (nodes : ℕ) (l : Label) : Type 0 where
@@ -66,14 +66,14 @@ pub record IsLabel (nodes : ℕ) (l : Label) : Type 0 where
 abbrev pub IsNear : Option ℤ → ℤ → Type 0
 IsNear radius dist = IfSome radius (λ r. dist ≤ℤ r)
 
--- numbers within their ranges, no label past the radius, one for a node, and each behind that of its predecessor
+-- numbers within their ranges, no label past the radius, one for a node, and each after that of its predecessor
 pub record IsBlock (nodes : ℕ) (b : BlockValue) : Type 0 where
   pub source_within : IsNode nodes b.source
   pub radius_within : IfSome b.radius IsRadius
   pub few : length b.labels ≤ most_count
   pub within : All (IsLabel nodes) b.labels
   pub near : All (λ (l : Label). IsNear b.radius l.dist) b.labels
-  pub fresh : EachBehind (IsFresh b.source) b.labels
+  pub fresh : EachAfter (IsFresh b.source) b.labels
   pub preds : PredsAreEarlier b
 
 abbrev pub has_source : ℕ → BlockValue → Bool
@@ -95,4 +95,4 @@ pub record AreLabels (labels : LabelsValue) : Type 0 where
   pub nodes_few : labels.nodes ≤ most_nodes
   pub blocks_few : length labels.blocks ≤ most_count
   pub blocks : All (IsBlock labels.nodes) labels.blocks
-  pub sources : EachBehind IsNewSource labels.blocks
+  pub sources : EachAfter IsNewSource labels.blocks

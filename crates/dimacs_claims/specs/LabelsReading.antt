@@ -6,10 +6,10 @@ use Rattle.dimacs_nodes.specs.declared.node_table.NodeTable.{NodeTable}
 use Rattle.dimacs_nodes.specs.Tables.{value_of}
 use Rattle.dimacs_records.specs.declared.records.Record.{Record}
 use Rattle.dimacs_records.specs.declared.records.Record.TheVariants.{LabelsProblem, LabelsBlock}
-use Rattle.dimacs_claims.specs.Labels.{BlockValue, EachBehind, IsBlock, IsNewSource, distance_in}
+use Rattle.dimacs_claims.specs.Labels.{BlockValue, EachAfter, IsBlock, IsNewSource, distance_in}
 use Rattle.dimacs_claims.specs.LabelTexts.{label_line}
 
--- what the problem line declares, the blocks behind it, and how many labels the last one lacks
+-- what the problem line declares, the blocks after it, and how many labels the last one lacks
 pub record LabelsBegun : Type 0 where
   pub nodes : ℕ
   pub declared : ℕ
@@ -50,7 +50,7 @@ pub record AreLabelsBegun (begun : LabelsBegun) : Type 0 where
   pub last_few : LastIsFew begun
   pub none_lack : begun.blocks ≡ [] → begun.missing ≡ 0
   pub blocks : All (IsBlock begun.nodes) begun.blocks
-  pub sources : EachBehind IsNewSource begun.blocks
+  pub sources : EachAfter IsNewSource begun.blocks
 
 -- the table has, by node, the number of the last block that has a label of it, from 1
 pub record AreLabelled (labelled : NodeTable ℕ) (blocks : List BlockValue) : Type 0 where

@@ -8,7 +8,7 @@ use Rattle.dimacs_records.specs.declared.records.Record.{Record}
 use Rattle.dimacs_claims.specs.Potentials.{PotentialsValue, potentials_records}
 use Rattle.dimacs_records.specs.NodeValues.{NameNodes, without_zeros}
 
--- what the problem line declares, how many lines came behind it, and the potentials of the nodes that they name
+-- what the problem line declares, how many lines came after it, and the potentials of the nodes that they name
 pub record PotentialsBegun : Type 0 where
   pub nodes : ℕ
   pub declared : ℕ

@@ -73,6 +73,6 @@ abbrev pub on_lines_from : ℕ → List Entry → List Entry
 on_lines_from line [] = []
 on_lines_from line (e ∷ es) = record e { line = line } ∷ on_lines_from (suc line) es
 
--- the value on line 1, and the entries on the lines behind it
+-- the value on line 1, and the entries on the lines after it
 abbrev pub renumbered : SolutionValue → SolutionValue
 renumbered s = record { value = s.value; value_line = 1; entries = on_lines_from 2 s.entries }

@@ -123,7 +123,7 @@ impl Model for CutReading {
     ghost view = { λ reading. reading.begun };
 }
 
-/// The nodes that came behind the problem line.
+/// The nodes that came after the problem line.
 #[derive(Drop)]
 pub(crate) struct BegunCut {
     declared: u32,
@@ -244,7 +244,7 @@ pub fn write_cut<S: Sink>(cut: &Cut, sink: &mut S) -> Result<(), DeviceFault>
     ensures puts { Puts result (S.accepted sink.old) (canonical_cut cut.now) (S.accepted sink.new) }
     ensures fault { CountsFault result (S.faults sink.old) (S.faults sink.new) }
     ensures round_trip { SpellsCut (canonical_cut cut.now) cut.now }
-    ensures again { (read : CutValue) → SpellsCut (canonical_cut cut.now) read → canonical_cut read ≡ canonical_cut cut.now }
+    ensures same_text { (read : CutValue) → SpellsCut (canonical_cut cut.now) read → canonical_cut read ≡ canonical_cut cut.now }
 {
     let nodes = cut.nodes();
     let count = cut.len();

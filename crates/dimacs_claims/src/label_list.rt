@@ -61,7 +61,7 @@ impl LabelList {
         }
     }
 
-    /// Adds a label behind the others.
+    /// Adds a label after the others.
     #[inline]
     pub(crate) fn push(&mut self, label: Label) -> Result<(), Memory>
         ensures pushed { OnOk result (self.new ≡ self.old ++ label ∷ []) }

@@ -37,7 +37,7 @@ use dimacs_records::{
 use std::alloc::Global;
 use std::marker::Model;
 
-/// Claimed distances from sources, in blocks. In a block each label stands behind that of its predecessor.
+/// Claimed distances from sources, in blocks. In a block each label stands after that of its predecessor.
 #[derive(Drop)]
 pub struct Labels {
     nodes: u32,
@@ -152,7 +152,7 @@ impl Model for LabelsReading {
     ghost view = { λ reading. label_records_so_far reading.begun };
 }
 
-/// The blocks that came behind the problem line.
+/// The blocks that came after the problem line.
 #[derive(Drop)]
 pub(crate) struct BegunLabels {
     nodes: u32,
@@ -442,7 +442,7 @@ pub fn write_labels<S: Sink>(labels: &Labels, sink: &mut S) -> Result<(), Device
     ensures puts { Puts result (S.accepted sink.old) (canonical_labels labels.now) (S.accepted sink.new) }
     ensures fault { CountsFault result (S.faults sink.old) (S.faults sink.new) }
     ensures round_trip { FitText labels.now → SpellsLabels (canonical_labels labels.now) labels.now }
-    ensures again { FitText labels.now → (read : LabelsValue) → SpellsLabels (canonical_labels labels.now) read → canonical_labels read ≡ canonical_labels labels.now }
+    ensures same_text { FitText labels.now → (read : LabelsValue) → SpellsLabels (canonical_labels labels.now) read → canonical_labels read ≡ canonical_labels labels.now }
 {
     let nodes = labels.nodes();
     let blocks = labels.blocks();

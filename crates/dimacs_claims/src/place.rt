@@ -18,7 +18,7 @@ pub trait Place: Drop {
     /// What no entry changes.
     ghost fixed: { Self → Fixed };
 
-    /// Puts one more entry behind the others. After an error the place is unchanged: it stands for the same lists.
+    /// Puts one more entry after the others. After an error the place is unchanged: it stands for the same lists.
     fn place(&mut self, entry: Entry) -> Result<(), Memory>
         ensures placed { OnOk result ((entries : List Entry) → stands_for self.old entries → stands_for self.new (entries ++ entry ∷ [])) }
         ensures unchanged { OnErr result ((entries : List Entry) → stands_for self.new entries ↔ stands_for self.old entries) }

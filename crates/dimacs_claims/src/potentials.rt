@@ -124,7 +124,7 @@ impl Model for PotentialsReading {
     ghost view = { λ reading. reading.begun };
 }
 
-/// The potentials that came behind the problem line.
+/// The potentials that came after the problem line.
 #[derive(Drop)]
 pub(crate) struct BegunPotentials {
     nodes: u32,
@@ -264,7 +264,7 @@ pub fn write_potentials<S: Sink>(potentials: &Potentials, sink: &mut S) -> Resul
     ensures puts { Puts result (S.accepted sink.old) (canonical_potentials potentials.now) (S.accepted sink.new) }
     ensures fault { CountsFault result (S.faults sink.old) (S.faults sink.new) }
     ensures round_trip { SpellsPotentials (canonical_potentials potentials.now) potentials.now }
-    ensures again { (read : PotentialsValue) → SpellsPotentials (canonical_potentials potentials.now) read → canonical_potentials read ≡ canonical_potentials potentials.now }
+    ensures same_text { (read : PotentialsValue) → SpellsPotentials (canonical_potentials potentials.now) read → canonical_potentials read ≡ canonical_potentials potentials.now }
 {
     let nodes = potentials.nodes();
     let count = potentials.count_nonzero();

@@ -184,12 +184,12 @@ pub fn read_solution_into<P: Place, S: Source>(
 }
 
 /// Writes the canonical text of a solution. Read again, its value stands on line 1 and its entries on the lines
-/// behind it.
+/// after it.
 pub fn write_solution<S: Sink>(solution: &Solution, sink: &mut S) -> Result<(), DeviceFault>
     ensures puts { Puts result (S.accepted sink.old) (canonical_solution (claimed solution.now)) (S.accepted sink.new) }
     ensures fault { CountsFault result (S.faults sink.old) (S.faults sink.new) }
     ensures round_trip { IsLawful (claimed solution.now) → SpellsSolution (canonical_solution (claimed solution.now)) (renumbered (claimed solution.now)) }
-    ensures again { IsLawful (claimed solution.now) → (read : SolutionValue) → SpellsSolution (canonical_solution (claimed solution.now)) read → canonical_solution read ≡ canonical_solution (claimed solution.now) }
+    ensures same_text { IsLawful (claimed solution.now) → (read : SolutionValue) → SpellsSolution (canonical_solution (claimed solution.now)) read → canonical_solution read ≡ canonical_solution (claimed solution.now) }
 {
     let value = solution.value;
     let mut page = Page::new();

@@ -1,4 +1,4 @@
--- Records behind those of a graph that was begun.
+-- Records after those of a graph that was begun.
 use Rattle.std.proofs.Common.{◌≡◌, ℕ, suc, ◌<◌, ◌≤◌, ◌∷◌, ◌++◌, [], List, false, Option, Some, None, length, map, take, ◌+◌, refl, ap, ap₂, sym, ◌∙◌, arith}
 use Rattle.std.specs.Prelude.{ℤ, pos, codes, slice_get, nat_lt, nat_le}
 use Rattle.std.specs.List.{All}
@@ -35,7 +35,7 @@ counted_in-arcs : (arcs : List ArcView) → counted_in (map graph_arc arcs) ≡ 
 counted_in-arcs [] = refl
 counted_in-arcs (a ∷ arcs) = ap suc (counted_in-arcs arcs)
 
--- behind the problem line and these arcs
+-- after the problem line and these arcs
 module _ (nodes declared : ℕ) (arcs : List ArcView) where
   abbrev earlier : List Record
   earlier = GraphProblem nodes declared ∷ map graph_arc arcs

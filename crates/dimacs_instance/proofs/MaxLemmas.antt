@@ -1,4 +1,4 @@
--- Records behind those of a maximum flow instance that was begun.
+-- Records after those of a maximum flow instance that was begun.
 use Rattle.std.proofs.Common.{◌≡◌, ℕ, suc, ◌<◌, ◌≤◌, ◌∷◌, ◌++◌, [], List, Bool, false, Option, Some, None, length, map, refl, ap, ap₂, sym, ◌∙◌, arith}
 use Rattle.std.specs.Prelude.{ℤ, pos, ◌||◌, nat_lt, nat_le, int_lt}
 use Rattle.std.specs.List.{list_any, filter}
@@ -52,7 +52,7 @@ no_node_arcs : (arcs : List ArcView) → length (filter is_max_node (map max_arc
 no_node_arcs [] = refl
 no_node_arcs (a ∷ arcs) = no_node_arcs arcs
 
--- behind the problem line, these node lines and these arcs
+-- after the problem line, these node lines and these arcs
 module _ (nodes declared : ℕ) (ends : EndLines) (arcs : List ArcView) where
   abbrev earlier : List Record
   earlier = max_begun_records (record { nodes = nodes; declared = declared; ends = ends; arcs = arcs })

@@ -216,7 +216,7 @@ given_by rs m h = elim h.0 [
 pub one_max : (rs : List LineRecord) (g h : MaxValue) → GivesMax rs g → GivesMax rs h → g ≡ h
 one_max rs g h a b = sym (given_by rs g a) ∙ given_by rs h b
 
--- one arc more behind other records
+-- one arc more after other records
 pub next_records : (problem first second : Record) (arcs : List ArcView) (i : ℕ) (a : ArcView) → slice_get arcs i ≡ Some a
     → problem ∷ first ∷ second ∷ map max_arc (take (i + 1) arcs) ≡ (problem ∷ first ∷ second ∷ map max_arc (take i arcs)) ++ max_arc a ∷ []
 next_records problem first second arcs i a got = ap (λ rs. problem ∷ first ∷ second ∷ rs) (ap (map max_arc) (take_next arcs i a got) ∙ map-append max_arc (take i arcs) (a ∷ []))

@@ -1,4 +1,4 @@
--- Records behind those of a minimum cost flow instance that was begun.
+-- Records after those of a minimum cost flow instance that was begun.
 use Rattle.std.proofs.Common.{◌≡◌, ℕ, suc, ◌+◌, ◌<◌, ◌≤◌, ◌∷◌, ◌++◌, [], List, false, Option, Some, None, length, map, ◌==◌, ◌||◌, refl, ap, ap₂, sym, ◌∙◌, subst, append_assoc, arith}
 use Rattle.std.specs.Prelude.{ℤ, pos, ◌≤ℤ◌, is_some, nat_lt, nat_le, int_lt, Result, Ok, Err, OnOk, OnErr}
 use Rattle.std.specs.List.{list_any}
@@ -51,7 +51,7 @@ counted : (named : List (ℕ × ℤ)) (arcs : List ArcView) → counted_in (map 
 counted [] arcs = counted_in-arcs arcs
 counted (s ∷ named) arcs = counted named arcs
 
--- behind the problem line, these node lines and these arcs
+-- after the problem line, these node lines and these arcs
 module _ (nodes declared : ℕ) (named : List (ℕ × ℤ)) (arcs : List ArcView) where
   abbrev earlier : List Record
   earlier = min_records nodes declared named arcs

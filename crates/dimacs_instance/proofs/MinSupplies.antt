@@ -91,7 +91,7 @@ pub negative_few : (s : ℤ) → IsWhole s → negative_part s ≤ 2 ^ 63
 negative_few (pos n) h = omega arith
 negative_few (negsuc n) h = omega (arith, ints, h.0)
 
--- the lines of supplies behind a text
+-- the lines of supplies after a text
 module _ (start new : Option (List ℕ)) (page : PageState) (text : List ℕ) where
   pub no_lines : (now : List (ℕ × ℤ)) → now ≡ [] → IsWritten start text new page → IsWritten start (text ++ canonical_text (map min_node now)) new page
   no_lines now none h = subst (λ t. IsWritten start t new page) (sym (ap (λ es. text ++ canonical_text (map min_node es)) none ∙ append-nil text)) h

@@ -29,7 +29,7 @@ use Rattle.dimacs_instance.proofs.MinLemmas.{node_new, one_more_arc, all_arcs, a
 use Rattle.dimacs_records.proofs.CountLemmas.{once_before}
 use Rattle.dimacs_records.proofs.NameLemmas.{not_zero}
 
--- an element of two lists, one behind the other, is one of the first or one of the second
+-- an element of two lists, one after the other, is one of the first or one of the second
 pub data InEither {A : Type 0} (xs ys before : List A) (y : A) : Type 0 where
   in_first : (after : List A) → xs ≡ before ++ y ∷ after → InEither xs ys before y
   in_second : (front after : List A) → before ≡ xs ++ front → ys ≡ front ++ y ∷ after → InEither xs ys before y

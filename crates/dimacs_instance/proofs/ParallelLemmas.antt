@@ -40,10 +40,10 @@ module _ (arcs : List ArcView) (order : List ℕ) (star : IsStarOrder arcs order
     | inl next ↦ apart q (omega arith) u (ap (λ x. (star_arc arcs order x).tail) next ∙ tails) (ap (λ x. (star_arc arcs order x).head) next ∙ heads)
     | inr far ↦ (
         let before : p < q - 1 = omega arith in
-        let behind : q - 1 < q = omega arith in
-        let same : (star_arc arcs order p).tail ≡ (star_arc arcs order (q - 1)).tail = omega (arith, tails, star.tails p (q - 1) before (omega arith), star.tails (q - 1) q behind u) in
+        let after : q - 1 < q = omega arith in
+        let same : (star_arc arcs order p).tail ≡ (star_arc arcs order (q - 1)).tail = omega (arith, tails, star.tails p (q - 1) before (omega arith), star.tails (q - 1) q after u) in
         let too : (star_arc arcs order (q - 1)).tail ≡ (star_arc arcs order q).tail = sym same ∙ tails in
-        apart q (omega arith) u too (omega (arith, heads, star.heads p (q - 1) before (omega arith) same, star.heads (q - 1) q behind u too)))
+        apart q (omega arith) u too (omega (arith, heads, star.heads p (q - 1) before (omega arith) same, star.heads (q - 1) q after u too)))
   ]
 
   -- no two places have arcs of given ends

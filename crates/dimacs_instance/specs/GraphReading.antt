@@ -8,7 +8,7 @@ use Rattle.dimacs_instance.specs.declared.network.ArcView.{ArcView}
 use Rattle.dimacs_instance.specs.Arcs.{JoinsNodes}
 use Rattle.dimacs_instance.specs.Graph.{HasWeightAlone, graph_arc}
 
--- what the problem line declares, and the arcs behind it
+-- what the problem line declares, and the arcs after it
 pub record GraphBegun : Type 0 where
   pub nodes : ℕ
   pub declared : ℕ

@@ -13,7 +13,7 @@ use Rattle.dimacs_instance.specs.MaxFlows.{HasCapacityAlone}
 use Rattle.dimacs_records.specs.Ranges.{IsNode}
 use Rattle.dimacs_instance.specs.MaxTexts.{max_arc}
 
--- what the problem line declares, the node lines and the arcs behind it
+-- what the problem line declares, the node lines and the arcs after it
 pub record MaxBegun : Type 0 where
   pub nodes : ℕ
   pub declared : ℕ

@@ -5,7 +5,7 @@ use Rattle.dimacs_records.specs.declared.records.Record.{Record}
 use Rattle.dimacs_records.specs.declared.records.Record.TheVariants.{QueriesProblem}
 use Rattle.dimacs_instance.specs.QueryTexts.{QueriesValue, HaveIds, kind_asked, query_lines}
 
--- what the problem line declares, and the queries behind it
+-- what the problem line declares, and the queries after it
 pub record QueriesBegun : Type 0 where
   pub declared : ℕ
   pub queries : QueriesValue

@@ -95,7 +95,7 @@ impl Model for PlainGraphReading {
     ghost view = { λ reading. graph_records_so_far reading.begun };
 }
 
-/// The arcs that came behind the problem line.
+/// The arcs that came after the problem line.
 #[derive(Drop)]
 pub(crate) struct BegunGraph {
     declared: u32,
@@ -226,7 +226,7 @@ pub fn write_graph<N: Network, S: Sink>(graph: &Graph<N>, sink: &mut S) -> Resul
     ensures puts { Puts result (S.accepted sink.old) (canonical_graph graph.now) (S.accepted sink.new) }
     ensures fault { CountsFault result (S.faults sink.old) (S.faults sink.new) }
     ensures round_trip { SpellsGraph (canonical_graph graph.now) graph.now }
-    ensures again { (read : NetworkValue) → SpellsGraph (canonical_graph graph.now) read → canonical_graph read ≡ canonical_graph graph.now }
+    ensures same_text { (read : NetworkValue) → SpellsGraph (canonical_graph graph.now) read → canonical_graph read ≡ canonical_graph graph.now }
 {
     let network = graph.network();
     let nodes = network.nodes();

@@ -180,7 +180,7 @@ impl EndLines {
     }
 }
 
-/// What came behind the problem line: at most two node lines, and then arcs.
+/// What came after the problem line: at most two node lines, and then arcs.
 #[derive(Drop)]
 pub(crate) struct BegunMax {
     declared: u32,
@@ -372,7 +372,7 @@ pub fn write_max<N: Network, S: Sink>(max: &MaxInstance<N>, sink: &mut S) -> Res
     ensures puts { Puts result (S.accepted sink.old) (canonical_max max.now) (S.accepted sink.new) }
     ensures fault { CountsFault result (S.faults sink.old) (S.faults sink.new) }
     ensures round_trip { SpellsMax (canonical_max max.now) max.now }
-    ensures again { (read : MaxValue) → SpellsMax (canonical_max max.now) read → canonical_max read ≡ canonical_max max.now }
+    ensures same_text { (read : MaxValue) → SpellsMax (canonical_max max.now) read → canonical_max read ≡ canonical_max max.now }
 {
     let network = max.network();
     let nodes = network.nodes();

@@ -169,7 +169,7 @@ impl Model for PlainMinReading {
     ghost view = { λ reading. reading.begun };
 }
 
-/// What came behind the problem line: node lines, and then arcs.
+/// What came after the problem line: node lines, and then arcs.
 #[derive(Drop)]
 pub(crate) struct BegunMin {
     declared: u32,
@@ -347,7 +347,7 @@ pub fn write_min<N: Network, S: Sink>(
     ensures puts { Puts result (S.accepted sink.old) (canonical_min instance.now) (S.accepted sink.new) }
     ensures fault { CountsFault result (S.faults sink.old) (S.faults sink.new) }
     ensures round_trip { SpellsMin (canonical_min instance.now) instance.now }
-    ensures again { (read : MinValue) → SpellsMin (canonical_min instance.now) read → canonical_min read ≡ canonical_min instance.now }
+    ensures same_text { (read : MinValue) → SpellsMin (canonical_min instance.now) read → canonical_min read ≡ canonical_min instance.now }
 {
     let network = instance.network();
     let nodes = network.nodes();

@@ -3,10 +3,9 @@
 ghost use Rattle.std.specs.Prelude.{◌≡◌, ◌<◌, ◌≤◌, ◌+◌, ◌++◌, ◌∷◌, [], List, Some, length, slice_get, OnOk, OnErr};
 ghost use Rattle.dimacs_lines.specs.Limits.{most_count};
 ghost use Rattle.dimacs_instance.specs.declared.network.ArcView.{ArcView};
-ghost use Rattle.dimacs_instance.specs.Plain.{capacity_arc, weight_arc};
+ghost use Rattle.dimacs_instance.specs.Plain.{capacity_arc, cost_arc, weight_arc};
 
 use crate::network::{ArcView, Network};
-use crate::room::push_within;
 use dimacs_lines::Memory;
 use dimacs_records::MAX_COUNT;
 use std::alloc::Global;
@@ -15,27 +14,24 @@ use std::marker::Model;
 /// The most arcs of an instance.
 pub const MAX_ARCS: u32 = MAX_COUNT;
 
-/// An arc of a kind of instance, and how it is kept: in two parts, of which many passes over arcs read the first alone.
+/// An arc of a kind of instance, and how it is kept: in two parts, since many passes over arcs read the ends alone.
 /// Numbers that all arcs of the kind have in common are in neither.
 pub trait KeptArc: Copy {
-    /// The ends, and what is read with them.
-    type Front: Copy;
+    /// The ends, and what is kept with them.
+    type WithEnds: Copy;
 
-    /// All else.
-    type Back: Copy;
+    /// What is kept apart from the ends.
+    type Apart: Copy;
 
     ghost shows: { Self → ArcView };
 
-    ghost arc_of: { Self.Front → Self.Back → ArcView };
+    ghost arc_of: { Self.WithEnds → Self.Apart → ArcView };
 
-    fn view(self) -> ArcView
-        ensures { result ≡ shows self };
-
-    fn parts(self) -> (Self::Front, Self::Back)
+    fn parts(self) -> (Self::WithEnds, Self::Apart)
         ensures { arc_of result.0 result.1 ≡ shows self };
 
-    fn arc(front: Self::Front, back: Self::Back) -> ArcView
-        ensures { result ≡ arc_of front back };
+    fn whole(with_ends: Self::WithEnds, apart: Self::Apart) -> ArcView
+        ensures { result ≡ arc_of with_ends apart };
 }
 
 /// An arc of a graph, kept in 16 bytes.
@@ -46,17 +42,11 @@ pub struct WeightArc {
     pub weight: i64,
 }
 
-impl KeptArc for WeightArc {
-    type Front = WeightArc;
-
-    type Back = ();
-
-    ghost shows = { λ a. weight_arc a.tail a.head a.weight };
-
-    ghost arc_of = { λ a none. weight_arc a.tail a.head a.weight };
-
+impl WeightArc {
     #[inline(always)]
-    fn view(self) -> ArcView {
+    pub fn view(self) -> ArcView
+        ensures { result ≡ weight_arc self.tail self.head self.weight }
+    {
         ArcView {
             tail: self.tail,
             head: self.head,
@@ -65,6 +55,16 @@ impl KeptArc for WeightArc {
             cost: self.weight,
         }
     }
+}
+
+impl KeptArc for WeightArc {
+    type WithEnds = WeightArc;
+
+    type Apart = ();
+
+    ghost shows = { λ a. weight_arc a.tail a.head a.weight };
+
+    ghost arc_of = { λ a _. weight_arc a.tail a.head a.weight };
 
     #[inline(always)]
     fn parts(self) -> (WeightArc, ()) {
@@ -72,8 +72,8 @@ impl KeptArc for WeightArc {
     }
 
     #[inline(always)]
-    fn arc(front: WeightArc, _back: ()) -> ArcView {
-        front.view()
+    fn whole(arc: WeightArc, _apart: ()) -> ArcView {
+        arc.view()
     }
 }
 
@@ -85,17 +85,11 @@ pub struct CapacityArc {
     pub cap: i64,
 }
 
-impl KeptArc for CapacityArc {
-    type Front = CapacityArc;
-
-    type Back = ();
-
-    ghost shows = { λ a. capacity_arc a.tail a.head a.cap };
-
-    ghost arc_of = { λ a none. capacity_arc a.tail a.head a.cap };
-
+impl CapacityArc {
     #[inline(always)]
-    fn view(self) -> ArcView {
+    pub fn view(self) -> ArcView
+        ensures { result ≡ capacity_arc self.tail self.head self.cap }
+    {
         ArcView {
             tail: self.tail,
             head: self.head,
@@ -104,6 +98,16 @@ impl KeptArc for CapacityArc {
             cost: 0,
         }
     }
+}
+
+impl KeptArc for CapacityArc {
+    type WithEnds = CapacityArc;
+
+    type Apart = ();
+
+    ghost shows = { λ a. capacity_arc a.tail a.head a.cap };
+
+    ghost arc_of = { λ a _. capacity_arc a.tail a.head a.cap };
 
     #[inline(always)]
     fn parts(self) -> (CapacityArc, ()) {
@@ -111,21 +115,21 @@ impl KeptArc for CapacityArc {
     }
 
     #[inline(always)]
-    fn arc(front: CapacityArc, _back: ()) -> ArcView {
-        front.view()
+    fn whole(arc: CapacityArc, _apart: ()) -> ArcView {
+        arc.view()
     }
 }
 
 /// The nodes of an arc.
 #[derive(Clone, Copy)]
-pub struct Ends {
+pub struct ArcEnds {
     pub tail: u32,
     pub head: u32,
 }
 
 /// The numbers of an arc of a minimum cost flow.
 #[derive(Clone, Copy)]
-pub struct CostNumbers {
+pub struct BoundsAndCost {
     pub low: i64,
     pub cap: i64,
     pub cost: i64,
@@ -133,26 +137,21 @@ pub struct CostNumbers {
 
 /// An arc of a minimum cost flow has all numbers. It is kept in 32 bytes: 8 for the ends, and 24 apart from them.
 impl KeptArc for ArcView {
-    type Front = Ends;
+    type WithEnds = ArcEnds;
 
-    type Back = CostNumbers;
+    type Apart = BoundsAndCost;
 
     ghost shows = { λ a. a };
 
-    ghost arc_of = { λ ends numbers. record { tail = ends.tail; head = ends.head; low = numbers.low; cap = numbers.cap; cost = numbers.cost } };
+    ghost arc_of = { λ ends numbers. cost_arc ends.tail ends.head numbers.low numbers.cap numbers.cost };
 
     #[inline(always)]
-    fn view(self) -> ArcView {
-        self
-    }
-
-    #[inline(always)]
-    fn parts(self) -> (Ends, CostNumbers) {
-        let ends = Ends {
+    fn parts(self) -> (ArcEnds, BoundsAndCost) {
+        let ends = ArcEnds {
             tail: self.tail,
             head: self.head,
         };
-        let numbers = CostNumbers {
+        let numbers = BoundsAndCost {
             low: self.low,
             cap: self.cap,
             cost: self.cost,
@@ -161,7 +160,7 @@ impl KeptArc for ArcView {
     }
 
     #[inline(always)]
-    fn arc(ends: Ends, numbers: CostNumbers) -> ArcView {
+    fn whole(ends: ArcEnds, numbers: BoundsAndCost) -> ArcView {
         ArcView {
             tail: ends.tail,
             head: ends.head,
@@ -176,8 +175,8 @@ impl KeptArc for ArcView {
 #[derive(Drop)]
 pub struct PlainArcs<A: KeptArc> {
     nodes: u32,
-    fronts: Vec<A::Front>,
-    backs: Vec<A::Back>,
+    with_ends: Vec<A::WithEnds>,
+    apart: Vec<A::Apart>,
 }
 
 impl<A: KeptArc> Model for PlainArcs<A> {
@@ -188,9 +187,9 @@ impl<A: KeptArc> Model for PlainArcs<A> {
 
     ghost Value = { NetworkValue };
 
-    ghost view = { λ n. record { nodes = n.nodes; arcs = arcs_of A.arc_of n.fronts.items n.backs.items } };
+    ghost view = { λ n. record { nodes = n.nodes; arcs = arcs_of A.arc_of n.with_ends.items n.apart.items } };
 
-    ghost invariant = { λ n. (length n.fronts.items ≤ most_count) × (length n.backs.items ≡ length n.fronts.items) };
+    ghost invariant = { λ n. (length n.with_ends.items ≤ most_count) × (length n.apart.items ≡ length n.with_ends.items) };
 }
 
 impl<A: KeptArc> PlainArcs<A> {
@@ -200,21 +199,21 @@ impl<A: KeptArc> PlainArcs<A> {
     {
         PlainArcs {
             nodes,
-            fronts: Vec::new(alloc),
-            backs: Vec::new(alloc),
+            with_ends: Vec::new(alloc),
+            apart: Vec::new(alloc),
         }
     }
 
-    /// Adds an arc behind the others.
+    /// Adds an arc after the others.
     pub fn push(&mut self, arc: A) -> Result<(), Memory>
         requires { length self.old.arcs < most_count }
         ensures pushed { OnOk result (self.new ≡ record self.old { arcs = self.old.arcs ++ A.shows arc ∷ [] }) }
         ensures unchanged { OnErr result (self.new ≡ self.old) }
     {
-        let (front, back) = arc.parts();
-        self.backs.reserve(1)?;
-        self.fronts.push(front)?;
-        push_within(&mut self.backs, back);
+        let (with_ends, apart) = arc.parts();
+        self.apart.reserve(1)?;
+        self.with_ends.push(with_ends)?;
+        self.apart.push_reserved(apart);
         Ok(())
     }
 }
@@ -229,12 +228,12 @@ impl<A: KeptArc> Network for PlainArcs<A> {
     }
 
     fn arcs(&self) -> u32 {
-        self.fronts.len() as u32
+        self.with_ends.len() as u32
     }
 
     #[inline(always)]
     fn arc(&self, i: u32) -> ArcView {
-        A::arc(self.fronts[i as usize], self.backs[i as usize])
+        A::whole(self.with_ends[i as usize], self.apart[i as usize])
     }
 
     fn find(&self, tail: u32, head: u32, k: u32) -> Option<u32> {

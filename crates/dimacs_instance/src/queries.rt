@@ -113,7 +113,7 @@ impl Model for QueriesReading {
     ghost view = { λ reading. query_records_so_far reading.begun };
 }
 
-/// The queries that came behind the problem line.
+/// The queries that came after the problem line.
 #[derive(Drop)]
 pub(crate) struct BegunQueries {
     declared: u32,
@@ -256,7 +256,7 @@ pub fn write_queries<S: Sink>(queries: &Queries, sink: &mut S) -> Result<(), Dev
     ensures puts { Puts result (S.accepted sink.old) (canonical_queries (asked queries.now)) (S.accepted sink.new) }
     ensures fault { CountsFault result (S.faults sink.old) (S.faults sink.new) }
     ensures round_trip { AreLawful (asked queries.now) → SpellsQueries (canonical_queries (asked queries.now)) (asked queries.now) }
-    ensures again { AreLawful (asked queries.now) → (read : QueriesValue) → SpellsQueries (canonical_queries (asked queries.now)) read → canonical_queries read ≡ canonical_queries (asked queries.now) }
+    ensures same_text { AreLawful (asked queries.now) → (read : QueriesValue) → SpellsQueries (canonical_queries (asked queries.now)) read → canonical_queries read ≡ canonical_queries (asked queries.now) }
 {
     let mut page = Page::new();
     write_problem(&mut page, sink, queries.kind(), queries.len());

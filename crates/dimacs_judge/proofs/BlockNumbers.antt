@@ -12,7 +12,7 @@ use Rattle.std.proofs.lemmas.List.Quantifiers.{position-Some}
 use Rattle.std.proofs.lemmas.List.Sums.{position_or_len_is, fails_before_first, prefix_len-le-length}
 use Rattle.std.proofs.lemmas.Option.{slice_get_past, slice_get-get_or}
 use Rattle.dimacs_nodes.proofs.Nodes.{get-insert_same, get-insert_other}
-use Rattle.dimacs_claims.specs.Labels.{BlockValue, EachBehind, IsNewSource, label_at, has_source}
+use Rattle.dimacs_claims.specs.Labels.{BlockValue, EachAfter, IsNewSource, label_at, has_source}
 use Rattle.dimacs_judge.specs.Answers.{block_of, distance_from, radius_from, radius_in}
 use Rattle.dimacs_judge.specs.QueryTests.{HasBlock, HasFullBlock}
 use Rattle.dimacs_judge.specs.inside.QueryTests.{AreNumbers}
@@ -31,7 +31,7 @@ module _ {X : Type 0} (p : X → Bool) where
     | inr past ↦ omega (arith, inside, past)
   ])
 
-  -- one more that fails, behind the others
+  -- one more that fails, after the others
   position-push : (xs : List X) (x : X) → p x ≡ false → position p (xs ++ x ∷ []) ≡ position p xs
   position-push xs x off =
       let more = position_or_len_push p xs x in
@@ -100,7 +100,7 @@ numbered_tells blocks source None told e is = (λ t. absurd (let f : true ≡ fa
 numbered_tells blocks source (Some i) told e is = (λ t. has_block blocks source i (sym is), λ has. e)
 
 -- ---- the numbers so far
-pub numbers_more : (blocks : List BlockValue) (numbers : FinMap nat_cmp ℕ) (i : ℕ) (b : BlockValue) → i < length blocks → b ≡ get_or blocks i b → EachBehind IsNewSource blocks
+pub numbers_more : (blocks : List BlockValue) (numbers : FinMap nat_cmp ℕ) (i : ℕ) (b : BlockValue) → i < length blocks → b ≡ get_or blocks i b → EachAfter IsNewSource blocks
     → AreNumbers (take i blocks) numbers → AreNumbers (take (i + 1) blocks) (insert numbers b.source i)
 numbers_more blocks numbers i b inside is new are source =
     let step : take (i + 1) blocks ≡ take i blocks ++ b ∷ [] = take_more blocks i b inside ∙ ap (λ x. take i blocks ++ x ∷ []) (sym is) in

@@ -84,12 +84,12 @@ distance_in-push (m ∷ earlier) l v d e = under_or (m.id == v) _ _ _ d _ (dista
 label-push : (s : ℕ) (earlier : List Label) (l : Label) (v : ℕ) (d : ℤ) → label (with_labels s (earlier ++ l ∷ [])) v ≡ Some d → (label (with_labels s earlier) v ≡ Some d) ⊎ ((l.id ≡ v) × (l.dist ≡ d))
 label-push s earlier l v d e = under_or (s == v) _ _ _ d _ (distance_in-push earlier l v d) e
 
--- each of the labels is the first of its node, or behind one of it
+-- each of the labels is the first of its node, or after one of it
 abbrev IsListed : List Label → Label → Type 0
 IsListed labels m = (d : ℤ) × (distance_in labels m.id ≡ Some d)
 
-listed_behind : (l : Label) (labels : List Label) (m : Label) → IsListed labels m → IsListed (l ∷ labels) m
-listed_behind l labels m (d, e) = go (l.id == m.id)
+listed_after : (l : Label) (labels : List Label) (m : Label) → IsListed labels m → IsListed (l ∷ labels) m
+listed_after l labels m (d, e) = go (l.id == m.id)
   where
     go : (b : Bool) → (f : ℤ) × (cond b (Some l.dist) (distance_in labels m.id) ≡ Some f)
     go true = (l.dist, refl)
@@ -100,7 +100,7 @@ listed_first l labels = let same : (l.id == l.id) ≡ true = eq-eqb l.id l.id re
 
 all_listed : (labels : List Label) → All (IsListed labels) labels
 all_listed [] = All-nil (IsListed [])
-all_listed (l ∷ labels) = All-cons (IsListed (l ∷ labels)) l labels (listed_first l labels) (All-weaker (IsListed labels) (IsListed (l ∷ labels)) (listed_behind l labels) labels (all_listed labels))
+all_listed (l ∷ labels) = All-cons (IsListed (l ∷ labels)) l labels (listed_first l labels) (All-weaker (IsListed labels) (IsListed (l ∷ labels)) (listed_after l labels) labels (all_listed labels))
 
 own_label : (b : BlockValue) → label b b.source ≡ Some (pos 0)
 own_label b = let same : (b.source == b.source) ≡ true = eq-eqb b.source b.source refl in rw same refl

@@ -12,7 +12,7 @@ use Rattle.dimacs_claims.specs.declared.solution.Entry.{Entry}
 use Rattle.dimacs_records.specs.declared.reasons.Reason.{Reason}
 use Rattle.dimacs_judge.specs.declared.verdict.Where.{Where}
 use Rattle.dimacs_judge.specs.declared.verdict.Where.TheVariants.{Solution}
-use Rattle.dimacs_judge.specs.Claims.{is_between, no_entry, entry_at, entries_between, twins_before, claimed_of, claimed_flow, EntryFails, entry_row}
+use Rattle.dimacs_judge.specs.Claims.{is_between, no_entry, entry_at, entries_between, parallels_before, claimed_of, claimed_flow, EntryFails, entry_row}
 use Rattle.dimacs_judge.specs.Rows.{no_arc, arc_at}
 use Rattle.dimacs_judge.specs.Tests.{Clear, FirstOfRow}
 use Rattle.dimacs_judge.proofs.Claims.{length-claimed_flow}
@@ -65,7 +65,7 @@ pub none_claimed : (arcs : List ArcView) (n : ℕ) → n ≡ length arcs → rep
 none_claimed arcs n one_each =
     rw one_each (fill_by_all (claimed_of arcs []) (replicate (length arcs) (pos 0)) (length arcs) (pos 0) (length-replicate (length arcs) (pos 0)) (λ k inside. get_or-replicate (length arcs) k (pos 0) (pos 0) inside))
 
--- the entry behind others, and the arc to which it belongs
+-- the entry after others, and the arc to which it belongs
 module _ (arcs : List ArcView) (before : List Entry) (e : Entry) (i : ℕ) (found : IsKthBetween arcs e.tail e.head (count_by (is_between e.tail e.head) before) (Some i)) where
   own_flow : claimed_of arcs (before ++ e ∷ []) i ≡ e.flow
   own_flow =
@@ -77,7 +77,7 @@ module _ (arcs : List ArcView) (before : List Entry) (e : Entry) (i : ℕ) (foun
       ∙ (ap (λ es. flow_at es k) (more_between e.tail e.head before e (between_own e))
       ∙ ap (λ (b : Entry). b.flow) (get_or_push (entries_between before e.tail e.head) e no_entry k (length-filter (is_between e.tail e.head) before))))
 
-  -- a list with the entry behind it has the same elsewhere
+  -- a list with the entry after it has the same elsewhere
   elsewhere : (entries : List Entry) (k : ℕ) → k ≢ length entries → flow_at (entries ++ e ∷ []) k ≡ flow_at entries k
   elsewhere entries k other = elim (cases_order k (length entries)) [
     | inl same ↦ absurd (other same)
@@ -91,12 +91,12 @@ module _ (arcs : List ArcView) (before : List Entry) (e : Entry) (i : ℕ) (foun
       elim (cases_Bool (is_between a.tail a.head e)) [
         | inl is ↦
             (let ends = between_ends a.tail a.head e is in
-            let apart : twins_before arcs j ≢ length (entries_between before a.tail a.head) = λ same. other (one_kth arcs e.tail e.head (count_by (is_between e.tail e.head) before) j i (twin j inside ends same) found) in
-            rw (claimed_of, more_between a.tail a.head before e is) (elsewhere (entries_between before a.tail a.head) (twins_before arcs j) apart))
+            let apart : parallels_before arcs j ≢ length (entries_between before a.tail a.head) = λ same. other (one_kth arcs e.tail e.head (count_by (is_between e.tail e.head) before) j i (twin j inside ends same) found) in
+            rw (claimed_of, more_between a.tail a.head before e is) (elsewhere (entries_between before a.tail a.head) (parallels_before arcs j) apart))
         | inr off ↦ rw (claimed_of, same_between a.tail a.head before e off) refl
       ]
     where
-      twin : (j : ℕ) → j < length arcs → (e.tail ≡ (arc_at arcs j).tail) × (e.head ≡ (arc_at arcs j).head) → twins_before arcs j ≡ length (entries_between before (arc_at arcs j).tail (arc_at arcs j).head)
+      twin : (j : ℕ) → j < length arcs → (e.tail ≡ (arc_at arcs j).tail) × (e.head ≡ (arc_at arcs j).head) → parallels_before arcs j ≡ length (entries_between before (arc_at arcs j).tail (arc_at arcs j).head)
           → IsKthBetween arcs e.tail e.head (count_by (is_between e.tail e.head) before) (Some j)
       twin j inside ends same =
           rw (ends.0, ends.1) (
@@ -130,8 +130,8 @@ module _ (arcs : List ArcView) (before : List Entry) (e : Entry) where
   row_before k place reason inside f =
       (inside, f.1 ∙ ap (λ (b : Entry). Solution b.line 0) (entry_before k inside), rw (entry_before k inside, take-append-le k before (e ∷ []) (omega (arith, inside))) at f.2)
 
-  row_behind : (k : ℕ) (place : Where) (reason : Reason) → entry_row arcs before k place reason → entry_row arcs (before ++ e ∷ []) k place reason
-  row_behind k place reason f =
+  row_after : (k : ℕ) (place : Where) (reason : Reason) → entry_row arcs before k place reason → entry_row arcs (before ++ e ∷ []) k place reason
+  row_after k place reason f =
       (omega (arith, f.0, length_push before e), f.1 ∙ ap (λ (b : Entry). Solution b.line 0) (sym (entry_before k f.0)), rw (entry_before k f.0, take-append-le k before (e ∷ []) (omega (arith, f.0))) f.2)
 
   pub clear_more : Clear (entry_row arcs before) → ((reason : Reason) → ¬ EntryFails arcs before e reason) → Clear (entry_row arcs (before ++ e ∷ []))
@@ -145,7 +145,7 @@ module _ (arcs : List ArcView) (before : List Entry) (e : Entry) where
   pub first_still : (place : Where) (reason : Reason) → FirstOfRow (entry_row arcs before) place reason → FirstOfRow (entry_row arcs (before ++ e ∷ [])) place reason
   first_still place reason first = record {
     number = first.number;
-    fails = row_behind first.number place reason first.fails;
+    fails = row_after first.number place reason first.fails;
     earlier = λ k below at why f. first.earlier k below at why (row_before k at why (omega (arith, below, first.fails.0)) f);
   }
 

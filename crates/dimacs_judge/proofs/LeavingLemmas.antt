@@ -155,7 +155,7 @@ labels_more arcs b old new n still passed this k below = elim (cases_lt k n) [
 -- the arcs that leave the source and the nodes of the first n labels are passed
 pub record ArePassedFirst (arcs : List ArcView) (number : ℕ) (b : BlockValue) (n : ℕ) (marks : NodeTable Mark) : Type 0 where
   pub marked : IsMarked number b marks
-  pub alone : AreMadeAlone arcs b marks
+  pub sound : AreMadeAlone arcs b marks
   pub source : ArePassedFrom arcs b marks b.source
   pub labels : (k : ℕ) → k < n → ArePassedFrom arcs b marks (get_or b.labels k no_label).id
 
@@ -173,7 +173,7 @@ module _ (arcs : List ArcView) (number : ℕ) (b : BlockValue) (n : ℕ) (marks 
 
   pub all_made : AreMade arcs b marks
   all_made l has = (
-    are.alone l has,
+    are.sound l has,
     λ tight.
         let (k, inside, makes) = some_makes arcs b l tight in
         (labelled_passed l.pred makes.base makes.known k inside makes.from).marked l has makes,

@@ -21,7 +21,7 @@ module _ (ids : List ℕ) (why : Reason) (fails : ℕ → Type 0) where
     pub listed_first : k < length ids → ClearBelow (listed_row ids why fails) k → fails id → FirstOfRow (listed_row ids why fails) (Node id) why
     listed_first inside below at = record { number = k; fails = (inside, rw here refl, refl, rw here at); earlier = below }
 
--- ---- the ends of pairs: FROM at the even places, TO behind it
+-- ---- the ends of pairs: FROM at the even places, TO after it
 pub length-ends : (pairs : List (ℕ × ℕ)) → length (flat_map ends_of pairs) ≡ 2 * length pairs
 length-ends [] = refl
 length-ends (p ∷ pairs) = omega (arith, length-ends pairs)

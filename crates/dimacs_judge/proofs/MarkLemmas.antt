@@ -34,10 +34,10 @@ use Rattle.dimacs_judge.specs.Tests.{Clear, ClearBelow, FirstOfRow, TellsRow}
 use Rattle.dimacs_judge.specs.inside.Tests.{Tells, TellsReason}
 use Rattle.dimacs_judge.proofs.RowLemmas.{relax_clear_more, relax_first}
 
-marked_here : (labels : List Label) (number : ℕ) (m : Mark) → m.block ≡ number → marked_dist labels number m ≡ Some (dist_of labels m)
+pub marked_here : (labels : List Label) (number : ℕ) (m : Mark) → m.block ≡ number → marked_dist labels number m ≡ Some (dist_of labels m)
 marked_here labels number m same = ap (λ t. if t then Some (dist_of labels m) else None) (eq-eqb m.block number same)
 
-marked_elsewhere : (labels : List Label) (number : ℕ) (m : Mark) → m.block ≢ number → marked_dist labels number m ≡ None
+pub marked_elsewhere : (labels : List Label) (number : ℕ) (m : Mark) → m.block ≢ number → marked_dist labels number m ≡ None
 marked_elsewhere labels number m off = elim (eqb_tells m.block number) [
   | inl same ↦ absurd (off same.1)
   | inr told ↦ ap (λ t. if t then Some (dist_of labels m) else None) told.0
@@ -243,9 +243,6 @@ module _ (labels : List Label) (number : ℕ) (a : ArcView) (marks : NodeTable M
   pub pred_kept : (made : Bool) (new : Mark) → new.pred ≡ (if made then 2 ^ 32 - 1 else head.pred) → is_made new ≡ false → new.pred ≡ (value_of marks a.head).pred
   pred_kept true new pred unmade = absurd (let yes = has_made new pred in cc)
   pred_kept false new pred unmade = pred ∙ ap (λ (m : Mark). m.pred) head_is
-
-  pub not_blank : (blank_of marks).block < number → head ≢ blank_of marks
-  not_blank less same = omega (arith, ap (λ (m : Mark). m.block) same, marked_block labels number head to to_is, less)
 
 -- where the head has no label
 pub told_of_escape : (radius : Option ℤ) (from weight : ℤ) (tail head : Option ℤ) (fault : Option Reason) → tail ≡ Some from → head ≡ None → TellsReason (λ reason. (reason ≡ Escapes) × IsNear radius (from +ℤ weight)) fault → TellsReason (RelaxFails radius tail head weight) fault

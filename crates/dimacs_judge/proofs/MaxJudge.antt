@@ -26,7 +26,7 @@ use Rattle.dimacs_judge.proofs.Duality.{tight_is_maximum}
 use Rattle.dimacs_judge.proofs.Firsts.{AllOneWay, one_test_one_way}
 use Rattle.dimacs_judge.proofs.Passing.{feasible_max_holds, feasible_max_clear, value_is, value_clear, nodes_are, nodes_clear, cut_is_tight, tight_cut_clear}
 use Rattle.dimacs_judge.proofs.Reasons.{bound_one_way, balance_one_way, cut_one_way}
-use Rattle.dimacs_judge.proofs.Settling.{refused_behind, refused_among, error_judges}
+use Rattle.dimacs_judge.proofs.Settling.{refused_after, refused_among, error_judges}
 
 module _ (i : MaxValue) (s : SolutionValue) (c : CutValue) where
   max_one_way : AllOneWay (max_rows i s c)
@@ -78,9 +78,9 @@ module _ (i : MaxValue) (s : SolutionValue) (c : CutValue) where
   max_judged law error first result is = error_judges (max_rows i s c) (ShowsMaximum i s c) _ max_one_way (λ shown. let (x, passes, best) = shown in max_clear law x passes) error first result is
 
   pub entries_refused : (error : JudgeError) → Refuses (First (entry_row i.arcs s.entries ∷ [])) error → Refuses (First (max_rows i s c)) error
-  entries_refused error first = let x = claimed_flow i.arcs s.entries in refused_behind [] (entry_row i.arcs s.entries ∷ []) (feasible_max_rows i x ++ value_test x ∷ certificate_tests x) error tt first
+  entries_refused error first = let x = claimed_flow i.arcs s.entries in refused_after [] (entry_row i.arcs s.entries ∷ []) (feasible_max_rows i x ++ value_test x ∷ certificate_tests x) error tt first
 
-  -- the first test that fails, behind those that pass, for the flow that the solution carries
+  -- the first test that fails, after those that pass, for the flow that the solution carries
   module _ (x : List ℤ) (carries : Carries i.arcs s.entries x) where
     refused : (front rows more : List Row) → front ++ (rows ++ more) ≡ all_tests x → (error : JudgeError) → AllClear front → Refuses (First rows) error → Refuses (First (max_rows i s c)) error
     refused = refused_among all_tests x (claimed_flow i.arcs s.entries) carries.amounts

@@ -27,7 +27,7 @@ use Rattle.dimacs_judge.proofs.Duality.{slack_is_least}
 use Rattle.dimacs_judge.proofs.Firsts.{AllOneWay, one_test_one_way}
 use Rattle.dimacs_judge.proofs.Passing.{feasible_min_holds, feasible_min_clear, costs_wide, costs_clear, value_is, value_clear, nodes_are, nodes_clear, potentials_slack, slack_clear}
 use Rattle.dimacs_judge.proofs.Reasons.{bound_one_way, balance_one_way, cost_one_way, slack_one_way}
-use Rattle.dimacs_judge.proofs.Settling.{refused_behind, refused_among, error_judges}
+use Rattle.dimacs_judge.proofs.Settling.{refused_after, refused_among, error_judges}
 
 module _ (i : MinValue) (s : SolutionValue) (p : PotentialsValue) where
   min_one_way : AllOneWay (min_rows i s p)
@@ -80,9 +80,9 @@ module _ (i : MinValue) (s : SolutionValue) (p : PotentialsValue) where
   min_judged error first result is = error_judges (min_rows i s p) (ShowsLeast i s p) _ min_one_way (λ shown. let (x, passes, best) = shown in min_clear x passes) error first result is
 
   pub entries_refused : (error : JudgeError) → Refuses (First (entry_row i.arcs s.entries ∷ [])) error → Refuses (First (min_rows i s p)) error
-  entries_refused error first = let x = claimed_flow i.arcs s.entries in refused_behind [] (entry_row i.arcs s.entries ∷ []) (feasible_min_rows i x ++ cost_row i.arcs x ∷ value_test x ∷ certificate_tests x) error tt first
+  entries_refused error first = let x = claimed_flow i.arcs s.entries in refused_after [] (entry_row i.arcs s.entries ∷ []) (feasible_min_rows i x ++ cost_row i.arcs x ∷ value_test x ∷ certificate_tests x) error tt first
 
-  -- the first test that fails, behind those that pass, for the flow that the solution carries
+  -- the first test that fails, after those that pass, for the flow that the solution carries
   module _ (x : List ℤ) (carries : Carries i.arcs s.entries x) where
     refused : (front rows more : List Row) → front ++ (rows ++ more) ≡ all_tests x → (error : JudgeError) → AllClear front → Refuses (First rows) error → Refuses (First (min_rows i s p)) error
     refused = refused_among all_tests x (claimed_flow i.arcs s.entries) carries.amounts

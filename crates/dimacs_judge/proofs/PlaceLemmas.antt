@@ -37,19 +37,19 @@ no_more_below p arcs n =
     let all = sum_by-take-le (λ b. cond (p b) 1 0) arcs n in
     (all, omega (arith, all, count_by-le-length p arcs))
 
--- below an index behind the k-th arc between two nodes there are more than k
+-- below an index after the k-th arc between two nodes there are more than k
 pub one_more_below : (arcs : List ArcView) (tail head k i n : ℕ) → IsKthBetween arcs tail head k (Some i) → i < n → k + 1 ≤ count_by (joins tail head) (take n arcs)
-one_more_below arcs tail head k i n found behind =
-    let more = counted_before (joins tail head) arcs i n (arc_at arcs i) (slice_get-get_or arcs i no_arc found.0) (joined_at arcs tail head k i found) behind in
+one_more_below arcs tail head k i n found after =
+    let more = counted_before (joins tail head) arcs i n (arc_at arcs i) (slice_get-get_or arcs i no_arc found.0) (joined_at arcs tail head k i found) after in
     omega (arith, more, found.2)
 
 module _ (arcs : List ArcView) (tail head first : ℕ) (found : IsKthBetween arcs tail head 0 (Some first)) where
-  -- below the first arc between two nodes there is none, and behind it there is one
+  -- below the first arc between two nodes there is none, and after it there is one
   pub none_below : (n : ℕ) → n ≤ first → count_by (joins tail head) (take n arcs) ≡ 0
   none_below n before = omega (arith, found.2, fewer_below (joins tail head) arcs n first before)
 
   pub some_below : (n : ℕ) → first < n → 1 ≤ count_by (joins tail head) (take n arcs)
-  some_below n behind = one_more_below arcs tail head 0 first n found behind
+  some_below n after = one_more_below arcs tail head 0 first n found after
 
 -- ---- entries that fail, and entries that don't
 module _ (arcs : List ArcView) (before : List Entry) (e : Entry) where

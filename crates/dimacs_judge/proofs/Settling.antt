@@ -13,7 +13,7 @@ use Rattle.dimacs_judge.specs.Claims.{Carries, entry_row}
 use Rattle.dimacs_judge.specs.Tests.{Row, AllClear, First, TellsRow, Decides, Settles, Judges}
 use Rattle.dimacs_judge.specs.inside.Tests.{Tells, Refuses}
 use Rattle.dimacs_judge.proofs.Firsts.{AllOneWay, one_first, none_first}
-use Rattle.dimacs_judge.proofs.RowLists.{first_in_front, first_behind}
+use Rattle.dimacs_judge.proofs.RowLists.{first_in_front, first_after}
 
 pub decided : (holds : Type 0) (rows : List Row) → (AllClear rows → holds) → (holds → AllClear rows) → (told : Result Unit (Where × Reason)) → Tells rows told → Decides holds rows told
 decided holds rows passing needed (Ok done) clear = passing clear
@@ -38,14 +38,14 @@ settled_refuses holds rows Memory told = tt
 pub entries_refuse : (arcs : List ArcView) (entries : List Entry) (told : Result (List ℤ) JudgeError) (error : JudgeError) → told ≡ Err error → Settles (Carries arcs entries) (entry_row arcs entries ∷ []) told → Refuses (First (entry_row arcs entries ∷ [])) error
 entries_refuse arcs entries told error is settles = settled_refuses (Carries arcs entries) (entry_row arcs entries ∷ []) error (subst (λ (r : Result (List ℤ) JudgeError). Settles (Carries arcs entries) (entry_row arcs entries ∷ []) r) is settles)
 
--- the first test that fails, behind rows that pass
-pub refused_behind : (front rows more : List Row) (error : JudgeError) → AllClear front → Refuses (First rows) error → Refuses (First (front ++ (rows ++ more))) error
-refused_behind front rows more (Refused place reason) clear first = first_behind front (rows ++ more) place reason clear (first_in_front rows more place reason first)
-refused_behind front rows more Memory clear first = tt
+-- the first test that fails, after rows that pass
+pub refused_after : (front rows more : List Row) (error : JudgeError) → AllClear front → Refuses (First rows) error → Refuses (First (front ++ (rows ++ more))) error
+refused_after front rows more (Refused place reason) clear first = first_after front (rows ++ more) place reason clear (first_in_front rows more place reason first)
+refused_after front rows more Memory clear first = tt
 
 -- and of the flow that a solution carries
 pub refused_among : (tests : List ℤ → List Row) (x y : List ℤ) → x ≡ y → (front rows more : List Row) → front ++ (rows ++ more) ≡ tests x → (error : JudgeError) → AllClear front → Refuses (First rows) error → Refuses (First (tests y)) error
-refused_among tests x y same front rows more are error clear first = subst (λ (all : List Row). Refuses (First all) error) (are ∙ ap tests same) (refused_behind front rows more error clear first)
+refused_among tests x y same front rows more are error clear first = subst (λ (all : List Row). Refuses (First all) error) (are ∙ ap tests same) (refused_after front rows more error clear first)
 
 -- a judge's refusal, where each test fails in one way and a yes needs all tests to pass
 refusal_judges : (rows : List Row) (holds : Type 0) (says : Verdict → Type 0) → AllOneWay rows → (holds → AllClear rows) → (error : JudgeError) → Refuses (First rows) error → Judges rows holds says (Err error)

@@ -26,12 +26,12 @@ abbrev pub entries_between : List Entry → ℕ → ℕ → List Entry
 entries_between entries tail head = filter (is_between tail head) entries
 
 -- how many arcs before the arc of this index have its ends
-abbrev pub twins_before : List ArcView → ℕ → ℕ
-twins_before arcs i = count_by (joins (arc_at arcs i).tail (arc_at arcs i).head) (take i arcs)
+abbrev pub parallels_before : List ArcView → ℕ → ℕ
+parallels_before arcs i = count_by (joins (arc_at arcs i).tail (arc_at arcs i).head) (take i arcs)
 
 -- what the entries claim of the arc of this index: where it is the k-th with its ends, the flow of the k-th entry with them; 0 where there is none
 abbrev pub claimed_of : List ArcView → List Entry → ℕ → ℤ
-claimed_of arcs entries i = (get_or (entries_between entries (arc_at arcs i).tail (arc_at arcs i).head) (twins_before arcs i) no_entry).flow
+claimed_of arcs entries i = (get_or (entries_between entries (arc_at arcs i).tail (arc_at arcs i).head) (parallels_before arcs i) no_entry).flow
 
 -- what the entries claim of each arc
 abbrev pub claimed_flow : List ArcView → List Entry → List ℤ

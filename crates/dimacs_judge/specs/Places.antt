@@ -10,7 +10,7 @@ use Rattle.dimacs_judge.specs.declared.verdict.Where.{Where}
 use Rattle.dimacs_judge.specs.Claims.{is_between, claimed_flow, entry_row}
 use Rattle.dimacs_judge.specs.Tests.{Clear, FirstOfRow}
 
--- the arcs, what they carry, a count for each, how many entries came in the order of the arcs, whether all did, and the first entry that fails
+-- the arcs, what they carry, a count for each, how many entries came in the order of the arcs, whether another came, and the first entry that fails
 pub record PlacesValue : Type 0 where
   pub arcs : List ArcView
   pub flow : List ℤ

@@ -58,12 +58,13 @@ fn transfer(sums: &mut NodeTable<i128>, arc: ArcView, amount: i64) -> Result<(),
     Ok(())
 }
 
+/// Adds the amount to the balance of a node. Nearly always its page was taken, and is looked up once.
 #[inline(always)]
 fn add_at(sums: &mut NodeTable<i128>, node: u32, amount: i128) -> Result<(), Memory>
     requires { FitsSigned w128 (value_of sums.old node +ℤ amount) }
     ensures { OnOk result ((v : ℕ) → value_of sums.new v ≡ value_of sums.old v +ℤ when (node == v) amount) }
 {
-    if let Some(sum) = sums.taken(node) {
+    if let Some(sum) = sums.get_placed(node) {
         sums.put(node, sum + amount);
         return Ok(());
     }

@@ -37,9 +37,9 @@ pub(crate) fn leaving_passed<N: Network>(
     requires number { 1 ≤ number }
     requires least { AreLeast (N.list network.now) least.now }
     requires marked { IsMarked number block.now marks.old }
-    requires alone { AreMadeAlone (N.list network.now) block.now marks.old }
+    requires sound { AreMadeAlone (N.list network.now) block.now marks.old }
     ensures marked { IsMarked number block.now marks.new }
-    ensures alone { AreMadeAlone (N.list network.now) block.now marks.new }
+    ensures sound { AreMadeAlone (N.list network.now) block.now marks.new }
     ensures made { IsTrue result → AreMade (N.list network.now) block.now marks.new }
     ensures clear { IsTrue result → Clear (relax_row (N.list network.now) block.now) }
 {
@@ -72,9 +72,9 @@ fn node_passed<N: Network>(
     requires least { AreLeast (N.list network.now) least.now }
     requires label { label block.now node ≡ Some from }
     requires marked { IsMarked number block.now marks.old }
-    requires alone { AreMadeAlone (N.list network.now) block.now marks.old }
+    requires sound { AreMadeAlone (N.list network.now) block.now marks.old }
     ensures marked { IsMarked number block.now marks.new }
-    ensures alone { AreMadeAlone (N.list network.now) block.now marks.new }
+    ensures sound { AreMadeAlone (N.list network.now) block.now marks.new }
     ensures kept { (a : ArcView) → IsPassed block.now marks.old a → IsPassed block.now marks.new a }
     ensures passed { IsTrue result → ArePassedFrom (N.list network.now) block.now marks.new node }
 {

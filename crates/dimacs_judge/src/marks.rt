@@ -1,13 +1,13 @@
 //! Whether the labels of blocks are distances, by one pass over the arcs for each block, or over those that leave its
 //! nodes.
 
-ghost use Rattle.std.specs.Prelude.{◌≡◌, ◌≢◌, ◌<◌, ◌≤◌, ◌+◌, ◌-◌, ◌^◌, ◌↔◌, ◌+ℤ◌, ℕ, List, get_or, pos, IfSome, IfOk, OnOk, IsTrue, if◌then◌else◌, false, true};
+ghost use Rattle.std.specs.Prelude.{◌≡◌, ◌≢◌, ◌<◌, ◌≤◌, ◌+◌, ◌-◌, ◌^◌, ◌↔◌, ◌+ℤ◌, ℕ, List, get_or, pos, IfNone, IfSome, IfOk, OnOk, IsTrue, if◌then◌else◌, false, true};
 ghost use Rattle.std.specs.Result.{result_err};
 ghost use Rattle.dimacs_lines.specs.Limits.{most_count, most_nodes};
 ghost use Rattle.dimacs_instance.specs.declared.network.ArcView.{ArcView};
 ghost use Rattle.dimacs_claims.specs.declared.block.Label.{Label};
 ghost use Rattle.dimacs_claims.specs.Labels.{AreLabels, BlockValue, IsBlock, no_label};
-ghost use Rattle.dimacs_nodes.specs.Tables.{blank_of, value_of};
+ghost use Rattle.dimacs_nodes.specs.Tables.{HasPlace, blank_of, value_of};
 ghost use Rattle.dimacs_records.specs.Ranges.{IsWide};
 ghost use Rattle.dimacs_judge.specs.CertificateTests.{RelaxFails, label_rows, relax_row, support_row, weight_row};
 ghost use Rattle.dimacs_judge.specs.inside.CertificateTests.{distance_rows};
@@ -280,9 +280,9 @@ fn few_passed<N: Network>(
     requires number { 1 ≤ number }
     requires least { IfSome least.now (AreLeast (N.list network.now)) }
     requires marked { IsMarked number block.now marks.old }
-    requires alone { AreMadeAlone (N.list network.now) block.now marks.old }
+    requires sound { AreMadeAlone (N.list network.now) block.now marks.old }
     ensures marked { IsMarked number block.now marks.new }
-    ensures alone { AreMadeAlone (N.list network.now) block.now marks.new }
+    ensures sound { AreMadeAlone (N.list network.now) block.now marks.new }
     ensures made { IsTrue result → AreMade (N.list network.now) block.now marks.new }
     ensures clear { IsTrue result → Clear (relax_row (N.list network.now) block.now) }
 {
@@ -307,7 +307,7 @@ fn arcs_passed<N: Network>(
     requires lawful { (nodes : ℕ) × IsBlock nodes block.now }
     requires number { 1 ≤ number }
     requires marked { IsMarked number block.now marks.old }
-    requires alone { AreMadeAlone (N.list network.now) block.now marks.old }
+    requires sound { AreMadeAlone (N.list network.now) block.now marks.old }
     ensures marked { IsMarked number block.now marks.new }
     ensures tests { Tells (distance_rows (N.list network.now) block.now) result }
 {
@@ -329,7 +329,7 @@ fn arcs_passed<N: Network>(
     Ok(())
 }
 
-/// Marks the labels that the arcs from this one on make, behind an arc that fails.
+/// Marks the labels that the arcs from this one on make, after an arc that fails.
 #[cold]
 #[inline(never)]
 fn rest_passed<N: Network>(
@@ -342,7 +342,7 @@ fn rest_passed<N: Network>(
     requires lawful { (nodes : ℕ) × IsBlock nodes block.now }
     requires number { 1 ≤ number }
     requires marked { IsMarked number block.now marks.old }
-    requires alone { AreMadeAlone (N.list network.now) block.now marks.old }
+    requires sound { AreMadeAlone (N.list network.now) block.now marks.old }
     requires made { AreMadeBelow (N.list network.now) block.now from marks.old }
     ensures marked { IsMarked number block.now marks.new }
     ensures made { AreMade (N.list network.now) block.now marks.new }
@@ -373,13 +373,13 @@ pub(crate) fn pass_arc(
     let Some(from) = distance_by(marks.get(arc.tail), number, labels) else {
         return Ok(false);
     };
-    let head = marks.get(arc.head);
-    let Some(to) = distance_by(head, number, labels) else {
+    let Some(head) = mark_by(marks, arc.head, number) else {
         return match escape_fault(radius, from, arc.cost) {
             Some(reason) => Err(reason),
             None => Ok(false),
         };
     };
+    let to = head.dist(labels);
     if is_beyond(to, from, arc.cost) {
         return Err(Reason::NotShortest);
     }
@@ -404,6 +404,19 @@ fn is_pred(node: u32, pred: u32) -> bool
     ensures { IsTrue result ↔ ((pred ≡ node) × (pred ≢ 2 ^ 32 - 1)) }
 {
     pred == node && pred != MADE
+}
+
+/// The mark of a node, where it is that of the block of this number.
+#[inline(always)]
+fn mark_by(marks: &NodeTable<Mark>, node: u32, number: u32) -> Option<Mark>
+    requires { (blank_of marks.now).block < number }
+    ensures none { IfNone result ((value_of marks.now node).block ≢ number) }
+    ensures mark { IfSome result (λ mark. (mark ≡ value_of marks.now node) × (mark.block ≡ number) × HasPlace marks.now node) }
+{
+    match marks.get_placed(node) {
+        Some(mark) if mark.block == number => Some(mark),
+        _ => None,
+    }
 }
 
 /// What the block of this number and these labels says of a node by its mark.

@@ -35,7 +35,8 @@ pub struct FlowPlaces<'a, N: Network> {
     out_of_order: bool,
     /// An index of the arcs, where the network has none of its own. It is filled once an entry comes out of order.
     index: Option<ArcIndex>,
-    /// The arc behind the last one that was found by its ends.
+    /// The arc after that of the last entry. An entry out of order is first looked for from there on; no answer depends
+    /// on it.
     next: u32,
     /// The first entry that fails. Nothing is counted or put after it.
     refusal: Option<(Where, Reason)>,
@@ -128,7 +129,7 @@ impl<'a, N: Network> FlowPlaces<'a, N> {
         self.put_by_search(entry)
     }
 
-    /// From here on entries are looked for by their ends. The first time, an index is filled for it.
+    /// From here on entries are looked for by their ends. The first time, an index is filled for that.
     fn leave_order(&mut self)
         ensures { self.new ≡ record self.old { out_of_order = true } }
     {
@@ -174,17 +175,16 @@ impl<'a, N: Network> FlowPlaces<'a, N> {
         Ok(())
     }
 
-    /// The first arc with the ends of this entry. With an index of its own, the arcs behind that of the last entry are
+    /// The first arc with the ends of this entry. With an index of its own, the arcs after that of the last entry are
     /// compared first.
     #[inline(always)]
     fn first(&self, entry: Entry) -> Option<u32>
+        requires { self.now.out_of_order ≡ true }
         ensures { IsKthBetween self.now.arcs entry.tail entry.head 0 result }
     {
         let near = match &self.index {
-            Some(index) if self.out_of_order => {
-                index.find_near(self.network, entry.tail, entry.head, self.next)
-            }
-            _ => None,
+            Some(index) => index.find_near(self.network, entry.tail, entry.head, self.next),
+            None => None,
         };
         match near {
             Some(arc) => Some(arc),
@@ -194,7 +194,8 @@ impl<'a, N: Network> FlowPlaces<'a, N> {
 
     /// How many entries came with the ends of this one, whose first arc is at hand.
     fn came(&self, entry: Entry, first: u32) -> u32
-        requires { IsKthBetween self.now.arcs entry.tail entry.head 0 (Some first) }
+        requires searched { self.now.out_of_order ≡ true }
+        requires first { IsKthBetween self.now.arcs entry.tail entry.head 0 (Some first) }
         ensures { result ≡ came_between self.now entry.tail entry.head first }
     {
         let counted = self.counts[first as usize];
@@ -209,7 +210,8 @@ impl<'a, N: Network> FlowPlaces<'a, N> {
 
     /// How many of the arcs below `end` have the ends of this entry, where at least one does.
     fn arcs_below(&self, entry: Entry, end: u32) -> u32
-        requires { 1 ≤ count_by (joins entry.tail entry.head) (take end self.now.arcs) }
+        requires searched { self.now.out_of_order ≡ true }
+        requires some { 1 ≤ count_by (joins entry.tail entry.head) (take end self.now.arcs) }
         ensures { result ≡ count_by (joins entry.tail entry.head) (take end self.now.arcs) }
     {
         for k in 1..self.network.arcs() {
@@ -224,7 +226,8 @@ impl<'a, N: Network> FlowPlaces<'a, N> {
     /// The k-th arc with the ends of this entry, of which the first is at hand.
     #[inline]
     fn kth(&self, entry: Entry, first: u32, k: u32) -> Option<u32>
-        requires { IsKthBetween self.now.arcs entry.tail entry.head 0 (Some first) }
+        requires searched { self.now.out_of_order ≡ true }
+        requires first { IsKthBetween self.now.arcs entry.tail entry.head 0 (Some first) }
         ensures { IsKthBetween self.now.arcs entry.tail entry.head k result }
     {
         if k == 0 {
@@ -237,13 +240,12 @@ impl<'a, N: Network> FlowPlaces<'a, N> {
     /// The k-th arc with the ends of this entry.
     #[inline(always)]
     fn find(&self, entry: Entry, k: u32) -> Option<u32>
+        requires { self.now.out_of_order ≡ true }
         ensures { IsKthBetween self.now.arcs entry.tail entry.head k result }
     {
         match &self.index {
-            Some(index) if self.out_of_order => {
-                index.find(self.network, entry.tail, entry.head, k)
-            }
-            _ => self.network.find(entry.tail, entry.head, k),
+            Some(index) => index.find(self.network, entry.tail, entry.head, k),
+            None => self.network.find(entry.tail, entry.head, k),
         }
     }
 }

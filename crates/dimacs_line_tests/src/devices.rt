@@ -62,7 +62,7 @@ static FAILING_PULLS: [(&str, &[u64], &str); 7] = [
     ("faults in mid-stream", &[2, 3], "ab|fault|fault|c|defg|"),
     ("a list out of order", &[4, 2], "ab|fault|c|fault|defg|"),
     ("a fault at the end", &[4], "ab|c|defg|fault|"),
-    ("a fault behind the end", &[5], "ab|c|defg|"),
+    ("a fault after the end", &[5], "ab|c|defg|"),
     ("a fault at pull 0, which there is not", &[0], "ab|c|defg|"),
 ];
 
@@ -92,7 +92,7 @@ static STEPS: [(&str, Result<usize, DeviceFault>, &str); 5] = [
     ("a listed fault", Err(DeviceFault), "ab"),
     ("a nought, which counts as one", Ok(1), "abc"),
     ("a second fault", Err(DeviceFault), "abc"),
-    ("the rest, behind the list", Ok(4), "abcdefg"),
+    ("the rest, after the list", Ok(4), "abcdefg"),
 ];
 
 #[test]
@@ -127,7 +127,7 @@ static PUTS: [(&str, &[usize], &[u64], Result<(), DeviceFault>, &str); 6] = [
         "abcd",
     ),
     (
-        "a fault behind the last put",
+        "a fault after the last put",
         &[3, 1],
         &[4],
         Ok(()),

@@ -16,7 +16,7 @@ static LINES: [(&str, &str, &str); 13] = [
     ("fields between blanks", "a 1 23", "0:a|2:1|4:23|"),
     ("several blanks", "a   b", "0:a|4:b|"),
     ("tabs", "a\tb\t\tc", "0:a|2:b|5:c|"),
-    ("a CR behind", "a 1\r", "0:a|2:1|"),
+    ("a CR after", "a 1\r", "0:a|2:1|"),
     ("a CR between", "a\rb", "0:a|2:b|"),
     ("blanks of all kinds", "\r\t a\t \rb", "3:a|7:b|"),
     (
@@ -60,7 +60,7 @@ fn gives_the_fields_that_are_scanned(rt: HostRuntime) -> Result<(), Fail> {
 }
 
 #[test]
-fn gives_no_field_behind_the_last(rt: HostRuntime) {
+fn gives_no_field_after_the_last(rt: HostRuntime) {
     let mut left = fields(b"a ");
     same(
         &rt,
@@ -93,7 +93,7 @@ static NUMBERS: [(
     ("leading noughts", "007", Ok(7), Ok(7)),
     ("eight digits", "12345678", Ok(12_345_678), Ok(12_345_678)),
     (
-        "eight digits behind a minus",
+        "eight digits after a minus",
         "-12345678",
         Ok(-12_345_678),
         Ok(-12_345_678),
@@ -109,13 +109,13 @@ static NUMBERS: [(
     ("a plus alone", "+", Err(BadNumber), Err(BadNumber)),
     ("a fraction", "1.0", Err(BadNumber), Err(BadNumber)),
     (
-        "a letter behind digits",
+        "a letter after digits",
         "12x",
         Err(BadNumber),
         Err(BadNumber),
     ),
     (
-        "a letter behind eight digits",
+        "a letter after eight digits",
         "12345678x",
         Err(BadNumber),
         Err(BadNumber),
@@ -134,7 +134,7 @@ static NUMBERS: [(
     ),
 ];
 
-/// What stands before a field, and behind it.
+/// What stands before a field, and after it.
 static SURROUNDINGS: [(&str, &str); 5] = [
     ("", ""),
     ("a ", ""),
@@ -150,7 +150,7 @@ type Told<'a> = (
     Result<i128, NumberFault>,
 );
 
-/// What is told of the field behind so many others.
+/// What is told of the field after so many others.
 fn told<'a>(line: &'a [u8], others: usize) -> Option<Told<'a>> {
     let mut scan = Scan::new(line);
     for _ in 0..others {
@@ -163,8 +163,8 @@ fn told<'a>(line: &'a [u8], others: usize) -> Option<Told<'a>> {
 #[test]
 fn reads_the_number_of_a_field_in_passing(rt: HostRuntime) -> Result<(), Fail> {
     for &(name, text, number, wide) in &NUMBERS {
-        for &(before, behind) in &SURROUNDINGS {
-            let line = format!(in rt.alloc(); "{before}{text}{behind}")?;
+        for &(before, after) in &SURROUNDINGS {
+            let line = format!(in rt.alloc(); "{before}{text}{after}")?;
             let field = Field {
                 text: text.as_bytes(),
                 start: before.len(),
@@ -195,8 +195,8 @@ static BEGINNINGS: [(&str, i64); 10] = [
 fn reads_a_number_at_each_place_of_a_line(rt: HostRuntime) -> Result<(), Fail> {
     for &(digits, wanted) in &BEGINNINGS {
         for before in 0..10 {
-            for behind in 0..10 {
-                let line = between_blanks(rt.alloc(), before, digits, behind)?;
+            for after in 0..10 {
+                let line = between_blanks(rt.alloc(), before, digits, after)?;
                 let found = told(&line, 0).map(|(_, number, _)| number);
                 same(&rt, digits, found, Some(Ok(wanted)));
             }
@@ -205,21 +205,21 @@ fn reads_a_number_at_each_place_of_a_line(rt: HostRuntime) -> Result<(), Fail> {
     Ok(())
 }
 
-/// A field with so many blanks before it, and behind it.
+/// A field with so many blanks before it, and after it.
 fn between_blanks(
     alloc: Global,
     before: usize,
     field: &str,
-    behind: usize,
+    after: usize,
 ) -> Result<Vec<u8>, Fail> {
     let mut line = Vec::from_elem(alloc, b' ', before)?;
     line.extend_from_slice(field.as_bytes())?;
-    let blanks = Vec::from_elem(alloc, b' ', behind)?;
+    let blanks = Vec::from_elem(alloc, b' ', after)?;
     line.extend_from_slice(&blanks)?;
     Ok(line)
 }
 
-/// Each field behind the place where it starts, as in `0:a|2:12|`.
+/// Each field after the place where it starts, as in `0:a|2:12|`.
 fn spell_fields(alloc: Global, left: Fields<'_>) -> Result<String, Fail> {
     let mut spelled = String::new(alloc);
     for field in left {

@@ -88,7 +88,7 @@ static REFUSED_WRITES: [(&str, &[u8], Result<(), DeviceFault>, &str); 4] = [
     ("no refusal", &[], Ok(()), "abcde"),
     ("a refusal at once", &[1], Err(DeviceFault), ""),
     ("a refusal in mid-stream", &[4], Err(DeviceFault), "ab"),
-    ("a refusal behind the last byte", &[7], Ok(()), "abcde"),
+    ("a refusal after the last byte", &[7], Ok(()), "abcde"),
 ];
 
 #[test]

@@ -60,7 +60,7 @@ static TEXTS: [(&str, &str, &str); 13] = [
     ("a line alone, without its end", "a", "1:a|end"),
     ("an empty line between two", "a\n\nb\n", "1:a|2:|3:b|end"),
     ("CR LF", "a\r\nb\r\n", "1:a\r|2:b\r|end"),
-    ("CR LF and a CR behind", "a\r\n\r", "1:a\r|2:\r|end"),
+    ("CR LF and a CR after", "a\r\n\r", "1:a\r|2:\r|end"),
     ("CR alone, which ends no line", "a\rb\n", "1:a\rb|end"),
     ("lines of blanks", " \n\t\n \t", "1: |2:\t|3: \t|end"),
     ("comments", "c one\nc\n", "1:c one|2:c|end"),
@@ -95,11 +95,11 @@ fn gives_the_same_lines_wherever_one_is_cut(rt: HostRuntime) -> Result<(), Fail>
 static FAULTS: [(&str, usize, u64, &str); 7] = [
     ("at the first pull", 8, 1, "Device"),
     ("within the first line", 1, 2, "Device"),
-    ("behind the first line", 3, 2, "1:ab|Device"),
+    ("after the first line", 3, 2, "1:ab|Device"),
     ("within the second line", 4, 2, "1:ab|Device"),
     ("within the last line", 7, 2, "1:ab|2:cd|Device"),
     ("in place of the end", 8, 2, "1:ab|2:cd|Device"),
-    ("behind every pull", 8, 9, "1:ab|2:cd|3:ef|end"),
+    ("after every pull", 8, 9, "1:ab|2:cd|3:ef|end"),
 ];
 
 #[test]
@@ -115,7 +115,7 @@ fn tells_a_fault_and_not_the_end(rt: HostRuntime) -> Result<(), Fail> {
     Ok(())
 }
 
-/// The numbers of the lines, and what is held behind each.
+/// The numbers of the lines, and what is held after each.
 static HELD: [(Option<u64>, usize); 4] = [(Some(1), 3), (Some(2), 0), (Some(3), 0), (None, 0)];
 
 #[test]
@@ -130,7 +130,7 @@ fn holds_what_was_pulled_and_not_given(rt: HostRuntime) -> Result<(), Fail> {
             lines.next_line(&mut source),
             Ok(given),
         );
-        same(&rt, "held behind a line", lines.held(), held);
+        same(&rt, "held after a line", lines.held(), held);
     }
     Ok(())
 }
@@ -151,13 +151,13 @@ fn holds_little_of_a_long_text(rt: HostRuntime) -> Result<(), Fail> {
             Ok(Some(number)),
         );
         holds_at(&rt, "line", number, lines.line() == b"a 1 2 3".as_slice());
-        holds_at(&rt, "behind line", number, lines.held() <= 1_114_112);
+        holds_at(&rt, "after line", number, lines.held() <= 1_114_112);
     }
     same(&rt, "the next line", lines.next_line(&mut source), Ok(None));
     Ok(())
 }
 
-/// The length of a line, what stands behind it, and what is told.
+/// The length of a line, what stands after it, and what is told.
 static LONG_LINES: [(&str, usize, &str, &str); 6] = [
     ("the longest", LONGEST, "\nz", "1:(1048576 bytes)|2:z|end"),
     (
@@ -184,9 +184,9 @@ static LONG_LINES: [(&str, usize, &str, &str); 6] = [
 
 #[test]
 fn gives_a_line_of_the_greatest_length_and_no_longer_one(rt: HostRuntime) -> Result<(), Fail> {
-    for &(name, length, behind, wanted) in &LONG_LINES {
+    for &(name, length, after, wanted) in &LONG_LINES {
         let mut text = Vec::from_elem(rt.alloc(), b'x', length)?;
-        text.extend_from_slice(behind.as_bytes())?;
+        text.extend_from_slice(after.as_bytes())?;
         gives(&rt, rt.alloc(), name, &text, wanted)?;
         for size in [7, 65_535] {
             gives_in_pieces(&rt, rt.alloc(), name, &text, size, wanted)?;

@@ -90,7 +90,7 @@ fn values_may_be_set_from_the_last_page_to_the_first(rt: HostRuntime) -> Result<
     for id in 0..2_000 {
         same_at(&rt, "node", id as u64, nodes.get(id), Some(id % 7));
     }
-    same(&rt, "behind the last", nodes.get(2_000), None);
+    same(&rt, "after the last", nodes.get(2_000), None);
     Ok(())
 }
 
@@ -191,10 +191,10 @@ fn the_last_value_in_a_table_stands(rt: HostRuntime) -> Result<(), Fail> {
 #[test]
 fn a_value_is_told_where_its_page_was_taken(rt: HostRuntime) -> Result<(), Fail> {
     let table = table(rt.alloc())?;
-    same(&rt, "a node that was set", table.taken(256), Some(12));
-    same(&rt, "another on its page", table.taken(510), Some(5));
-    same(&rt, "one on no page", table.taken(512), None);
-    same(&rt, "the greatest ID", table.taken(u32::MAX), None);
+    same(&rt, "a node that was set", table.get_placed(256), Some(12));
+    same(&rt, "another on its page", table.get_placed(510), Some(5));
+    same(&rt, "one on no page", table.get_placed(512), None);
+    same(&rt, "the greatest ID", table.get_placed(u32::MAX), None);
     Ok(())
 }
 

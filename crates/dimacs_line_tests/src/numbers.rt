@@ -13,10 +13,10 @@ static NO_NUMBERS: [(&str, &str); 14] = [
     ("two minuses", "--1"),
     ("two pluses", "++1"),
     ("a plus and a minus", "+-1"),
-    ("a minus behind", "1-"),
+    ("a minus after", "1-"),
     ("a fraction", "1.0"),
     ("an exponent", "1e3"),
-    ("a letter behind many digits", "12345678x"),
+    ("a letter after many digits", "12345678x"),
     ("a letter in front", "x1"),
     ("hexadecimal", "0x10"),
     ("a separator", "1_000"),
@@ -40,7 +40,7 @@ static NUMBERS: [(&str, &str, Result<i64, NumberFault>); 18] = [
     ("a plus", "+5", Ok(5)),
     ("a minus", "-5", Ok(-5)),
     ("leading noughts", "007", Ok(7)),
-    ("leading noughts behind a minus", "-007", Ok(-7)),
+    ("leading noughts after a minus", "-007", Ok(-7)),
     ("eight digits", "12345678", Ok(12_345_678)),
     ("nine digits", "123456789", Ok(123_456_789)),
     (
@@ -154,8 +154,8 @@ static LONG_NUMBERS: [(
     Result<i128, NumberFault>,
 ); 6] = [
     ("a digit", "", "5", Ok(5), Ok(5)),
-    ("a digit behind a plus", "+", "5", Ok(5), Ok(5)),
-    ("a digit behind a minus", "-", "5", Ok(-5), Ok(-5)),
+    ("a digit after a plus", "+", "5", Ok(5), Ok(5)),
+    ("a digit after a minus", "-", "5", Ok(-5), Ok(-5)),
     ("nothing", "", "", Ok(0), Ok(0)),
     ("a letter", "", "x", Err(BadNumber), Err(BadNumber)),
     (

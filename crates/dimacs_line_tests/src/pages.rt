@@ -97,8 +97,8 @@ static LENGTHS: [(&str, usize, usize, usize); 8] = [
     ("all but a byte, and two", ROOM - 1, 2, 0),
     ("two pages", ROOM, ROOM, 0),
     ("more than a page at once", ROOM + 1, 0, 0),
-    ("more than a page behind a byte", 1, ROOM + 1, 1),
-    ("a page behind a byte", 1, ROOM, 1),
+    ("more than a page after a byte", 1, ROOM + 1, 1),
+    ("a page after a byte", 1, ROOM, 1),
     ("several pages", 5, 3 * ROOM, 2 * ROOM),
 ];
 
@@ -164,7 +164,7 @@ static FAULTS: [(&str, u64, usize); 4] = [
 ];
 
 #[test]
-fn puts_nothing_behind_a_fault_and_tells_it_at_the_end(rt: HostRuntime) -> Result<(), Fail> {
+fn puts_nothing_after_a_fault_and_tells_it_at_the_end(rt: HostRuntime) -> Result<(), Fail> {
     let text = counted_bytes(rt.alloc(), 3 * ROOM + 5)?;
     for &(name, fail, taken) in &FAULTS {
         let fails = [fail];

@@ -6,10 +6,10 @@ use std::alloc::{AllocError, Global};
 use std::process::Abort;
 use std::test::Fail;
 
-/// The lines that a reader gives, each behind its number, and how the text ends, as in `1:first|2:second|end`.
+/// The lines that a reader gives, each after its number, and how the text ends, as in `1:first|2:second|end`.
 ///
 /// On the way it tests what holds for every text: the reader holds no more than it may, its line is empty before the
-/// first and behind the last, and the last answer comes again at each later call.
+/// first and after the last, and the last answer comes again at each later call.
 pub fn spell_lines<S: Source>(
     rt: &impl Abort,
     alloc: Global,
@@ -32,10 +32,10 @@ pub fn spell_lines<S: Source>(
             Err(error) => write!(spelled, "{error:?}")?,
         }
         for _ in 0..3 {
-            holds(rt, "a line behind the last", lines.line().is_empty());
+            holds(rt, "a line after the last", lines.line().is_empty());
             same(
                 rt,
-                "another answer behind the last",
+                "another answer after the last",
                 lines.next_line(source),
                 answer,
             );

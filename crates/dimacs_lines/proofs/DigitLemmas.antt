@@ -32,7 +32,7 @@ All-digits xs n is k d inside =
     let below : k < n = omega (arith, length-take n xs) in
     rw (get_or-take n xs k d below) (digit_at xs n k d is below)
 
--- digits with nothing or a blank behind them are a whole field
+-- digits with nothing or a blank after them are a whole field
 pub run_of_digits : (xs : List ℕ) (n : ℕ) → n ≡ prefix_len is_ascii_digit (take 8 xs) → (n < length xs → is_blank (get_or xs n 0) ≡ true) → n ≡ position_or_len is_blank xs
 run_of_digits xs n is ends =
     let within : n ≤ length xs = omega (arith, prefix_len-le-length is_ascii_digit (take 8 xs), length-take 8 xs) in
@@ -51,11 +51,11 @@ spells_digits (b ∷ bs) some all =
     let first : IsAsciiDigit b = all 0 0 some in
     rw (digit_is_no_sign b first, digit_is_no_minus b first) ((some, all), refl)
 
--- digits behind a minus
+-- digits after a minus
 pub spells_minus : (digits : List ℕ) → 0 < length digits → All IsAsciiDigit digits → Spells (45 ∷ digits) (neg_ℤ (pos (place_sum digits)))
 spells_minus digits some all = ((some, all), refl)
 
--- a minus, and n digits behind it
+-- a minus, and n digits after it
 pub minus_in_front : (line : List ℕ) (start n : ℕ) → start < length line → get_or line start 0 ≡ 45 → take (n + 1) (drop start line) ≡ 45 ∷ take n (drop (start + 1) line)
 minus_in_front line start n inside minus =
     let cut : drop start line ≡ get_or line start 0 ∷ drop (start + 1) line = drop_more line start 0 inside in

@@ -24,7 +24,7 @@ record AreFieldsFrom (line : List ℕ) (i : ℕ) (runs : List Run) : Type 0 wher
   apart : AreApart runs
   none_left_out : (place : ℕ) → i ≤ place → place < length line → IsSolid (get_or line place 0) → Any (IsInRun place) runs
 
--- the byte at place i, with a text right behind it
+-- the byte at place i, with a text right after it
 abbrev byte_then : List ℕ → ℕ → List ℕ → Run
 byte_then line i text = record { text = get_or line i 0 ∷ text; start = i }
 
@@ -54,13 +54,13 @@ past_blank line i runs blank h = record {
   ];
 }
 
--- a byte at place i that is no blank, before the runs behind it
+-- a byte at place i that is no blank, before the runs after it
 module _ (line : List ℕ) (i : ℕ) (inside : i < length line) (first : IsSolid (get_or line i 0)) where
   byte_then_field : (text : List ℕ) → All IsSolid text → take (length text) (drop (suc i) line) ≡ text → IsField line (byte_then line i text)
-  byte_then_field text solid behind = record {
+  byte_then_field text solid after = record {
     some = λ e. absurd (cc);
     no_blank = All-cons IsSolid (get_or line i 0) text first solid;
-    in_place = rw (drop-cons line i 0 inside) (ap (λ bs. get_or line i 0 ∷ bs) behind);
+    in_place = rw (drop-cons line i 0 inside) (ap (λ bs. get_or line i 0 ∷ bs) after);
   }
 
   -- it is a run alone
@@ -74,7 +74,7 @@ module _ (line : List ℕ) (i : ℕ) (inside : i < length line) (first : IsSolid
     ];
   }
 
-  -- it begins the run that starts right behind it
+  -- it begins the run that starts right after it
   joined : (run : Run) (runs : List Run) → run.start ≡ suc i → AreFieldsFrom line (suc i) (run ∷ runs) → AreFieldsFrom line i (byte_then line i run.text ∷ runs)
   joined run runs next h =
       let field = All-head (IsField line) run runs h.each in

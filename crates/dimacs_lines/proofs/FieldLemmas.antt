@@ -61,7 +61,7 @@ runs_past : (i : ℕ) (xs : List ℕ) → runs_from i xs ≡ runs_from (i + blan
 runs_past i [] = refl
 runs_past i (b ∷ bs) = past_at (is_blank b) i b bs refl (runs_past (suc i) bs)
 
--- a run of n bytes, and those behind it
+-- a run of n bytes, and those after it
 abbrev run_and_rest : ℕ → ℕ → List ℕ → List Run
 run_and_rest i n xs = record { text = take n xs; start = i } ∷ runs_from (i + n) (drop n xs)
 
@@ -78,10 +78,10 @@ alone b i (run ∷ runs) all = let later = All-head (StartsFrom (suc (suc i))) r
 run_at : (test : Bool) (i b c : ℕ) (cs : List ℕ) → is_blank b ≡ false → is_blank c ≡ test → (is_blank c ≡ false → runs_from (suc i) (c ∷ cs) ≡ run_and_rest (suc i) (run_in (c ∷ cs)) (c ∷ cs)) → runs_from i (b ∷ c ∷ cs) ≡ run_and_rest i (run_in (b ∷ c ∷ cs)) (b ∷ c ∷ cs)
 run_at true i b c cs h blank more =
     let n : run_in (b ∷ c ∷ cs) ≡ 1 = rw (h, blank) refl in
-    let behind : runs_from (suc i) (c ∷ cs) ≡ runs_from (suc (suc i)) cs = rw blank refl in
+    let after : runs_from (suc i) (c ∷ cs) ≡ runs_from (suc (suc i)) cs = rw blank refl in
     let joined : runs_from i (b ∷ c ∷ cs) ≡ onto_runs b i (runs_from (suc i) (c ∷ cs)) = rw h refl in
-    joined ∙ ap (onto_runs b i) behind ∙ alone b i (runs_from (suc (suc i)) cs) (runs_start (suc (suc i)) cs)
-    ∙ ap (λ runs. record { text = b ∷ []; start = i } ∷ runs) (sym behind ∙ same_runs (suc i) (i + 1) (c ∷ cs) (c ∷ cs) (omega arith) refl) ∙ ap (λ k. run_and_rest i k (b ∷ c ∷ cs)) (sym n)
+    joined ∙ ap (onto_runs b i) after ∙ alone b i (runs_from (suc (suc i)) cs) (runs_start (suc (suc i)) cs)
+    ∙ ap (λ runs. record { text = b ∷ []; start = i } ∷ runs) (sym after ∙ same_runs (suc i) (i + 1) (c ∷ cs) (c ∷ cs) (omega arith) refl) ∙ ap (λ k. run_and_rest i k (b ∷ c ∷ cs)) (sym n)
 run_at false i b c cs h solid more =
     let n : run_in (b ∷ c ∷ cs) ≡ 1 + run_in (c ∷ cs) = rw h refl in
     let joined : runs_from i (b ∷ c ∷ cs) ≡ onto_runs b i (runs_from (suc i) (c ∷ cs)) = rw h refl in
@@ -104,18 +104,18 @@ runs_next_in i xs h =
     let P : List ℕ → Type 0 = λ ys. runs_from (i + n) ys ≡ run_and_rest (i + n) (run_in ys) ys in
     runs_past i xs ∙ subst P (sym cut) (runs_first (i + n) (get_or xs n 0) (drop (suc n) xs) solid)
 
--- the first run behind a place of a line, and the later ones
+-- the first run after a place of a line, and the later ones
 pub runs_next : (line : List ℕ) (at n r : ℕ) → n ≡ blanks_in (drop at line) → at + n < length line → r ≡ run_in (drop (at + n) line)
     → runs_from at (drop at line) ≡ record { text = take r (drop (at + n) line); start = at + n } ∷ runs_from (at + n + r) (drop (at + n + r) line)
 runs_next line at n r blanks some run =
     let there : drop n (drop at line) ≡ drop (at + n) line = drop-drop n at line in
-    let behind : drop r (drop (at + n) line) ≡ drop (at + n + r) line = drop-drop r (at + n) line in
+    let after : drop r (drop (at + n) line) ≡ drop (at + n + r) line = drop-drop r (at + n) line in
     let few : blanks_in (drop at line) < length (drop at line) = rw (← blanks, length-drop at line) (omega arith) in
     let P : ℕ → List ℕ → Type 0 = λ k ys. runs_from at (drop at line) ≡ run_and_rest (at + k) (run_in ys) ys in
     let step : P n (drop (at + n) line) = subst (P n) there (let Q : ℕ → Type 0 = λ k. P k (drop k (drop at line)) in subst Q (sym blanks) (runs_next_in at (drop at line) few)) in
-    step ∙ (ap (λ k. run_and_rest (at + n) k (drop (at + n) line)) (sym run) ∙ ap (λ ys. record { text = take r (drop (at + n) line); start = at + n } ∷ runs_from (at + n + r) ys) behind)
+    step ∙ (ap (λ k. run_and_rest (at + n) k (drop (at + n) line)) (sym run) ∙ ap (λ ys. record { text = take r (drop (at + n) line); start = at + n } ∷ runs_from (at + n + r) ys) after)
 
--- behind a place with nothing but blanks
+-- after a place with nothing but blanks
 pub runs_none : (line : List ℕ) (at n : ℕ) → n ≡ blanks_in (drop at line) → length line ≤ at + n → runs_from at (drop at line) ≡ []
 runs_none line at n blanks none =
     let gone : drop (blanks_in (drop at line)) (drop at line) ≡ [] = drop_of_length-le (drop at line) (rw (← blanks, length-drop at line) (omega arith)) in

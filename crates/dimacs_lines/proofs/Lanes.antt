@@ -50,7 +50,7 @@ byte_at-step : (i n high b : ℕ) → b < 256 → n / 256 ^ i ≡ high * 256 + b
 byte_at-step zero n high b small is = (omega arith, omega arith)
 byte_at-step (suc i) n high b small is = (omega arith, rw (pow-suc 256 (suc i), ← div-div-eq-div-mul n (256 ^ suc i) 256) (omega arith))
 
--- the k bytes of a word from byte i on, with zeros behind its lanes
+-- the k bytes of a word from byte i on, with zeros after its lanes
 bytes_low_first-word_of : (i k m n : ℕ) (bs : List ℕ) → k ≤ m → AllBytes bs → n / 256 ^ i ≡ word_of 8 bs
     → bytes_low_first i k n ≡ take k (bs ++ replicate m 0)
 bytes_low_first-word_of i zero m n bs le h is = refl
@@ -63,7 +63,7 @@ bytes_low_first-word_of i (suc k) (suc m) n (b ∷ bs) le h is =
     let rest = bytes_low_first-word_of (suc i) k (suc m) n bs (omega arith) (All-tail (λ b. b < 256) b bs h) step.1 in
     ap₂ (λ x xs. x ∷ xs) step.0 rest
 
--- the bytes of a word are its lanes, with zeros behind
+-- the bytes of a word are its lanes, with zeros after
 pub to_le_bytes-word_of : (n : ℕ) (bs : List ℕ) → AllBytes bs → n ≡ word_of 8 bs → to_le_bytes w64 n ≡ take 8 (bs ++ replicate 8 0)
 to_le_bytes-word_of n bs h is = bytes_low_first-word_of 0 8 8 n bs (omega arith) h (omega arith)
 

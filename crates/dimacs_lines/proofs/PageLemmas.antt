@@ -5,7 +5,7 @@ use Rattle.dimacs_lines.specs.Devices.{after_piece}
 use Rattle.dimacs_lines.specs.Puts.{AcceptsFront}
 use Rattle.dimacs_lines.specs.Pages.{IsWrittenBy}
 use Rattle.dimacs_lines.specs.inside.Pages.{IsPut}
-use Rattle.dimacs_lines.proofs.PutLemmas.{after_piece-after_piece, AcceptsFront-behind, AcceptsFront-longer}
+use Rattle.dimacs_lines.proofs.PutLemmas.{after_piece-after_piece, AcceptsFront-after, AcceptsFront-longer}
 
 -- more is kept, or nothing after a fault
 pub IsWritten-kept : (failed : Bool) (old new : Option (List ℕ)) (text kept more : List ℕ) → IsWrittenBy failed old text new kept → IsWrittenBy failed old (text ++ more) new (kept ++ more)
@@ -15,7 +15,7 @@ IsWritten-kept true old new text kept more h = AcceptsFront-longer old new text 
 -- what was kept is put
 pub IsWritten-put : (failed after : Bool) (start old new : Option (List ℕ)) (faults counted : ℕ) (text kept : List ℕ) → IsPut failed old faults kept after new counted → IsWrittenBy failed start text old kept → IsWrittenBy after start text new []
 IsWritten-put true after start old new faults counted text kept put h = rw (put.0, put.1) h
-IsWritten-put false true start old new faults counted text kept put h = subst (λ x. AcceptsFront start x new) (sym h.whole) (AcceptsFront-behind start old new h.front kept h.accepted put.0)
+IsWritten-put false true start old new faults counted text kept put h = subst (λ x. AcceptsFront start x new) (sym h.whole) (AcceptsFront-after start old new h.front kept h.accepted put.0)
 IsWritten-put false false start old new faults counted text kept put h = record {
   front = text;
   whole = sym (append-nil text);

@@ -55,7 +55,7 @@ AllPass-take n bs counted = λ k d h.
     let within : k < n = omega (arith, length-take n bs) in
     ap is_ascii_digit (get_or-take n bs k d within) ∙ prefix_len_passes is_ascii_digit bs k d (omega arith)
 
--- zeros behind are no digits
+-- zeros after are no digits
 pub prefix_len-padded : (n m : ℕ) (bs : List ℕ) → prefix_len is_ascii_digit (take n (bs ++ replicate m 0)) ≡ prefix_len is_ascii_digit (take n bs)
 prefix_len-padded zero m bs = refl
 prefix_len-padded (suc n) zero [] = refl

@@ -20,14 +20,14 @@ digits_stand bytes at stop count n inside counted says some ends =
     let size : length (take count rest) ≡ count = length-take-le count rest (omega (arith, length-drop at bytes)) in
     let few : count ≤ 8 = omega (arith, prefix_len-le-length is_ascii_digit (take 8 rest), length-take 8 rest) in
     let cut : drop (at + count) bytes ≡ get_or bytes (at + count) 0 ∷ drop (at + count + 1) bytes = drop_more bytes (at + count) 0 inside in
-    let behind : drop count rest ≡ stop ∷ drop (at + count + 1) bytes = drop-drop count at bytes ∙ (cut ∙ ap (λ b. b ∷ drop (at + count + 1) bytes) ends) in
+    let after : drop count rest ≡ stop ∷ drop (at + count + 1) bytes = drop-drop count at bytes ∙ (cut ∙ ap (λ b. b ∷ drop (at + count + 1) bytes) ends) in
     record {
       digits = take count rest;
       some = omega (arith, size);
       few = omega (arith, size);
       each = All-digits rest count counted;
       says = says;
-      ends = record { there = sym (take-append-drop count rest) ∙ ap (λ ys. take count rest ++ ys) behind; passed = omega (arith, size); within = omega arith };
+      ends = record { there = sym (take-append-drop count rest) ∙ ap (λ ys. take count rest ++ ys) after; passed = omega (arith, size); within = omega arith };
     }
 
 pub digits_few : (bytes : List ℕ) (at stop n next : ℕ) → DigitsAt bytes at stop n next → n < 100000000
@@ -39,7 +39,7 @@ digits_few bytes at stop n next d =
 pub stands_digits : (bytes : List ℕ) (at stop n next : ℕ) → DigitsAt bytes at stop n next → StandsAt bytes at stop (pos n) next
 stands_digits bytes at stop n next d = record { text = d.digits; spelled = rw d.says (spells_digits d.digits d.some d.each); short = omega (arith, d.few); ends = d.ends }
 
--- digits behind a minus
+-- digits after a minus
 pub stands_minus : (bytes : List ℕ) (at stop n next : ℕ) → at < length bytes → get_or bytes at 0 ≡ 45 → DigitsAt bytes (at + 1) stop n next → StandsAt bytes at stop (neg_ℤ (pos n)) next
 stands_minus bytes at stop n next inside minus d =
     let cut : drop at bytes ≡ get_or bytes at 0 ∷ drop (at + 1) bytes = drop_more bytes at 0 inside in

@@ -16,9 +16,9 @@ after_piece-take old n k text = after_piece-after_piece old (take n text) (take 
 pub AcceptsFront-take : (old new : Option (List ℕ)) (k : ℕ) (text : List ℕ) → new ≡ after_piece old (take k text) → AcceptsFront old text new
 AcceptsFront-take old new k text h = record { front = take k text; rest = drop k text; whole = sym (take-append-drop k text); accepted = h }
 
--- a text behind another
-pub AcceptsFront-behind : (old mid new : Option (List ℕ)) (before text : List ℕ) → mid ≡ after_piece old before → AcceptsFront mid text new → AcceptsFront old (before ++ text) new
-AcceptsFront-behind old mid new before text h fronts = record {
+-- a text after another
+pub AcceptsFront-after : (old mid new : Option (List ℕ)) (before text : List ℕ) → mid ≡ after_piece old before → AcceptsFront mid text new → AcceptsFront old (before ++ text) new
+AcceptsFront-after old mid new before text h fronts = record {
   front = before ++ fronts.front;
   rest = fronts.rest;
   whole = ap (λ x. before ++ x) fronts.whole ∙ sym (append_assoc before fronts.front fronts.rest);

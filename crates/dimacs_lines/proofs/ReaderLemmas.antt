@@ -21,20 +21,20 @@ pub before_piece-before_piece : (a b : List ℕ) (rest : Option (List ℕ)) → 
 before_piece-before_piece a b None = refl
 before_piece-before_piece a b (Some rest) = ap (λ x. Some x) (sym (append_assoc a b rest))
 
--- where the first end stands behind a front without one
-pub position_or_len-behind : (xs ys : List ℕ) → position_or_len is_end xs ≡ length xs → position_or_len is_end (xs ++ ys) ≡ length xs + position_or_len is_end ys
-position_or_len-behind xs ys none = prefix_len-append (λ b. not (is_end b)) xs ys ∙ rw (none, eq-eqb (length xs) (length xs) refl) refl
+-- where the first end stands after a front without one
+pub position_or_len-after : (xs ys : List ℕ) → position_or_len is_end xs ≡ length xs → position_or_len is_end (xs ++ ys) ≡ length xs + position_or_len is_end ys
+position_or_len-after xs ys none = prefix_len-append (λ b. not (is_end b)) xs ys ∙ rw (none, eq-eqb (length xs) (length xs) refl) refl
 
--- the length of the first line, once a piece came behind what had no end
+-- the length of the first line, once a piece came after what had no end
 pub length_goes_on : (held piece now : List ℕ) (so_far more count : ℕ) → so_far ≡ position_or_len is_end held → length held ≤ so_far → length piece ≡ count → now ≡ held ++ piece → more ≡ position_or_len is_end (drop (length now - count) now)
     → so_far + more ≡ position_or_len is_end now
 length_goes_on held piece now so_far more count place none size is last =
     let short : so_far ≤ length held = omega (arith, place, prefix_len-le-length (λ b. not (is_end b)) held) in
     let no_end : position_or_len is_end held ≡ length held = omega (arith, place) in
-    let behind : length now - count ≡ length held = rw (is, length-append held piece) (omega arith) in
-    let piece_is : drop (length now - count) now ≡ piece = rw behind (ap (drop (length held)) is ∙ drop_at held piece (length held) refl) in
+    let after : length now - count ≡ length held = rw (is, length-append held piece) (omega arith) in
+    let piece_is : drop (length now - count) now ≡ piece = rw after (ap (drop (length held)) is ∙ drop_at held piece (length held) refl) in
     let more_is : more ≡ position_or_len is_end piece = last ∙ ap (position_or_len is_end) piece_is in
-    let whole : position_or_len is_end now ≡ length held + position_or_len is_end piece = ap (position_or_len is_end) is ∙ position_or_len-behind held piece no_end in
+    let whole : position_or_len is_end now ≡ length held + position_or_len is_end piece = ap (position_or_len is_end) is ∙ position_or_len-after held piece no_end in
     omega (arith, whole, more_is, no_end)
 
 -- more bytes don't make the first line shorter
@@ -42,7 +42,7 @@ position_or_len-append-le : (xs ys : List ℕ) → position_or_len is_end xs ≤
 position_or_len-append-le xs ys = by_test (position_or_len is_end xs == length xs) refl
   where
     by_test : (b : Bool) → (position_or_len is_end xs == length xs) ≡ b → position_or_len is_end xs ≤ position_or_len is_end (xs ++ ys)
-    by_test true h = let place : position_or_len is_end xs ≡ length xs = eqb-true _ _ h in omega (arith, place, position_or_len-behind xs ys place)
+    by_test true h = let place : position_or_len is_end xs ≡ length xs = eqb-true _ _ h in omega (arith, place, position_or_len-after xs ys place)
     by_test false h = let same : position_or_len is_end (xs ++ ys) ≡ position_or_len is_end xs = prefix_len-append (λ b. not (is_end b)) xs ys ∙ rw h refl in omega (arith, same)
 
 -- what is left where the source tells it
@@ -91,10 +91,10 @@ comes_left (TooLong number) old mid coming left given is refused = (omega (arith
     long : (text : List ℕ) → left ≡ Some text → (line : List ℕ) × (rest : List (List ℕ)) × (lines text ≡ line ∷ rest) × (longest_line < length line)
     long text e =
         let t = told mid.held coming left text is e in
-        let behind : position_or_len is_end mid.held ≤ position_or_len is_end text = rw t.text_is (position_or_len-append-le mid.held t.more) in
+        let after : position_or_len is_end mid.held ≤ position_or_len is_end text = rw t.text_is (position_or_len-append-le mid.held t.more) in
         let within = prefix_len-le-length (λ b. not (is_end b)) text in
-        let step : lines text ≡ before_first is_end text ∷ lines (after_first is_end text) = lines_step text (λ empty. omega (arith, ap length empty, behind, within, refused.2)) in
-        (before_first is_end text, lines (after_first is_end text), step, omega (arith, length-take (position_or_len is_end text) text, behind, within, refused.2))
+        let step : lines text ≡ before_first is_end text ∷ lines (after_first is_end text) = lines_step text (λ empty. omega (arith, ap length empty, after, within, refused.2)) in
+        (before_first is_end text, lines (after_first is_end text), step, omega (arith, length-take (position_or_len is_end text) text, after, within, refused.2))
 comes_left Device old mid coming left given is refused = absurd refused
 comes_left Memory old mid coming left given is refused = absurd refused
 

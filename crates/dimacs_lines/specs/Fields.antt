@@ -11,7 +11,7 @@ pub record Run : Type 0 where
   pub text : List ℕ
   pub start : ℕ
 
--- a byte at place i, before the runs behind it: it begins the first of them, if that starts right behind it, and else is a run alone
+-- a byte at place i, before the runs after it: it begins the first of them, if that starts right after it, and else is a run alone
 abbrev pub onto_runs : ℕ → ℕ → List Run → List Run
 onto_runs b i [] = record { text = b ∷ []; start = i } ∷ []
 onto_runs b i (run ∷ runs) = if run.start == suc i then record { text = b ∷ run.text; start = i } ∷ runs else record { text = b ∷ []; start = i } ∷ run ∷ runs

@@ -5,7 +5,7 @@ use Rattle.std.specs.Char.{IsAsciiDigit}
 use Rattle.dimacs_lines.specs.declared.numbers.NumberFault.{NumberFault}
 use Rattle.dimacs_lines.specs.declared.numbers.NumberFault.TheVariants.{BadNumber, NumberRange}
 
--- what stands behind an optional sign
+-- what stands after an optional sign
 abbrev pub digits_of : List ℕ → List ℕ
 digits_of [] = []
 digits_of (b ∷ bs) = if b == 43 || b == 45 then bs else b ∷ bs

@@ -20,7 +20,7 @@ pub fn digits_at(line: &[u8], at: usize) -> (usize, u32)
     (count as usize, value)
 }
 
-/// The eight bytes from `at` on, the first one lowest, with zeros behind the line's end.
+/// The eight bytes from `at` on, the first one lowest, with zeros after the line's end.
 #[inline(always)]
 fn word_at(line: &[u8], at: usize) -> u64
     requires { at ≤ length line.now }
@@ -50,7 +50,7 @@ fn load(bytes: &[u8]) -> u64
     }
 }
 
-/// Fewer than eight bytes, the first one lowest, with zeros behind them.
+/// Fewer than eight bytes, the first one lowest, with zeros after them.
 #[inline(never)]
 fn short_word(bytes: &[u8]) -> u64
     requires { length bytes.now < 8 }

@@ -55,7 +55,7 @@ fn within(text: &[u8], low: i128, high: i128) -> Result<i128, NumberFault>
     Ok(n)
 }
 
-/// Whether a minus stands in front, and what stands behind the sign.
+/// Whether a minus stands in front, and what stands after the sign.
 fn signed(text: &[u8]) -> (bool, &[u8])
     ensures negative { result.0 ≡ is_negative text.now }
     ensures digits { result.1.now ≡ digits_of text.now }

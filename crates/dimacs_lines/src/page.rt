@@ -65,7 +65,7 @@ impl Page {
         }
     }
 
-    /// Writes the bytes behind what was written before.
+    /// Writes the bytes after what was written before.
     #[inline(always)]
     pub fn write<S: Sink>(&mut self, sink: &mut S, bytes: &[u8])
         ensures written { Appends bytes.now (S.accepted sink.old) self.old (S.accepted sink.new) self.new }

@@ -27,7 +27,7 @@ pub fn plain_id(bytes: &[u8], at: usize, stop: u8) -> Option<(usize, u32)>
 }
 
 /// A whole number at `at`, and `stop` right after it: the place after `stop`, and the number. One to eight digits,
-/// perhaps behind a minus, are read at once.
+/// perhaps after a minus, are read at once.
 #[inline(always)]
 pub fn plain_whole(bytes: &[u8], at: usize, stop: u8) -> Option<(usize, i64)>
     requires { at ≤ length bytes.now }

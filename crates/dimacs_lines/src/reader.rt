@@ -31,7 +31,7 @@ const PIECE: usize = 65_536;
 /// Why no line can be given. A number is that of the line where it comes.
 #[derive(Clone, Copy, Debug, PartialEq, Eq)]
 pub enum LinesError {
-    /// A line behind the `MAX_LINES`th.
+    /// A line after the `MAX_LINES`th.
     TooMany(u64),
     /// A line of more than `MAX_LINE` bytes.
     TooLong(u64),
@@ -187,7 +187,7 @@ impl Lines {
         line_length(&self.buffer[self.end - count..self.end])
     }
 
-    /// Pulls a piece behind what is held, and answers its size.
+    /// Pulls a piece after what is held, and answers its size.
     fn pull_more<S: Source>(&mut self, source: &mut S) -> Result<usize, LinesError>
         requires { length self.old.held ≤ longest_line }
         ensures more { IfOk result (λ count. PullsMore self.old self.new (S.coming source.old) (S.coming source.new) count) }
@@ -208,7 +208,7 @@ impl Lines {
         if grow(&mut self.buffer, held).is_err() {
             return Err(LinesError::Memory);
         }
-        match pull_behind(&mut self.buffer, held, source) {
+        match pull_after(&mut self.buffer, held, source) {
             Ok(count) => {
                 self.end += count;
                 Ok(count)
@@ -278,7 +278,7 @@ fn move_to_front(buffer: &mut Vec<u8>, start: usize, end: usize)
     }
 }
 
-/// Makes room for a piece behind what is held.
+/// Makes room for a piece after what is held.
 fn grow(buffer: &mut Vec<u8>, held: usize) -> Result<(), Memory>
     requires short { held ≤ longest_line }
     requires held { held ≤ length buffer.old.items }
@@ -295,8 +295,8 @@ fn grow(buffer: &mut Vec<u8>, held: usize) -> Result<(), Memory>
     Ok(())
 }
 
-/// Pulls a piece behind what is held.
-fn pull_behind<S: Source>(
+/// Pulls a piece after what is held.
+fn pull_after<S: Source>(
     buffer: &mut [u8],
     held: usize,
     source: &mut S,

@@ -131,7 +131,7 @@ struct Plain {
     number: i64,
 }
 
-/// The field that starts at `start`, where it is one to eight digits, perhaps behind a minus.
+/// The field that starts at `start`, where it is one to eight digits, perhaps after a minus.
 #[inline(always)]
 fn plain_number(line: &[u8], start: usize) -> Option<Plain>
     requires { start < length line.now }

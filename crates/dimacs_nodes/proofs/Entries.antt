@@ -59,7 +59,7 @@ module _ {T : Type 0} where
       All-append (λ (e : ℕ × T). e.0 < suc n) (entries_below f n) (entry_of n (f n)) (All-weaker (λ (e : ℕ × T). e.0 < n) (λ (e : ℕ × T). e.0 < suc n) (λ e h. omega arith) (entries_below f n) (keys_below f n))
       (All-entry_of (λ (e : ℕ × T). e.0 < suc n) n (f n) (λ v is. omega arith))
 
-  -- an entry behind all others
+  -- an entry after all others
   put_past : (k : ℕ) (v : T) (es : List (ℕ × T)) → All (λ (e : ℕ × T). e.0 < k) es → put nat_cmp k v es ≡ es ++ (k, v) ∷ []
   put_past k v [] below = refl
   put_past k v (e ∷ es) below =
@@ -101,8 +101,8 @@ module _ {T : Type 0} where
   found_here P x id v same is p = rw (same, ← is) p
 
   found_in : (P : ℕ × T → Type 0) (x : ℕ × T) (id : ℕ) (v : T) (b : Bool) (rest : Option T) → (id == x.0) ≡ b → P x → (rest ≡ Some v → P (id, v)) → cond b (Some x.1) rest ≡ Some v → P (id, v)
-  found_in P x id v true rest same here behind is = found_here P x id v (eqb-true id x.0 same) (cc) here
-  found_in P x id v false rest apart here behind is = behind is
+  found_in P x id v true rest same here after is = found_here P x id v (eqb-true id x.0 same) (cc) here
+  found_in P x id v false rest apart here after is = after is
 
   -- what holds of each entry holds of what is found
   All-find : (P : ℕ × T → Type 0) (id : ℕ) (v : T) (es : List (ℕ × T)) → All P es → find nat_cmp id es ≡ Some v → P (id, v)
@@ -116,9 +116,9 @@ module _ {T : Type 0} where
   All-empty P = rw entries-empty (All-nil P)
 
   put_at : (P : ℕ × T → Type 0) (id : ℕ) (v : T) (e : ℕ × T) (es rest : List (ℕ × T)) (o : Ordering) → nat_cmp id e.0 ≡ o → All P (e ∷ es) → P (id, v) → All P rest → All P (by_order o ((id, v) ∷ e ∷ es) ((e.0, v) ∷ es) (e ∷ rest))
-  put_at P id v e es rest Less is all p behind = All-cons P (id, v) (e ∷ es) p all
-  put_at P id v e es rest Equal is all p behind = All-cons P (e.0, v) es (subst (λ n. P (n, v)) (nat_cmp-IsAntisymmetric id e.0 is) p) (All-tail P e es all)
-  put_at P id v e es rest Greater is all p behind = All-cons P e rest (All-head P e es all) behind
+  put_at P id v e es rest Less is all p after = All-cons P (id, v) (e ∷ es) p all
+  put_at P id v e es rest Equal is all p after = All-cons P (e.0, v) es (subst (λ n. P (n, v)) (nat_cmp-IsAntisymmetric id e.0 is) p) (All-tail P e es all)
+  put_at P id v e es rest Greater is all p after = All-cons P e rest (All-head P e es all) after
 
   All-put : (P : ℕ × T → Type 0) (id : ℕ) (v : T) (es : List (ℕ × T)) → All P es → P (id, v) → All P (put nat_cmp id v es)
   All-put P id v [] all p = All-cons P (id, v) [] p (All-nil P)

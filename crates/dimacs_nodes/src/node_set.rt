@@ -50,7 +50,7 @@ impl NodeSet {
     pub fn insert(&mut self, id: u32) -> Result<(), Memory>
         ensures inserted { OnOk result (self.new ≡ set.insert self.old id) }
         ensures unchanged { OnErr result (self.new ≡ self.old) }
-        ensures again { IsTrue (set.contains self.old id) → IsOk result }
+        ensures repeats { IsTrue (set.contains self.old id) → IsOk result }
     {
         self.nodes.set(id, ())
     }

@@ -1,6 +1,6 @@
 //! A value for each node, blank but for those that were set.
 
-ghost use Rattle.std.specs.Prelude.{◌≡◌, ◌≢◌, ◌<◌, ◌≤◌, ◌+◌, ◌/◌, ◌⊎◌, ℕ, length, max, MatchOption, OnOk, OnErr};
+ghost use Rattle.std.specs.Prelude.{◌≡◌, ◌≢◌, ◌<◌, ◌≤◌, ◌+◌, ◌/◌, ℕ, length, max, IsOk, MatchOption, OnOk, OnErr};
 ghost use Rattle.dimacs_nodes.specs.Slots.{place_of};
 ghost use Rattle.dimacs_nodes.specs.inside.Slots.{IsDirectory, SameNumbers};
 
@@ -44,22 +44,16 @@ impl<T: Copy> NodeTable<T> {
     #[inline]
     pub fn get(&self, id: u32) -> T
         ensures value { result ≡ value_of self.now id }
-        ensures place { (result ≡ blank_of self.now) ⊎ HasPlace self.now id }
     {
-        match self.slots.get(place(&self.directory, id)) {
-            Some(value) => *value,
-            None => self.blank,
-        }
+        self.get_placed(id).unwrap_or(self.blank)
     }
 
     /// The value of a node for which memory was taken, which may be blank.
     #[inline]
-    pub fn taken(&self, id: u32) -> Option<T>
-        ensures { MatchOption result (¬ HasPlace self.now id) (λ value. (value ≡ value_of self.now id) × HasPlace self.now id) }
+    pub fn get_placed(&self, id: u32) -> Option<T>
+        ensures { MatchOption result ((value_of self.now id ≡ blank_of self.now) × (¬ HasPlace self.now id)) (λ value. (value ≡ value_of self.now id) × HasPlace self.now id) }
     {
-        let number = *self.directory.get(id as usize / PAGE)?;
-        let place = number as usize * PAGE + id as usize % PAGE;
-        Some(*self.slots.get(place)?)
+        self.slots.get(place(&self.directory, id)).copied()
     }
 
     /// Sets the value of a node. Only the first value on a page takes memory.
@@ -70,10 +64,14 @@ impl<T: Copy> NodeTable<T> {
         ensures unchanged { OnErr result (SameValues self.old self.new) }
         ensures blank { blank_of self.new ≡ blank_of self.old }
         ensures memory { TakesPageAlone self.old self.new id }
+        ensures replaces { HasPlace self.old id → IsOk result }
     {
         match self.slots.get_mut(place(&self.directory, id)) {
             Some(slot) => *slot = value,
-            None => self.set_on_new_page(id, value)?,
+            None => {
+                self.take_page(id)?;
+                self.put(id, value);
+            }
         }
         Ok(())
     }
@@ -85,6 +83,7 @@ impl<T: Copy> NodeTable<T> {
         ensures place { OnOk result (HasPlace self.new id) }
         ensures blank { blank_of self.new ≡ blank_of self.old }
         ensures memory { TakesPageAlone self.old self.new id }
+        ensures had { HasPlace self.old id → IsOk result }
     {
         if place(&self.directory, id) < self.slots.len() {
             return Ok(());
@@ -114,7 +113,7 @@ impl<T: Copy> NodeTable<T> {
         self.directory.len() * PAGE
     }
 
-    /// The first ID from this one on that may have been set: this one, or that behind a page that was not taken.
+    /// The first ID from this one on that may have been set: this one, or that after a page that was not taken.
     #[inline]
     pub fn skip_blank(&self, id: u32) -> usize
         ensures from { id ≤ result }
@@ -125,22 +124,6 @@ impl<T: Copy> NodeTable<T> {
         } else {
             (id as usize / PAGE + 1) * PAGE
         }
-    }
-
-    /// Takes the page of an ID that has none, and sets its value.
-    #[cold]
-    #[inline(never)]
-    fn set_on_new_page(&mut self, id: u32, value: T) -> Result<(), Memory>
-        requires { ¬ HasPlace self.old id }
-        ensures set { OnOk result (value_of self.new id ≡ value) }
-        ensures others { OnOk result ((other : ℕ) → other ≢ id → value_of self.new other ≡ value_of self.old other) }
-        ensures unchanged { OnErr result (SameValues self.old self.new) }
-        ensures blank { blank_of self.new ≡ blank_of self.old }
-        ensures memory { TakesPageAlone self.old self.new id }
-    {
-        self.take_page(id)?;
-        self.put(id, value);
-        Ok(())
     }
 
     /// Takes the page of an ID that has none.

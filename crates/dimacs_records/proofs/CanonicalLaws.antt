@@ -9,7 +9,7 @@ use Rattle.dimacs_records.specs.declared.kinds.TextKind.{TextKind}
 use Rattle.dimacs_records.specs.declared.records.Record.{Record}
 use Rattle.dimacs_records.specs.Spelling.{SpellsRecord, letter_of, parts_of, texts_in, is_skip}
 use Rattle.dimacs_records.specs.Canonical.{text_of, canonical_line, canonical_text, CanBeSpelled}
-use Rattle.dimacs_records.specs.Printed.{behind_blank}
+use Rattle.dimacs_records.specs.Printed.{after_blank}
 use Rattle.dimacs_records.specs.Faults.{Spell}
 use Rattle.dimacs_records.specs.Texts.{AreSpelled}
 use Rattle.dimacs_records.specs.Readings.{numbered, records_of}
@@ -18,7 +18,7 @@ use Rattle.dimacs_records.proofs.PlainForms.{IsPlainForm, plain_form, plain_part
 
 -- the line of a record without its byte 10
 abbrev body_of : Record → List ℕ
-body_of r = letter_of r ++ flat_map behind_blank (map text_of (parts_of r))
+body_of r = letter_of r ++ flat_map after_blank (map text_of (parts_of r))
 
 -- the same bytes, cut before byte 10
 regrouped : (letter fields rest : List ℕ) → (letter ++ (fields ++ 10 ∷ [])) ++ rest ≡ (letter ++ fields) ++ 10 ∷ rest
@@ -40,12 +40,12 @@ module _ (kind : TextKind) (r : Record) (can : CanBeSpelled kind r) where
 
   lines-canonical : (rest : List ℕ) → lines (canonical_line r ++ rest) ≡ body_of r ∷ lines rest
   lines-canonical rest =
-      ap lines (regrouped (letter_of r) (flat_map behind_blank (map text_of (parts_of r))) rest) ∙ lines-spaced (letter_of r) (map text_of (parts_of r)) rest letter_is parts_are
+      ap lines (regrouped (letter_of r) (flat_map after_blank (map text_of (parts_of r))) rest) ∙ lines-spaced (letter_of r) (map text_of (parts_of r)) rest letter_is parts_are
 
   body_spells : SpellsRecord kind (texts_in (body_of r)) r
   body_spells = record {
     form = can.form;
-    behind = map text_of (parts_of r);
+    after = map text_of (parts_of r);
     of_kind = can.of_kind;
     for_kind = can.for_kind;
     letter = can.letter;

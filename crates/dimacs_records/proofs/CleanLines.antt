@@ -16,7 +16,7 @@ use Rattle.dimacs_records.specs.Order.{Place, at, limit_places, shape_places, re
 use Rattle.dimacs_records.specs.Faults.{Condition, of_limit, of_shape, of_record, Spell, records_in, IsClean}
 use Rattle.dimacs_records.proofs.FirstLemmas.{none_is}
 use Rattle.dimacs_records.proofs.PlaceLemmas.{test_at}
-use Rattle.dimacs_records.proofs.FirstLaws.{first_behind, first_before}
+use Rattle.dimacs_records.proofs.FirstLaws.{first_after, first_before}
 use Rattle.dimacs_records.proofs.SplitLemmas.{same, sooner, later, two_places}
 use Rattle.dimacs_records.proofs.SpellLaws.{spells_one}
 use Rattle.dimacs_records.proofs.ShapeLaws.{spelled_shape}
@@ -120,7 +120,7 @@ first_shape kind earlier number line f reason within solid first =
       | of_limit h ↦ absurd (within p.field p.reason h)
       | of_shape again h ↦ h
       | of_record r again spells h ↦ absurd (spelled_shape kind (texts_in line) r spells f reason first.holds)
-    ]) (of_shape solid) (first_behind Shape limit_places shape_places (at f reason) (no_shape kind (texts_in line)) first)
+    ]) (of_shape solid) (first_after Shape limit_places shape_places (at f reason) (no_shape kind (texts_in line)) first)
 
 pub first_record : (kind : TextKind) (earlier : List Record) (number : ℕ) (line : List ℕ) (r : Record) (f : ℕ) (reason : Reason)
     → NoneHolds (limit_condition number line) → is_skip (texts_in line) ≡ false → SpellsRecord kind (texts_in line) r → FirstOf (Holds (condition earlier r)) record_places (at f reason)
@@ -132,4 +132,4 @@ first_record kind earlier number line r f reason within solid spells first =
       | of_limit h ↦ absurd (within p.field p.reason h)
       | of_shape again h ↦ absurd (spelled_shape kind (texts_in line) r spells p.field p.reason h)
       | of_record s again other h ↦ rw (spells_one kind (texts_in line) s r other spells) at h
-    ]) (of_record r solid spells) (first_behind Refused (limit_places ++ shape_places) record_places (at f reason) (no_refusal earlier r) first)
+    ]) (of_record r solid spells) (first_after Refused (limit_places ++ shape_places) record_places (at f reason) (no_refusal earlier r) first)

@@ -79,8 +79,8 @@ parallel_arc = refl
 opposite_arc : first_place (MaxProblem 2 2 ∷ MaxNode 1 Source ∷ MaxNode 2 Sink ∷ MaxArc 1 2 (pos 1) ∷ []) (MaxArc 2 1 (pos 1)) ≡ None
 opposite_arc = refl
 
-node_behind_arc : first_place (MaxProblem 2 2 ∷ MaxNode 1 Source ∷ MaxNode 2 Sink ∷ MaxArc 1 2 (pos 1) ∷ []) (MaxNode 1 Source) ≡ Some (at 0 RecordOrder)
-node_behind_arc = refl
+node_after_arc : first_place (MaxProblem 2 2 ∷ MaxNode 1 Source ∷ MaxNode 2 Sink ∷ MaxArc 1 2 (pos 1) ∷ []) (MaxNode 1 Source) ≡ Some (at 0 RecordOrder)
+node_after_arc = refl
 
 ends_at_the_end : first_reason_at_end Max source_at_1 ≡ Some EndMissing
 ends_at_the_end = refl
@@ -110,8 +110,8 @@ negative_low = refl
 both_bounds_wrong : first_place two_supplies (MinArc 1 2 (negsuc 2) (negsuc 3) (pos 0)) ≡ Some (at 4 BoundOrder)
 both_bounds_wrong = refl
 
-supply_behind_arc : first_place (MinProblem 2 1 ∷ MinArc 1 2 (pos 0) (pos 1) (pos 0) ∷ []) (MinNode 1 (pos 1)) ≡ Some (at 0 RecordOrder)
-supply_behind_arc = refl
+supply_after_arc : first_place (MinProblem 2 1 ∷ MinArc 1 2 (pos 0) (pos 1) (pos 0) ∷ []) (MinNode 1 (pos 1)) ≡ Some (at 0 RecordOrder)
+supply_after_arc = refl
 
 second_supply : first_place two_supplies (MinNode 2 (pos 1)) ≡ Some (at 2 NodeTwice)
 second_supply = refl
@@ -140,8 +140,8 @@ any_node : first_place (QueriesProblem Pairs 1 ∷ []) (PairQuery most_nodes 1) 
 any_node = refl
 
 -- a solution
-value_behind_entry : first_place (SolutionEntry 1 2 (pos 3) ∷ []) (SolutionValue (pos 5)) ≡ None
-value_behind_entry = refl
+value_after_entry : first_place (SolutionEntry 1 2 (pos 3) ∷ []) (SolutionValue (pos 5)) ≡ None
+value_after_entry = refl
 
 solved : first_reason_at_end Solution (SolutionEntry 1 2 (pos 3) ∷ SolutionValue (pos 5) ∷ []) ≡ None
 solved = refl
@@ -185,8 +185,8 @@ from_1 = LabelsProblem 4 2 ∷ LabelsBlock 1 2 None ∷ LabelsNode 2 (pos 5) 1 �
 label_outside_blocks : first_place (LabelsProblem 3 1 ∷ []) (LabelsNode 2 (pos 5) 1) ≡ Some (at 0 RecordOrder)
 label_outside_blocks = refl
 
-label_behind_label : first_place from_1 (LabelsNode 3 (pos 6) 2) ≡ None
-label_behind_label = refl
+label_after_label : first_place from_1 (LabelsNode 3 (pos 6) 2) ≡ None
+label_after_label = refl
 
 label_of_source : first_place from_1 (LabelsNode 1 (pos 0) 1) ≡ Some (at 2 NodeTwice)
 label_of_source = refl
@@ -206,8 +206,8 @@ pred_above_nodes = refl
 label_past_count : first_place (LabelsProblem 4 1 ∷ LabelsBlock 1 0 None ∷ []) (LabelsNode 2 (pos 5) 3) ≡ Some (at 0 TooMany)
 label_past_count = refl
 
-block_behind_short_block : first_place from_1 (LabelsBlock 2 0 None) ≡ Some (at 0 TooFew)
-block_behind_short_block = refl
+block_after_short_block : first_place from_1 (LabelsBlock 2 0 None) ≡ Some (at 0 TooFew)
+block_after_short_block = refl
 
 block_of_same_source : first_place from_1 (LabelsBlock 1 0 None) ≡ Some (at 2 NodeTwice)
 block_of_same_source = refl

@@ -1,4 +1,4 @@
--- The first condition of a record behind others, found by a search.
+-- The first condition of a record after others, found by a search.
 use Rattle.std.proofs.Common.{◌≡◌, ℕ, ◌∷◌, [], List, Bool, true, false, Option, Some, None, refl, ap, sym, subst, arith, get_or, inl, inr, ◌⊎◌}
 use Rattle.std.specs.Prelude.{IsTrue, if◌then◌else◌, ◌&&◌, ◌==◌}
 use Rattle.std.specs.List.{Contains}

@@ -24,7 +24,7 @@ use Rattle.dimacs_records.specs.Conditions.{limit_condition}
 use Rattle.dimacs_records.specs.LineReader.{ReadsLine}
 use Rattle.dimacs_records.specs.Order.{at, limit_places, places, FirstOf}
 use Rattle.dimacs_records.specs.Faults.{Condition, Spell, IsClean, records_in}
-use Rattle.dimacs_records.specs.inside.Driver.{IsReadSoFar, IsReadWhole, ReadsNext, RefusesLine, TakesLine, IsBehind, read_error, lines_error}
+use Rattle.dimacs_records.specs.inside.Driver.{IsReadSoFar, IsReadWhole, ReadsNext, RefusesLine, TakesLine, ComesAfter, read_error, lines_error}
 use Rattle.dimacs_records.proofs.FirstLemmas.{is_first}
 use Rattle.dimacs_records.proofs.PlaceLemmas.{test_at}
 use Rattle.dimacs_records.proofs.CleanLines.{NoneHolds, clean_nothing, clean_skip, clean_record, first_limit, first_shape, first_record}
@@ -43,7 +43,7 @@ within number line few short f LineLimit h = true≢false (sym h ∙ and_right (
 within number line few short f LineTooLong h = true≢false (sym h ∙ and_right (f == 0) (nat_lt longest_line (length line)) (le-ltb longest_line (length line) short))
 within number line few short f reason h = true≢false (sym h)
 
--- a line behind the last that may be
+-- a line after the last that may be
 too_many : (kind : TextKind) (earlier : List Record) (number : ℕ) (line : List ℕ) → most_lines < number → FirstOf (Condition kind earlier number line) places (at 0 LineLimit)
 too_many kind earlier number line above =
     first_limit kind earlier number line 0 LineLimit (is_first (test_at (limit_condition number line)) limit_places (at 0 LineLimit) (rw (lt-ltb most_lines number above) refl))
@@ -71,7 +71,7 @@ all_before n (Some r ∷ said) line h = All-cons (λ (r : LineRecord). r.line < 
 
 -- a skipped line adds no record
 pub take_skip : (kind : TextKind) (before : List (List ℕ)) (said : List (Option Record)) (number : ℕ) (line : List ℕ) (stands_for : List LineRecord → Type 0) (done : Unit)
-    → IsBehind kind before said number line → stands_for (numbered 1 said) → is_skip (texts_in line) ≡ true → TakesLine kind before said line stands_for (Ok done)
+    → ComesAfter kind before said number line → stands_for (numbered 1 said) → is_skip (texts_in line) ≡ true → TakesLine kind before said line stands_for (Ok done)
 take_skip kind before said number line stands_for done h stands skip = (
   said ++ None ∷ [],
   clean_skip kind before said line h.clean skip (within (length before + 1) line (omega (arith, h.next, h.few)) h.short),
@@ -80,7 +80,7 @@ take_skip kind before said number line stands_for done h stands skip = (
 
 -- a record that was taken, or is refused
 pub take_record : (kind : TextKind) (before : List (List ℕ)) (said : List (Option Record)) (number : ℕ) (line : List ℕ) (r : Record) (old new : List LineRecord → Type 0) (result : Result Unit TakeError)
-    → IsBehind kind before said number line → old (numbered 1 said) → is_skip (texts_in line) ≡ false → SpellsRecord kind (texts_in line) r
+    → ComesAfter kind before said number line → old (numbered 1 said) → is_skip (texts_in line) ≡ false → SpellsRecord kind (texts_in line) r
     → OnOk result ((rs : List LineRecord) → old rs → IsAllowed (records_of rs) r)
     → OnOk result ((rs : List LineRecord) → old rs → AreBefore number rs → new (rs ++ on_line number r ∷ []))
     → IfErr result (λ error. (rs : List LineRecord) → old rs → RefusesRecord (records_of rs) r error)
@@ -103,7 +103,7 @@ take_record kind before said number line r old new (Err take_errors.Memory) h st
 
 -- a line of another shape
 pub take_fault : (kind : TextKind) (before : List (List ℕ)) (said : List (Option Record)) (number : ℕ) (line : List ℕ) (fault : LineFault) (stands_for : List LineRecord → Type 0)
-    → IsBehind kind before said number line → ReadsLine kind (texts_in line) (Err fault) → TakesLine kind before said line stands_for (Err (take_errors.Refused fault))
+    → ComesAfter kind before said number line → ReadsLine kind (texts_in line) (Err fault) → TakesLine kind before said line stands_for (Err (take_errors.Refused fault))
 take_fault kind before said number line fault stands_for h reads =
     first_shape kind (records_in said) (length before + 1) line fault.field fault.reason (within (length before + 1) line (omega (arith, h.next, h.few)) h.short) reads.0 reads.1
 
@@ -113,10 +113,10 @@ read_end kind all count new left stands_for end h =
     let all_is : all ≡ h.before = h.all_is ∙ (ap (λ ls. h.before ++ ls) (end.none h.rest h.left_is) ∙ append-nil h.before) in
     record { said = h.said; counted = h.counted ∙ ap length (sym all_is); clean = subst (λ ls. IsClean kind ls h.said) (sym all_is) h.clean; stands = h.stands }
 
--- the line that was given stands behind those that were read
-pub behind : (kind : TextKind) (all : List (List ℕ)) (old new : State) (left later : Option (List ℕ)) (number : ℕ) (stands_for : List LineRecord → Type 0) → GivesLine old new left later number
-    → (h : IsReadSoFar kind all old.given left stands_for) → IsBehind kind h.before h.said number new.line
-behind kind all old new left later number stands_for given h = record { clean = h.clean; next = given.next ∙ ap (λ n. n + 1) h.counted; few = given.few; short = given.short }
+-- the line that was given stands after those that were read
+pub comes_after : (kind : TextKind) (all : List (List ℕ)) (old new : State) (left later : Option (List ℕ)) (number : ℕ) (stands_for : List LineRecord → Type 0) → GivesLine old new left later number
+    → (h : IsReadSoFar kind all old.given left stands_for) → ComesAfter kind h.before h.said number new.line
+comes_after kind all old new left later number stands_for given h = record { clean = h.clean; next = given.next ∙ ap (λ n. n + 1) h.counted; few = given.few; short = given.short }
 
 abbrev pub at_number : ℕ → Result Unit TakeError → Result (Option ℕ) ReadError
 at_number number (Ok done) = Ok (Some number)

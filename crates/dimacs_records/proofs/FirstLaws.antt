@@ -4,9 +4,9 @@ use Rattle.std.specs.List.{All, Contains}
 use Rattle.std.proofs.lemmas.List.Elements.{All-append, Contains-append_left, Contains-get_or}
 use Rattle.dimacs_records.specs.Order.{FirstOf}
 
--- behind others that lack the property
-pub first_behind : {X : Type 0} (P : X → Type 0) (front all : List X) (x : X) → All (λ y. ¬ P y) front → FirstOf P all x → FirstOf P (front ++ all) x
-first_behind P front all x none h = record {
+-- after others that lack the property
+pub first_after : {X : Type 0} (P : X → Type 0) (front all : List X) (x : X) → All (λ y. ¬ P y) front → FirstOf P all x → FirstOf P (front ++ all) x
+first_after P front all x none h = record {
   before = front ++ h.before;
   after = h.after;
   all_is = ap (λ t. front ++ t) h.all_is ∙ sym (append_assoc front h.before (x ∷ h.after));

@@ -20,10 +20,10 @@ fit_all_said [] [] [] h = tt
 fit_all_said (type ∷ types) (text ∷ texts) (part ∷ parts) h = (fits_said type text part h.0, fit_all_said types texts parts h.1)
 fit_all_said types texts parts h = absurd h
 
--- the fields of a record of the kind fit the types that the kind has for so many behind its letter
+-- the fields of a record of the kind fit the types that the kind has for so many after its letter
 pub fits_of : (kind : TextKind) (r : Record) (types : List FieldType) → IsOfKind kind r → types_in (forms kind) (letter_of r) (length (parts_of r)) ≡ Some types → FitAll types (parts_of r)
 fits_of kind r types h found =
     let s = h.spelled in
-    let known : types_in (forms kind) (letter_of r) (length (parts_of r)) ≡ Some s.form.types = rw (s.letter, (as_many s.form.types s.behind (parts_of r) s.says).1) (form_types kind s.form s.of_kind) in
+    let known : types_in (forms kind) (letter_of r) (length (parts_of r)) ≡ Some s.form.types = rw (s.letter, (as_many s.form.types s.after (parts_of r) s.says).1) (form_types kind s.form s.of_kind) in
     let same : types ≡ s.form.types = cc in
-    rw same (fit_all_said s.form.types s.behind (parts_of r) s.says)
+    rw same (fit_all_said s.form.types s.after (parts_of r) s.says)

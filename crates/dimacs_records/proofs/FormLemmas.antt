@@ -1,4 +1,4 @@
--- What the fields behind a letter give, taken one after another.
+-- What the fields after a letter give, taken one after another.
 use Rattle.std.proofs.Common.{◌≡◌, ℕ, suc, ◌∷◌, [], List, Bool, true, false, Option, Some, None, Result, Err, length, map, refl, ap, sym, ◌∙◌, subst, arith}
 use Rattle.std.specs.Prelude.{◌==◌, if◌then◌else◌}
 use Rattle.std.proofs.lemmas.Bool.{eq-eqb, eqb-true, ne_eqb}
@@ -101,7 +101,7 @@ form_answer kind letter types runs r of_kind of_letter says = by_length (length 
     by_length true e = by_fault (fields_fault 2 types (map text_of_run runs)) (eqb-true (length types) (length runs) e) refl
     by_length false e = rw (length-map runs text_of_run, e) refl
 
--- the fields behind a letter, taken by its types and finished
+-- the fields after a letter, taken by its types and finished
 pub reads_form : (kind : TextKind) (letter : List ℕ) (types : List FieldType) (s new : FieldReader) (r : Record) (result : Result (Option Record) LineFault)
     → kind_of r ≡ kind → letter_of r ≡ letter → IsUntouched s → TakesAll 2 types s (parts_of r) new → result ≡ finished new r → ReadsForm kind letter types (texts_left s) result
 reads_form kind letter types s new r result of_kind of_letter fresh taken h =

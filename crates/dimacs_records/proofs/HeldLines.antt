@@ -1,5 +1,5 @@
 -- Reading the plain lines that are held.
-use Rattle.std.proofs.Common.{◌≡◌, ◌+◌, ◌<◌, ◌≤◌, ◌++◌, ◌∷◌, [], ℕ, List, Option, None, Some, Result, Ok, Err, length, drop, refl, ap, ◌∙◌, arith, append_assoc}
+use Rattle.std.proofs.Common.{◌≡◌, ◌+◌, ◌<◌, ◌++◌, ◌∷◌, [], ℕ, List, Option, None, Some, Result, drop, refl, ap, ◌∙◌, arith, append_assoc}
 use Rattle.std.specs.Prelude.{IfErr, OnOk}
 use Rattle.dimacs_lines.specs.Devices.{before_piece}
 use Rattle.dimacs_lines.specs.Lines.{lines}
@@ -12,9 +12,9 @@ use Rattle.dimacs_records.specs.declared.records.Record.{Record}
 use Rattle.dimacs_records.specs.inside.Driver.{IsReadSoFar, ReadsNext}
 use Rattle.dimacs_records.specs.inside.Plain.{SaysFirst}
 use Rattle.dimacs_records.specs.Readings.{LineRecord, on_line, records_of, AreBefore, IsAllowed, RefusesRecord}
-use Rattle.dimacs_records.proofs.DriverLemmas.{at_number, behind, read_one, take_record}
+use Rattle.dimacs_records.proofs.DriverLemmas.{at_number, comes_after, read_one, take_record}
 
--- the states of a reader before and behind a line that it holds
+-- the states of a reader before and after a line that it holds
 abbrev state : List ℕ → ℕ → List ℕ → State
 state held given line = record { held = held; given = given; line = line; progress = Open }
 
@@ -55,5 +55,5 @@ plain_step kind all bytes given size coming r old new result says few so_far all
     let before = state bytes given [] in
     let after = state (drop size bytes) (given + 1) says.line in
     let line = given_line kind bytes r size given coming says few in
-    let there = behind kind all before after left later (given + 1) old line so_far in
+    let there = comes_after kind all before after left later (given + 1) old line so_far in
     read_one kind all before after left later (given + 1) old new result line so_far (take_record kind so_far.before so_far.said (given + 1) says.line r old new result there so_far.stands says.reads.0 says.reads.1 allowed taken refused)

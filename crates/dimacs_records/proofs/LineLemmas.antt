@@ -68,30 +68,30 @@ short_types kind letter types f =
     let c = f.contained in
     rw (← f.types_are, ← c.2) (leb-true _ 5 (all c.0 f.form c.1))
 
-to_place : (kind : TextKind) (letter : List ℕ) (types : List FieldType) (behind : List (List ℕ)) (fault : LineFault) → types_in (forms kind) letter (length behind) ≡ Some types → form_fault types behind ≡ Some fault
-    → FirstOf (λ (p : Place). IsTrue (shape_condition kind (letter ∷ behind) p.field p.reason)) shape_places (place_of fault)
-to_place kind letter types behind fault known h =
-    let short = short_types kind letter types (form_of (forms kind) letter (length behind) types known) in
-    let found : first_by (test_at (letter_condition (Some types) behind)) shape_places ≡ Some (place_of fault) = first_of_shape types behind short ∙ ap place_in h in
-    is_first (test_at (shape_condition kind (letter ∷ behind))) shape_places (place_of fault) (rw known found)
+to_place : (kind : TextKind) (letter : List ℕ) (types : List FieldType) (after : List (List ℕ)) (fault : LineFault) → types_in (forms kind) letter (length after) ≡ Some types → form_fault types after ≡ Some fault
+    → FirstOf (λ (p : Place). IsTrue (shape_condition kind (letter ∷ after) p.field p.reason)) shape_places (place_of fault)
+to_place kind letter types after fault known h =
+    let short = short_types kind letter types (form_of (forms kind) letter (length after) types known) in
+    let found : first_by (test_at (letter_condition (Some types) after)) shape_places ≡ Some (place_of fault) = first_of_shape types after short ∙ ap place_in h in
+    is_first (test_at (shape_condition kind (letter ∷ after))) shape_places (place_of fault) (rw known found)
 
 -- the line of a letter that the kind knows
-form_line : (kind : TextKind) (letter : List ℕ) (types : List FieldType) (behind : List (List ℕ)) (result : Result (Option Record) LineFault) → is_skip (letter ∷ behind) ≡ false
-    → types_in (forms kind) letter (length behind) ≡ Some types → ReadsForm kind letter types behind result → ReadsLine kind (letter ∷ behind) result
-form_line kind letter types behind (Ok None) solid known h = absurd h
-form_line kind letter types behind (Ok (Some r)) solid known h =
-    let f = form_of (forms kind) letter (length behind) types known in
-    (solid, record { form = f.form; behind = behind; of_kind = f.contained; for_kind = h.0; letter = h.1 ∙ sym f.letter_is; begins = ap (λ x. x ∷ behind) (sym f.letter_is); says = rw f.types_are h.3 })
-form_line kind letter types behind (Err fault) solid known h = (solid, to_place kind letter types behind fault known h)
+form_line : (kind : TextKind) (letter : List ℕ) (types : List FieldType) (after : List (List ℕ)) (result : Result (Option Record) LineFault) → is_skip (letter ∷ after) ≡ false
+    → types_in (forms kind) letter (length after) ≡ Some types → ReadsForm kind letter types after result → ReadsLine kind (letter ∷ after) result
+form_line kind letter types after (Ok None) solid known h = absurd h
+form_line kind letter types after (Ok (Some r)) solid known h =
+    let f = form_of (forms kind) letter (length after) types known in
+    (solid, record { form = f.form; after = after; of_kind = f.contained; for_kind = h.0; letter = h.1 ∙ sym f.letter_is; begins = ap (λ x. x ∷ after) (sym f.letter_is); says = rw f.types_are h.3 })
+form_line kind letter types after (Err fault) solid known h = (solid, to_place kind letter types after fault known h)
 
-types_line : (kind : TextKind) (letter : List ℕ) (found : Option (List FieldType)) (behind : List (List ℕ)) (result : Result (Option Record) LineFault) → is_skip (letter ∷ behind) ≡ false
-    → types_in (forms kind) letter (length behind) ≡ found → ReadsTypes kind letter found behind result → ReadsLine kind (letter ∷ behind) result
-types_line kind letter None behind result solid unknown h =
-    let first : FirstOf (λ (p : Place). IsTrue (shape_condition kind (letter ∷ behind) p.field p.reason)) shape_places (at 1 UnknownLine) = is_first (test_at (shape_condition kind (letter ∷ behind))) shape_places (at 1 UnknownLine) (rw unknown refl) in
-    subst (ReadsLine kind (letter ∷ behind)) (sym h) (solid, first)
-types_line kind letter (Some types) behind result solid known h = form_line kind letter types behind result solid known h
+types_line : (kind : TextKind) (letter : List ℕ) (found : Option (List FieldType)) (after : List (List ℕ)) (result : Result (Option Record) LineFault) → is_skip (letter ∷ after) ≡ false
+    → types_in (forms kind) letter (length after) ≡ found → ReadsTypes kind letter found after result → ReadsLine kind (letter ∷ after) result
+types_line kind letter None after result solid unknown h =
+    let first : FirstOf (λ (p : Place). IsTrue (shape_condition kind (letter ∷ after) p.field p.reason)) shape_places (at 1 UnknownLine) = is_first (test_at (shape_condition kind (letter ∷ after))) shape_places (at 1 UnknownLine) (rw unknown refl) in
+    subst (ReadsLine kind (letter ∷ after)) (sym h) (solid, first)
+types_line kind letter (Some types) after result solid known h = form_line kind letter types after result solid known h
 
 -- a line of these fields, the first being no comment's
-pub reads_line : (kind : TextKind) (letter : List ℕ) (behind : List (List ℕ)) (result : Result (Option Record) LineFault) → is_skip (letter ∷ behind) ≡ false
-    → ReadsLetter kind letter behind result → ReadsLine kind (letter ∷ behind) result
-reads_line kind letter behind result solid h = types_line kind letter (types_in (forms kind) letter (length behind)) behind result solid refl h
+pub reads_line : (kind : TextKind) (letter : List ℕ) (after : List (List ℕ)) (result : Result (Option Record) LineFault) → is_skip (letter ∷ after) ≡ false
+    → ReadsLetter kind letter after result → ReadsLine kind (letter ∷ after) result
+reads_line kind letter after result solid h = types_line kind letter (types_in (forms kind) letter (length after)) after result solid refl h

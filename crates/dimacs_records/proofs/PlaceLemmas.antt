@@ -53,13 +53,13 @@ none_first : {X : Type 0} (xs : List X) → first_by (λ x. false) xs ≡ None
 none_first [] = refl
 none_first (x ∷ xs) = none_first xs
 
--- places behind a field are those of the fields behind it
-behind_first : (n : ℕ) (type : FieldType) (types : List FieldType) (text : List ℕ) (texts : List (List ℕ)) (ps : List Place) → All (IsFrom (suc n)) ps
+-- places after a field are those of the fields after it
+past_first : (n : ℕ) (type : FieldType) (types : List FieldType) (text : List ℕ) (texts : List (List ℕ)) (ps : List Place) → All (IsFrom (suc n)) ps
     → All (λ p. test_at (fields_condition n (type ∷ types) (text ∷ texts)) p ≡ test_at (fields_condition (suc n) types texts) p) ps
-behind_first n type types text texts [] h = All-nil _
-behind_first n type types text texts (p ∷ ps) h =
+past_first n type types text texts [] h = All-nil _
+past_first n type types text texts (p ∷ ps) h =
     let past : (p.field == n) ≡ false = ne_eqb p.field n (omega (arith, All-head (IsFrom (suc n)) p ps h)) in
-    All-cons (λ p. test_at (fields_condition n (type ∷ types) (text ∷ texts)) p ≡ test_at (fields_condition (suc n) types texts) p) p ps (rw past refl) (behind_first n type types text texts ps (All-tail (IsFrom (suc n)) p ps h))
+    All-cons (λ p. test_at (fields_condition n (type ∷ types) (text ∷ texts)) p ≡ test_at (fields_condition (suc n) types texts) p) p ps (rw past refl) (past_first n type types text texts ps (All-tail (IsFrom (suc n)) p ps h))
 
 first_field : (n : ℕ) (b c d : Bool) (rest : Option LineFault) → (if b then Some (at n BadNumber) else if c then Some (at n NumberRange) else if d then Some (at n BadWord) else place_in rest)
     ≡ place_in (or_else (fault_in n (if b then Some BadNumber else if c then Some NumberRange else if d then Some BadWord else None)) rest)
@@ -74,7 +74,7 @@ first_of_fields n k (type ∷ types) [] short = none_first (places_from n k)
 first_of_fields n zero (type ∷ types) (text ∷ texts) short = absurd (omega (arith, short))
 first_of_fields n (suc k) (type ∷ types) (text ∷ texts) short =
     let test = test_at (fields_condition n (type ∷ types) (text ∷ texts)) in
-    let rest : first_by test (places_from (suc n) k) ≡ place_in (fields_fault (suc n) types texts) = same_first test (test_at (fields_condition (suc n) types texts)) (places_from (suc n) k) (behind_first n type types text texts (places_from (suc n) k) (places_start (suc n) k)) ∙ first_of_fields (suc n) k types texts (omega (arith, short)) in
+    let rest : first_by test (places_from (suc n) k) ≡ place_in (fields_fault (suc n) types texts) = same_first test (test_at (fields_condition (suc n) types texts)) (places_from (suc n) k) (past_first n type types text texts (places_from (suc n) k) (places_start (suc n) k)) ∙ first_of_fields (suc n) k types texts (omega (arith, short)) in
     rw (eq-eqb n n refl, rest) (first_field n (field_condition type text BadNumber) (field_condition type text NumberRange) (field_condition type text BadWord) (fields_fault (suc n) types texts))
 
 other_field : (type : FieldType) (text : List ℕ) → (field_condition type text UnknownLine ≡ false) × (field_condition type text FieldCount ≡ false)
@@ -96,7 +96,7 @@ by_count : (b : Bool) (fault : Option LineFault) → (if not b then Some (at 0 F
 by_count true fault = refl
 by_count false fault = refl
 
--- the first condition of the shape behind a letter that the kind knows
+-- the first condition of the shape after a letter that the kind knows
 pub first_of_shape : (types : List FieldType) (texts : List (List ℕ)) → length types ≤ 5 → first_by (test_at (letter_condition (Some types) texts)) shape_places ≡ place_in (form_fault types texts)
 first_of_shape types texts short =
     let rest : first_by (test_at (letter_condition (Some types) texts)) (places_from 2 5) ≡ place_in (fields_fault 2 types texts) = first_of_fields 2 5 types texts short in

@@ -10,7 +10,7 @@ use Rattle.dimacs_lines.specs.Lines.{is_end, lines}
 use Rattle.dimacs_lines.specs.Fields.{is_blank, Run, onto_runs, runs_from}
 use Rattle.dimacs_records.specs.Spelling.{texts_in}
 use Rattle.dimacs_records.specs.inside.FieldReader.{text_of_run}
-use Rattle.dimacs_records.specs.Printed.{behind_blank}
+use Rattle.dimacs_records.specs.Printed.{after_blank}
 
 -- a printed ASCII character, of which none is a blank or a line end
 abbrev pub IsVisible : ℕ → Type 0
@@ -35,7 +35,7 @@ IsNoEnd b = is_end b ≡ false
 no_end : (b : ℕ) → IsVisible b → IsNoEnd b
 no_end b h = grind (arith, nat_tests)
 
--- the first run starts at place i or behind it
+-- the first run starts at place i or after it
 abbrev StartsFrom : ℕ → List Run → Type 0
 StartsFrom i [] = Unit {0}
 StartsFrom i (run ∷ runs) = i ≤ run.start
@@ -63,7 +63,7 @@ past_blank : (i : ℕ) (rest : List ℕ) → BeginsBlank rest → StartsFrom (su
 past_blank i [] blank = tt
 past_blank i (b ∷ bs) blank = rw blank (runs_start (suc i) bs)
 
--- a byte is a run alone where the next run does not start right behind it
+-- a byte is a run alone where the next run does not start right after it
 alone : (b i : ℕ) (runs : List Run) → StartsFrom (suc (suc i)) runs → onto_runs b i runs ≡ record { text = b ∷ []; start = i } ∷ runs
 alone b i [] starts = refl
 alone b i (run ∷ runs) starts = let apart : (run.start == suc i) ≡ false = ne_eqb run.start (suc i) (λ e. omega arith) in rw apart refl
@@ -75,41 +75,41 @@ first_run i j b [] rest visible blank is =
     let next : j ≡ suc i = omega arith in
     rw (no_blank b (visible 0 b (omega arith)), next) (alone b i (runs_from (suc i) rest) (past_blank (suc i) rest blank))
 first_run i j b (c ∷ cs) rest visible blank is =
-    let behind = first_run (suc i) j c cs rest (All-tail IsVisible b (c ∷ cs) visible) blank (omega arith) in
-    rw (no_blank b (visible 0 b (omega arith)), behind, eq-eqb (suc i) (suc i) refl) refl
+    let after = first_run (suc i) j c cs rest (All-tail IsVisible b (c ∷ cs) visible) blank (omega arith) in
+    rw (no_blank b (visible 0 b (omega arith)), after, eq-eqb (suc i) (suc i) refl) refl
 
-texts_from : (i : ℕ) (text : List ℕ) (texts : List (List ℕ)) → IsPlain text → ArePlain texts → map text_of_run (runs_from i (text ++ flat_map behind_blank texts)) ≡ text ∷ texts
+texts_from : (i : ℕ) (text : List ℕ) (texts : List (List ℕ)) → IsPlain text → ArePlain texts → map text_of_run (runs_from i (text ++ flat_map after_blank texts)) ≡ text ∷ texts
 texts_from i [] texts plain more = absurd (omega (arith, plain.some))
 texts_from i (b ∷ bs) [] plain more = ap (map text_of_run) (first_run i (i + length (b ∷ bs)) b bs [] plain.visible tt refl)
 texts_from i (b ∷ bs) (text ∷ texts) plain more =
     let next = i + length (b ∷ bs) in
-    ap (map text_of_run) (first_run i next b bs (flat_map behind_blank (text ∷ texts)) plain.visible refl refl)
+    ap (map text_of_run) (first_run i next b bs (flat_map after_blank (text ∷ texts)) plain.visible refl refl)
     ∙ ap (λ more. (b ∷ bs) ∷ more) (texts_from (suc next) text texts more.0 more.1)
 
 -- the fields of a line with one blank between plain texts
-pub texts_in-spaced : (text : List ℕ) (texts : List (List ℕ)) → IsPlain text → ArePlain texts → texts_in (text ++ flat_map behind_blank texts) ≡ text ∷ texts
+pub texts_in-spaced : (text : List ℕ) (texts : List (List ℕ)) → IsPlain text → ArePlain texts → texts_in (text ++ flat_map after_blank texts) ≡ text ∷ texts
 texts_in-spaced = texts_from 0
 
 plain_ends : (text : List ℕ) → IsPlain text → All IsNoEnd text
 plain_ends text plain = All-weaker IsVisible IsNoEnd no_end text plain.visible
 
-behind_ends : (texts : List (List ℕ)) → ArePlain texts → All IsNoEnd (flat_map behind_blank texts)
-behind_ends [] plain = All-nil IsNoEnd
-behind_ends (text ∷ texts) plain =
-    All-cons IsNoEnd 32 _ refl (All-append IsNoEnd text (flat_map behind_blank texts) (plain_ends text plain.0) (behind_ends texts plain.1))
+after_ends : (texts : List (List ℕ)) → ArePlain texts → All IsNoEnd (flat_map after_blank texts)
+after_ends [] plain = All-nil IsNoEnd
+after_ends (text ∷ texts) plain =
+    All-cons IsNoEnd 32 _ refl (All-append IsNoEnd text (flat_map after_blank texts) (plain_ends text plain.0) (after_ends texts plain.1))
 
 lines_first : (line rest : List ℕ) → All IsNoEnd line → lines (line ++ 10 ∷ rest) ≡ line ∷ lines rest
 lines_first [] rest no_ends = refl
 lines_first (b ∷ bs) rest no_ends = rw (All-head IsNoEnd b bs no_ends, lines_first bs rest (All-tail IsNoEnd b bs no_ends)) refl
 
 pub lines-spaced : (text : List ℕ) (texts : List (List ℕ)) (rest : List ℕ) → IsPlain text → ArePlain texts
-    → lines ((text ++ flat_map behind_blank texts) ++ 10 ∷ rest) ≡ (text ++ flat_map behind_blank texts) ∷ lines rest
+    → lines ((text ++ flat_map after_blank texts) ++ 10 ∷ rest) ≡ (text ++ flat_map after_blank texts) ∷ lines rest
 lines-spaced text texts rest plain more =
-    lines_first (text ++ flat_map behind_blank texts) rest (All-append IsNoEnd text (flat_map behind_blank texts) (plain_ends text plain) (behind_ends texts more))
+    lines_first (text ++ flat_map after_blank texts) rest (All-append IsNoEnd text (flat_map after_blank texts) (plain_ends text plain) (after_ends texts more))
 
-length-behind : (texts : List (List ℕ)) → ArePlain texts → length (flat_map behind_blank texts) ≤ 41 * length texts
-length-behind [] plain = omega arith
-length-behind (text ∷ texts) plain = omega (arith, length-append text (flat_map behind_blank texts), plain.0.short, length-behind texts plain.1)
+length-after_blanks : (texts : List (List ℕ)) → ArePlain texts → length (flat_map after_blank texts) ≤ 41 * length texts
+length-after_blanks [] plain = omega arith
+length-after_blanks (text ∷ texts) plain = omega (arith, length-append text (flat_map after_blank texts), plain.0.short, length-after_blanks texts plain.1)
 
-pub length-spaced : (text : List ℕ) (texts : List (List ℕ)) → IsPlain text → ArePlain texts → length (text ++ flat_map behind_blank texts) ≤ 40 + 41 * length texts
-length-spaced text texts plain more = omega (arith, length-append text (flat_map behind_blank texts), plain.short, length-behind texts more)
+pub length-spaced : (text : List ℕ) (texts : List (List ℕ)) → IsPlain text → ArePlain texts → length (text ++ flat_map after_blank texts) ≤ 40 + 41 * length texts
+length-spaced text texts plain more = omega (arith, length-append text (flat_map after_blank texts), plain.short, length-after_blanks texts more)

@@ -1,5 +1,5 @@
 -- What a line in the plain form says.
-use Rattle.std.proofs.Common.{◌≡◌, ◌+◌, ◌-◌, ◌^◌, ◌<◌, ◌≤◌, ◌++◌, ◌∷◌, [], ℕ, List, Bool, true, false, Option, None, Some, Ok, length, drop, refl, ap, sym, ◌∙◌, subst, arith, append_assoc, SFits, w64}
+use Rattle.std.proofs.Common.{◌≡◌, ◌+◌, ◌-◌, ◌^◌, ◌<◌, ◌≤◌, ◌++◌, ◌∷◌, [], ℕ, List, Bool, true, false, length, drop, refl, ap, sym, ◌∙◌, subst, arith, append_assoc, SFits, w64}
 use Rattle.std.specs.Prelude.{◌==◌, ◌||◌, if◌then◌else◌, ℤ, pos, neg_ℤ}
 use Rattle.std.specs.List.{All, flat_map, list_all, Contains}
 use Rattle.std.specs.Char.{IsAsciiDigit}
@@ -8,17 +8,15 @@ use Rattle.std.proofs.lemmas.Bool.Decides.{nat_tests}
 use Rattle.std.proofs.lemmas.Int.{ints}
 use Rattle.std.proofs.lemmas.List.{append-nil, length-append}
 use Rattle.std.proofs.lemmas.List.Elements.{All-nil, All-cons, All-head, All-tail, All-weaker}
-use Rattle.dimacs_lines.specs.Lines.{lines}
 use Rattle.dimacs_lines.specs.Number.{Spells, IsWithin}
-use Rattle.dimacs_lines.specs.Plain.{EndsAt, StandsAt}
-use Rattle.dimacs_lines.specs.Limits.{longest_line, most_nodes}
+use Rattle.dimacs_lines.specs.Plain.{StandsAt}
+use Rattle.dimacs_lines.specs.Limits.{most_nodes}
 use Rattle.dimacs_records.specs.declared.kinds.TextKind.{TextKind}
 use Rattle.dimacs_records.specs.declared.records.Record.{Record}
 use Rattle.dimacs_records.specs.Forms.{FieldType, Word, Either, Number, Id, Whole, Wide, Form, forms}
-use Rattle.dimacs_records.specs.LineReader.{ReadsLine}
 use Rattle.dimacs_records.specs.inside.Plain.{Stand, IsPlainLine, SaysFirst}
-use Rattle.dimacs_records.specs.Printed.{behind_blank}
-use Rattle.dimacs_records.specs.Spelling.{Part, Text, Amount, Says, SayAll, kind_of, letter_of, parts_of, texts_in, is_skip, is_comment}
+use Rattle.dimacs_records.specs.Printed.{after_blank}
+use Rattle.dimacs_records.specs.Spelling.{Part, Text, Amount, Says, SayAll, kind_of, letter_of, parts_of, texts_in, is_comment}
 use Rattle.dimacs_records.proofs.DecimalLemmas.{visible_digit}
 use Rattle.dimacs_records.proofs.PlainForms.{IsPlainForm, plain_form}
 use Rattle.dimacs_records.proofs.PlainLines.{IsVisible, IsPlain, ArePlain, texts_in-spaced, lines-spaced, length-spaced}
@@ -61,13 +59,13 @@ record StandsSo (bytes : List ℕ) (at : ℕ) (body : List ℕ) (next : ℕ) : T
   within : next ≤ length bytes
 
 -- texts that stand one after another, as one
-stand_so : (bytes : List ℕ) (at : ℕ) (text : List ℕ) (texts : List (List ℕ)) (next : ℕ) → Stand bytes at (text ∷ texts) next → StandsSo bytes at (text ++ flat_map behind_blank texts) next
+stand_so : (bytes : List ℕ) (at : ℕ) (text : List ℕ) (texts : List (List ℕ)) (next : ℕ) → Stand bytes at (text ∷ texts) next → StandsSo bytes at (text ++ flat_map after_blank texts) next
 stand_so bytes at text [] next ends =
     let whole : text ≡ text ++ [] = sym (append-nil text) in
     subst (λ body. StandsSo bytes at body next) whole (record { there = ends.there; passed = ends.passed; within = ends.within })
 stand_so bytes at text (other ∷ texts) next (mid, ends, more) =
     let later = stand_so bytes mid other texts next more in
-    let body = other ++ flat_map behind_blank texts in
+    let body = other ++ flat_map after_blank texts in
     record {
       there = ends.there ∙ (ap (λ ys. text ++ 32 ∷ ys) later.there ∙ sym (append_assoc text (32 ∷ body) (10 ∷ drop next bytes)));
       passed = omega (arith, ends.passed, later.passed, length-append text (32 ∷ body));
@@ -85,7 +83,7 @@ module _ (kind : TextKind) (form : Form) (bytes : List ℕ) (letter : ℕ) (size
       let letter_plain : IsPlain (letter ∷ []) = subst IsPlain is_letter plain.letter in
       let solid : is_comment (letter ∷ []) ≡ false = subst (λ l. is_comment l ≡ false) is_letter plain.no_comment in
       let are : ArePlain fields = say_plain form.types fields (parts_of r) numbers says short in
-      let line = (letter ∷ []) ++ flat_map behind_blank fields in
+      let line = (letter ∷ []) ++ flat_map after_blank fields in
       let read : texts_in line ≡ (letter ∷ []) ∷ fields = texts_in-spaced (letter ∷ []) fields letter_plain are in
       record {
         line = line;
@@ -98,7 +96,7 @@ module _ (kind : TextKind) (form : Form) (bytes : List ℕ) (letter : ℕ) (size
           rw read solid,
           record {
             form = form;
-            behind = fields;
+            after = fields;
             of_kind = among;
             for_kind = of_kind;
             letter = of_letter;

@@ -81,7 +81,7 @@ no_condition kind earlier number line (Some r) p says within_limits allowed c = 
   | of_record s solid other h ↦ allowed s (ap Some (spells_one kind (texts_in line) r s says.1 other)) p.field p.reason h
 ]
 
--- the record of a line, and those before it and behind it
+-- the record of a line, and those before it and after it
 records_at : (kind : TextKind) (before : List (List ℕ)) (line : List ℕ) (said earlier : List (Option Record)) (s : SaidAt kind before line said) (r : Record)
     → s.earlier ≡ earlier → s.here ≡ Some r → records_in said ≡ records_in earlier ++ r ∷ records_in s.more
 records_at kind before line said earlier s r same here = ap records_in s.said_is ∙ rw (here, same) (records_in-append earlier (Some r ∷ s.more))

@@ -50,11 +50,11 @@ same_count [] [] [] h = refl
 same_count (type ∷ types) (text ∷ texts) (part ∷ parts) h = ap suc (same_count types texts parts h.1)
 same_count types texts parts h = absurd h
 
-letter_condition-said : (types : List FieldType) (behind : List (List ℕ)) (parts : List Part) (f : ℕ) (reason : Reason) → SayAll types behind parts
-    → letter_condition (Some types) behind f reason ≡ false
-letter_condition-said types behind parts f FieldCount h = rw (eq-eqb (length types) (length behind) (same_count types behind parts h)) (and_right (f == 0) false refl)
-letter_condition-said types behind parts f reason h = fields_condition-said 2 types behind parts f reason h
+letter_condition-said : (types : List FieldType) (after : List (List ℕ)) (parts : List Part) (f : ℕ) (reason : Reason) → SayAll types after parts
+    → letter_condition (Some types) after f reason ≡ false
+letter_condition-said types after parts f FieldCount h = rw (eq-eqb (length types) (length after) (same_count types after parts h)) (and_right (f == 0) false refl)
+letter_condition-said types after parts f reason h = fields_condition-said 2 types after parts f reason h
 
 pub spelled_shape : (kind : TextKind) (texts : List (List ℕ)) (r : Record) → SpellsRecord kind texts r → (f : ℕ) (reason : Reason) → ¬ IsTrue (shape_condition kind texts f reason)
 spelled_shape kind texts r h f reason =
-    both_ways (shape_condition kind texts f reason) (rw (h.begins, spelled_types kind texts r h) (letter_condition-said h.form.types h.behind (parts_of r) f reason h.says))
+    both_ways (shape_condition kind texts f reason) (rw (h.begins, spelled_types kind texts r h) (letter_condition-said h.form.types h.after (parts_of r) f reason h.says))

@@ -146,19 +146,19 @@ record_of-parts_of (LabelsNode id dist pred) = refl
 
 -- the record that fields of these types spell, if they spell one
 abbrev typed_record : TextKind → List ℕ → Option (List FieldType) → List (List ℕ) → Option Record
-typed_record kind letter None behind = None
-typed_record kind letter (Some types) behind = record_of kind letter (all_said_by types behind)
+typed_record kind letter None after = None
+typed_record kind letter (Some types) after = record_of kind letter (all_said_by types after)
 
 abbrev spelled_record : TextKind → List (List ℕ) → Option Record
 spelled_record kind [] = None
-spelled_record kind (letter ∷ behind) = typed_record kind letter (types_in (forms kind) letter (length behind)) behind
+spelled_record kind (letter ∷ after) = typed_record kind letter (types_in (forms kind) letter (length after)) after
 
 -- a spelled line's fields have the types of its form
-pub spelled_types : (kind : TextKind) (texts : List (List ℕ)) (r : Record) (h : SpellsRecord kind texts r) → types_in (forms kind) h.form.letter (length h.behind) ≡ Some h.form.types
-spelled_types kind texts r h = rw ((as_many h.form.types h.behind (parts_of r) h.says).0) (form_types kind h.form h.of_kind)
+pub spelled_types : (kind : TextKind) (texts : List (List ℕ)) (r : Record) (h : SpellsRecord kind texts r) → types_in (forms kind) h.form.letter (length h.after) ≡ Some h.form.types
+spelled_types kind texts r h = rw ((as_many h.form.types h.after (parts_of r) h.says).0) (form_types kind h.form h.of_kind)
 
 spelled_record-spelled : (kind : TextKind) (texts : List (List ℕ)) (r : Record) → SpellsRecord kind texts r → spelled_record kind texts ≡ Some r
-spelled_record-spelled kind texts r h = rw (h.begins, spelled_types kind texts r h, ← parts_said h.form.types h.behind (parts_of r) h.says, ← h.for_kind, ← h.letter) (record_of-parts_of r)
+spelled_record-spelled kind texts r h = rw (h.begins, spelled_types kind texts r h, ← parts_said h.form.types h.after (parts_of r) h.says, ← h.for_kind, ← h.letter) (record_of-parts_of r)
 
 pub spells_one : (kind : TextKind) (texts : List (List ℕ)) (r s : Record) → SpellsRecord kind texts r → SpellsRecord kind texts s → r ≡ s
 spells_one kind texts r s a b = let same = sym (spelled_record-spelled kind texts r a) ∙ spelled_record-spelled kind texts s b in cc

@@ -2,7 +2,7 @@
 use Rattle.std.proofs.Common.{◌≡◌, ◌∙◌, ◌∷◌, ◌++◌, [], List, length, map, refl, ap, arith, length-append, All}
 use Rattle.std.proofs.lemmas.List.Elements.{All-contains, Contains-append_right}
 
--- how two elements of one list lie, each behind others: they are the same one, or one of them comes sooner
+-- how two elements of one list lie, each after others: they are the same one, or one of them comes sooner
 pub data TwoPlaces {X : Type 0} (before before' : List X) (x x' : X) : Type 0 where
   same : before ≡ before' → x ≡ x' → TwoPlaces before before' x x'
   sooner : (rest : List X) → before' ≡ before ++ x ∷ rest → TwoPlaces before before' x x'

@@ -4,7 +4,7 @@ use Rattle.std.specs.List.{fold, list_any}
 use Rattle.dimacs_records.specs.declared.records.Record.{Record}
 use Rattle.dimacs_records.specs.declared.records.Record.TheVariants.{LabelsBlock, LabelsNode}
 
--- a `t` line, and the IDs of the `d` lines behind it
+-- a `t` line, and the IDs of the `d` lines after it
 pub record Block : Type 0 where
   pub source : ℕ
   pub count : ℕ

@@ -1,4 +1,4 @@
--- Why a record is refused behind the earlier ones, reason by reason.
+-- Why a record is refused after the earlier ones, reason by reason.
 use Rattle.std.specs.Prelude.{ℕ, ◌==◌, Bool, true, false, ◌&&◌, ◌||◌, not, List, [], ◌∷◌, Option, is_some, is_none, if◌then◌else◌, nat_lt, length, count_by, pos, int_lt}
 use Rattle.std.specs.List.{list_any}
 use Rattle.dimacs_lines.specs.Limits.{longest_line, most_lines}
@@ -30,7 +30,7 @@ is_without_problem earlier r = (needs_problem (kind_of r) && not (is_problem r))
 abbrev pub is_problem_twice : List Record → Record → Bool
 is_problem_twice earlier r = is_problem r && is_some (problem_in earlier)
 
--- a node line behind an arc line; a query that its text does not ask; a label outside any block
+-- a node line after an arc line; a query that its text does not ask; a label outside any block
 abbrev pub is_out_of_order : List Record → Record → Bool
 is_out_of_order earlier (MaxNode id end) = list_any is_flow_arc earlier
 is_out_of_order earlier (MinNode id supply) = list_any is_flow_arc earlier
@@ -89,7 +89,7 @@ abbrev pub is_too_many : List Record → Record → Bool
 is_too_many earlier (LabelsNode id dist pred) = is_full_block (block_in earlier)
 is_too_many earlier r = is_counted r && is_full (problem_in earlier) (counted_in earlier)
 
--- a block behind one that is short of labels
+-- a block after one that is short of labels
 abbrev pub is_too_few : List Record → Record → Bool
 is_too_few earlier (LabelsBlock source count radius) = is_short_block (block_in earlier)
 is_too_few earlier r = false
@@ -106,7 +106,7 @@ abbrev pub is_past_radius : List Record → Record → Bool
 is_past_radius earlier (LabelsNode id dist pred) = is_past_block (block_in earlier) dist
 is_past_radius earlier r = false
 
--- at field f of record r, behind the earlier records, the condition of a reason holds
+-- at field f of record r, after the earlier records, the condition of a reason holds
 abbrev pub condition : List Record → Record → ℕ → Reason → Bool
 condition earlier r f ProblemMissing = (f == 0) && is_without_problem earlier r
 condition earlier r f ProblemTwice = (f == 0) && is_problem_twice earlier r

@@ -8,7 +8,7 @@ use Rattle.dimacs_records.specs.Shapes.{shape_condition}
 use Rattle.dimacs_records.specs.Conditions.{limit_condition, condition, end_condition}
 use Rattle.dimacs_records.specs.Order.{Place, at, places, end_reasons, FirstOf}
 
--- at a place of a line, behind the earlier records, the condition of its reason holds
+-- at a place of a line, after the earlier records, the condition of its reason holds
 pub data Condition (kind : TextKind) (earlier : List Record) (number : ℕ) (line : List ℕ) (p : Place) : Type 0 where
   of_limit : IsTrue (limit_condition number line p.field p.reason) → Condition kind earlier number line p
   of_shape : is_skip (texts_in line) ≡ false → IsTrue (shape_condition kind (texts_in line) p.field p.reason) → Condition kind earlier number line p

@@ -5,12 +5,12 @@ use Rattle.std.specs.Fmt.{signed_decimal}
 use Rattle.dimacs_records.specs.declared.printed.Part.{Part}
 use Rattle.dimacs_records.specs.declared.printed.Part.TheVariants.{Word, Number, Wide}
 
-abbrev pub behind_blank : List ℕ → List ℕ
-behind_blank field = 32 ∷ field
+abbrev pub after_blank : List ℕ → List ℕ
+after_blank field = 32 ∷ field
 
 -- a line of these fields: one blank between them, and byte 10
 abbrev pub spaced_line : List ℕ → List (List ℕ) → List ℕ
-spaced_line first fields = first ++ (flat_map behind_blank fields ++ 10 ∷ [])
+spaced_line first fields = first ++ (flat_map after_blank fields ++ 10 ∷ [])
 
 -- the line that tells what a text is
 abbrev pub shown : List (List ℕ) → List ℕ

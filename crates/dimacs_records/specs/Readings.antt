@@ -52,14 +52,14 @@ pub record AreSpelledBefore (kind : TextKind) (line : ℕ) (rs : List LineRecord
 abbrev pub IsGivenByLines : {V : Type 0} → TextKind → (List LineRecord → V → Type 0) → V → Type 0
 IsGivenByLines kind gives v = (rs : List LineRecord) × gives rs v × AreSpelledBefore kind (most_lines + 1) rs
 
--- no condition holds of a record behind the earlier ones
+-- no condition holds of a record after the earlier ones
 abbrev pub IsAllowed : List Record → Record → Type 0
 IsAllowed earlier r = (field : ℕ) (reason : Reason) → ¬ IsTrue (condition earlier r field reason)
 
 abbrev pub IsFirstCondition : List Record → Record → LineFault → Type 0
 IsFirstCondition earlier r fault = FirstOf (λ (p : Place). IsTrue (condition earlier r p.field p.reason)) record_places (at fault.field fault.reason)
 
--- why a record is not taken behind the earlier ones
+-- why a record is not taken after the earlier ones
 abbrev pub RefusesRecord : List Record → Record → TakeError → Type 0
 RefusesRecord earlier r (take_errors.Refused fault) = IsFirstCondition earlier r fault
 RefusesRecord earlier r take_errors.Memory = Unit {0}

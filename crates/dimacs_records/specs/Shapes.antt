@@ -31,18 +31,18 @@ abbrev pub types_or : ℕ → List FieldType → Option (List FieldType) → Lis
 types_or count types None = types
 types_or count types (Some others) = if length types == count then types else others
 
--- the types of so many fields behind a letter: those of the letter's form that has so many, else of its last form
+-- the types of so many fields after a letter: those of the letter's form that has so many, else of its last form
 abbrev pub types_in : List Form → List ℕ → ℕ → Option (List FieldType)
 types_in [] letter count = None
 types_in (form ∷ more) letter count = if bytes_eq form.letter letter then Some (types_or count form.types (types_in more letter count)) else types_in more letter count
 
 -- at field f of a line that begins with this letter the condition of a reason holds
 abbrev pub letter_condition : Option (List FieldType) → List (List ℕ) → ℕ → Reason → Bool
-letter_condition None behind f UnknownLine = f == 1
-letter_condition None behind f reason = false
-letter_condition (Some types) behind f FieldCount = (f == 0) && not (length types == length behind)
-letter_condition (Some types) behind f reason = fields_condition 2 types behind f reason
+letter_condition None after f UnknownLine = f == 1
+letter_condition None after f reason = false
+letter_condition (Some types) after f FieldCount = (f == 0) && not (length types == length after)
+letter_condition (Some types) after f reason = fields_condition 2 types after f reason
 
 abbrev pub shape_condition : TextKind → List (List ℕ) → ℕ → Reason → Bool
 shape_condition kind [] f reason = false
-shape_condition kind (letter ∷ behind) f reason = letter_condition (types_in (forms kind) letter (length behind)) behind f reason
+shape_condition kind (letter ∷ after) f reason = letter_condition (types_in (forms kind) letter (length after)) after f reason

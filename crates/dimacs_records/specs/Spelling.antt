@@ -75,7 +75,7 @@ abbrev pub radius_parts : Option ℤ → List Part
 radius_parts None = []
 radius_parts (Some radius) = Amount radius ∷ []
 
--- the fields behind the letter
+-- the fields after the letter
 abbrev pub parts_of : Record → List Part
 parts_of (MaxProblem nodes arcs) = Text (codes "max") ∷ Amount (pos nodes) ∷ Amount (pos arcs) ∷ []
 parts_of (MaxNode id end) = Amount (pos id) ∷ Text (end_word end) ∷ []
@@ -114,12 +114,12 @@ SayAll types texts parts = ⊥
 -- the fields have one of the kind's forms, and say what the record has
 pub record SpellsRecord (kind : TextKind) (texts : List (List ℕ)) (r : Record) : Type 0 where
   pub form : Form
-  pub behind : List (List ℕ)
+  pub after : List (List ℕ)
   pub of_kind : Contains (forms kind) form
   pub for_kind : kind_of r ≡ kind
   pub letter : letter_of r ≡ form.letter
-  pub begins : texts ≡ form.letter ∷ behind
-  pub says : SayAll form.types behind (parts_of r)
+  pub begins : texts ≡ form.letter ∷ after
+  pub says : SayAll form.types after (parts_of r)
 
 -- what the fields of a line say, byte by byte
 abbrev pub texts_in : List ℕ → List (List ℕ)
@@ -133,4 +133,4 @@ is_comment (b ∷ bs) = b == 99
 -- a line without fields, or a comment
 abbrev pub is_skip : List (List ℕ) → Bool
 is_skip [] = true
-is_skip (first ∷ behind) = is_comment first
+is_skip (first ∷ after) = is_comment first

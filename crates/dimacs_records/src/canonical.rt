@@ -22,7 +22,7 @@ pub fn put_record<S: Sink>(sink: &mut S, said: &Record) -> Result<(), DeviceFaul
     page.finish(sink)
 }
 
-/// Writes the line of a record behind what was written before.
+/// Writes the line of a record after what was written before.
 #[inline(always)]
 pub fn write_record<S: Sink>(page: &mut Page, sink: &mut S, said: &Record)
     ensures written { Appends (canonical_line said.now) (S.accepted sink.old) page.old (S.accepted sink.new) page.new }

@@ -11,7 +11,7 @@ ghost use Rattle.dimacs_records.specs.declared.faults.ReadError.TheVariants.{Dev
 ghost use Rattle.dimacs_records.specs.declared.records.Record.{Record};
 ghost use Rattle.dimacs_records.specs.Readings.{ReadsLines, CountsRead, IsGivenByLines, numbered};
 ghost use Rattle.dimacs_records.specs.inside.Plain.{TakesPlain};
-ghost use Rattle.dimacs_records.specs.inside.Driver.{HasTaken, IsReadSoFar, IsBehind, ReadsNext, ReadsSome, ReadsAll, TakesLine, read_error, lines_error};
+ghost use Rattle.dimacs_records.specs.inside.Driver.{HasTaken, IsReadSoFar, ComesAfter, ReadsNext, ReadsSome, ReadsAll, TakesLine, read_error, lines_error};
 
 use crate::faults::{At, ReadError, TakeError};
 use crate::kinds::TextKind;
@@ -168,7 +168,7 @@ fn take_line<R: Reading>(
 ) -> Result<(), TakeError>
     requires { R.kind reading.old ≡ kind }
     ensures kind { R.kind reading.new ≡ kind }
-    ensures takes { (before : List (List ℕ)) (said : List (Option Record)) → IsBehind kind before said number line.now → R.stands_for reading.old (numbered 1 said)
+    ensures takes { (before : List (List ℕ)) (said : List (Option Record)) → ComesAfter kind before said number line.now → R.stands_for reading.old (numbered 1 said)
         → TakesLine kind before said line.now (R.stands_for reading.new) result }
     ensures spelled { OnOk result (HasTaken kind number (R.stands_for reading.old) → HasTaken kind (number + 1) (R.stands_for reading.new)) }
     ensures kept { (value : R.Value) → R.keeps reading.new value → R.keeps reading.old value }

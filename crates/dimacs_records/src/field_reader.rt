@@ -36,7 +36,7 @@ pub(crate) struct FieldReader<'a> {
 }
 
 impl<'a> FieldReader<'a> {
-    /// The fields behind a letter.
+    /// The fields after a letter.
     #[inline(always)]
     pub(crate) fn new(scan: Scan<'a>) -> FieldReader<'a>
         ensures fresh { IsUntouched result }

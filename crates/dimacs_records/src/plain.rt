@@ -26,18 +26,18 @@ pub(crate) struct PlainLine {
     pub(crate) said: Record,
 }
 
-/// Two nodes and a number.
+/// A line of two nodes and a number: how many bytes it takes with its end, and what it says.
 #[derive(Clone, Copy)]
-struct Ends {
+struct ArcLine {
     size: usize,
     tail: u32,
     head: u32,
     number: i64,
 }
 
-/// A node and a number.
+/// A line of a node and a number.
 #[derive(Clone, Copy)]
-struct Value {
+struct NodeLine {
     size: usize,
     id: u32,
     number: i64,
@@ -66,7 +66,7 @@ pub(crate) fn plain_line<R: Reading>(kind: TextKind, bytes: &[u8]) -> Option<Pla
 fn max_line(bytes: &[u8]) -> Option<PlainLine>
     ensures { IfSome result (λ line. SaysFirst Max bytes.now line.said line.size) }
 {
-    let Ends {
+    let ArcLine {
         size,
         tail,
         head,
@@ -88,7 +88,7 @@ fn min_line(bytes: &[u8]) -> Option<PlainLine>
     if let Some(line) = bounds_line(bytes) {
         return Some(line);
     }
-    let Value { size, id, number } = value_line(bytes, b'n')?;
+    let NodeLine { size, id, number } = value_line(bytes, b'n')?;
     let said = Record::MinNode { id, supply: number };
     Some(PlainLine { size, said })
 }
@@ -98,7 +98,7 @@ fn min_line(bytes: &[u8]) -> Option<PlainLine>
 fn graph_line(bytes: &[u8]) -> Option<PlainLine>
     ensures { IfSome result (λ line. SaysFirst Graph bytes.now line.said line.size) }
 {
-    let Ends {
+    let ArcLine {
         size,
         tail,
         head,
@@ -117,7 +117,7 @@ fn graph_line(bytes: &[u8]) -> Option<PlainLine>
 fn solution_line(bytes: &[u8]) -> Option<PlainLine>
     ensures { IfSome result (λ line. SaysFirst Solution bytes.now line.said line.size) }
 {
-    let Ends {
+    let ArcLine {
         size,
         tail,
         head,
@@ -136,7 +136,7 @@ fn solution_line(bytes: &[u8]) -> Option<PlainLine>
 fn potentials_line(bytes: &[u8]) -> Option<PlainLine>
     ensures { IfSome result (λ line. SaysFirst Potentials bytes.now line.said line.size) }
 {
-    let Value { size, id, number } = value_line(bytes, b'y')?;
+    let NodeLine { size, id, number } = value_line(bytes, b'y')?;
     let said = Record::PotentialsNode {
         id,
         value: i128::from(number),
@@ -188,7 +188,7 @@ fn bounds_line(bytes: &[u8]) -> Option<PlainLine>
 
 /// A line of a node and a number.
 #[inline(always)]
-fn value_line(bytes: &[u8], letter: u8) -> Option<Value>
+fn value_line(bytes: &[u8], letter: u8) -> Option<NodeLine>
     ensures { IfSome result (λ line. IsPlainLine bytes.now letter (Id ∷ Whole ∷ []) (Amount (pos line.id) ∷ Amount line.number ∷ []) line.size) }
 {
     if !begins_with(bytes, letter) {
@@ -196,12 +196,12 @@ fn value_line(bytes: &[u8], letter: u8) -> Option<Value>
     }
     let (after_id, id) = plain_id(bytes, 2, b' ')?;
     let (size, number) = plain_whole(bytes, after_id, b'\n')?;
-    Some(Value { size, id, number })
+    Some(NodeLine { size, id, number })
 }
 
 /// A line of two nodes and a number.
 #[inline(always)]
-fn ends_line(bytes: &[u8], letter: u8) -> Option<Ends>
+fn ends_line(bytes: &[u8], letter: u8) -> Option<ArcLine>
     ensures { IfSome result (λ line. IsPlainLine bytes.now letter (Id ∷ Id ∷ Whole ∷ []) (Amount (pos line.tail) ∷ Amount (pos line.head) ∷ Amount line.number ∷ []) line.size) }
 {
     if !begins_with(bytes, letter) {
@@ -210,7 +210,7 @@ fn ends_line(bytes: &[u8], letter: u8) -> Option<Ends>
     let (after_tail, tail) = plain_id(bytes, 2, b' ')?;
     let (after_head, head) = plain_id(bytes, after_tail, b' ')?;
     let (size, number) = plain_whole(bytes, after_head, b'\n')?;
-    Some(Ends {
+    Some(ArcLine {
         size,
         tail,
         head,

@@ -4,11 +4,11 @@ ghost use Rattle.std.specs.Prelude.{◌++◌, List, Option, ℕ};
 ghost use Rattle.dimacs_lines.specs.Devices.{CountsFault};
 ghost use Rattle.dimacs_lines.specs.Pages.{Appends, CountsOn};
 ghost use Rattle.dimacs_lines.specs.Puts.{Puts};
-ghost use Rattle.dimacs_records.specs.Printed.{behind_blank, printed, printed_line};
+ghost use Rattle.dimacs_records.specs.Printed.{after_blank, printed, printed_line};
 
 use dimacs_lines::{DeviceFault, Page, Sink};
 
-/// A field behind the first word of a line.
+/// A field after the first word of a line.
 #[derive(Clone, Copy)]
 pub enum Part<'a> {
     Word(&'a [u8]),
@@ -16,7 +16,7 @@ pub enum Part<'a> {
     Wide(i128),
 }
 
-/// Puts a line: a word, and the fields behind it with one blank between them.
+/// Puts a line: a word, and the fields after it with one blank between them.
 pub fn put_line<S: Sink>(sink: &mut S, word: &[u8], parts: &[Part<'_>]) -> Result<(), DeviceFault>
     ensures puts { Puts result (S.accepted sink.old) (printed_line word.now parts.now) (S.accepted sink.new) }
     ensures fault { CountsFault result (S.faults sink.old) (S.faults sink.new) }
@@ -26,7 +26,7 @@ pub fn put_line<S: Sink>(sink: &mut S, word: &[u8], parts: &[Part<'_>]) -> Resul
     page.finish(sink)
 }
 
-/// Writes a line behind what was written before.
+/// Writes a line after what was written before.
 pub fn write_line<S: Sink>(page: &mut Page, sink: &mut S, word: &[u8], parts: &[Part<'_>])
     ensures written { Appends (printed_line word.now parts.now) (S.accepted sink.old) page.old (S.accepted sink.new) page.new }
     ensures faults { CountsOn (S.faults sink.old) page.old (S.faults sink.new) page.new }
@@ -41,7 +41,7 @@ pub fn write_line<S: Sink>(page: &mut Page, sink: &mut S, word: &[u8], parts: &[
 /// Writes a blank and a field.
 #[inline(always)]
 fn write_part<S: Sink>(page: &mut Page, sink: &mut S, part: &Part<'_>)
-    ensures written { Appends (behind_blank (printed part.now)) (S.accepted sink.old) page.old (S.accepted sink.new) page.new }
+    ensures written { Appends (after_blank (printed part.now)) (S.accepted sink.old) page.old (S.accepted sink.new) page.new }
     ensures faults { CountsOn (S.faults sink.old) page.old (S.faults sink.new) page.new }
 {
     page.write(sink, b" ");

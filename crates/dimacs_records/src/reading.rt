@@ -24,7 +24,7 @@ pub trait Reading: Drop {
     /// What the value has of the reading, whatever records came between; a reading that is given nothing leaves this out.
     ghost keeps: { Self → Self.Value → Type 0 } = { λ _ _. ⊤ };
 
-    /// Takes the record of a line, which stands behind those taken before. Refused where a condition of the kind
+    /// Takes the record of a line, which stands after those taken before. Refused where a condition of the kind
     /// holds; after an error the reading is unchanged.
     fn take(&mut self, line: u64, said: Record) -> Result<(), TakeError>
         requires of_kind { IsOfKind (kind self.old) said }

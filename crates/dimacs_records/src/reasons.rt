@@ -3,7 +3,7 @@
 ghost use Rattle.std.specs.Prelude.{◌≡◌};
 ghost use Rattle.dimacs_records.specs.Names.{name_of};
 
-/// The reasons: first those of texts, then those of the judges, and last one that neither gives, for solvers.
+/// The reasons: first those of texts, then those of the judges.
 #[derive(Clone, Copy, Debug, PartialEq, Eq)]
 pub enum Reason {
     LineTooLong,

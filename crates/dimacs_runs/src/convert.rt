@@ -26,7 +26,7 @@ pub fn run_convert<S: Source, K: Sink>(
 ) -> Result<Status, RunError>
     ensures reports { (bytes : List ℕ) → S.coming text.old ≡ Some bytes → Reports (Converted kind bytes) result (K.accepted sink.old) (K.accepted sink.new) }
     ensures faults { CountsRun result (S.faults text.old) (S.faults text.new) (K.faults sink.old) (K.faults sink.new) }
-    ensures silent { S.faults text.new ≢ S.faults text.old → K.accepted sink.new ≡ K.accepted sink.old }
+    ensures nothing_written { S.faults text.new ≢ S.faults text.old → K.accepted sink.new ≡ K.accepted sink.old }
     ensures memory { result ≡ Err Memory → K.accepted sink.new ≡ K.accepted sink.old }
 {
     match kind {
@@ -48,7 +48,7 @@ fn convert<T: Text, S: Source, K: Sink>(
 ) -> Result<Status, RunError>
     ensures reports { (bytes : List ℕ) → S.coming text.old ≡ Some bytes → Reports (TellsText (T.spells bytes) T.canonical (Fault T.kind (lines bytes)) (text_word T.kind)) result (K.accepted sink.old) (K.accepted sink.new) }
     ensures faults { CountsRun result (S.faults text.old) (S.faults text.new) (K.faults sink.old) (K.faults sink.new) }
-    ensures silent { S.faults text.new ≢ S.faults text.old → K.accepted sink.new ≡ K.accepted sink.old }
+    ensures nothing_written { S.faults text.new ≢ S.faults text.old → K.accepted sink.new ≡ K.accepted sink.old }
     ensures memory { result ≡ Err Memory → K.accepted sink.new ≡ K.accepted sink.old }
 {
     match T::read(alloc, text) {

@@ -28,7 +28,7 @@ use dimacs_lines::{Sink, Source};
 use std::alloc::Global;
 
 /// Reads an instance, a claim about it and a certificate, in this order, and puts the verdict of the judge, the line of
-/// the first test that fails, or the line of the first text's fault. No text is pulled behind one that has a fault; where
+/// the first test that fails, or the line of the first text's fault. No text is pulled after one that has a fault; where
 /// no flow is feasible nothing is claimed, and the claim isn't pulled.
 pub fn run_judge<P: Source, Q: Source, R: Source, K: Sink>(
     alloc: Global,
@@ -40,10 +40,10 @@ pub fn run_judge<P: Source, Q: Source, R: Source, K: Sink>(
 ) -> Result<Status, RunError>
     ensures reports { (a b c : List ℕ) → P.coming instance.old ≡ Some a → IsClaim kind (Q.coming claim.old) b → R.coming certificate.old ≡ Some c → Reports (Judged kind a b c) result (K.accepted sink.old) (K.accepted sink.new) }
     ensures faults { CountsDevices result (P.faults instance.old ∷ Q.faults claim.old ∷ R.faults certificate.old ∷ K.faults sink.old ∷ []) (P.faults instance.new ∷ Q.faults claim.new ∷ R.faults certificate.new ∷ K.faults sink.new ∷ []) }
-    ensures silent { (P.faults instance.new ≢ P.faults instance.old) ⊎ (Q.faults claim.new ≢ Q.faults claim.old) ⊎ (R.faults certificate.new ≢ R.faults certificate.old) → K.accepted sink.new ≡ K.accepted sink.old }
+    ensures nothing_written { (P.faults instance.new ≢ P.faults instance.old) ⊎ (Q.faults claim.new ≢ Q.faults claim.old) ⊎ (R.faults certificate.new ≢ R.faults certificate.old) → K.accepted sink.new ≡ K.accepted sink.old }
     ensures memory { result ≡ Err Memory → K.accepted sink.new ≡ K.accepted sink.old }
-    ensures instance_alone { (a : List ℕ) (l f : ℕ) (r : Reason) → P.coming instance.old ≡ Some a → Fault (instance_kind kind) (lines a) l f r → (claim.new ≡ claim.old) × (certificate.new ≡ certificate.old) }
-    ensures claim_alone { (claimed : TextKind) (b : List ℕ) (l f : ℕ) (r : Reason) → claim_kind kind ≡ Some claimed → Q.coming claim.old ≡ Some b → Fault claimed (lines b) l f r → certificate.new ≡ certificate.old }
+    ensures stops_at_instance { (a : List ℕ) (l f : ℕ) (r : Reason) → P.coming instance.old ≡ Some a → Fault (instance_kind kind) (lines a) l f r → (claim.new ≡ claim.old) × (certificate.new ≡ certificate.old) }
+    ensures stops_at_claim { (claimed : TextKind) (b : List ℕ) (l f : ℕ) (r : Reason) → claim_kind kind ≡ Some claimed → Q.coming claim.old ≡ Some b → Fault claimed (lines b) l f r → certificate.new ≡ certificate.old }
     ensures unclaimed { kind ≡ judges.Infeasible → claim.new ≡ claim.old }
 {
     let told = match kind {
@@ -64,8 +64,8 @@ fn tell_max<P: Source, Q: Source, R: Source>(
 ) -> Result<Told, RunError>
     ensures told { (a b c : List ℕ) → P.coming instance.old ≡ Some a → Q.coming claim.old ≡ Some b → R.coming certificate.old ≡ Some c → ToldAlone (JudgedMax a b c) result }
     ensures faults { CountsDevices result (P.faults instance.old ∷ Q.faults claim.old ∷ R.faults certificate.old ∷ []) (P.faults instance.new ∷ Q.faults claim.new ∷ R.faults certificate.new ∷ []) }
-    ensures instance_alone { (a : List ℕ) (l f : ℕ) (r : Reason) → P.coming instance.old ≡ Some a → Fault kinds.Max (lines a) l f r → (claim.new ≡ claim.old) × (certificate.new ≡ certificate.old) }
-    ensures claim_alone { (b : List ℕ) (l f : ℕ) (r : Reason) → Q.coming claim.old ≡ Some b → Fault kinds.Solution (lines b) l f r → certificate.new ≡ certificate.old }
+    ensures stops_at_instance { (a : List ℕ) (l f : ℕ) (r : Reason) → P.coming instance.old ≡ Some a → Fault kinds.Max (lines a) l f r → (claim.new ≡ claim.old) × (certificate.new ≡ certificate.old) }
+    ensures stops_at_claim { (b : List ℕ) (l f : ℕ) (r : Reason) → Q.coming claim.old ≡ Some b → Fault kinds.Solution (lines b) l f r → certificate.new ≡ certificate.old }
 {
     let instance = match read::<MaxInstance<PlainArcs<CapacityArc>>, P>(alloc, instance) {
         Ok(instance) => instance,
@@ -87,8 +87,8 @@ fn tell_min<P: Source, Q: Source, R: Source>(
 ) -> Result<Told, RunError>
     ensures told { (a b c : List ℕ) → P.coming instance.old ≡ Some a → Q.coming claim.old ≡ Some b → R.coming certificate.old ≡ Some c → ToldAlone (JudgedMin a b c) result }
     ensures faults { CountsDevices result (P.faults instance.old ∷ Q.faults claim.old ∷ R.faults certificate.old ∷ []) (P.faults instance.new ∷ Q.faults claim.new ∷ R.faults certificate.new ∷ []) }
-    ensures instance_alone { (a : List ℕ) (l f : ℕ) (r : Reason) → P.coming instance.old ≡ Some a → Fault kinds.Min (lines a) l f r → (claim.new ≡ claim.old) × (certificate.new ≡ certificate.old) }
-    ensures claim_alone { (b : List ℕ) (l f : ℕ) (r : Reason) → Q.coming claim.old ≡ Some b → Fault kinds.Solution (lines b) l f r → certificate.new ≡ certificate.old }
+    ensures stops_at_instance { (a : List ℕ) (l f : ℕ) (r : Reason) → P.coming instance.old ≡ Some a → Fault kinds.Min (lines a) l f r → (claim.new ≡ claim.old) × (certificate.new ≡ certificate.old) }
+    ensures stops_at_claim { (b : List ℕ) (l f : ℕ) (r : Reason) → Q.coming claim.old ≡ Some b → Fault kinds.Solution (lines b) l f r → certificate.new ≡ certificate.old }
 {
     let instance = match read::<MinInstance<PlainArcs<ArcView>>, P>(alloc, instance) {
         Ok(instance) => instance,
@@ -114,7 +114,7 @@ fn tell_infeasible<P: Source, R: Source>(
 ) -> Result<Told, RunError>
     ensures told { (a c : List ℕ) → P.coming instance.old ≡ Some a → R.coming certificate.old ≡ Some c → ToldAlone (JudgedInfeasible a c) result }
     ensures faults { CountsDevices result (P.faults instance.old ∷ R.faults certificate.old ∷ []) (P.faults instance.new ∷ R.faults certificate.new ∷ []) }
-    ensures instance_alone { (a : List ℕ) (l f : ℕ) (r : Reason) → P.coming instance.old ≡ Some a → Fault kinds.Min (lines a) l f r → certificate.new ≡ certificate.old }
+    ensures stops_at_instance { (a : List ℕ) (l f : ℕ) (r : Reason) → P.coming instance.old ≡ Some a → Fault kinds.Min (lines a) l f r → certificate.new ≡ certificate.old }
 {
     match read_two::<MinInstance<PlainArcs<ArcView>>, Cut, P, R>(alloc, instance, certificate) {
         Ok((instance, set)) => answer_told(judge_infeasible(&instance, &set)),
@@ -131,8 +131,8 @@ fn tell_paths<P: Source, Q: Source, R: Source>(
 ) -> Result<Told, RunError>
     ensures told { (a b c : List ℕ) → P.coming graph.old ≡ Some a → Q.coming queries.old ≡ Some b → R.coming labels.old ≡ Some c → ToldAlone (JudgedPaths a b c) result }
     ensures faults { CountsDevices result (P.faults graph.old ∷ Q.faults queries.old ∷ R.faults labels.old ∷ []) (P.faults graph.new ∷ Q.faults queries.new ∷ R.faults labels.new ∷ []) }
-    ensures instance_alone { (a : List ℕ) (l f : ℕ) (r : Reason) → P.coming graph.old ≡ Some a → Fault kinds.Graph (lines a) l f r → (queries.new ≡ queries.old) × (labels.new ≡ labels.old) }
-    ensures claim_alone { (b : List ℕ) (l f : ℕ) (r : Reason) → Q.coming queries.old ≡ Some b → Fault kinds.Queries (lines b) l f r → labels.new ≡ labels.old }
+    ensures stops_at_instance { (a : List ℕ) (l f : ℕ) (r : Reason) → P.coming graph.old ≡ Some a → Fault kinds.Graph (lines a) l f r → (queries.new ≡ queries.old) × (labels.new ≡ labels.old) }
+    ensures stops_at_claim { (b : List ℕ) (l f : ℕ) (r : Reason) → Q.coming queries.old ≡ Some b → Fault kinds.Queries (lines b) l f r → labels.new ≡ labels.old }
 {
     match read_three::<Graph<PlainArcs<WeightArc>>, Queries, Labels, P, Q, R>(
         alloc, graph, queries, labels,

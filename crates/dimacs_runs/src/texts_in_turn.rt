@@ -61,7 +61,7 @@ pub(crate) fn read_two<V: Text, W: Text, P: Source, Q: Source>(
 ) -> Result<(V, W), Unread>
     ensures reads { (a b : List ℕ) → P.coming first.old ≡ Some a → Q.coming second.old ≡ Some b → ReadsTwo V.said W.said (says V.kind V.spells a) (says W.kind W.spells b) result }
     ensures faults { CountsUnread result (P.faults first.old ∷ Q.faults second.old ∷ []) (P.faults first.new ∷ Q.faults second.new ∷ []) }
-    ensures first_alone { (a : List ℕ) (l f : ℕ) (r : Reason) → P.coming first.old ≡ Some a → Fault V.kind (lines a) l f r → second.new ≡ second.old }
+    ensures stops_at_first { (a : List ℕ) (l f : ℕ) (r : Reason) → P.coming first.old ≡ Some a → Fault V.kind (lines a) l f r → second.new ≡ second.old }
     ensures lawful { IfOk result (λ values. V.lawful (V.said values.0) × W.lawful (W.said values.1)) }
 {
     let value = read(alloc, first)?;
@@ -69,7 +69,7 @@ pub(crate) fn read_two<V: Text, W: Text, P: Source, Q: Source>(
     Ok((value, other))
 }
 
-/// Reads three texts. None is pulled behind one that has a fault.
+/// Reads three texts. None is pulled after one that has a fault.
 pub(crate) fn read_three<V: Text, W: Text, X: Text, P: Source, Q: Source, R: Source>(
     alloc: Global,
     first: &mut P,
@@ -78,8 +78,8 @@ pub(crate) fn read_three<V: Text, W: Text, X: Text, P: Source, Q: Source, R: Sou
 ) -> Result<(V, W, X), Unread>
     ensures reads { (a b c : List ℕ) → P.coming first.old ≡ Some a → Q.coming second.old ≡ Some b → R.coming third.old ≡ Some c → ReadsThree V.said W.said X.said (says V.kind V.spells a) (says W.kind W.spells b) (says X.kind X.spells c) result }
     ensures faults { CountsUnread result (P.faults first.old ∷ Q.faults second.old ∷ R.faults third.old ∷ []) (P.faults first.new ∷ Q.faults second.new ∷ R.faults third.new ∷ []) }
-    ensures first_alone { (a : List ℕ) (l f : ℕ) (r : Reason) → P.coming first.old ≡ Some a → Fault V.kind (lines a) l f r → (second.new ≡ second.old) × (third.new ≡ third.old) }
-    ensures second_alone { (b : List ℕ) (l f : ℕ) (r : Reason) → Q.coming second.old ≡ Some b → Fault W.kind (lines b) l f r → third.new ≡ third.old }
+    ensures stops_at_first { (a : List ℕ) (l f : ℕ) (r : Reason) → P.coming first.old ≡ Some a → Fault V.kind (lines a) l f r → (second.new ≡ second.old) × (third.new ≡ third.old) }
+    ensures stops_at_second { (b : List ℕ) (l f : ℕ) (r : Reason) → Q.coming second.old ≡ Some b → Fault W.kind (lines b) l f r → third.new ≡ third.old }
     ensures lawful { IfOk result (λ values. V.lawful (V.said values.0) × W.lawful (W.said values.1) × X.lawful (X.said values.2)) }
 {
     let value = read(alloc, first)?;
@@ -100,7 +100,7 @@ pub(crate) fn read_placed<E: Place, W: Text, P: Source, Q: Source>(
         → ReadsPlaced (λ solution placed. IsPlaced placed.value placed.value_line (E.stands_for placed.place) solution) W.said (says kinds.Solution SpellsSolution a) (says W.kind W.spells b) result }
     ensures fixed { IfOk result (λ values. E.fixed values.0.place ≡ E.fixed place) }
     ensures faults { CountsUnread result (P.faults first.old ∷ Q.faults second.old ∷ []) (P.faults first.new ∷ Q.faults second.new ∷ []) }
-    ensures first_alone { (a : List ℕ) (l f : ℕ) (r : Reason) → P.coming first.old ≡ Some a → Fault kinds.Solution (lines a) l f r → second.new ≡ second.old }
+    ensures stops_at_first { (a : List ℕ) (l f : ℕ) (r : Reason) → P.coming first.old ≡ Some a → Fault kinds.Solution (lines a) l f r → second.new ≡ second.old }
     ensures lawful { IfOk result (λ values. W.lawful (W.said values.1)) }
 {
     let placed = place_solution(alloc, place, first)?;

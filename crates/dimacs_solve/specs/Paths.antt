@@ -24,7 +24,7 @@ pub record IsFirstNegative (arcs : List ArcView) (k : ℕ) : Type 0 where
   pub negative : (arc_at arcs index).cost <ℤ pos 0
   pub earlier : (i : ℕ) → i < index → HasNoNegativeWeight (arc_at arcs i)
 
--- the numbers with n behind them, if it is not among them
+-- the numbers with n after them, if it is not among them
 abbrev pub noted : List ℕ → ℕ → List ℕ
 noted old n = cond (list_any (λ m. m == n) old) old (old ++ n ∷ [])
 

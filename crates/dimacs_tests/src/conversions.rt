@@ -135,7 +135,7 @@ two sources | max | p max 2 1;n 1 s;n 2 s; | x instance 3 3 EndTwice;
 an arc before the sink | max | p max 2 1;n 1 s;a 1 2 1; | x instance 3 0 EndMissing;
 a capacity below the lower bound | min | p min 2 1;n 1 0;a 1 2 3 2 0; | x instance 3 5 BoundOrder;
 a negative lower bound | min | p min 2 1;n 1 0;a 1 2 -3 2 0; | x instance 3 4 BoundOrder;
-a node line behind an arc | min | p min 2 1;a 1 2 0 1 0;n 1 1; | x instance 3 0 RecordOrder;
+a node line after an arc | min | p min 2 1;a 1 2 0 1 0;n 1 1; | x instance 3 0 RecordOrder;
 a source in a point-to-point text | query | p aux sp p2p 1;s 1; | x query 2 0 RecordOrder;
 neither ss nor p2p | query | p aux sp foo 1; | x query 1 4 BadWord;
 no count | query | p aux sp ss; | x query 1 0 FieldCount;";
@@ -152,7 +152,7 @@ fn faulty_instances_and_queries_get_one_line(rt: HostRuntime) -> Result<(), Fail
 }
 
 static CLAIMS_AND_CERTIFICATES: &str = "\
-a value behind an entry | solution | f 1 2 3;s 5; | s 5;f 1 2 3;
+a value after an entry | solution | f 1 2 3;s 5; | s 5;f 1 2 3;
 the greatest value | solution | s 1000000000000000000000000000000; | s 1000000000000000000000000000000;
 the nodes of a cut by ID | cut | p cut 4 2;u 3;u 1; | p cut 4 2;u 1;u 3;
 a potential of 0 left out | pot | p pot 2 2;y 2 -0;y 1 +05; | p pot 2 1;y 1 5;
@@ -170,8 +170,8 @@ a value one past the greatest | solution | s 1000000000000000000000000000001; | 
 a node of a cut too few | cut | p cut 4 1; | x certificate 2 0 TooFew;
 a potential set twice | pot | p pot 2 2;y 2 0;y 2 1; | x certificate 3 2 NodeTwice;
 a label too few | dist | p dist 3 1;t 1 2;d 2 5 1; | x certificate 4 0 TooFew;
-a block behind an unfinished one | dist | p dist 3 2;t 1 1;t 2 0; | x certificate 3 0 TooFew;
-a block too many behind an unfinished one | dist | p dist 3 1;t 1 1;t 2 0; | x certificate 3 0 TooMany;
+a block after an unfinished one | dist | p dist 3 2;t 1 1;t 2 0; | x certificate 3 0 TooFew;
+a block too many after an unfinished one | dist | p dist 3 1;t 1 1;t 2 0; | x certificate 3 0 TooMany;
 a label before the first block | dist | p dist 3 1;d 2 5 1; | x certificate 2 0 RecordOrder;
 a label of the source | dist | p dist 3 1;t 1 1;d 1 0 1; | x certificate 3 2 NodeTwice;
 a predecessor without a label | dist | p dist 3 1;t 1 1;d 2 5 3; | x certificate 3 0 PredUnknown;

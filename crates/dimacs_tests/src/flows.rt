@@ -21,7 +21,7 @@ a loop that carries flow | p max 2 2;n 1 s;n 2 t;a 1 1 5;a 1 2 3; | s 3;f 1 1 4;
 a loop that carries too much | p max 2 2;n 1 s;n 2 t;a 1 1 5;a 1 2 3; | s 3;f 1 1 6;f 1 2 3; | p cut 2 1;u 1; | Refused | x arc 1 AboveCap;
 flow below zero | p max 4 5;n 1 s;n 4 t;a 1 2 4;a 1 3 2;a 2 3 2;a 2 4 3;a 3 4 5; | s 0;f 1 2 -1; | p cut 4 1;u 1; | Refused | x arc 1 BelowLow;
 an arc that enters the cut and carries flow | p max 4 5;n 1 s;n 4 t;a 1 2 1;a 1 3 1;a 2 3 1;a 2 4 1;a 3 4 1; | s 1;f 1 2 1;f 2 3 1;f 3 4 1; | p cut 4 2;u 1;u 3; | Refused | x arc 3 BackFlow;
-a fault in the solution behind an entry of no arc | p max 4 5;n 1 s;n 4 t;a 1 2 4;a 1 3 2;a 2 3 2;a 2 4 3;a 3 4 5; | s 6;f 1 4 1;f 1 2 x; | p cut 4 1;u 1; | Refused | x solution 3 4 BadNumber;
+a fault in the solution after an entry of no arc | p max 4 5;n 1 s;n 4 t;a 1 2 4;a 1 3 2;a 2 3 2;a 2 4 3;a 3 4 5; | s 6;f 1 4 1;f 1 2 x; | p cut 4 1;u 1; | Refused | x solution 3 4 BadNumber;
 a fault in the cut beside an entry of no arc | p max 4 5;n 1 s;n 4 t;a 1 2 4;a 1 3 2;a 2 3 2;a 2 4 3;a 3 4 5; | s 6;f 1 4 1; | p cut 4 1; | Refused | x certificate 2 0 TooFew;
 faults in all texts | p max 4 5; | s; | p cut; | Refused | x instance 2 0 EndMissing;";
 

@@ -82,7 +82,7 @@ a node named twice | p cut 4 3;u 3;u 1;u 3; | 4 2 NodeTwice
 a node more | p cut 4 1;u 3;u 1; | 3 0 TooMany
 a node too few | p cut 4 2;u 3; | 3 0 TooFew
 more lines than nodes | p cut 1 268435456;u 1 | 3 0 TooFew
-nothing behind a refused line matters | p cut 4 1;u 5;u 0;p; | 2 2 NodeRange";
+nothing after a refused line matters | p cut 4 1;u 5;u 0;p; | 2 2 NodeRange";
 
 #[test]
 fn texts_are_refused_at_their_first_fault(rt: HostRuntime) -> Result<(), Fail> {

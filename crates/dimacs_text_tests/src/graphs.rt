@@ -23,8 +23,8 @@ nodes and no arc | p sp 9 0 | p sp 9 0;
 already canonical | p sp 4 3;a 1 2 5;a 3 4 0;a 4 3 0; | p sp 4 3;a 1 2 5;a 3 4 0;a 4 3 0;
 parallel arcs and loops keep their order | p sp 2 5;a 2 1 -3;a 1 1 0;a 2 1 -3;a 1 2 9;a 2 1 4; | p sp 2 5;a 2 1 -3;a 1 1 0;a 2 1 -3;a 1 2 9;a 2 1 4;
 minus zero | p sp 1 1;a 1 1 -0; | p sp 1 1;a 1 1 0;
-tabs and blanks behind | p\tsp\t1\t1\t ;a 1 1\t3 \r; | p sp 1 1;a 1 1 3;
-comments and empty lines behind the last arc | p sp 1 1;a 1 1 3;; ;c x;c a 1 1 4 | p sp 1 1;a 1 1 3;
+tabs and blanks after | p\tsp\t1\t1\t ;a 1 1\t3 \r; | p sp 1 1;a 1 1 3;
+comments and empty lines after the last arc | p sp 1 1;a 1 1 3;; ;c x;c a 1 1 4 | p sp 1 1;a 1 1 3;
 comment that looks like a problem line | cp sp 7 7;p sp 1 0; | p sp 1 0;";
 
 #[test]

@@ -106,7 +106,7 @@ label of the source | p dist 4 1;t 1 1;d 1 0 1; | 3 2 NodeTwice
 a second label of a node | p dist 4 1;t 1 3;d 2 5 1;d 3 5 1;d 2 6 1; | 5 2 NodeTwice
 a block more | p dist 4 1;t 1 0;t 2 0; | 3 0 TooMany
 a label more | p dist 4 1;t 1 1;d 2 5 1;d 3 5 1; | 4 0 TooMany
-a block behind an unfinished one | p dist 3 2;t 1 1;t 2 0; | 3 0 TooFew
+a block after an unfinished one | p dist 3 2;t 1 1;t 2 0; | 3 0 TooFew
 a block too few | p dist 4 2;t 1 0; | 3 0 TooFew
 a label too few at the end | p dist 3 1;t 1 2;d 2 5 1; | 4 0 TooFew
 predecessor without a label | p dist 4 1;t 1 1;d 2 5 3; | 3 0 PredUnknown

@@ -87,7 +87,7 @@ a word for a supply | p min 1 0;n 1 s; | 2 3 BadNumber
 node zero | p min 1 0;n 0 s; | 2 2 NumberRange
 supply past the range | p min 1 0;n 1 -9223372036854775809; | 2 3 NumberRange
 cost past the range | p min 1 1;a 1 1 0 1 9223372036854775808; | 2 6 NumberRange
-node line behind an arc | p min 2 1;a 1 2 0 1 0;n 1 1; | 3 0 RecordOrder
+node line after an arc | p min 2 1;a 1 2 0 1 0;n 1 1; | 3 0 RecordOrder
 its place before its node | p min 2 1;a 1 2 0 1 0;n 3 1; | 3 0 RecordOrder
 node above NODES | p min 2 0;n 3 0; | 2 2 NodeRange
 node twice | p min 2 0;n 2 1;n 2 1; | 3 2 NodeTwice

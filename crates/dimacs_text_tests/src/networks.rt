@@ -109,8 +109,8 @@ static NEAR: [(&str, u32, u32, u32, Option<u32>); 8] = [
     ("the eighth", 8, 9, 0, Some(7)),
     ("the ninth", 9, 10, 0, None),
     ("the last one, from itself on", 10, 11, 9, Some(9)),
-    ("the last one, from behind it", 10, 11, 10, None),
-    ("from far behind it", 10, 11, u32::MAX, None),
+    ("the last one, from the next on", 10, 11, 10, None),
+    ("the last one, from far after it", 10, 11, u32::MAX, None),
     ("one before", 2, 3, 2, None),
     ("one back", 2, 1, 0, None),
 ];

@@ -105,7 +105,7 @@ a node named twice, then with 0 | p pot 4 3;y 3 2;y 3 0; | 3 2 NodeTwice
 a node named twice with 0 | p pot 4 3;y 3 0;y 3 -0; | 3 2 NodeTwice
 a node more | p pot 4 1;y 3 0;y 1 0; | 3 0 TooMany
 a node too few | p pot 4 2;y 3 0; | 3 0 TooFew
-nothing behind a refused line matters | p pot 4 1;y 5 0;y 0 x;p; | 2 2 NodeRange";
+nothing after a refused line matters | p pot 4 1;y 5 0;y 0 x;p; | 2 2 NodeRange";
 
 #[test]
 fn texts_are_refused_at_their_first_fault(rt: HostRuntime) -> Result<(), Fail> {

@@ -104,7 +104,7 @@ one more pair than declared | p aux sp p2p 1;q 1 2;c;q 1 2; | 4 0 TooMany
 fewer sources than declared | p aux sp ss 2;s 1; | 3 0 TooFew
 no pair, without line end | c;p aux sp p2p 1 | 3 0 TooFew
 the most that may be declared | p aux sp ss 268435456;s 1; | 3 0 TooFew
-nothing behind a refused line matters | p aux sp ss 2;q 1 2;s 0;p aux sp ss 2; | 2 0 RecordOrder";
+nothing after a refused line matters | p aux sp ss 2;q 1 2;s 0;p aux sp ss 2; | 2 0 RecordOrder";
 
 #[test]
 fn texts_are_refused_at_their_first_fault(rt: HostRuntime) -> Result<(), Fail> {

@@ -117,7 +117,7 @@ weight with a point | a 1 1 1.0 | 4 BadNumber
 plus alone | a 1 1 + | 4 BadNumber
 minus alone | a 1 1 - | 4 BadNumber
 two signs | a 1 1 +-1 | 4 BadNumber
-sign behind | a 1 1 1- | 4 BadNumber
+sign after | a 1 1 1- | 4 BadNumber
 exponent | a 1 1 1e3 | 4 BadNumber
 digits of another script | a 1 1 \u{663} | 4 BadNumber
 weight one too great | a 1 2 9223372036854775808 | 4 NumberRange

@@ -18,7 +18,7 @@ comment without line end | c x;c | 3 0 ProblemMissing
 arc before the problem | a 1 1 0;p sp 1 1; | 1 0 ProblemMissing
 the arc's own fault comes first | a 0 1 0; | 1 2 NumberRange
 problem twice | p sp 1 0;p sp 1 0; | 2 0 ProblemTwice
-problem twice behind arcs | p sp 1 1;a 1 1 0;;p sp 1 1; | 4 0 ProblemTwice
+problem twice after arcs | p sp 1 1;a 1 1 0;;p sp 1 1; | 4 0 ProblemTwice
 the second problem's own fault comes first | p sp 1 0;p max 1 0; | 2 2 BadWord
 problem of a flow text | p max 4 5; | 1 2 BadWord
 query problem without count | p aux sp ss; | 1 2 BadWord
@@ -39,9 +39,9 @@ one more than declared | p sp 1 1;a 1 1 0;c;a 1 1 0; | 4 0 TooMany
 fewer than declared | p sp 3 2;a 1 2 5; | 3 0 TooFew
 fewer, without line end | p sp 3 2;a 1 2 5 | 3 0 TooFew
 skipped lines count | c;p sp 1 1;;c; | 5 0 TooFew
-place behind skipped lines | c;;p sp 1 1; ;a 2 1 0; | 5 2 NodeRange
+place after skipped lines | c;;p sp 1 1; ;a 2 1 0; | 5 2 NodeRange
 the first of two faulty lines | p sp 1 1;a 1 2 0;a 0 0 0; | 2 3 NodeRange
-a fault behind the last arc | p sp 1 1;a 1 1 0;x; | 3 1 UnknownLine";
+a fault after the last arc | p sp 1 1;a 1 1 0;x; | 3 1 UnknownLine";
 
 #[test]
 fn texts_are_refused_at_their_first_fault(rt: HostRuntime) -> Result<(), Fail> {
@@ -57,7 +57,7 @@ a second problem | p sp 1 1;e 1 1 0;p sp 1 1; | 2 1 UnknownLine
 empty lines | p sp 1 1;e 1 1 0;;;; | 2 1 UnknownLine";
 
 #[test]
-fn nothing_behind_a_refused_line_matters(rt: HostRuntime) -> Result<(), Fail> {
+fn nothing_after_a_refused_line_matters(rt: HostRuntime) -> Result<(), Fail> {
     refuses_each::<Weights>(&rt, rt.alloc(), REFUSED_LINES, 5)
 }
 

@@ -17,7 +17,7 @@ static CANONICAL_FORMS: &str = "\
 already canonical | s 6;f 1 2 4;f 1 3 2;f 2 3 1;f 2 4 3;f 3 4 3; | s 6;f 1 2 4;f 1 3 2;f 2 3 1;f 2 4 3;f 3 4 3;
 a value alone | s 0 | s 0;
 the value in the middle | f 1 2 4;s 6;f 1 3 2; | s 6;f 1 2 4;f 1 3 2;
-the value behind the entries | f 2 1 4;f 1 2 -4;s -9 | s -9;f 2 1 4;f 1 2 -4;
+the value after the entries | f 2 1 4;f 1 2 -4;s -9 | s -9;f 2 1 4;f 1 2 -4;
 comment, blanks, CR, empty line, signs, zeros, no last line end | c x;  f 01\t+2  -0\r;;s +007 | s 7;f 1 2 0;
 entries that are repeated, and loops | s 1;f 2 2 0;f 1 2 3;f 1 2 3;f 1 2 4; | s 1;f 2 2 0;f 1 2 3;f 1 2 3;f 1 2 4;
 the greatest numbers | s 1000000000000000000000000000000;f 134217728 134217728 9223372036854775807; | s 1000000000000000000000000000000;f 134217728 134217728 9223372036854775807;
@@ -29,7 +29,7 @@ fn texts_get_their_canonical_form(rt: HostRuntime) -> Result<(), Fail> {
     converts_each::<Solution>(&rt, rt.alloc(), CANONICAL_FORMS, 9)
 }
 
-/// The value behind an entry, with comments and empty lines between.
+/// The value after an entry, with comments and empty lines between.
 const SCATTERED: &str = "c x\nf 1 2 4\n\ns 6\nf 3 4 -2\nf 1 2 4";
 
 fn entry(tail: u32, head: u32, flow: i64, line: u64) -> Entry {
@@ -112,7 +112,7 @@ entry without flow | s 1;f 1 2; | 2 0 FieldCount
 entry and more | s 1;f 1 2 3 4; | 2 0 FieldCount
 flow past the range | s 1;f 1 2 9223372036854775808; | 2 4 NumberRange
 flow no number | f 1 2 1.5; | 1 4 BadNumber
-nothing behind a refused line matters | s 1;s 2;s x;p; | 2 0 SolutionTwice";
+nothing after a refused line matters | s 1;s 2;s x;p; | 2 0 SolutionTwice";
 
 #[test]
 fn texts_are_refused_at_their_first_fault(rt: HostRuntime) -> Result<(), Fail> {

@@ -9,7 +9,7 @@ use Rattle.dimacs_lines.specs.Devices.{before_piece}
 use Rattle.dimacs_lines.specs.Lines.{is_end}
 use Rattle.dimacs_lines.specs.Reader.{State}
 
--- a piece of this size was pulled behind what was held
+-- a piece of this size was pulled after what was held
 pub record PullsMore (old new : State) (before after : Option (List ℕ)) (count : ℕ) : Type 0 where
   pub piece : List ℕ
   pub size : length piece ≡ count

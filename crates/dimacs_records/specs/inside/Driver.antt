@@ -65,8 +65,8 @@ TakesLine kind before said line stands_for (Ok done) = (more : List (Option Reco
 TakesLine kind before said line stands_for (Err (take_errors.Refused fault)) = FirstOf (Condition kind (records_in said) (length before + 1) line) places (at fault.field fault.reason)
 TakesLine kind before said line stands_for (Err take_errors.Memory) = Unit {0}
 
--- lines that were read, and a line behind them within the limits
-pub record IsBehind (kind : TextKind) (before : List (List ℕ)) (said : List (Option Record)) (number : ℕ) (line : List ℕ) : Type 0 where
+-- lines that were read, and a line after them within the limits
+pub record ComesAfter (kind : TextKind) (before : List (List ℕ)) (said : List (Option Record)) (number : ℕ) (line : List ℕ) : Type 0 where
   pub clean : IsClean kind before said
   pub next : number ≡ length before + 1
   pub few : number ≤ most_lines

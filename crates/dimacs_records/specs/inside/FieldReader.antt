@@ -32,7 +32,7 @@ abbrev pub fields_fault : ℕ → List FieldType → List (List ℕ) → Option 
 fields_fault f (type ∷ types) (text ∷ texts) = or_else (fault_in f (field_reason type text)) (fields_fault (suc f) types texts)
 fields_fault f types texts = None
 
--- the first fault of the fields behind a letter
+-- the first fault of the fields after a letter
 abbrev pub form_fault : List FieldType → List (List ℕ) → Option LineFault
 form_fault types texts = if length types == length texts then fields_fault 2 types texts else Some (fault_at 0 FieldCount)
 
@@ -81,7 +81,7 @@ ReadsAmount low high text (Err reason) = field_reason (Number low high) text ≡
 abbrev pub IsUntouched : FieldReader → Type 0
 IsUntouched fields = (fields.missing ≡ false) × (fields.fault ≡ None)
 
--- what the fields behind a letter of a kind give
+-- what the fields after a letter of a kind give
 abbrev pub ReadsForm : TextKind → List ℕ → List FieldType → List (List ℕ) → Result (Option Record) LineFault → Type 0
 ReadsForm kind letter types texts (Ok None) = ⊥
 ReadsForm kind letter types texts (Ok (Some r)) = (kind_of r ≡ kind) × (letter_of r ≡ letter) × (form_fault types texts ≡ None) × SayAll types texts (parts_of r)
@@ -93,11 +93,11 @@ texts_left fields = map (λ (run : Run). run.text) fields.scan
 abbrev pub text_of_run : Run → List ℕ
 text_of_run run = run.text
 
--- what the fields behind a letter give, where they have these types: nothing of a letter that the kind does not know
+-- what the fields after a letter give, where they have these types: nothing of a letter that the kind does not know
 abbrev pub ReadsTypes : TextKind → List ℕ → Option (List FieldType) → List (List ℕ) → Result (Option Record) LineFault → Type 0
-ReadsTypes kind letter None behind result = result ≡ Err (fault_at 1 UnknownLine)
-ReadsTypes kind letter (Some types) behind result = ReadsForm kind letter types behind result
+ReadsTypes kind letter None after result = result ≡ Err (fault_at 1 UnknownLine)
+ReadsTypes kind letter (Some types) after result = ReadsForm kind letter types after result
 
 -- what the line of a letter gives
 abbrev pub ReadsLetter : TextKind → List ℕ → List (List ℕ) → Result (Option Record) LineFault → Type 0
-ReadsLetter kind letter behind result = ReadsTypes kind letter (types_in (forms kind) letter (length behind)) behind result
+ReadsLetter kind letter after result = ReadsTypes kind letter (types_in (forms kind) letter (length after)) after result

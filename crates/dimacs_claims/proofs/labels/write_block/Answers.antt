@@ -6,12 +6,12 @@ use Rattle.dimacs_lines.specs.Pages.{IsWritten}
 use Rattle.dimacs_records.specs.Canonical.{canonical_text}
 use Rattle.dimacs_records.specs.declared.records.Record.TheVariants.{LabelsBlock}
 use Rattle.dimacs_claims.specs.LabelTexts.{label_line, block_lines}
-use Rattle.dimacs_claims.proofs.LabelWrites.{line_behind, lines_behind, next_label}
+use Rattle.dimacs_claims.proofs.LabelWrites.{line_after, lines_after, next_label}
 use Rattle.dimacs_claims.proofs.labels.write_block.Goals as goal
 
 pub loop-i-init : goal.loop-i-init
 loop-i-init g c = record {
-  written = λ start text h. line_behind start _ _ text (LabelsBlock c.source-source.result (length c.labels-labels.result.now) c.args.block.now.radius) (rw (c.radius-radius.ensures, c.len-count.ensures) at (c.write_record.ensures.written start text h));
+  written = λ start text h. line_after start _ _ text (LabelsBlock c.source-source.result (length c.labels-labels.result.now) c.args.block.now.radius) (rw (c.radius-radius.ensures, c.len-count.ensures) at (c.write_record.ensures.written start text h));
   faults = c.write_record.ensures.faults;
 }
 
@@ -25,8 +25,8 @@ loop-i-preserved g c =
     let before = first ∷ map label_line (take i labels) in
     let next : first ∷ map label_line (take (i + 1) labels) ≡ before ++ r ∷ [] = next_label first labels i none (rw c.len-i-end.ensures at c.loop-i-test.true) ∙ ap (λ x. before ++ x ∷ []) (sym (c.label_record.ensures ∙ ap label_line c.at.ensures)) in
     record {
-      written = λ start text h. lines_behind start _ _ text before (r ∷ []) (first ∷ map label_line (take (i + 1) labels)) next
-          (line_behind start _ _ (text ++ canonical_text before) r (c.write_record-in-loop-i.ensures.written start (text ++ canonical_text before) (c.loop-i.invariant.written start text h)));
+      written = λ start text h. lines_after start _ _ text before (r ∷ []) (first ∷ map label_line (take (i + 1) labels)) next
+          (line_after start _ _ (text ++ canonical_text before) r (c.write_record-in-loop-i.ensures.written start (text ++ canonical_text before) (c.loop-i.invariant.written start text h)));
       faults = λ start h. c.write_record-in-loop-i.ensures.faults start (c.loop-i.invariant.faults start h);
     }
 

@@ -8,14 +8,14 @@ use Rattle.dimacs_records.specs.Canonical.{canonical_text}
 use Rattle.dimacs_claims.specs.Labels.{IsBlock}
 use Rattle.dimacs_claims.specs.LabelTexts.{GivesLabels, block_lines, canonical_labels}
 use Rattle.dimacs_claims.proofs.LabelLaws.{labels_round_trip, one_labels}
-use Rattle.dimacs_claims.proofs.LabelWrites.{line_behind, lines_behind, next_block}
+use Rattle.dimacs_claims.proofs.LabelWrites.{line_after, lines_after, next_block}
 use Rattle.dimacs_claims.proofs.labels.write_labels.Goals as goal
 
 pub loop-block-init : goal.loop-block-init
 loop-block-init g c =
     let start = g.S.Sink.accepted c.args.sink.now in
     record {
-      written = line_behind start _ _ [] (LabelsProblem c.nodes-nodes.result (length c.blocks-blocks.result.now)) (c.write_record.ensures.written start [] (c.new-page.ensures.written start));
+      written = line_after start _ _ [] (LabelsProblem c.nodes-nodes.result (length c.blocks-blocks.result.now)) (c.write_record.ensures.written start [] (c.new-page.ensures.written start));
       faults = c.write_record.ensures.faults _ (c.new-page.ensures.faults _);
     }
 
@@ -30,7 +30,7 @@ loop-block-preserved g c =
     let all = first ∷ flat_map block_lines (take (i + 1) blocks) in
     let next : all ≡ before ++ block_lines b = next_block first blocks i b c.loop-block-test.true ∙ ap (λ x. before ++ block_lines x) (sym c.block-item.is) in
     record {
-      written = lines_behind start _ _ [] before (block_lines b) all next (c.write_block.ensures.written start (canonical_text before) c.loop-block.invariant.written);
+      written = lines_after start _ _ [] before (block_lines b) all next (c.write_block.ensures.written start (canonical_text before) c.loop-block.invariant.written);
       faults = c.write_block.ensures.faults _ c.loop-block.invariant.faults;
     }
 
@@ -44,7 +44,7 @@ write_block-requires g c =
 pub returns-clause-round_trip : goal.returns-clause-round_trip
 returns-clause-round_trip g c = labels_round_trip c.args.labels.now c.blocks-blocks.ensures.lawful
 
-pub returns-clause-again : goal.returns-clause-again
-returns-clause-again g c = λ few read spelled.
+pub returns-clause-same_text : goal.returns-clause-same_text
+returns-clause-same_text g c = λ few read spelled.
     let labels = c.args.labels.now in
     ap canonical_labels (spells_one_value Labels GivesLabels (lines (canonical_labels labels)) read labels one_labels spelled (labels_round_trip labels c.blocks-blocks.ensures.lawful few))

@@ -23,8 +23,8 @@ loop-entry-init g c =
 pub returns-clause-round_trip : goal.returns-clause-round_trip
 returns-clause-round_trip g c = solution_round_trip (claimed c.args.solution.now)
 
-pub returns-clause-again : goal.returns-clause-again
-returns-clause-again g c = λ lawful read spelled.
+pub returns-clause-same_text : goal.returns-clause-same_text
+returns-clause-same_text g c = λ lawful read spelled.
     let solution = claimed c.args.solution.now in
     let same = spells_one_value Solution GivesSolution (lines (canonical_solution solution)) read (renumbered solution) one_solution spelled (solution_round_trip solution lawful) in
     ap canonical_solution same ∙ canonical-renumbered solution

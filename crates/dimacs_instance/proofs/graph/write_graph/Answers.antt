@@ -35,7 +35,7 @@ loop-i-preserved g c =
 pub returns-clause-round_trip : goal.returns-clause-round_trip
 returns-clause-round_trip g c = graph_round_trip c.args.graph.now c.network-network.ensures.lawful
 
-pub returns-clause-again : goal.returns-clause-again
-returns-clause-again g c = λ read spelled.
+pub returns-clause-same_text : goal.returns-clause-same_text
+returns-clause-same_text g c = λ read spelled.
     let graph = c.args.graph.now in
     ap canonical_graph (spells_one_value Graph GivesGraph (lines (canonical_graph graph)) read graph one_graph spelled (graph_round_trip graph c.network-network.ensures.lawful))

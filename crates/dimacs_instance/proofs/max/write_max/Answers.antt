@@ -42,7 +42,7 @@ loop-i-preserved g c =
 pub returns-clause-round_trip : goal.returns-clause-round_trip
 returns-clause-round_trip g c = max_round_trip c.args.max.now c.network-network.ensures.lawful
 
-pub returns-clause-again : goal.returns-clause-again
-returns-clause-again g c = λ read spelled.
+pub returns-clause-same_text : goal.returns-clause-same_text
+returns-clause-same_text g c = λ read spelled.
     let max = c.args.max.now in
     ap canonical_max (spells_one_value Max GivesMax (lines (canonical_max max)) read max one_max spelled (max_round_trip max c.network-network.ensures.lawful))

@@ -38,7 +38,7 @@ loop-i-preserved g c =
 pub returns-clause-round_trip : goal.returns-clause-round_trip
 returns-clause-round_trip g c = min_round_trip c.args.instance.now c.network-network.ensures.lawful
 
-pub returns-clause-again : goal.returns-clause-again
-returns-clause-again g c = λ read spelled.
+pub returns-clause-same_text : goal.returns-clause-same_text
+returns-clause-same_text g c = λ read spelled.
     let m = c.args.instance.now in
     ap canonical_min (spells_one_value Min GivesMin (lines (canonical_min m)) read m one_min spelled (min_round_trip m c.network-network.ensures.lawful))

@@ -32,7 +32,7 @@ loop-i-preserved g c =
 pub returns-clause-round_trip : goal.returns-clause-round_trip
 returns-clause-round_trip g c = queries_round_trip (asked c.args.queries.now)
 
-pub returns-clause-again : goal.returns-clause-again
-returns-clause-again g c = λ lawful read spelled.
+pub returns-clause-same_text : goal.returns-clause-same_text
+returns-clause-same_text g c = λ lawful read spelled.
     let queries = asked c.args.queries.now in
     ap canonical_queries (spells_one_value Queries GivesQueries (lines (canonical_queries queries)) read queries one_queries spelled (queries_round_trip queries lawful))

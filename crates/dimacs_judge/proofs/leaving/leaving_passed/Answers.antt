@@ -29,7 +29,7 @@ loop-i-init g c =
     let e = c.if-not-node_passed.ensures in
     record {
       marked = e.marked;
-      alone = e.alone;
+      sound = e.sound;
       source = rw c.source.ensures at (e.passed refl);
       labels = λ k below. absurd (omega (arith, below));
     }
@@ -48,7 +48,7 @@ loop-i-preserved g c =
     let this : ArePassedFrom arcs b new (get_or b.labels n no_label).id = rw id at (e.passed refl) in
     record {
       marked = e.marked;
-      alone = e.alone;
+      sound = e.sound;
       source = from_still arcs b old new b.source e.kept is.source;
       labels = labels_more arcs b old new n e.kept is.labels this;
     }

@@ -25,7 +25,7 @@ loop-next-init g c =
     subst (IsLast Tail chosen (length c.args.least.now.order.items) c.args.node) (sym c.last-next.ensures) (c.requires.least.linked.last_at c.args.node) in
     record {
       marked = c.requires.marked;
-      alone = c.requires.alone;
+      sound = c.requires.sound;
       kept = λ a is. is;
       within = last.within;
       found = last.found;
@@ -65,10 +65,10 @@ pass_arc-requires-clause-wide g c = rw c.labels-labels.ensures (marked_wide c.ar
 pub returns-then-is_err-clause-marked : goal.returns-then-is_err-clause-marked
 returns-then-is_err-clause-marked g c = marked_after c.args.number c.arc-arc.result c.loop-next.marks c.pass_arc.new.marks c.args.block.now (rw c.labels-labels.ensures at c.pass_arc.ensures.marks) c.loop-next.invariant.marked
 
-pub returns-then-is_err-clause-alone : goal.returns-then-is_err-clause-alone
-returns-then-is_err-clause-alone g c =
+pub returns-then-is_err-clause-sound : goal.returns-then-is_err-clause-sound
+returns-then-is_err-clause-sound g c =
     let is = c.loop-next.invariant in
-    alone_after c.args.number c.arc-arc.result c.loop-next.marks c.pass_arc.new.marks c.args.block.now (rw c.labels-labels.ensures at c.pass_arc.ensures.marks) (g.N.Network.list c.args.network.now) c.arc_at.result c.arc-arc.ensures is.marked is.alone
+    alone_after c.args.number c.arc-arc.result c.loop-next.marks c.pass_arc.new.marks c.args.block.now (rw c.labels-labels.ensures at c.pass_arc.ensures.marks) (g.N.Network.list c.args.network.now) c.arc_at.result c.arc-arc.ensures is.marked is.sound
 
 pub returns-then-is_err-clause-kept : goal.returns-then-is_err-clause-kept
 returns-then-is_err-clause-kept g c = λ a passed. passed_still c.args.number c.arc-arc.result c.loop-next.marks c.pass_arc.new.marks c.args.block.now (rw c.labels-labels.ensures at c.pass_arc.ensures.marks) a (c.loop-next.invariant.kept a passed)
@@ -98,7 +98,7 @@ loop-next-preserved g c =
     let on : ArePassedOn arcs order number b old node (place + 1) = subst (ArePassedOn arcs order number b old node) next_is is.passed in
     record {
       marked = marked_after number a old new b passes is.marked;
-      alone = alone_after number a old new b passes arcs i c.arc-arc.ensures is.marked is.alone;
+      sound = alone_after number a old new b passes arcs i c.arc-arc.ensures is.marked is.sound;
       kept = λ d passed. passed_still number a old new b passes d (is.kept d passed);
       within = omega (arith, last.within, inside);
       found = last.found;

@@ -10,7 +10,7 @@ use Rattle.dimacs_judge.proofs.leaving.node_passed.Given as goal
 abbrev pub invariant-loop-next : goal.invariant-loop-next
 invariant-loop-next g l = record {
   marked : IsMarked l.number l.block l.marks;
-  alone : AreMadeAlone (g.N.Network.list l.network) l.block l.marks;
+  sound : AreMadeAlone (g.N.Network.list l.network) l.block l.marks;
   kept : (a : ArcView) → IsPassed l.block l.fn.marks a → IsPassed l.block l.marks a;
   within : l.next ≤ length l.least.order.items;
   found : 0 < l.next → (arc_at (arcs_in (g.N.Network.list l.network) l.least.order.items) (l.next - 1)).tail ≡ l.node;

@@ -13,7 +13,7 @@ loop-i-init g c =
       blank = omega (arith, c.requires.marked.early.blank, c.requires.number);
       wide = marked_wide c.args.number c.requires.lawful.0 b c.args.marks.now c.requires.lawful.1 c.requires.marked;
       marked = c.requires.marked;
-      alone = c.requires.alone;
+      sound = c.requires.sound;
       made = λ k below. absurd (omega (arith, below));
       count = omega arith;
       clear = λ k below. absurd (omega (arith, below));
@@ -36,7 +36,7 @@ loop-i-preserved g c =
       blank = omega (arith, is.blank, ap (λ (m : Mark). m.block) passes.blank);
       wide = wide_after number a old new b passes is.wide;
       marked = marked_after number a old new b passes is.marked;
-      alone = alone_after number a old new b passes arcs i c.arc.ensures is.marked is.alone;
+      sound = alone_after number a old new b passes arcs i c.arc.ensures is.marked is.sound;
       made = made_after number a old new b passes arcs i c.arc.ensures is.marked is.made;
       count = count_on number a old new b passes is.marked c.in-Ok.made c.loop-i.count c.from-count.result made is.count c.from-count.ensures;
       clear = clear_after number a old new b passes arcs i c.arc.ensures is.marked is.clear told;
@@ -45,8 +45,8 @@ loop-i-preserved g c =
 pub rest_passed-requires-clause-marked : goal.rest_passed-requires-clause-marked
 rest_passed-requires-clause-marked g c = marked_after c.args.number c.arc.result c.loop-i.marks c.pass_arc.new.marks c.args.block.now (rw c.labels-labels.ensures at c.pass_arc.ensures.marks) c.loop-i.invariant.marked
 
-pub rest_passed-requires-clause-alone : goal.rest_passed-requires-clause-alone
-rest_passed-requires-clause-alone g c = alone_after c.args.number c.arc.result c.loop-i.marks c.pass_arc.new.marks c.args.block.now (rw c.labels-labels.ensures at c.pass_arc.ensures.marks) (g.N.Network.list c.args.network.now) c.loop-i.i c.arc.ensures c.loop-i.invariant.marked c.loop-i.invariant.alone
+pub rest_passed-requires-clause-sound : goal.rest_passed-requires-clause-sound
+rest_passed-requires-clause-sound g c = alone_after c.args.number c.arc.result c.loop-i.marks c.pass_arc.new.marks c.args.block.now (rw c.labels-labels.ensures at c.pass_arc.ensures.marks) (g.N.Network.list c.args.network.now) c.loop-i.i c.arc.ensures c.loop-i.invariant.marked c.loop-i.invariant.sound
 
 pub rest_passed-requires-clause-made : goal.rest_passed-requires-clause-made
 rest_passed-requires-clause-made g c = made_after c.args.number c.arc.result c.loop-i.marks c.pass_arc.new.marks c.args.block.now (rw c.labels-labels.ensures at c.pass_arc.ensures.marks) (g.N.Network.list c.args.network.now) c.loop-i.i c.arc.ensures c.loop-i.invariant.marked c.loop-i.invariant.made
@@ -68,7 +68,7 @@ returns-then-count-len-clause-tests g c =
     let b = c.args.block.now in
     let is = c.loop-i.invariant in
     let all : length arcs ≤ c.loop-i.i = omega (arith, c.loop-i-test.false, c.arcs-i-end.ensures) in
-    let made = made_all arcs b c.loop-i.marks is.alone (λ k inside. is.made k (omega (arith, inside, all))) in
+    let made = made_all arcs b c.loop-i.marks is.sound (λ k inside. is.made k (omega (arith, inside, all))) in
     labels_told arcs b c.labels_made-then-count-len.result (c.labels_made-then-count-len.ensures arcs b (sym c.labels-labels.ensures) made) (arc_clear_end arcs _ c.loop-i.i all is.clear)
 
 pub returns-clause-tests : goal.returns-clause-tests
@@ -78,4 +78,4 @@ returns-clause-tests g c =
     let is = c.loop-i.invariant in
     let all : length arcs ≤ c.loop-i.i = omega (arith, c.loop-i-test.false, c.arcs-i-end.ensures) in
     let size : c.len.result ≡ length b.labels = rw c.labels-labels.ensures at c.len.ensures in
-    (all_counted arcs b c.loop-i.marks is.alone (omega (arith, is.count, size, c.if-count-len.false)), (arc_clear_end arcs _ c.loop-i.i all is.clear, tt))
+    (all_counted arcs b c.loop-i.marks is.sound (omega (arith, is.count, size, c.if-count-len.false)), (arc_clear_end arcs _ c.loop-i.i all is.clear, tt))

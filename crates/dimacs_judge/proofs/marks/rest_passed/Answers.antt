@@ -8,7 +8,7 @@ loop-i-init g c = record {
   blank = omega (arith, c.requires.marked.early.blank, c.requires.number);
   wide = marked_wide c.args.number c.requires.lawful.0 c.args.block.now c.args.marks.now c.requires.lawful.1 c.requires.marked;
   marked = c.requires.marked;
-  alone = c.requires.alone;
+  sound = c.requires.sound;
   made = c.requires.made;
 }
 
@@ -26,7 +26,7 @@ loop-i-preserved g c =
       blank = omega (arith, is.blank, ap (λ (m : Mark). m.block) passes.blank);
       wide = wide_after number a old new b passes is.wide;
       marked = marked_after number a old new b passes is.marked;
-      alone = alone_after number a old new b passes arcs c.loop-i.i c.arc.ensures is.marked is.alone;
+      sound = alone_after number a old new b passes arcs c.loop-i.i c.arc.ensures is.marked is.sound;
       made = made_after number a old new b passes arcs c.loop-i.i c.arc.ensures is.marked is.made;
     }
 
@@ -37,4 +37,4 @@ pub returns-clause-made : goal.returns-clause-made
 returns-clause-made g c =
     let arcs = g.N.Network.list c.args.network.now in
     let all : length arcs ≤ c.loop-i.i = omega (arith, c.loop-i-test.false, c.arcs-i-end.ensures) in
-    made_all arcs c.args.block.now c.loop-i.marks c.loop-i.invariant.alone (λ k inside. c.loop-i.invariant.made k (omega (arith, inside, all)))
+    made_all arcs c.args.block.now c.loop-i.marks c.loop-i.invariant.sound (λ k inside. c.loop-i.invariant.made k (omega (arith, inside, all)))

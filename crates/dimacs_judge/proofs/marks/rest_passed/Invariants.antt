@@ -9,6 +9,6 @@ invariant-loop-i g l = record {
   blank : (blank_of l.marks).block < l.number;
   wide : AreWide l.block.labels l.number l.marks;
   marked : IsMarked l.number l.block l.marks;
-  alone : AreMadeAlone (g.N.Network.list l.network) l.block l.marks;
+  sound : AreMadeAlone (g.N.Network.list l.network) l.block l.marks;
   made : AreMadeBelow (g.N.Network.list l.network) l.block l.i l.marks;
 }

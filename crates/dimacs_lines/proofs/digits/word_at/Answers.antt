@@ -9,7 +9,7 @@ use Rattle.dimacs_lines.proofs.digits.word_at.Goals as goal
 to_le_bytes-shr : (line : List ℕ) (at back word : ℕ) → length line - back ≤ 8 → back ≤ at → AllBytes line → word < 2 ^ 64
     → to_le_bytes w64 word ≡ take 8 (drop back line)
     → to_le_bytes w64 (word / 2 ^ (4 * (at - back)) / 2 ^ (4 * (at - back))) ≡ take 8 (drop at line ++ replicate 8 0)
-to_le_bytes-shr line at back word long behind bytes fits loaded =
+to_le_bytes-shr line at back word long after bytes fits loaded =
     let k = at - back in
     let last = drop back line in
     let short : length last ≤ 8 = omega (arith, length-drop back line) in

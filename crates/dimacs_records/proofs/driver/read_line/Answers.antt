@@ -2,7 +2,7 @@ use Rattle.std.proofs.Common.{◌≡◌, ◌+◌, Ok, Err, subst, arith}
 use Rattle.dimacs_lines.specs.Reader.{GivesLine, AtEnd}
 use Rattle.dimacs_lines.specs.inside.Reader.{text_left}
 use Rattle.dimacs_records.specs.inside.Driver.{TakesLine}
-use Rattle.dimacs_records.proofs.DriverLemmas.{read_end, behind, read_one, stopped}
+use Rattle.dimacs_records.proofs.DriverLemmas.{comes_after, read_end, read_one, stopped}
 use Rattle.dimacs_records.proofs.driver.read_line.Goals as goal
 
 pub returns-in-Err-clause-reads : goal.returns-in-Err-clause-reads
@@ -33,7 +33,7 @@ returns-in-Ok-clause-reads g c =
     let stands = g.R.Reading.stands_for c.take_line.new.reading in
     let given : GivesLine old new left later number = rw c.in-Ok-Some.field-0-is at (c.in-Ok-Some.ensures.answer c.requires.open) in
     λ all h.
-    let there = behind c.args.kind all old new left later number before_stands given h in
+    let there = comes_after c.args.kind all old new left later number before_stands given h in
     let takes : TakesLine c.args.kind h.before h.said new.line stands (Ok c.in-Ok.field-0) = subst (λ line. TakesLine c.args.kind h.before h.said line stands (Ok c.in-Ok.field-0)) c.line.ensures (c.in-Ok.ensures.takes h.before h.said (rw c.line.ensures there) h.stands) in
     read_one c.args.kind all old new left later number before_stands stands (Ok c.in-Ok.field-0) given h takes
 
@@ -49,7 +49,7 @@ returns-in-Err-take_line-clause-reads g c =
     let error = c.in-Err-take_line.error in
     let given : GivesLine old new left later number = rw c.in-Ok-Some.field-0-is at (c.in-Ok-Some.ensures.answer c.requires.open) in
     λ all h.
-    let there = behind c.args.kind all old new left later number before_stands given h in
+    let there = comes_after c.args.kind all old new left later number before_stands given h in
     let takes : TakesLine c.args.kind h.before h.said new.line stands (Err error) = subst (λ line. TakesLine c.args.kind h.before h.said line stands (Err error)) c.line.ensures (c.in-Err-take_line.ensures.takes h.before h.said (rw c.line.ensures there) h.stands) in
     rw c.at_line.ensures (read_one c.args.kind all old new left later number before_stands stands (Err error) given h takes)
 

@@ -1,9 +1,7 @@
-use Rattle.std.proofs.Common.{◌≡◌, ℕ, List, Some, ap}
+use Rattle.std.proofs.Common.{ap}
 use Rattle.std.proofs.lemmas.Result.{err_from_is_err_and}
 use Rattle.dimacs_lines.specs.Lines.{lines}
 use Rattle.dimacs_lines.specs.Reader.{State}
-use Rattle.dimacs_lines.specs.inside.Reader.{text_left}
-use Rattle.dimacs_records.specs.inside.Driver.{IsReadSoFar}
 use Rattle.dimacs_records.proofs.DriverLemmas.{read_nothing, read_value, read_end_fault, read_fault}
 use Rattle.dimacs_records.proofs.TakenLines.{given_by_lines, none_taken}
 use Rattle.dimacs_records.proofs.driver.read_text.Goals as goal

@@ -1,9 +1,7 @@
-use Rattle.std.proofs.Common.{◌≡◌, ◌+◌, ◌<◌, ◌≤◌, ℕ, List, Option, length, drop, length-drop, arith, Ok, Err, sym, ◌∙◌}
+use Rattle.std.proofs.Common.{◌≡◌, ◌+◌, ◌<◌, length, drop, length-drop, arith, Ok, Err, ◌∙◌}
 use Rattle.std.proofs.lemmas.List.{drop-drop}
 use Rattle.std.proofs.lemmas.Slice.{between_to_end}
-use Rattle.dimacs_lines.specs.Devices.{before_piece}
 use Rattle.dimacs_lines.specs.Limits.{most_lines}
-use Rattle.dimacs_records.specs.inside.Driver.{IsReadSoFar}
 use Rattle.dimacs_records.specs.inside.Plain.{SaysFirst}
 use Rattle.dimacs_records.specs.Spelling.{texts_in}
 use Rattle.dimacs_records.proofs.HeldLines.{plain_step}

@@ -20,12 +20,12 @@ returns-clause-reports g c = λ a b first second.
       | in-Paths w ↦ let queries = subst (λ (k : SolveJob). AreQueries k (g.Q.Source.coming c.args.queries.now) b) w.in-Paths.is second in rw (w.in-Paths.is, w.produced-is) (w.produce_labels-produced.ensures.produces a b first queries)
     ]) c.put_produced.ensures.ends
 
-pub returns-clause-instance_alone : goal.returns-clause-instance_alone
-returns-clause-instance_alone g c = λ a l f r coming fault.
+pub returns-clause-stops_at_instance : goal.returns-clause-stops_at_instance
+returns-clause-stops_at_instance g c = λ a l f r coming fault.
     elim c.match-job.branch [
       | in-Max w ↦ w.queries-is
       | in-Min w ↦ w.queries-is
-      | in-Paths w ↦ rw w.queries-is (w.produce_labels-produced.ensures.graph_alone a l f r coming (subst (λ (k : SolveJob). Fault (solved_kind k) (lines a) l f r) w.in-Paths.is fault))
+      | in-Paths w ↦ rw w.queries-is (w.produce_labels-produced.ensures.stops_at_graph a l f r coming (subst (λ (k : SolveJob). Fault (solved_kind k) (lines a) l f r) w.in-Paths.is fault))
     ]
 
 pub returns-clause-unclaimed : goal.returns-clause-unclaimed

@@ -6,7 +6,7 @@ use Rattle.dimacs_instance.proofs.plain.PlainArcsNetwork.arcs.Goals as goal
 
 pub returns : goal.returns
 returns g c =
-    let fronts = c.self.inside.fronts in
-    let long = kept_long g.A.KeptArc.arc_of fronts.items c.self.inside.backs.items c.self.invariant.1 in
-    let len : vec_len fronts ≡ length fronts.items = search rules in
+    let ends = c.self.inside.with_ends in
+    let long = kept_long g.A.KeptArc.arc_of ends.items c.self.inside.apart.items c.self.invariant.1 in
+    let len : vec_len ends ≡ length ends.items = search rules in
     omega (arith, ap (λ (v : NetworkValue). length v.arcs) c.self.view_is, long, len, c.len.ensures, c.self.invariant.0)

@@ -1,7 +1,7 @@
 use Rattle.std.proofs.Common.{ap, sym, ◌∙◌, arith}
 use Rattle.dimacs_lines.specs.Devices.{before_piece}
 use Rattle.dimacs_lines.proofs.PieceLemmas.{IfOk-both, take-drop-put_mid}
-use Rattle.dimacs_lines.proofs.reader.pull_behind.Goals as goal
+use Rattle.dimacs_lines.proofs.reader.pull_after.Goals as goal
 
 pub returns-clause-given : goal.returns-clause-given
 returns-clause-given g c =
