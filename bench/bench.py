@@ -1,4 +1,4 @@
-"""Generates texts, runs the programs on them in turn, and prints a table for each size. Called by run.sh:
+"""Generates texts, runs the programs on them in turn, and prints a table for each size, and one of all. Called by run.sh:
 
     bench.py DIR SIZES ROUNDS [BINARY]
 
@@ -44,9 +44,10 @@ class Work:
     words: list
     files: list
     arcs: int
+    note: str = ""
 
     def name(self):
-        return " ".join(self.words)
+        return " ".join(self.words) + self.note
 
     def megabytes(self):
         return sum(os.path.getsize(file) for file in self.files) / 1e6
@@ -99,26 +100,43 @@ def road_works(size, megabytes):
     arcs = declared_arcs(files[0])
     yield Work(["show", "gr"], files[:1], arcs)
     yield Work(["convert", "gr"], files[:1], arcs)
-    yield Work(["judge-paths"], files, arcs)
+    blocks = "1 block" if size.sources == 1 else f"{size.sources} blocks"
+    yield Work(["judge-paths"], files, arcs, f", {blocks}")
 
 
-def flow_works(kind, arcs_per_node, arc_count, certificate, megabytes):
-    folder = f"{kind}-{megabytes}"
-    generate(folder, ["gen", kind, arc_count // arcs_per_node, arc_count, 1, "flow"])
-    files = [f"{folder}/flow.{end}" for end in (kind, "solution", certificate)]
+CERTIFICATES = {"max": "cut", "min": "pot"}
+ARCS_PER_NODE = {"max": 6, "min": 8}
+
+
+def flow_files(kind, generator, arcs, megabytes):
+    folder = f"{generator}-{megabytes}"
+    generate(folder, ["gen", generator, arcs // ARCS_PER_NODE[kind], arcs, 1, "flow"])
+    return [f"{folder}/flow.{end}" for end in (kind, "solution", CERTIFICATES[kind])]
+
+
+def flow_works(kind, arcs, megabytes):
+    files = flow_files(kind, kind, arcs, megabytes)
     arcs = declared_arcs(files[0])
     yield Work(["show", kind], files[:1], arcs)
     yield Work(["convert", kind], files[:1], arcs)
     yield Work([f"judge-{kind}"], files, arcs)
 
 
+def judge_work(kind, generator, arcs, megabytes, note):
+    files = flow_files(kind, generator, arcs, megabytes)
+    return Work([f"judge-{kind}"], files, declared_arcs(files[0]), note)
+
+
 def works(megabytes):
     size = SIZES[megabytes]
     yield from road_works(size, megabytes)
     if size.max_arcs:
-        yield from flow_works("max", 6, size.max_arcs, "cut", megabytes)
+        yield from flow_works("max", size.max_arcs, megabytes)
     if size.min_arcs:
-        yield from flow_works("min", 8, size.min_arcs, "pot", megabytes)
+        yield from flow_works("min", size.min_arcs, megabytes)
+    if megabytes == 20:
+        yield judge_work("max", "mixed", size.max_arcs, megabytes, ", in no order")
+        yield judge_work("min", "parallel", size.min_arcs, megabytes, ", one arc twice")
 
 
 # ---- runs
@@ -176,7 +194,28 @@ def row(work, program, taken, baseline):
     return "| " + " | ".join(cells) + " |"
 
 
-def measure_work(work, binary, rounds):
+SHORT_HEAD = """
+### In short
+
+| Work | MB | Baseline, ns an arc | dimacs, ns an arc | CPU ratio | Peak, bytes an arc |
+|---|---|---|---|---|---|"""
+
+
+def short_row(work, taken):
+    """A work in one line, as README.md has it."""
+    baseline, dimacs = taken["baseline"], taken["dimacs"]
+    cells = [
+        work.name(),
+        f"{work.megabytes():.1f}" if work.megabytes() < 100 else f"{work.megabytes():.0f}",
+        f"{baseline.cpu * 1e9 / work.arcs:.1f}",
+        f"{dimacs.cpu * 1e9 / work.arcs:.1f}",
+        f"{dimacs.cpu / baseline.cpu:.2f}",
+        f"{dimacs.peak_bytes / work.arcs:.1f}",
+    ]
+    return "| " + " | ".join(cells) + " |"
+
+
+def measure_work(work, binary, rounds, short_rows):
     """Prints the rows of a work. Whether `dimacs` prints what the baseline prints, as far as it has the work."""
     commands = {
         "reading alone": ["./baseline", "read"] + work.files,
@@ -189,6 +228,8 @@ def measure_work(work, binary, rounds):
     taken = measure_in_turn(commands, rounds)
     for program in commands:
         print(row(work, program, taken[program], taken["baseline"]))
+    if "dimacs" in taken:
+        short_rows.append(short_row(work, taken))
     if got != expected:
         note = "not in this build" if got[0] == NO_SUCH_WORK else f"PRINTS SOMETHING ELSE, with status {got[0]}"
         print(f"| {work.name()} | dimacs | {note} | | | | | | |")
@@ -202,12 +243,15 @@ def main():
     only = os.environ.get("ONLY", "")
     os.chdir(folder)
     all_agree = True
+    short_rows = []
     for megabytes in sizes:
         print(HEAD.format(megabytes=megabytes))
         for work in works(megabytes):
             if re.search(only, work.name()):
                 # short runs need more rounds
-                all_agree &= measure_work(work, binary, rounds * 4 if megabytes == 1 else rounds)
+                all_agree &= measure_work(work, binary, rounds * 4 if megabytes == 1 else rounds, short_rows)
+    if short_rows:
+        print("\n".join([SHORT_HEAD] + short_rows))
     sys.exit(0 if all_agree else 1)
 
 

@@ -84,7 +84,9 @@ def print_table(columns):
 def main():
     folder, megabytes, rounds, binary = sys.argv[1], int(sys.argv[2]), int(sys.argv[3]), sys.argv[4]
     os.chdir(folder)
-    works = {work.name(): work for work in bench.works(megabytes)}
+    works = {}
+    for work in bench.works(megabytes):
+        works.setdefault(" ".join(work.words), work)
     columns = []
     for judge, kind in [("judge-max", "max"), ("judge-min", "min"), ("judge-paths", "gr")]:
         show = works[f"show {kind}"]

@@ -187,7 +187,7 @@ fn flows_of(network: &Network, solution: &Solution) -> Result<Vec<i64>, String> 
     Ok(flows)
 }
 
-/// Puts the entries behind those in order on their arcs.
+/// Puts the entries that come after those in order on their arcs.
 fn put_others(
     network: &Network,
     index: &ArcIndex,
@@ -214,7 +214,7 @@ fn put_others(
     Ok(())
 }
 
-/// How many arcs behind the last one are compared with an entry before it is searched.
+/// How many arcs after the last one are compared with an entry before it is searched.
 const NEAR: usize = 8;
 
 /// The same where no two arcs have the same ends. Most entries stand in the order of the arcs, with some left out.

@@ -26,7 +26,7 @@ const NODES_MAX: i128 = 1 << 27;
 const COUNT_MAX: i128 = 1 << 28;
 const WIDE_MAX: i128 = 10i128.pow(30);
 
-/// The type of a field behind the letter.
+/// The type of a field after the letter.
 #[derive(Clone, Copy)]
 pub enum FieldType {
     /// One of these words.
@@ -112,7 +112,7 @@ const FIELDS_MAX: usize = 5;
 /// A line that has one of the forms.
 pub struct Record {
     pub letter: u8,
-    /// The fields behind the letter; a word is its place among those that are allowed.
+    /// The fields after the letter; a word is its place among those that are allowed.
     pub numbers: [i64; FIELDS_MAX],
     /// The field of type `Wide`, if there is one.
     pub wide: i128,
@@ -134,7 +134,7 @@ pub fn read<R: Reading>(kind: &Kind, path: &str, reading: &mut R) -> Result<(), 
     }
 }
 
-/// The same, where `K` is the number of fields behind the letter of a usual line.
+/// The same, where `K` is the number of fields after the letter of a usual line.
 fn read_usual<R: Reading, const K: usize>(
     kind: &Kind,
     path: &str,

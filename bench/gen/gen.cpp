@@ -3,10 +3,13 @@
 //   gen road N DEGREE SEED OUT.gr     a road-like planar graph: N nodes, about DEGREE arcs for each
 //   gen sources N K SEED OUT.query    K different sources among N nodes
 //   gen max N M SEED PREFIX           PREFIX.max, .solution and .cut: a maximum flow and its tight cut
+//   gen mixed N M SEED PREFIX         the same with the arcs in a random order, and the entries in another
 //   gen min N M SEED PREFIX           PREFIX.min, .solution and .pot: a minimum cost flow and its potentials
+//   gen parallel N M SEED PREFIX      the same with one arc more, which has the ends of the first
 //
 // The flows and their certificates are made first and the instance around them, so that any size takes linear time.
-// No two arcs of a flow instance have the same ends: node v has arcs to the nodes v + step, for distinct steps.
+// No two arcs of a flow instance have the same ends, but for `parallel`: node v has arcs to the nodes v + step, for
+// distinct steps.
 #include <algorithm>
 #include <cmath>
 #include <cstdint>
@@ -162,7 +165,8 @@ static void write_cut(const string &path, uint32_t nodes, uint32_t inside) {
     for (uint32_t v = 1; v <= inside; v++) out.word("u").number(v).end_line();
 }
 
-static void write_max(const string &prefix, uint32_t nodes, const vector<Arc> &arcs, int64_t value) {
+static void write_max(const string &prefix, uint32_t nodes, const vector<Arc> &arcs, const vector<Arc> &entries,
+                      int64_t value) {
     Output instance(prefix + ".max");
     instance.word("p max").number(nodes).number((int64_t)arcs.size()).end_line();
     instance.word("n").number(1).word(" s").end_line();
@@ -170,13 +174,13 @@ static void write_max(const string &prefix, uint32_t nodes, const vector<Arc> &a
     for (const Arc &a : arcs) instance.word("a").number(a.tail).number(a.head).number(a.cap).end_line();
     Output solution(prefix + ".solution");
     solution.word("s").number(value).end_line();
-    for (const Arc &a : arcs) solution.word("f").number(a.tail).number(a.head).number(a.flow).end_line();
+    for (const Arc &a : entries) solution.word("f").number(a.tail).number(a.head).number(a.flow).end_line();
 }
 
 // The flow runs along the ring 1, 2, .., N; shortcuts carry a few units past a piece of it. No arc that goes back, from
 // a node to a lower one, carries anything. The cut is the lower half of the nodes: the arcs that leave it get what
 // they carry as their capacity, all others get more.
-static void planted_max(uint32_t nodes, uint64_t arc_count, uint64_t seed, const string &prefix) {
+static void planted_max(uint32_t nodes, uint64_t arc_count, uint64_t seed, const string &prefix, bool mixed) {
     Random random(seed);
     vector<uint32_t> steps = {1};
     add_distinct_steps(steps, std::max<uint64_t>(2, arc_count / nodes), nodes, random);
@@ -212,7 +216,10 @@ static void planted_max(uint32_t nodes, uint64_t arc_count, uint64_t seed, const
         a.cap = leaves ? a.flow : a.flow + random.between(0, 50);
     }
     shuffle_nearby(arcs, random);
-    write_max(prefix, nodes, arcs, value);
+    if (mixed) shuffle_pieces(arcs, arcs.size(), random);
+    vector<Arc> entries = arcs;
+    if (mixed) shuffle_pieces(entries, entries.size(), random);
+    write_max(prefix, nodes, arcs, entries, value);
     write_cut(prefix + ".cut", nodes, inside);
 }
 
@@ -247,7 +254,7 @@ static void write_potentials(const string &path, const vector<int64_t> &potentia
 
 // The potentials come first. An arc then carries its least and has a reduced cost that isn't negative, or its most and
 // one that isn't positive, or anything between and 0. The supplies are what the arcs leave at each node.
-static void planted_min(uint32_t nodes, uint64_t arc_count, uint64_t seed, const string &prefix) {
+static void planted_min(uint32_t nodes, uint64_t arc_count, uint64_t seed, const string &prefix, bool has_parallels) {
     Random random(seed);
     vector<int64_t> potentials(nodes + 1), supplies(nodes + 1, 0);
     for (uint32_t v = 1; v <= nodes; v++) potentials[v] = random.between(-20000, 20000);
@@ -278,6 +285,7 @@ static void planted_min(uint32_t nodes, uint64_t arc_count, uint64_t seed, const
         }
     }
     shuffle_nearby(arcs, random);
+    if (has_parallels) arcs.push_back({arcs[0].tail, arcs[0].head, 0, 0, 0, 0});
     write_min(prefix, nodes, supplies, arcs);
     write_potentials(prefix + ".pot", potentials);
 }
@@ -288,10 +296,10 @@ int main(int count, char **words) {
     auto whole = [&](int i) { return strtoll(words[i], nullptr, 10); };
     if (kind == "road") road(whole(2), atof(words[3]), whole(4), words[5]);
     else if (kind == "sources") sources(whole(2), whole(3), whole(4), words[5]);
-    else if (kind == "max") planted_max(whole(2), whole(3), whole(4), words[5]);
-    else if (kind == "min") planted_min(whole(2), whole(3), whole(4), words[5]);
+    else if (kind == "max" || kind == "mixed") planted_max(whole(2), whole(3), whole(4), words[5], kind == "mixed");
+    else if (kind == "min" || kind == "parallel") planted_min(whole(2), whole(3), whole(4), words[5], kind == "parallel");
     else {
-        fprintf(stderr, "gen road|sources|max|min N NUMBER SEED OUT\n");
+        fprintf(stderr, "gen road|sources|max|mixed|min|parallel N NUMBER SEED OUT\n");
         return 2;
     }
     return 0;
