@@ -91,14 +91,14 @@ module _ (arcs : List ArcView) (before : List Entry) (e : Entry) (i : ℕ) (foun
       elim (cases_Bool (is_between a.tail a.head e)) [
         | inl is ↦
             (let ends = between_ends a.tail a.head e is in
-            let apart : parallels_before arcs j ≢ length (entries_between before a.tail a.head) = λ same. other (one_kth arcs e.tail e.head (count_by (is_between e.tail e.head) before) j i (twin j inside ends same) found) in
+            let apart : parallels_before arcs j ≢ length (entries_between before a.tail a.head) = λ same. other (one_kth arcs e.tail e.head (count_by (is_between e.tail e.head) before) j i (parallel j inside ends same) found) in
             rw (claimed_of, more_between a.tail a.head before e is) (elsewhere (entries_between before a.tail a.head) (parallels_before arcs j) apart))
         | inr off ↦ rw (claimed_of, same_between a.tail a.head before e off) refl
       ]
     where
-      twin : (j : ℕ) → j < length arcs → (e.tail ≡ (arc_at arcs j).tail) × (e.head ≡ (arc_at arcs j).head) → parallels_before arcs j ≡ length (entries_between before (arc_at arcs j).tail (arc_at arcs j).head)
+      parallel : (j : ℕ) → j < length arcs → (e.tail ≡ (arc_at arcs j).tail) × (e.head ≡ (arc_at arcs j).head) → parallels_before arcs j ≡ length (entries_between before (arc_at arcs j).tail (arc_at arcs j).head)
           → IsKthBetween arcs e.tail e.head (count_by (is_between e.tail e.head) before) (Some j)
-      twin j inside ends same =
+      parallel j inside ends same =
           rw (ends.0, ends.1) (
             inside,
             rw (slice_get-get_or arcs j no_arc inside) (and_from ((arc_at arcs j).tail == (arc_at arcs j).tail) ((arc_at arcs j).head == (arc_at arcs j).head) (eq-eqb (arc_at arcs j).tail (arc_at arcs j).tail refl) (eq-eqb (arc_at arcs j).head (arc_at arcs j).head refl)),

@@ -173,12 +173,6 @@ all_marked number nodes b n marks is all are =
 pub marked_wide : (number nodes : ℕ) (b : BlockValue) (marks : NodeTable Mark) → IsBlock nodes b → IsMarked number b marks → AreWide b.labels number marks
 marked_wide number nodes b marks is are v = subst (λ claimed. IfSome claimed IsWide) (sym (are.labels v)) (label_wide nodes b v is)
 
-marked_block : (labels : List Label) (number : ℕ) (m : Mark) (d : ℤ) → Some d ≡ marked_dist labels number m → m.block ≡ number
-marked_block labels number m d is = elim (eqb_tells m.block number) [
-  | inl same ↦ same.1
-  | inr off ↦ absurd (let none = is ∙ marked_elsewhere labels number m off.1 in cc)
-]
-
 pub tight_near : {reached to : ℤ} → reached <ℤ to → reached ≡ to → ⊥
 tight_near {reached} {to} far same = omega (arith, ints, far, same)
 

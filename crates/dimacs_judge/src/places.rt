@@ -35,8 +35,8 @@ pub struct FlowPlaces<'a, N: Network> {
     out_of_order: bool,
     /// An index of the arcs, where the network has none of its own. It is filled once an entry comes out of order.
     index: Option<ArcIndex>,
-    /// The arc after that of the last entry. An entry out of order is first looked for from there on; no answer depends
-    /// on it.
+    /// Where an entry out of order is first looked for: after the arc of the entry before it, where no two arcs have the
+    /// same ends. No answer depends on it.
     next: u32,
     /// The first entry that fails. Nothing is counted or put after it.
     refusal: Option<(Where, Reason)>,
@@ -175,7 +175,7 @@ impl<'a, N: Network> FlowPlaces<'a, N> {
         Ok(())
     }
 
-    /// The first arc with the ends of this entry. With an index of its own, the arcs after that of the last entry are
+    /// The first arc with the ends of this entry. Where the places have an index, the arcs after that of the last entry are
     /// compared first.
     #[inline(always)]
     fn first(&self, entry: Entry) -> Option<u32>

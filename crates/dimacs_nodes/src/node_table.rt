@@ -83,7 +83,7 @@ impl<T: Copy> NodeTable<T> {
         ensures place { OnOk result (HasPlace self.new id) }
         ensures blank { blank_of self.new ≡ blank_of self.old }
         ensures memory { TakesPageAlone self.old self.new id }
-        ensures had { HasPlace self.old id → IsOk result }
+        ensures repeats { HasPlace self.old id → IsOk result }
     {
         if place(&self.directory, id) < self.slots.len() {
             return Ok(());

@@ -71,7 +71,7 @@ fn max_line(bytes: &[u8]) -> Option<PlainLine>
         tail,
         head,
         number,
-    } = ends_line(bytes, b'a')?;
+    } = arc_line(bytes, b'a')?;
     let said = Record::MaxArc {
         tail,
         head,
@@ -88,7 +88,7 @@ fn min_line(bytes: &[u8]) -> Option<PlainLine>
     if let Some(line) = bounds_line(bytes) {
         return Some(line);
     }
-    let NodeLine { size, id, number } = value_line(bytes, b'n')?;
+    let NodeLine { size, id, number } = node_line(bytes, b'n')?;
     let said = Record::MinNode { id, supply: number };
     Some(PlainLine { size, said })
 }
@@ -103,7 +103,7 @@ fn graph_line(bytes: &[u8]) -> Option<PlainLine>
         tail,
         head,
         number,
-    } = ends_line(bytes, b'a')?;
+    } = arc_line(bytes, b'a')?;
     let said = Record::GraphArc {
         tail,
         head,
@@ -122,7 +122,7 @@ fn solution_line(bytes: &[u8]) -> Option<PlainLine>
         tail,
         head,
         number,
-    } = ends_line(bytes, b'f')?;
+    } = arc_line(bytes, b'f')?;
     let said = Record::SolutionEntry {
         tail,
         head,
@@ -136,7 +136,7 @@ fn solution_line(bytes: &[u8]) -> Option<PlainLine>
 fn potentials_line(bytes: &[u8]) -> Option<PlainLine>
     ensures { IfSome result (λ line. SaysFirst Potentials bytes.now line.said line.size) }
 {
-    let NodeLine { size, id, number } = value_line(bytes, b'y')?;
+    let NodeLine { size, id, number } = node_line(bytes, b'y')?;
     let said = Record::PotentialsNode {
         id,
         value: i128::from(number),
@@ -188,7 +188,7 @@ fn bounds_line(bytes: &[u8]) -> Option<PlainLine>
 
 /// A line of a node and a number.
 #[inline(always)]
-fn value_line(bytes: &[u8], letter: u8) -> Option<NodeLine>
+fn node_line(bytes: &[u8], letter: u8) -> Option<NodeLine>
     ensures { IfSome result (λ line. IsPlainLine bytes.now letter (Id ∷ Whole ∷ []) (Amount (pos line.id) ∷ Amount line.number ∷ []) line.size) }
 {
     if !begins_with(bytes, letter) {
@@ -201,7 +201,7 @@ fn value_line(bytes: &[u8], letter: u8) -> Option<NodeLine>
 
 /// A line of two nodes and a number.
 #[inline(always)]
-fn ends_line(bytes: &[u8], letter: u8) -> Option<ArcLine>
+fn arc_line(bytes: &[u8], letter: u8) -> Option<ArcLine>
     ensures { IfSome result (λ line. IsPlainLine bytes.now letter (Id ∷ Id ∷ Whole ∷ []) (Amount (pos line.tail) ∷ Amount (pos line.head) ∷ Amount line.number ∷ []) line.size) }
 {
     if !begins_with(bytes, letter) {

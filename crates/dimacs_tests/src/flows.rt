@@ -31,7 +31,7 @@ fn maximum_flows_are_judged_by_cuts(rt: HostRuntime) -> Result<(), Fail> {
 }
 
 /// Flows over several arcs between two nodes, each with the cut that has the source alone.
-static FLOWS_OF_TWINS: &str = "\
+static FLOWS_OF_PARALLELS: &str = "\
 an entry for each of two arcs | p max 2 2;n 1 s;n 2 t;a 1 2 1;a 1 2 1; | s 2;f 1 2 1;f 1 2 1; | p cut 2 1;u 1; | Done | v max 2;
 one entry too many | p max 2 2;n 1 s;n 2 t;a 1 2 1;a 1 2 1; | s 2;f 1 2 1;f 1 2 1;f 1 2 1; | p cut 2 1;u 1; | Refused | x solution 4 0 ArcTwice;
 an entry for each of two unlike arcs | p max 2 2;n 1 s;n 2 t;a 1 2 1;a 1 2 3; | s 4;f 1 2 1;f 1 2 3; | p cut 2 1;u 1; | Done | v max 4;
@@ -47,7 +47,7 @@ an entry of no arc before one too many | p max 3 4;n 1 s;n 3 t;a 1 2 1;a 2 3 4;a
 
 #[test]
 fn entries_belong_to_arcs_by_their_order(rt: HostRuntime) -> Result<(), Fail> {
-    judges_each(&rt, rt.alloc(), JudgeKind::Max, FLOWS_OF_TWINS, 12)
+    judges_each(&rt, rt.alloc(), JudgeKind::Max, FLOWS_OF_PARALLELS, 12)
 }
 
 /// Flows that are claimed to be of least cost, each with potentials.

@@ -1,7 +1,7 @@
 use Rattle.std.proofs.Common.{refl, rules, SFits, w64}
 use Rattle.std.proofs.lemmas.Int.{to_z-of_z}
 use Rattle.dimacs_records.proofs.PlainRecords.{ends_stand}
-use Rattle.dimacs_records.proofs.plain.ends_line.Goals as goal
+use Rattle.dimacs_records.proofs.plain.arc_line.Goals as goal
 
 pub returns : goal.returns
 returns c =
