@@ -147,7 +147,7 @@ try_all() {
         verdict=
         case $texts in *'|'*) verdict=${texts#*| } texts=${texts%%|*} ;; esac
         name=$(basename "${texts%% *}")
-        if [ "$run" != "$2" ] || [[ $beyond == *" $1:$name "* ]] || [[ $without == *" $name "* ]]; then
+        if [ "$run" != "$2" ] || [[ $beyond == *" $1:$name "* ]]; then
             continue
         fi
         # shellcheck disable=SC2086 # the texts are several words
@@ -171,11 +171,6 @@ try_batch() {
 
 "$PYTHON" "$here/check/generate.py" "$dir"
 left_out=
-without=
-if "$DIMACS" show max "$dir/doubled.max" | grep -q ParallelArc; then
-    without=' doubled.max doubled.min '
-    left_out='  doubled.max, doubled.min: this dimacs refuses several arcs between two nodes'$'\n'
-fi
 while read -r recipe run kind need; do
     if [ -z "$recipe" ] || ! [[ $recipe =~ ${ONLY:-.} ]]; then
         continue
