@@ -2,16 +2,20 @@
 
     bench.py DIR SIZES ROUNDS [BINARY]
 
-DIR has the built programs; the texts are kept there. Each program runs each work ROUNDS times, the programs taking
-turns, and its best time counts: others who use the machine can only make a run slower.
+DIR has the built programs; the texts are kept there. The programs take turns, in an order that changes from round to
+round, at least ROUNDS times, and more often while runs are short. A time is the median of the rounds. A ratio is the
+median of the rounds' own ratios, each of two runs that lie beside each other, and its spread is that of the middle half
+of them: on a machine that others use too, the best times of two programs may lie in different minutes.
 """
 
 import hashlib
 import os
 import re
 import shutil
+import statistics
 import subprocess
 import sys
+import time
 from dataclasses import dataclass
 
 NO_SUCH_WORK = 2  # the exit status of a command that doesn't have the work
@@ -61,8 +65,27 @@ class Taken:
     cpu: float
     peak_bytes: int
 
-    def best(self, other):
-        return Taken(min(self.wall, other.wall), min(self.cpu, other.cpu), max(self.peak_bytes, other.peak_bytes))
+
+class Rounds:
+    """What the runs of a program took, in the order of the rounds."""
+
+    def __init__(self):
+        self.runs = []
+
+    def wall(self):
+        return statistics.median(run.wall for run in self.runs)
+
+    def cpu(self):
+        return statistics.median(run.cpu for run in self.runs)
+
+    def peak_bytes(self):
+        return max(run.peak_bytes for run in self.runs)
+
+    def ratio(self, other):
+        """The median of the rounds' ratios, and where the middle half of them begins and ends."""
+        ratios = sorted(run.cpu / max(beside.cpu, 1e-4) for run, beside in zip(self.runs, other.runs))
+        quarter = len(ratios) // 4
+        return statistics.median(ratios), ratios[quarter], ratios[-1 - quarter]
 
 
 # ---- texts
@@ -76,7 +99,8 @@ def generate(folder, *commands):
     shutil.rmtree(part, ignore_errors=True)
     os.mkdir(part)
     for command in commands:
-        subprocess.run([os.path.abspath(command[0])] + [str(word) for word in command[1:]], cwd=part, check=True)
+        words = [os.path.abspath(command[0])] + [str(word) for word in command[1:]]
+        subprocess.run(words, cwd=part, check=True, stdout=subprocess.DEVNULL)
     os.rename(part, folder)
 
 
@@ -163,33 +187,42 @@ def answer(command):
     return process.returncode, digest.hexdigest()
 
 
+# Rounds are added, up to so many times as many, while all of them together took no longer than so many seconds each.
+MORE_ROUNDS = 5
+SHORT_ROUND = 2
+
+
 def measure_in_turn(commands, rounds):
-    taken = {}
-    for _ in range(rounds):
-        for name, command in commands.items():
-            run = measure(command)
-            taken[name] = taken[name].best(run) if name in taken else run
+    taken = {name: Rounds() for name in commands}
+    begun = time.monotonic()
+    for turn in range(MORE_ROUNDS * rounds):
+        if turn >= rounds and time.monotonic() - begun > SHORT_ROUND * rounds:
+            break
+        for name in list(commands)[:: -1 if turn % 2 else 1]:
+            taken[name].runs.append(measure(commands[name]))
     return taken
 
 
 HEAD = """
 ### {megabytes} MB
 
-| Work | Program | Wall s | CPU s | ns an arc | MB/s | Peak MB | Bytes an arc | CPU ratio |
-|---|---|---|---|---|---|---|---|---|"""
+| Work | Program | Wall s | CPU s | ns an arc | MB/s | Peak MB | Bytes an arc | CPU ratio | Its middle half |
+|---|---|---|---|---|---|---|---|---|---|"""
 
 
 def row(work, program, taken, baseline):
+    ratio, low, high = taken.ratio(baseline)
     cells = [
         f"{work.name()}, {work.megabytes():.1f} MB, {work.arcs:,} arcs",
         program,
-        f"{taken.wall:.4f}",
-        f"{taken.cpu:.4f}",
-        f"{taken.cpu * 1e9 / work.arcs:.1f}",
-        f"{work.megabytes() / taken.cpu:.0f}",
-        f"{taken.peak_bytes / 1e6:.1f}",
-        f"{taken.peak_bytes / work.arcs:.1f}",
-        f"{taken.cpu / baseline.cpu:.2f}",
+        f"{taken.wall():.4f}",
+        f"{taken.cpu():.4f}",
+        f"{taken.cpu() * 1e9 / work.arcs:.1f}",
+        f"{work.megabytes() / taken.cpu():.0f}",
+        f"{taken.peak_bytes() / 1e6:.1f}",
+        f"{taken.peak_bytes() / work.arcs:.1f}",
+        f"{ratio:.2f}",
+        f"{low:.2f} to {high:.2f}",
     ]
     return "| " + " | ".join(cells) + " |"
 
@@ -197,20 +230,22 @@ def row(work, program, taken, baseline):
 SHORT_HEAD = """
 ### In short
 
-| Work | MB | Baseline, ns an arc | dimacs, ns an arc | CPU ratio | Peak, bytes an arc |
-|---|---|---|---|---|---|"""
+| Work | MB | Baseline, ns an arc | dimacs, ns an arc | CPU ratio | Its middle half | Peak, bytes an arc |
+|---|---|---|---|---|---|---|"""
 
 
 def short_row(work, taken):
     """A work in one line, as README.md has it."""
     baseline, dimacs = taken["baseline"], taken["dimacs"]
+    ratio, low, high = dimacs.ratio(baseline)
     cells = [
         work.name(),
         f"{work.megabytes():.1f}" if work.megabytes() < 100 else f"{work.megabytes():.0f}",
-        f"{baseline.cpu * 1e9 / work.arcs:.1f}",
-        f"{dimacs.cpu * 1e9 / work.arcs:.1f}",
-        f"{dimacs.cpu / baseline.cpu:.2f}",
-        f"{dimacs.peak_bytes / work.arcs:.1f}",
+        f"{baseline.cpu() * 1e9 / work.arcs:.1f}",
+        f"{dimacs.cpu() * 1e9 / work.arcs:.1f}",
+        f"{ratio:.2f}",
+        f"{low:.2f} to {high:.2f}",
+        f"{dimacs.peak_bytes() / work.arcs:.1f}",
     ]
     return "| " + " | ".join(cells) + " |"
 
@@ -232,7 +267,7 @@ def measure_work(work, binary, rounds, short_rows):
         short_rows.append(short_row(work, taken))
     if got != expected:
         note = "not in this build" if got[0] == NO_SUCH_WORK else f"PRINTS SOMETHING ELSE, with status {got[0]}"
-        print(f"| {work.name()} | dimacs | {note} | | | | | | |")
+        print(f"| {work.name()} | dimacs | {note} | | | | | | | |")
     sys.stdout.flush()
     return got == expected or got[0] == NO_SUCH_WORK
 
@@ -248,8 +283,7 @@ def main():
         print(HEAD.format(megabytes=megabytes))
         for work in works(megabytes):
             if re.search(only, work.name()):
-                # short runs need more rounds
-                all_agree &= measure_work(work, binary, rounds * 4 if megabytes == 1 else rounds, short_rows)
+                all_agree &= measure_work(work, binary, rounds, short_rows)
     if short_rows:
         print("\n".join([SHORT_HEAD] + short_rows))
     sys.exit(0 if all_agree else 1)

@@ -3,7 +3,7 @@
     peers.py DIR SIZE ROUNDS BINARY
 
 DIR has the built programs, the peers in its folder peers; the texts are kept there. Prints a table, and draws peers.svg
-beside this file. The programs take turns, and the best time of each counts.
+beside this file. The programs take turns. A time is the median of the rounds, and a quotient that of their own ones.
 """
 
 import os
@@ -50,7 +50,7 @@ def has_read(command, instance):
 
 
 def measure(judge, show, rounds, binary):
-    """The processor time of each program on the instance of these two works."""
+    """The processor time of each program on the instance of these two works, and its quotient by that of judging."""
     kind, instance = show.words[1], show.files[0]
     commands = {
         JUDGING: [binary] + judge.words + judge.files,
@@ -63,13 +63,15 @@ def measure(judge, show, rounds, binary):
         command = command + [kind, instance]
         if kind in kinds and has_read(command, instance):
             commands[name] = command
-    return {name: taken.cpu for name, taken in bench.measure_in_turn(commands, rounds).items()}
+    taken = bench.measure_in_turn(commands, rounds)
+    return {name: (runs.cpu(), runs.ratio(taken[JUDGING])[0]) for name, runs in taken.items()}
 
 
-def cell(seconds, name):
-    if name not in seconds:
+def cell(times, name):
+    if name not in times:
         return ""
-    return f"{seconds[name]:.2f} ({seconds[name] / seconds[JUDGING]:.1f})"
+    seconds, quotient = times[name]
+    return f"{seconds:.2f} ({quotient:.1f})"
 
 
 def print_table(columns):
@@ -77,7 +79,7 @@ def print_table(columns):
     print("|---|---" + "|---" * len(columns) + "|")
     packages = {name: f"`{package}`" for name, package, _, _ in PEERS}
     for name in [JUDGING, READING] + list(packages):
-        cells = [cell(seconds, name) for _, seconds in columns]
+        cells = [cell(times, name) for _, times in columns]
         print("| " + " | ".join([name, packages.get(name, ""), *cells]) + " |")
 
 
@@ -94,7 +96,8 @@ def main():
         columns.append((title, measure(works[judge], show, rounds, binary)))
     print_table(columns)
     with open(f"{HERE}/peers.svg", "w") as file:
-        file.write(picture.draw(HEADING, columns, cut="networkx"))
+        bars = [(title, {name: seconds for name, (seconds, _) in times.items()}) for title, times in columns]
+        file.write(picture.draw(HEADING, bars, cut="networkx"))
     print("\nLoad of the last 15 minutes: {:.1f}".format(os.getloadavg()[2]))
 
 
