@@ -6,7 +6,8 @@
  *   REFUSE_GROWTH, REFUSE_READ, REFUSE_WRITE, REFUSE_OPENING   the number of the call that fails, once
  *   INTERRUPT   where it is set, a read or write that fails was interrupted by a signal
  *   AT_MOST     the most bytes that one read or write moves
- *   COUNTS      the file that is written at the end: the four counts, and the most memory that was held at once, in kB
+ *   COUNTS      the file that is written at the end: the four counts, the most memory that was held at once, in kB, and
+ *               how many bytes the growths asked for
  *
  * The names with underscores are those by which the GNU C library offers the same calls.
  */
@@ -29,6 +30,7 @@ int __open(const char *, int, ...);
 enum call { GROWTH, READ, WRITE, OPENING, CALLS };
 
 static long counts[CALLS], refused[CALLS];
+static size_t bytes;
 static size_t at_most = (size_t)-1;
 static int failure = EIO, counting;
 
@@ -69,8 +71,8 @@ __attribute__((destructor)) static void end(void)
     if (!name)
         return;
     char line[200];
-    int size = snprintf(line, sizeof line, "%ld %ld %ld %ld %ld\n", counts[GROWTH], counts[READ], counts[WRITE],
-                        counts[OPENING], peak());
+    int size = snprintf(line, sizeof line, "%ld %ld %ld %ld %ld %zu\n", counts[GROWTH], counts[READ], counts[WRITE],
+                        counts[OPENING], peak(), bytes);
     int file = __open(name, O_WRONLY | O_CREAT | O_TRUNC, 0666);
     if (__write(file, line, size) != size)
         abort();
@@ -88,6 +90,14 @@ static int fails(enum call call, int error)
     return 1;
 }
 
+/* Counts a growth of so many bytes, and says whether it fails. */
+static int grows_not(size_t size)
+{
+    if (counting)
+        bytes += size;
+    return fails(GROWTH, ENOMEM);
+}
+
 static size_t shortened(size_t size)
 {
     return size < at_most ? size : at_most;
@@ -95,22 +105,22 @@ static size_t shortened(size_t size)
 
 void *malloc(size_t size)
 {
-    return fails(GROWTH, ENOMEM) ? NULL : __libc_malloc(size);
+    return grows_not(size) ? NULL : __libc_malloc(size);
 }
 
 void *calloc(size_t count, size_t size)
 {
-    return fails(GROWTH, ENOMEM) ? NULL : __libc_calloc(count, size);
+    return grows_not(count * size) ? NULL : __libc_calloc(count, size);
 }
 
 void *realloc(void *old, size_t size)
 {
-    return fails(GROWTH, ENOMEM) ? NULL : __libc_realloc(old, size);
+    return grows_not(size) ? NULL : __libc_realloc(old, size);
 }
 
 void *aligned_alloc(size_t alignment, size_t size)
 {
-    return fails(GROWTH, ENOMEM) ? NULL : __libc_memalign(alignment, size);
+    return grows_not(size) ? NULL : __libc_memalign(alignment, size);
 }
 
 int posix_memalign(void **place, size_t alignment, size_t size)

@@ -1,7 +1,8 @@
 //! The files of the system.
 
-ghost use Rattle.std.specs.Prelude.{◌≡◌, ◌∷◌, [], None, Err};
-ghost use Rattle.dimacs_runs.specs.Files.{faults_with};
+ghost use Rattle.std.specs.Prelude.{◌≡◌, ◌↔◌, ◌∷◌, [], ◌==◌, if◌then◌else◌, not, None, Err};
+ghost use Rattle.std.specs.IoError.{error_kind};
+ghost use Rattle.dimacs_lines.specs.Devices.{one_more};
 ghost use Rattle.dimacs_runs.specs.Judgings.{CountsDevices};
 
 use dimacs_lines::{FileSink, FileSource};
@@ -15,30 +16,46 @@ use std::io::ErrorKind;
 pub struct SystemFiles<'a> {
     rt: &'a HostRuntime,
     faults: u64,
+    /// Why a file wasn't opened or created, where one wasn't.
+    reason: Option<io::Error>,
 }
 
 impl<'a> SystemFiles<'a> {
     pub fn new(rt: &'a HostRuntime) -> SystemFiles<'a> {
-        SystemFiles { rt, faults: 0 }
+        SystemFiles {
+            rt,
+            faults: 0,
+            reason: None,
+        }
     }
 
-    /// Counts a file that is closed after so many faults.
-    fn count(&mut self, faults: u64)
-        ensures { self.new.faults ≡ faults_with self.old.faults faults }
+    /// Why a file wasn't opened or created, where one wasn't.
+    pub fn reason(&self) -> Option<io::Error> {
+        self.reason
+    }
+
+    /// Counts a file that is closed after so many faults, and answers whether there were any.
+    fn count(&mut self, faults: u64) -> bool
+        ensures failed { result ≡ not (faults == 0) }
+        ensures fault { self.new.faults ≡ (if faults == 0 then self.old.faults else one_more self.old.faults) }
     {
-        if faults != 0 {
+        let failed = faults != 0;
+        if failed {
             self.faults = self.faults.wrapping_add(1);
         }
+        failed
     }
 
     /// Counts a file that the system didn't open, unless it had no memory.
     fn refuse(&mut self, error: io::Error) -> RunError
-        ensures { CountsDevices {X = Unit {0}} (Err result) (self.old.faults ∷ []) (self.new.faults ∷ []) }
+        ensures fault { CountsDevices {X = Unit {0}} (Err result) (self.old.faults ∷ []) (self.new.faults ∷ []) }
+        ensures memory { result ≡ RunError.Memory ↔ error_kind error ≡ ErrorKind.OutOfMemory }
     {
         if error.kind() == ErrorKind::OutOfMemory {
             return RunError::Memory;
         }
         self.faults = self.faults.wrapping_add(1);
+        self.reason = Some(error);
         RunError::Device
     }
 }
@@ -52,9 +69,7 @@ impl<'a> Files for SystemFiles<'a> {
 
     ghost empty = { None };
 
-    ghost done = { λ s. None };
-
-    ghost faults = { λ s. s.faults };
+    ghost seen = { λ s. record { done = None; faults = s.faults } };
 
     fn open(&mut self, name: &str) -> Result<Counted<FileSource<File>>, RunError> {
         match File::open(self.rt, name) {
@@ -70,11 +85,11 @@ impl<'a> Files for SystemFiles<'a> {
         }
     }
 
-    fn close_input(&mut self, file: Counted<FileSource<File>>) {
-        self.count(file.faults());
+    fn close_input(&mut self, _name: &str, file: Counted<FileSource<File>>) -> bool {
+        self.count(file.faults())
     }
 
-    fn close_output(&mut self, _name: &str, file: Counted<FileSink<File>>) {
-        self.count(file.faults());
+    fn close_output(&mut self, _name: &str, file: Counted<FileSink<File>>) -> bool {
+        self.count(file.faults())
     }
 }

@@ -6,23 +6,29 @@ mod usage;
 
 use crate::files::SystemFiles;
 use dimacs_lines::StdoutSink;
-use dimacs_runs::{NO_RUN, RunError, complaint, exit_status, run_command};
+use dimacs_runs::{Failure, NO_RUN, RunError, complaint, exit_status, run_command};
 use std::io::ErrorKind;
 use std::process::ExitCode;
 use std::{env, io};
 
 fn main(rt: HostRuntime) -> ExitCode {
     let status = match words(&rt) {
-        Ok(words) => run_command(
-            rt.alloc(),
-            words.get(1..).unwrap_or_default(),
-            &mut SystemFiles::new(&rt),
-            &mut StdoutSink::new(&rt),
-        ),
-        Err(error) => wordless(error),
+        Ok(words) => run(&rt, words.get(1..).unwrap_or_default()),
+        Err(error) => wordless(&rt, error),
     };
-    complain(&rt, status);
     ExitCode::from(status)
+}
+
+/// Runs what the words after the program's name ask for, and answers the exit status.
+fn run(rt: &HostRuntime, words: &[String]) -> u8 {
+    let mut files = SystemFiles::new(rt);
+    let mut output = StdoutSink::new(rt);
+    let ending = run_command(rt.alloc(), words, &mut files, &mut output);
+    complain(rt, ending.status);
+    if let Some(failure) = ending.failure {
+        tell_failure(rt, failure, files.reason());
+    }
+    ending.status
 }
 
 fn words(rt: &HostRuntime) -> io::Result<Vec<String>> {
@@ -30,12 +36,14 @@ fn words(rt: &HostRuntime) -> io::Result<Vec<String>> {
 }
 
 /// The status where the words can't be had. Words that aren't UTF-8 ask for no run.
-fn wordless(error: io::Error) -> u8 {
-    if error.kind() == ErrorKind::OutOfMemory {
+fn wordless(rt: &HostRuntime, error: io::Error) -> u8 {
+    let status = if error.kind() == ErrorKind::OutOfMemory {
         exit_status(&Err(RunError::Memory))
     } else {
         NO_RUN
-    }
+    };
+    complain(rt, status);
+    status
 }
 
 /// Tells on the standard error why no run, or no whole run, took place.
@@ -46,4 +54,14 @@ fn complain(rt: &HostRuntime, status: u8) {
     if status == NO_RUN {
         usage::tell(rt);
     }
+}
+
+/// Tells on the standard error which device failed, and why, where the system says so.
+fn tell_failure(rt: &HostRuntime, failure: Failure<'_>, reason: Option<io::Error>) {
+    let device = failure.device();
+    let call = failure.call();
+    let _ = match reason {
+        Some(reason) => eprintln!(rt; "dimacs: {device}: {call}: {reason}"),
+        None => eprintln!(rt; "dimacs: {device}: {call}"),
+    };
 }

@@ -1,25 +1,24 @@
 -- A flow raised along a way whose ranks fall from the sink to the source.
-use Rattle.std.proofs.Common.{◌≡◌, ◌≢◌, ℕ, suc, zero, ◌==◌, ◌<◌, ℤ, pos, ◌+ℤ◌, ◌-ℤ◌, ◌≤ℤ◌, ◌<ℤ◌, Bool, true, false, neg_ℤ, List, [], ◌∷◌, length, get_or, set, refl, sym, ap, subst, eq-eqb, ◌∙◌, arith}
+use Rattle.std.proofs.Common.{◌≡◌, ◌≢◌, ℕ, suc, zero, ◌==◌, ◌<◌, ℤ, pos, ◌+ℤ◌, ◌-ℤ◌, ◌≤ℤ◌, ◌<ℤ◌, Bool, true, false, neg_ℤ, List, [], ◌∷◌, length, get_or, set, refl, ap, subst, ◌∙◌, arith}
 use Rattle.std.proofs.lemmas.Int.{ints}
-use Rattle.std.proofs.lemmas.Bool.{ne_eqb}
 use Rattle.std.proofs.lemmas.List.{get_or-set_other}
+use Rattle.std.proofs.lemmas.Slice.Zip.{AllZip-long}
 use Rattle.std.specs.List.{AllZip}
 use Rattle.dimacs_instance.specs.declared.network.ArcView.{ArcView}
-use Rattle.dimacs_instance.specs.MaxFlows.{MaxValue}
-use Rattle.dimacs_judge.specs.Feasible.{FeasibleMax, value}
 use Rattle.dimacs_judge.specs.Flows.{sum_arcs, when, net}
 use Rattle.dimacs_judge.specs.Rows.{no_arc, arc_at, amount_at}
+use Rattle.dimacs_judge.proofs.Passing.{pair_at}
 use Rattle.dimacs_instance.specs.declared.links.Side.{Side}
 use Rattle.dimacs_instance.specs.declared.links.Side.TheVariants.{Tail, Head}
 use Rattle.dimacs_decide.specs.declared.search.Visit.{Visit}
 use Rattle.dimacs_instance.specs.Links.{end_of, other_end}
 use Rattle.dimacs_decide.specs.inside.Rooms.{room_at}
-use Rattle.dimacs_decide.specs.inside.Residual.{KeepsBounds, IsReachedBy, rank_of, room_of, via_of}
+use Rattle.dimacs_decide.specs.Bounds.{KeepsBounds}
+use Rattle.dimacs_decide.specs.inside.Residual.{IsReachedBy, rank_of, room_of, via_of}
 use Rattle.dimacs_decide.specs.inside.Raising.{Pushed, IsRaising}
-use Rattle.dimacs_decide.proofs.SideLemmas.{AllZip-at, length-AllZip}
 
 -- ---- one amount changed
-sum_arcs-set : (f : ArcView → ℤ → ℤ) (arcs : List ArcView) (y : List ℤ) (k : ℕ) (z : ℤ) → k < length arcs → k < length y
+pub sum_arcs-set : (f : ArcView → ℤ → ℤ) (arcs : List ArcView) (y : List ℤ) (k : ℕ) (z : ℤ) → k < length arcs → k < length y
     → sum_arcs f arcs (set y k z) +ℤ f (arc_at arcs k) (amount_at y k) ≡ sum_arcs f arcs y +ℤ f (arc_at arcs k) z
 sum_arcs-set f [] y k z h g = absurd (omega arith)
 sum_arcs-set f (a ∷ arcs) [] k z h g = absurd (omega arith)
@@ -30,18 +29,18 @@ when-add : (b : Bool) (x z : ℤ) → when b (x +ℤ z) ≡ when b x +ℤ when b
 when-add true x z = refl
 when-add false x z = refl
 
-when-neg : (b : Bool) (x : ℤ) → when b (neg_ℤ x) ≡ neg_ℤ (when b x)
+pub when-neg : (b : Bool) (x : ℤ) → when b (neg_ℤ x) ≡ neg_ℤ (when b x)
 when-neg true x = refl
 when-neg false x = refl
 
 -- z more on the arc k
-net-raise : (arcs : List ArcView) (y : List ℤ) (k : ℕ) (z : ℤ) (u : ℕ) → k < length arcs → k < length y
+pub net-raise : (arcs : List ArcView) (y : List ℤ) (k : ℕ) (z : ℤ) (u : ℕ) → k < length arcs → k < length y
     → net arcs (set y k (amount_at y k +ℤ z)) u ≡ (net arcs y u +ℤ when ((arc_at arcs k).tail == u) z) -ℤ when ((arc_at arcs k).head == u) z
 net-raise arcs y k z u h g =
     let x = amount_at y k in
     omega (arith, ints, sum_arcs-set (λ a w. when (a.tail == u) w) arcs y k (x +ℤ z) h g, sum_arcs-set (λ a w. when (a.head == u) w) arcs y k (x +ℤ z) h g, when-add ((arc_at arcs k).tail == u) x z, when-add ((arc_at arcs k).head == u) x z)
 
-AllZip-set : {A B : Type 0} (R : A → B → Type 0) (xs : List A) (ys : List B) (k : ℕ) (d : A) (z : B) → AllZip R xs ys → R (get_or xs k d) z → AllZip R xs (set ys k z)
+pub AllZip-set : {A B : Type 0} (R : A → B → Type 0) (xs : List A) (ys : List B) (k : ℕ) (d : A) (z : B) → AllZip R xs ys → R (get_or xs k d) z → AllZip R xs (set ys k z)
 AllZip-set R [] [] k d z all here = tt
 AllZip-set R [] (y ∷ ys) k d z all here = absurd all
 AllZip-set R (x ∷ xs) [] k d z all here = absurd all
@@ -60,53 +59,36 @@ push_forward : (arcs : List ArcView) (rank : ℕ → ℕ) (x y : List ℤ) (t k 
     → rank (arc_at arcs k).tail < rank (arc_at arcs k).head → pos 0 ≤ℤ amount → (amount_at x k +ℤ amount) ≤ℤ (arc_at arcs k).cap
     → Pushed arcs rank x (set y k (amount_at y k +ℤ amount)) t (arc_at arcs k).tail amount
 push_forward arcs rank x y t k amount p h falls room some =
-    let long : k < length y = omega (arith, h, length-AllZip _ arcs y p.within) in
+    let long : k < length y = omega (arith, h, AllZip-long _ arcs y p.within) in
     let same = p.below k h (omega (arith, falls)) (omega arith) in
-    let now = AllZip-at _ arcs y k no_arc (pos 0) p.within h in
+    let now = pair_at _ arcs y k no_arc (pos 0) p.within h in
     record {
-      within = AllZip-set (λ a z. (pos 0 ≤ℤ z) × (z ≤ℤ a.cap)) arcs y k no_arc _ p.within (omega (arith, ints, now, same, room, some));
+      within = AllZip-set (λ a z. (a.low ≤ℤ z) × (z ≤ℤ a.cap)) arcs y k no_arc _ p.within (omega (arith, ints, now, same, room, some));
       balance = λ u. omega (arith, ints, p.balance u, net-raise arcs y k amount u h long);
       below = λ j l s t. get_or-set_other y k j _ (pos 0) (λ e. let f : rank (arc_at arcs j).head ≡ rank (arc_at arcs k).head = ap (λ m. rank (arc_at arcs m).head) e in omega (arith, f, t, falls)) ∙ p.below j l (omega (arith, s, falls)) (omega (arith, t, falls));
     }
 
 -- against an arc that carries some
 push_backward : (arcs : List ArcView) (rank : ℕ → ℕ) (x y : List ℤ) (t k : ℕ) (amount : ℤ) → Pushed arcs rank x y t (arc_at arcs k).tail amount → k < length arcs
-    → rank (arc_at arcs k).head < rank (arc_at arcs k).tail → pos 0 ≤ℤ amount → amount ≤ℤ amount_at x k
+    → rank (arc_at arcs k).head < rank (arc_at arcs k).tail → pos 0 ≤ℤ amount → ((arc_at arcs k).low +ℤ amount) ≤ℤ amount_at x k
     → Pushed arcs rank x (set y k (amount_at y k -ℤ amount)) t (arc_at arcs k).head amount
 push_backward arcs rank x y t k amount p h falls room some =
-    let long : k < length y = omega (arith, h, length-AllZip _ arcs y p.within) in
+    let long : k < length y = omega (arith, h, AllZip-long _ arcs y p.within) in
     let same = p.below k h (omega arith) (omega (arith, falls)) in
-    let now = AllZip-at _ arcs y k no_arc (pos 0) p.within h in
+    let now = pair_at _ arcs y k no_arc (pos 0) p.within h in
     record {
-      within = AllZip-set (λ a z. (pos 0 ≤ℤ z) × (z ≤ℤ a.cap)) arcs y k no_arc _ p.within (omega (arith, ints, now, same, room, some));
+      within = AllZip-set (λ a z. (a.low ≤ℤ z) × (z ≤ℤ a.cap)) arcs y k no_arc _ p.within (omega (arith, ints, now, same, room, some));
       balance = λ u. omega (arith, ints, p.balance u, net-raise arcs y k (neg_ℤ amount) u h long, when-neg ((arc_at arcs k).tail == u) amount, when-neg ((arc_at arcs k).head == u) amount);
       below = λ j l s t. get_or-set_other y k j _ (pos 0) (λ e. let f : rank (arc_at arcs j).tail ≡ rank (arc_at arcs k).tail = ap (λ m. rank (arc_at arcs m).tail) e in omega (arith, f, s, falls)) ∙ p.below j l (omega (arith, s, falls)) (omega (arith, t, falls));
     }
 
--- the whole way
-pub push_all : (i : MaxValue) (rank : ℕ → ℕ) (x y : List ℤ) (amount : ℤ) → Pushed i.arcs rank x y i.sink i.source amount → i.source ≢ i.sink → pos 0 <ℤ amount → FeasibleMax i x
-    → FeasibleMax i y × (value i x <ℤ value i y)
-push_all i rank x y amount p apart some f =
-    let there : (i.sink == i.source) ≡ false = ne_eqb i.sink i.source (λ e. apart (sym e)) in
-    let here : (i.source == i.source) ≡ true = eq-eqb i.source i.source refl in
-    let more : value i y ≡ value i x +ℤ amount = p.balance i.source ∙ rw (there, here) (omega (arith, ints)) in (
-      record {
-        within = p.within;
-        balanced = λ v h not_source not_sink.
-            let a : (i.source == v) ≡ false = ne_eqb i.source v (λ e. not_source (sym e)) in
-            let b : (i.sink == v) ≡ false = ne_eqb i.sink v (λ e. not_sink (sym e)) in
-            p.balance v ∙ rw (a, b) (omega (arith, ints, f.balanced v h not_source not_sink));
-      },
-      omega (arith, ints, more, some),
-    )
-
-pub raising_none : (arcs : List ArcView) (x : List ℤ) (visits : ℕ → Visit) (sink : ℕ) → 0 < rank_of visits sink → pos 0 <ℤ room_of visits sink → KeepsBounds arcs x
-    → IsRaising arcs x x visits sink sink (room_of visits sink)
-raising_none arcs x visits sink reached some within = record {
+pub raising_none : (arcs : List ArcView) (x : List ℤ) (visits : ℕ → Visit) (to : ℕ) (amount : ℤ) → 0 < rank_of visits to → pos 0 <ℤ amount → amount ≤ℤ room_of visits to → KeepsBounds arcs x
+    → IsRaising arcs x x visits to to amount
+raising_none arcs x visits to amount reached some room within = record {
   reached = reached;
   some = some;
-  room = omega (arith, ints);
-  pushed = push_none arcs (rank_of visits) x sink (room_of visits sink) within;
+  room = room;
+  pushed = push_none arcs (rank_of visits) x to amount within;
 }
 
 -- ---- one step of the way back
@@ -125,7 +107,7 @@ module _ (arcs : List ArcView) (x y : List ℤ) (visits : ℕ → Visit) (t at :
   k = via_of visits at
 
   pub long : k < length y
-  long = omega (arith, by.within, length-AllZip _ arcs y now.pushed.within)
+  long = omega (arith, by.within, AllZip-long _ arcs y now.pushed.within)
 
   -- what is known of the arc, by the side from which it was left
   abbrev Known : Side → Type 0
@@ -148,11 +130,11 @@ module _ (arcs : List ArcView) (x y : List ℤ) (visits : ℕ → Visit) (t at :
   pub backward_less : (arc_at arcs k).head ≢ at → rank_of visits (arc_at arcs k).head < rank_of visits at
   backward_less ne = let (to, reached, falls, before, room) = backward ne in falls
 
-  pub carries : pos 0 ≤ℤ amount_at y k
-  carries = (AllZip-at _ arcs y k no_arc (pos 0) now.pushed.within by.within).0
+  pub above_low : (arc_at arcs k).low ≤ℤ amount_at y k
+  above_low = (pair_at _ arcs y k no_arc (pos 0) now.pushed.within by.within).0
 
   pub below_cap : amount_at y k ≤ℤ (arc_at arcs k).cap
-  below_cap = (AllZip-at _ arcs y k no_arc (pos 0) now.pushed.within by.within).1
+  below_cap = (pair_at _ arcs y k no_arc (pos 0) now.pushed.within by.within).1
 
   pub forward_room : (arc_at arcs k).head ≡ at → (amount_at y k +ℤ amount) ≤ℤ (arc_at arcs k).cap
   forward_room e =
@@ -161,8 +143,8 @@ module _ (arcs : List ArcView) (x y : List ℤ) (visits : ℕ → Visit) (t at :
       let same = now.pushed.below k by.within (omega (arith, falls)) (omega (arith, r)) in
       omega (arith, ints, room, now.room, now.some, same)
 
-  pub backward_carried : (arc_at arcs k).head ≢ at → amount ≤ℤ amount_at y k
-  backward_carried ne =
+  pub backward_room : (arc_at arcs k).head ≢ at → ((arc_at arcs k).low +ℤ amount) ≤ℤ amount_at y k
+  backward_room ne =
       let (to, reached, falls, before, room) = backward ne in
       let r = ap (rank_of visits) to in
       let same = now.pushed.below k by.within (omega (arith, r)) (omega (arith, falls)) in

@@ -1,3 +1,11 @@
+pub mod Cancelling
+pub mod Counting
+pub mod Cycles
+pub mod Heights
 pub mod Raising
 pub mod Residual
 pub mod Rooms
+pub mod Sending
+pub mod Surpluses
+pub mod TightTrees
+pub mod Traces

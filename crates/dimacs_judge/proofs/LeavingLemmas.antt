@@ -16,7 +16,7 @@ use Rattle.dimacs_instance.specs.Links.{IsLast}
 use Rattle.dimacs_claims.specs.declared.block.Label.{Label}
 use Rattle.dimacs_claims.specs.Labels.{BlockValue, IsBlock, IsNear, label, no_label}
 use Rattle.dimacs_claims.proofs.BlockLemmas.{has_pred}
-use Rattle.dimacs_judge.specs.declared.marks.Mark.{Mark}
+use Rattle.dimacs_judge.specs.declared.mark.Mark.{Mark}
 use Rattle.dimacs_judge.specs.CertificateTests.{RelaxFails, relax_row}
 use Rattle.dimacs_judge.specs.inside.Leaving.{AreCovering, ArePassedFrom, Covers, IsPassed, WeightsFall, arcs_in}
 use Rattle.dimacs_judge.specs.inside.Marks.{AreMade, AreMadeAlone, IsMarked, MarksArc, marked_dist}

@@ -1,15 +1,15 @@
-mod Products
-mod Sums
+pub mod Products
+pub mod Sums
 pub mod Duality
 pub mod Distances
-mod RowLemmas
+pub mod RowLemmas
 mod StepLemmas
 mod CrossLemmas
 mod SupportLemmas
 mod BlockLemmas
 pub mod Firsts
 pub mod RowLists
-mod Settling
+pub mod Settling
 pub mod Reasons
 pub mod Passing
 pub mod LabelsPassing
@@ -23,6 +23,7 @@ pub mod QueriesPassing
 pub mod PathsPassing
 pub mod MaxJudge
 pub mod MinJudge
+mod SolutionLemmas
 mod MarkLemmas
 mod LeavingLemmas
 mod LeastLemmas

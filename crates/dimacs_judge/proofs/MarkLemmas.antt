@@ -1,12 +1,12 @@
 -- Marks of the nodes that a block labels, and the arcs that make its labels.
-use Rattle.std.proofs.Common.{IsTrue, int_lt, unsigned_abs, ◌^◌, ◌-◌, ◌-ℤ◌, cond, count_by, is_some, ◌≡◌, ◌≢◌, ◌⊎◌, ◌↔◌, inl, inr, ℕ, suc, zero, ◌+◌, ◌<◌, ◌≤◌, Bool, true, false, List, [], ◌∷◌, ◌++◌, Contains, length, take, drop, get_or, slice_get, Option, Some, None, IfSome, ℤ, pos, ◌+ℤ◌, ◌<ℤ◌, refl, sym, ap, ap₂, subst, ◌∙◌, arith}
-use Rattle.std.specs.Prelude.{◌==◌, if◌then◌else◌, Result, Ok, Err}
+use Rattle.std.proofs.Common.{IsTrue, int_lt, unsigned_abs, ◌^◌, ◌-ℤ◌, cond, count_by, is_some, ◌≡◌, ◌≢◌, ◌⊎◌, ◌↔◌, inl, inr, ℕ, suc, zero, ◌+◌, ◌<◌, ◌≤◌, Bool, true, false, List, [], ◌∷◌, ◌++◌, Contains, length, take, drop, get_or, slice_get, Option, Some, None, IfSome, ℤ, pos, ◌+ℤ◌, ◌<ℤ◌, refl, sym, ap, ap₂, subst, ◌∙◌, arith}
+use Rattle.std.specs.Prelude.{◌==◌, if◌then◌else◌, nat_le, Result, Ok, Err}
 use Rattle.std.specs.Result.{result_and}
 use Rattle.std.specs.Int.{from_bool}
 use Rattle.std.proofs.Math.Seq.{drop-cons}
 use Rattle.std.proofs.lemmas.Int.{ints}
 use Rattle.std.proofs.lemmas.Bool.{cases_eq, eq-eqb}
-use Rattle.std.proofs.lemmas.Bool.Decides.{eqb_tells}
+use Rattle.std.proofs.lemmas.Bool.Decides.{eqb_tells, nat_tests}
 use Rattle.std.proofs.lemmas.Option.{get_or_from_slice_get, slice_get_within}
 use Rattle.std.proofs.lemmas.List.{get_or_default, take-append-drop, take_all, take_more}
 use Rattle.std.proofs.lemmas.List.Sums.{count_by-le-length, sum_by-cons}
@@ -22,13 +22,13 @@ use Rattle.dimacs_claims.specs.Labels.{BlockValue, IsBlock, IsFresh, IsNear, dis
 use Rattle.dimacs_claims.proofs.BegunLemmas.{unlabelled}
 use Rattle.dimacs_claims.proofs.BlockLemmas.{fresh_has_none, has_pred, label-with_label, label_at_wide}
 use Rattle.dimacs_claims.proofs.ByIdLemmas.{distance_in-at, fresh_apart, label_elsewhere}
-use Rattle.dimacs_judge.specs.declared.marks.Mark.{Mark}
+use Rattle.dimacs_judge.specs.declared.mark.Mark.{Mark}
 use Rattle.dimacs_judge.specs.declared.verdict.Where.{Where}
 use Rattle.dimacs_judge.specs.declared.verdict.Where.TheVariants.{Arc}
 use Rattle.dimacs_judge.specs.CertificateTests.{RelaxFails, relax_row, support_row}
 use Rattle.dimacs_judge.specs.inside.CertificateTests.{distance_rows}
 use Rattle.dimacs_judge.specs.Labels.{HasTightArc}
-use Rattle.dimacs_judge.specs.inside.Marks.{AreEarlier, AreMade, AreMadeAlone, AreMadeBelow, AreUnmade, AreWide, IsMarked, IsTight, Makes, MarksArc, MarksMade, SaysSame, dist_of, far, is_made, made_count, marked_dist}
+use Rattle.dimacs_judge.specs.inside.Marks.{AreEarlier, AreMade, AreMadeAlone, AreMadeBelow, AreUnmade, AreWide, HoldsNear, IsMarked, IsTight, Makes, MarksArc, MarksMade, SaysSame, dist_of, far, is_made, made_count, marked_dist}
 use Rattle.dimacs_judge.specs.Rows.{arc_at, no_arc}
 use Rattle.dimacs_judge.specs.Tests.{Clear, ClearBelow, FirstOfRow, TellsRow}
 use Rattle.dimacs_judge.specs.inside.Tests.{Tells, TellsReason}
@@ -43,15 +43,17 @@ marked_elsewhere labels number m off = elim (eqb_tells m.block number) [
   | inr told ↦ ap (λ t. if t then Some (dist_of labels m) else None) told.0
 ]
 
--- a predecessor stands in the mark
-pub has_not_made : (m : Mark) → m.pred ≢ 2 ^ 32 - 1 → is_made m ≡ false
-has_not_made m off = elim (eqb_tells m.pred (2 ^ 32 - 1)) [ inl same ↦ absurd (off same.1) | inr told ↦ told.0 ]
+-- the mark of a distance that stands there itself
+near_here : (labels : List Label) (number : ℕ) (m : Mark) → m.block ≡ number → m.dist <ℤ far → Some m.dist ≡ marked_dist labels number m
+near_here labels number m same near =
+    let less : int_lt m.dist far ≡ true = grind (arith, ints) in
+    sym (marked_here labels number m same ∙ ap (λ t. Some (if t then m.dist else (get_or labels (unsigned_abs (m.dist -ℤ far)) no_label).dist)) less)
 
-pub has_made : (m : Mark) → m.pred ≡ 2 ^ 32 - 1 → is_made m ≡ true
-has_made m same = eq-eqb m.pred (2 ^ 32 - 1) same
+pub made_from : (m : Mark) → 2 ^ 31 ≤ m.pred → is_made m ≡ true
+made_from m past = grind (arith, nat_tests)
 
-pub pred_of_made : (m : Mark) → is_made m ≡ true → m.pred ≡ 2 ^ 32 - 1
-pred_of_made m made = elim (eqb_tells m.pred (2 ^ 32 - 1)) [ inl same ↦ same.1 | inr told ↦ absurd (let e = told.0 in cc) ]
+pub unmade_below : (m : Mark) → m.pred < 2 ^ 31 → is_made m ≡ false
+unmade_below m below = grind (arith, nat_tests)
 
 pub label_source : (b : BlockValue) → label b b.source ≡ Some (pos 0)
 label_source b = elim (eqb_tells b.source b.source) [
@@ -200,43 +202,73 @@ module _ (labels : List Label) (number : ℕ) (a : ArcView) (marks : NodeTable M
             near (rw (same, equal) less))
       ]
 
-  pub is_tight : (from +ℤ a.cost) ≡ to → head.pred ≡ a.tail → head.pred ≢ 2 ^ 32 - 1 → IsTight labels number a marks
-  is_tight adds pred unmade = record {
-    base = from;
-    tail = from_at;
-    head = to_at ∙ ap (λ d. Some d) (sym adds);
-    pred = ap (λ (m : Mark). m.pred) (sym head_is) ∙ pred;
-    unmade = ap is_made (sym head_is) ∙ has_not_made head unmade;
-  }
-
-  tight_gives : IsTight labels number a marks → ((from +ℤ a.cost) ≡ to) × (head.pred ≡ a.tail) × (head.pred ≢ 2 ^ 32 - 1)
-  tight_gives tight =
-      let both : Some from ≡ Some tight.base = sym from_at ∙ tight.tail in
-      let same : from ≡ tight.base = cc in
-      let ends : Some to ≡ Some (tight.base +ℤ a.cost) = sym to_at ∙ tight.head in
-      let sum : to ≡ (tight.base +ℤ a.cost) = cc in (
-        ap (λ (z : ℤ). z +ℤ a.cost) same ∙ sym sum,
-        ap (λ (m : Mark). m.pred) head_is ∙ tight.pred,
-        λ made. (let yes = has_made head made in let no : is_made head ≡ false = ap is_made head_is ∙ tight.unmade in cc),
-      )
-
-  pub not_tight : (¬ ((from +ℤ a.cost) ≡ to)) → ¬ IsTight labels number a marks
-  not_tight off tight = off (tight_gives tight).0
-
-  pub made_with_arc : (made : Bool) (new : Mark) → (IsTrue made ↔ (((from +ℤ a.cost) ≡ to) × (head.pred ≡ a.tail) × (head.pred ≢ 2 ^ 32 - 1))) → new.pred ≡ (if made then 2 ^ 32 - 1 else head.pred)
-      → (is_made new ≡ true) ↔ ((is_made (value_of marks a.head) ≡ true) ⊎ IsTight labels number a marks)
-  made_with_arc true new is pred = (λ so. inr (let (adds, from, unmade) = is.0 refl in is_tight adds from unmade), λ either. has_made new pred)
-  made_with_arc false new is pred = (
-    λ so. inl (ap is_made (sym head_is) ∙ has_made head (sym pred ∙ pred_of_made new so)),
-    λ either. elim either [
-      | inl before ↦ has_made new (pred ∙ pred_of_made head (ap is_made head_is ∙ before))
-      | inr tight ↦ absurd (let no : IsTrue false = is.1 (tight_gives tight) in cc)
-    ],
+  pub tight_where : (((from +ℤ a.cost) ≡ to) × (head.pred ≡ a.tail) × (is_made head ≡ false)) ↔ IsTight labels number a marks
+  tight_where = (
+    λ (adds, pred, unmade). record {
+      base = from;
+      tail = from_at;
+      head = to_at ∙ ap (λ d. Some d) (sym adds);
+      pred = ap (λ (m : Mark). m.pred) (sym head_is) ∙ pred;
+      unmade = ap is_made (sym head_is) ∙ unmade;
+    },
+    λ tight.
+        let both : Some from ≡ Some tight.base = sym from_at ∙ tight.tail in
+        let same : from ≡ tight.base = cc in
+        let ends : Some to ≡ Some (tight.base +ℤ a.cost) = sym to_at ∙ tight.head in
+        let sum : to ≡ (tight.base +ℤ a.cost) = cc in
+        (ap (λ (z : ℤ). z +ℤ a.cost) same ∙ sym sum, ap (λ (m : Mark). m.pred) head_is ∙ tight.pred, ap is_made head_is ∙ tight.unmade),
   )
 
-  pub pred_kept : (made : Bool) (new : Mark) → new.pred ≡ (if made then 2 ^ 32 - 1 else head.pred) → is_made new ≡ false → new.pred ≡ (value_of marks a.head).pred
-  pred_kept true new pred unmade = absurd (let yes = has_made new pred in cc)
-  pred_kept false new pred unmade = pred ∙ ap (λ (m : Mark). m.pred) head_is
+  pub not_tight : (¬ ((from +ℤ a.cost) ≡ to)) → ¬ IsTight labels number a marks
+  not_tight off tight = off (tight_where.1 tight).0
+
+-- at the head, once the arc was passed
+module _ (labels : List Label) (number : ℕ) (a : ArcView) (marks : NodeTable Mark) (head : Mark) (head_is : head ≡ value_of marks a.head) where
+  pub made_with_arc : (made : Bool) (new : Mark) → (IsTrue made ↔ IsTight labels number a marks) → new.pred ≡ head.pred + (if made then 2 ^ 31 else 0) → (is_made new ≡ true) ↔ ((is_made (value_of marks a.head) ≡ true) ⊎ IsTight labels number a marks)
+  made_with_arc true new is pred = (λ so. inr (is.0 refl), λ either. made_from new (omega (arith, pred)))
+  made_with_arc false new is pred =
+      let same : new.pred ≡ (value_of marks a.head).pred = omega (arith, pred, ap (λ (m : Mark). m.pred) head_is) in (
+        λ so. inl (ap (λ n. nat_le (2 ^ 31) n) (sym same) ∙ so),
+        λ either. elim either [
+          | inl before ↦ ap (λ n. nat_le (2 ^ 31) n) same ∙ before
+          | inr tight ↦ absurd (let no : IsTrue false = is.1 tight in cc)
+        ],
+      )
+
+  pub pred_kept : (made : Bool) (new : Mark) → new.pred ≡ head.pred + (if made then 2 ^ 31 else 0) → is_made new ≡ false → new.pred ≡ (value_of marks a.head).pred
+  pred_kept true new pred unmade = absurd (let yes = made_from new (omega (arith, pred)) in cc)
+  pred_kept false new pred unmade = omega (arith, pred, ap (λ (m : Mark). m.pred) head_is)
+
+-- an arc of which no doubt is left
+module _ (labels : List Label) (number : ℕ) (a : ArcView) (marks : NodeTable Mark) (tail head : Mark) (tail_is : tail ≡ value_of marks a.tail) (head_is : head ≡ value_of marks a.head) (holds : tail.block ≡ number → HoldsNear number a.cost tail head) where
+  tail_unmarked : tail.block ≢ number → marked_dist labels number (value_of marks a.tail) ≡ None
+  tail_unmarked off = ap (marked_dist labels number) (sym tail_is) ∙ marked_elsewhere labels number tail off
+
+  from_here : tail.block ≡ number → Some tail.dist ≡ marked_dist labels number tail
+  from_here here = near_here labels number tail here (holds here).tail
+
+  to_here : tail.block ≡ number → Some head.dist ≡ marked_dist labels number head
+  to_here here = near_here labels number head (holds here).known (holds here).head
+
+  pub told_holding : (radius : Option ℤ) (reason : Reason) → ¬ RelaxFails radius (marked_dist labels number (value_of marks a.tail)) (marked_dist labels number (value_of marks a.head)) a.cost reason
+  told_holding radius reason fails = elim (cases_eq tail.block number) [
+    | inl here ↦
+        told_near labels number a marks tail head tail_is head_is tail.dist head.dist (from_here here) (to_here here) radius
+        (λ far. omega (arith, ints, far, (holds here).near)) reason fails
+    | inr off ↦ (let (d, from, why) = fails in let none : None ≡ Some d = sym (tail_unmarked off) ∙ from in absurd (cc))
+  ]
+
+  pub tight_holding : ((tail.block ≡ number) × ((tail.dist +ℤ a.cost) ≡ head.dist) × (head.pred ≡ a.tail) × (is_made head ≡ false)) ↔ IsTight labels number a marks
+  tight_holding = (
+    λ (here, adds, pred, unmade).
+        (tight_where labels number a marks tail head tail_is head_is tail.dist head.dist (from_here here) (to_here here)).0 (adds, pred, unmade),
+    λ tight. elim (cases_eq tail.block number) [
+      | inl here ↦
+          let is = (tight_where labels number a marks tail head tail_is head_is tail.dist head.dist (from_here here) (to_here here)).1 tight in
+          (here, is.0, is.1, is.2)
+      | inr off ↦ (let none : None ≡ Some tight.base = sym (tail_unmarked off) ∙ tight.tail in absurd (cc))
+    ],
+  )
 
 -- where the head has no label
 pub told_of_escape : (radius : Option ℤ) (from weight : ℤ) (tail head : Option ℤ) (fault : Option Reason) → tail ≡ Some from → head ≡ None → TellsReason (λ reason. (reason ≡ Escapes) × IsNear radius (from +ℤ weight)) fault → TellsReason (RelaxFails radius tail head weight) fault

@@ -49,7 +49,7 @@ slack_one_way arcs p x = arc_one_way arcs _ (λ k r s f g. f.0 ∙ sym g.0)
 support_one_way : (arcs : List ArcView) (b : BlockValue) → OneWay (support_row arcs b)
 support_one_way arcs b k p q r s f g = (f.1 ∙ sym g.1, f.2 ∙ sym g.2)
 
-one_relax : (radius tail head : Option ℤ) (w : ℤ) (r s : Reason) → RelaxFails radius tail head w r → RelaxFails radius tail head w s → r ≡ s
+pub one_relax : (radius tail head : Option ℤ) (w : ℤ) (r s : Reason) → RelaxFails radius tail head w r → RelaxFails radius tail head w s → r ≡ s
 one_relax radius tail head w r s (d, is, inl f) (e, also, inl g) = f.0 ∙ sym g.0
 one_relax radius tail head w r s (d, is, inl f) (e, also, inr g) = absurd (let (h, head_is, less) = g.1 in let both : None ≡ Some h = sym f.1 ∙ head_is in cc)
 one_relax radius tail head w r s (d, is, inr f) (e, also, inl g) = absurd (let (h, head_is, less) = f.1 in let both : None ≡ Some h = sym g.1 ∙ head_is in cc)

@@ -2,15 +2,12 @@
 use Rattle.std.proofs.Common.{◌≡◌, ◌∙◌, ap, inl, subst, List, [], ◌∷◌, ◌++◌, Result, Ok, Err, ℤ}
 use Rattle.std.specs.Prelude.{IsErrAnd}
 use Rattle.std.proofs.lemmas.Result.{err_from_is_err_and}
-use Rattle.dimacs_instance.specs.declared.network.ArcView.{ArcView}
-use Rattle.dimacs_claims.specs.declared.solution.Entry.{Entry}
 use Rattle.dimacs_records.specs.declared.reasons.Reason.{Reason}
 use Rattle.dimacs_judge.specs.declared.verdict.Where.{Where}
 use Rattle.dimacs_judge.specs.declared.verdict.JudgeError.{JudgeError}
 use Rattle.dimacs_judge.specs.declared.verdict.JudgeError.TheVariants.{Refused, Memory}
 use Rattle.dimacs_judge.specs.declared.verdict.Verdict.{Verdict}
-use Rattle.dimacs_judge.specs.Claims.{Carries, entry_row}
-use Rattle.dimacs_judge.specs.Tests.{Row, AllClear, First, TellsRow, Decides, Settles, Judges}
+use Rattle.dimacs_judge.specs.Tests.{Row, AllClear, First, TellsRow, Decides, Refutes, Settles, Judges}
 use Rattle.dimacs_judge.specs.inside.Tests.{Tells, Refuses}
 use Rattle.dimacs_judge.proofs.Firsts.{AllOneWay, one_first, none_first}
 use Rattle.dimacs_judge.proofs.RowLists.{first_in_front, first_after}
@@ -19,10 +16,28 @@ pub decided : (holds : Type 0) (rows : List Row) → (AllClear rows → holds) �
 decided holds rows passing needed (Ok done) clear = passing clear
 decided holds rows passing needed (Err refusal) first = (first, λ h. none_first rows refusal.0 refusal.1 (needed h) first)
 
--- a refusal settles what holds only where all tests pass
-pub refusal_settles : {X : Type 0} (holds : X → Type 0) (rows : List Row) → ((x : X) → holds x → AllClear rows) → (error : JudgeError) → Refuses (First rows) error → Settles holds rows (Err error)
-refusal_settles holds rows needed (Refused place reason) first = (first, λ x h. none_first rows place reason (needed x h) first)
-refusal_settles holds rows needed Memory first = tt
+-- a refusal refutes what holds only where all tests pass, if each fails in one way
+pub refusal_refutes : {X : Type 0} (holds : X → Type 0) (rows : List Row) → AllOneWay rows → ((x : X) → holds x → AllClear rows) → (error : JudgeError) → Refuses (First rows) error → Refutes holds rows error
+refusal_refutes holds rows one needed (Refused place reason) first = ((first, λ other why also. one_first rows other place why reason one also first), λ x h. none_first rows place reason (needed x h) first)
+refusal_refutes holds rows one needed Memory first = tt
+
+-- and where it is passed up as the function's own
+pub error_settles : {X : Type 0} (holds : X → Type 0) (rows : List Row) → AllOneWay rows → ((x : X) → holds x → AllClear rows) → (error : JudgeError) → Refuses (First rows) error
+    → (result : Result X JudgeError) → IsErrAnd result (λ e. e ≡ error) → Settles holds rows result
+error_settles holds rows one needed error first result is = let p = err_from_is_err_and result is in rw (p.1, p.2) (refusal_refutes holds rows one needed error first)
+
+pub refuted_refuses : {X : Type 0} (holds : X → Type 0) (rows : List Row) (error : JudgeError) → Refutes holds rows error → Refuses (First rows) error
+refuted_refuses holds rows (Refused place reason) told = told.0.0
+refuted_refuses holds rows Memory told = tt
+
+-- what is refuted refutes all that holds only where it does
+refuted_also : {X Y : Type 0} (holds : X → Type 0) (other : Y → Type 0) (rows : List Row) → ((y : Y) → other y → (x : X) × holds x) → (error : JudgeError) → Refutes holds rows error → Refutes other rows error
+refuted_also holds other rows needs (Refused place reason) told = (told.0, λ y is. let (x, h) = needs y is in told.1 x h)
+refuted_also holds other rows needs Memory told = tt
+
+pub refuted_settles : {X Y : Type 0} (holds : X → Type 0) (other : Y → Type 0) (rows : List Row) → ((y : Y) → other y → (x : X) × holds x) → (error : JudgeError) → Refutes holds rows error
+    → (result : Result Y JudgeError) → IsErrAnd result (λ e. e ≡ error) → Settles other rows result
+refuted_settles holds other rows needs error told result is = let p = err_from_is_err_and result is in rw (p.1, p.2) (refuted_also holds other rows needs error told)
 
 -- a single row
 pub last_row : (row : Row) (told : Result Unit (Where × Reason)) → TellsRow row told → Tells (row ∷ []) told
@@ -30,16 +45,13 @@ last_row row (Ok done) clear = (clear, tt)
 last_row row (Err refusal) first = inl first
 
 -- ---- judges
-settled_refuses : {X : Type 0} (holds : X → Type 0) (rows : List Row) (error : JudgeError) → Settles holds rows (Err error) → Refuses (First rows) error
-settled_refuses holds rows (Refused place reason) told = told.0
-settled_refuses holds rows Memory told = tt
-
--- the first entry that fails
-pub entries_refuse : (arcs : List ArcView) (entries : List Entry) (told : Result (List ℤ) JudgeError) (error : JudgeError) → told ≡ Err error → Settles (Carries arcs entries) (entry_row arcs entries ∷ []) told → Refuses (First (entry_row arcs entries ∷ [])) error
-entries_refuse arcs entries told error is settles = settled_refuses (Carries arcs entries) (entry_row arcs entries ∷ []) error (subst (λ (r : Result (List ℤ) JudgeError). Settles (Carries arcs entries) (entry_row arcs entries ∷ []) r) is settles)
+-- the first test that fails, in front of other rows
+pub refused_in_front : (rows more : List Row) (error : JudgeError) → Refuses (First rows) error → Refuses (First (rows ++ more)) error
+refused_in_front rows more (Refused place reason) first = first_in_front rows more place reason first
+refused_in_front rows more Memory first = tt
 
 -- the first test that fails, after rows that pass
-pub refused_after : (front rows more : List Row) (error : JudgeError) → AllClear front → Refuses (First rows) error → Refuses (First (front ++ (rows ++ more))) error
+refused_after : (front rows more : List Row) (error : JudgeError) → AllClear front → Refuses (First rows) error → Refuses (First (front ++ (rows ++ more))) error
 refused_after front rows more (Refused place reason) clear first = first_after front (rows ++ more) place reason clear (first_in_front rows more place reason first)
 refused_after front rows more Memory clear first = tt
 

@@ -1,12 +1,15 @@
 -- The tests of a flow: its bounds, its balances, its cost.
-use Rattle.std.specs.Prelude.{ℕ, ◌≡◌, ◌≢◌, ◌+◌, ◌⊎◌, ◌==◌, if◌then◌else◌, List, [], ◌∷◌, take, Option, Some, None, ℤ, pos, ◌≤ℤ◌, ◌<ℤ◌}
+use Rattle.std.specs.Prelude.{ℕ, ◌≡◌, ◌≢◌, ◌+◌, ◌<◌, ◌⊎◌, ◌==◌, if◌then◌else◌, List, [], ◌∷◌, length, take, Option, Some, None, Result, Ok, Err, ℤ, pos, ◌≤ℤ◌, ◌<ℤ◌}
 use Rattle.dimacs_instance.specs.declared.network.ArcView.{ArcView}
 use Rattle.dimacs_records.specs.declared.reasons.Reason.{Reason}
 use Rattle.dimacs_records.specs.declared.reasons.Reason.TheVariants.{BelowLow, AboveCap, Balance, CostRange}
+use Rattle.dimacs_nodes.specs.Tables.{value_of}
 use Rattle.dimacs_records.specs.Ranges.{IsWide}
 use Rattle.dimacs_judge.specs.Flows.{net, cost}
 use Rattle.dimacs_judge.specs.Rows.{arc_row, flow_row, node_row}
-use Rattle.dimacs_judge.specs.Tests.{Row}
+use Rattle.dimacs_judge.specs.Tests.{Row, Clear, FirstOfRow}
+use Rattle.dimacs_judge.specs.declared.balances.Balances.{Balances}
+use Rattle.dimacs_judge.specs.declared.verdict.Where.{Where}
 use Rattle.dimacs_instance.specs.MaxFlows.{MaxValue}
 use Rattle.dimacs_instance.specs.MinFlows.{MinValue, supply_of}
 
@@ -23,6 +26,10 @@ BalanceFails demand balance reason = (reason ≡ Balance) × ((d : ℤ) × (dema
 
 abbrev pub balance_row : ℕ → List ArcView → (ℕ → Option ℤ) → List ℤ → Row
 balance_row nodes arcs demand x = node_row nodes (λ v reason. BalanceFails (demand v) (net arcs x v) reason)
+
+-- the balances of all nodes, also of those without arcs
+abbrev pub AreBalances : List ArcView → List ℤ → Balances → Type 0
+AreBalances arcs x balances = (v : ℕ) → value_of balances.sums v ≡ net arcs x v
 
 -- the tests of a feasible flow
 abbrev pub feasible_rows : ℕ → List ArcView → (ℕ → Option ℤ) → List ℤ → List Row
@@ -48,3 +55,12 @@ cost_through arcs x k = cost (take (k + 1) arcs) (take (k + 1) x)
 
 abbrev pub cost_row : List ArcView → List ℤ → Row
 cost_row arcs x = arc_row arcs (λ k reason. (reason ≡ CostRange) × (¬ IsWide (cost_through arcs x k)))
+
+-- the cost, where the costs so far stay within their range; else the first arc at which they leave it
+abbrev pub TellsCost : List ArcView → List ℤ → Result ℤ (Where × Reason) → Type 0
+TellsCost arcs x (Ok sum) = (sum ≡ cost arcs x) × Clear (cost_row arcs x)
+TellsCost arcs x (Err refusal) = FirstOfRow (cost_row arcs x) refusal.0 refusal.1
+
+-- the cost of the arcs up to some one is out of its range
+abbrev pub LeavesCostRange : List ArcView → List ℤ → Type 0
+LeavesCostRange arcs x = (k : ℕ) × (k < length arcs) × (¬ IsWide (cost_through arcs x k))

@@ -1,4 +1,5 @@
 pub mod Flows
+pub mod Entries
 pub mod Feasible
 pub mod Optimum
 pub mod Cuts

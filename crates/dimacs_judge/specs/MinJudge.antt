@@ -1,5 +1,5 @@
 -- Judging that a flow is least.
-use Rattle.std.specs.Prelude.{ℕ, ◌≡◌, ◌<◌, List, [], ◌∷◌, length, ℤ}
+use Rattle.std.specs.Prelude.{ℕ, ◌≡◌, ◌<◌, List, [], ◌∷◌, ◌++◌, length, ℤ}
 use Rattle.dimacs_claims.specs.Potentials.{PotentialsValue, potential_of}
 use Rattle.dimacs_claims.specs.SolutionTexts.{SolutionValue}
 use Rattle.dimacs_instance.specs.MinFlows.{MinValue}
@@ -14,25 +14,31 @@ use Rattle.dimacs_judge.specs.Potentials.{Slack}
 use Rattle.dimacs_records.specs.Ranges.{IsWide}
 use Rattle.dimacs_judge.specs.Tests.{Row}
 
--- the tests of a solution and of potentials, in order
-abbrev pub min_rows : MinValue → SolutionValue → PotentialsValue → List Row
-min_rows i s p =
+-- the tests of a claimed flow, in order
+abbrev pub min_claim_rows : MinValue → SolutionValue → List Row
+min_claim_rows i s =
     let x = claimed_flow i.arcs s.entries in
     entry_row i.arcs s.entries
     ∷ bound_row i.arcs x
     ∷ balance_row i.nodes i.arcs (min_demand i) x
     ∷ cost_row i.arcs x
     ∷ value_row (cost i.arcs x) s.value s.value_line
-    ∷ nodes_row i.nodes p.nodes
-    ∷ slack_row i.arcs (potential_of p) x
     ∷ []
 
--- the flow that the solution carries is feasible and has the claimed cost, which stays in its range arc by arc, and the potentials are slack for it
-pub record PassesMin (i : MinValue) (s : SolutionValue) (p : PotentialsValue) (x : List ℤ) : Type 0 where
+-- the tests of a solution and of potentials, in order
+abbrev pub min_rows : MinValue → SolutionValue → PotentialsValue → List Row
+min_rows i s p = min_claim_rows i s ++ nodes_row i.nodes p.nodes ∷ slack_row i.arcs (potential_of p) (claimed_flow i.arcs s.entries) ∷ []
+
+-- the flow that the solution carries is feasible and has the claimed cost, which stays in its range arc by arc
+pub record IsMinClaim (i : MinValue) (s : SolutionValue) (x : List ℤ) : Type 0 where
   pub carries : Carries i.arcs s.entries x
   pub feasible : FeasibleMin i x
   pub costs_wide : (k : ℕ) → k < length i.arcs → IsWide (cost_through i.arcs x k)
   pub cost_is : cost i.arcs x ≡ s.value
+
+-- the flow is what is claimed, and the potentials are slack for it
+pub record PassesMin (i : MinValue) (s : SolutionValue) (p : PotentialsValue) (x : List ℤ) : Type 0 where
+  pub claim : IsMinClaim i s x
   pub nodes_are : p.nodes ≡ i.nodes
   pub slack : Slack i.arcs x (potential_of p)
 

@@ -44,15 +44,19 @@ abbrev pub Decides : Type 0 → List Row → Result Unit (Where × Reason) → T
 Decides holds rows (Ok done) = holds
 Decides holds rows (Err refusal) = First rows refusal.0 refusal.1 × ¬ holds
 
--- yes with a value of which this holds; else the first test that fails, and it holds of none; want of memory says nothing
-abbrev pub Settles : {X : Type 0} → (X → Type 0) → List Row → Result X JudgeError → Type 0
-Settles holds rows (Ok x) = holds x
-Settles holds rows (Err (Refused place reason)) = First rows place reason × ((x : _) → ¬ holds x)
-Settles holds rows (Err Memory) = Unit
-
 -- this test is the first that fails, and no other is
 abbrev pub FirstAlone : List Row → Where → Reason → Type 0
 FirstAlone rows place reason = First rows place reason × ((other : Where) (why : Reason) → First rows other why → (other ≡ place) × (why ≡ reason))
+
+-- the first test that fails, and this holds of nothing; want of memory says nothing
+abbrev pub Refutes : {X : Type 0} → (X → Type 0) → List Row → JudgeError → Type 0
+Refutes holds rows (Refused place reason) = FirstAlone rows place reason × ((x : _) → ¬ holds x)
+Refutes holds rows Memory = Unit
+
+-- yes with a value of which this holds; or it holds of none, by the first test that fails
+abbrev pub Settles : {X : Type 0} → (X → Type 0) → List Row → Result X JudgeError → Type 0
+Settles holds rows (Ok x) = holds x
+Settles holds rows (Err error) = Refutes holds rows error
 
 -- all tests pass, this holds, and the verdict says so; else the first test that fails, and it doesn't hold; want of memory says nothing
 abbrev pub Judges : List Row → Type 0 → (Verdict → Type 0) → Result Verdict JudgeError → Type 0

@@ -5,7 +5,7 @@ ghost use Rattle.std.specs.Int.{w128};
 ghost use Rattle.dimacs_lines.specs.Limits.{most_count};
 ghost use Rattle.dimacs_nodes.specs.Tables.{value_of};
 ghost use Rattle.dimacs_judge.specs.Flows.{when};
-ghost use Rattle.dimacs_judge.specs.inside.FlowTests.{AreBalances};
+ghost use Rattle.dimacs_judge.specs.FlowTests.{AreBalances};
 ghost use Rattle.dimacs_judge.specs.inside.Ranges.{IsOfSize};
 
 use crate::flow::Flow;
@@ -16,17 +16,13 @@ use std::alloc::Global;
 
 /// The balance of each node, by its ID.
 #[derive(Drop)]
-pub(crate) struct Balances {
+pub struct Balances {
     sums: NodeTable<i128>,
 }
 
 impl Balances {
     /// Adds up the balances that a flow gives the nodes. Takes memory for the ends of arcs alone.
-    pub(crate) fn new<N: Network>(
-        alloc: Global,
-        network: &N,
-        flow: &Flow,
-    ) -> Result<Balances, Memory>
+    pub fn new<N: Network>(alloc: Global, network: &N, flow: &Flow) -> Result<Balances, Memory>
         requires few_arcs { length (N.list network.now) ≤ most_count }
         requires one_each { length flow.now ≡ length (N.list network.now) }
         ensures { IfOk result (AreBalances (N.list network.now) flow.now) }
@@ -38,8 +34,9 @@ impl Balances {
         Ok(Balances { sums })
     }
 
+    /// The balance of a node; 0 where no arc ends.
     #[inline(always)]
-    pub(crate) fn of(&self, node: u32) -> i128
+    pub fn of(&self, node: u32) -> i128
         ensures { result ≡ value_of self.now.sums node }
     {
         self.sums.get(node)

@@ -1,7 +1,7 @@
 //! The cost of a flow.
 
 ghost use Rattle.std.specs.Prelude.{◌≡◌, ◌^◌, ◌+ℤ◌, ◌*ℤ◌, length, IsTrue, ◌↔◌, MatchOption};
-ghost use Rattle.dimacs_judge.specs.inside.FlowTests.{TellsCost};
+ghost use Rattle.dimacs_judge.specs.FlowTests.{TellsCost};
 ghost use Rattle.dimacs_judge.specs.inside.Ranges.{IsOfSize};
 ghost use Rattle.dimacs_records.specs.Ranges.{IsWide};
 
@@ -12,7 +12,7 @@ use dimacs_lines::WIDE;
 use dimacs_records::Reason;
 
 /// The cost of the flow, or the first arc at which the costs so far leave the wide range.
-pub(crate) fn cost_within<N: Network>(network: &N, flow: &Flow) -> Result<i128, (Where, Reason)>
+pub fn cost_within<N: Network>(network: &N, flow: &Flow) -> Result<i128, (Where, Reason)>
     requires one_each { length flow.now ≡ length (N.list network.now) }
     ensures { TellsCost (N.list network.now) flow.now result }
 {

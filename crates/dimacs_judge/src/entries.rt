@@ -30,8 +30,8 @@ pub fn flow_of<N: Network>(
     Ok(flow)
 }
 
-/// A solution whose entries are placed on the arcs of a network.
-pub(crate) fn placed<'a, N: Network>(
+/// A solution whose entries are placed on the arcs of a network; the first that fails is kept there.
+pub fn placed<'a, N: Network>(
     alloc: Global,
     network: &'a N,
     solution: &Solution,

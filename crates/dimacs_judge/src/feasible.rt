@@ -3,8 +3,8 @@
 ghost use Rattle.std.specs.Prelude.{◌≡◌, ◌≤◌, ℕ, ℤ, List, Option, length};
 ghost use Rattle.dimacs_lines.specs.Limits.{most_count, most_nodes};
 ghost use Rattle.dimacs_judge.specs.Feasible.{FeasibleMax, FeasibleMin};
-ghost use Rattle.dimacs_judge.specs.FlowTests.{BoundFails, BalanceFails, bound_row, balance_row, feasible_max_rows, feasible_min_rows, max_demand, min_demand};
-ghost use Rattle.dimacs_judge.specs.inside.FlowTests.{AreBalances, TellsFeasible};
+ghost use Rattle.dimacs_judge.specs.FlowTests.{AreBalances, BoundFails, BalanceFails, bound_row, balance_row, feasible_max_rows, feasible_min_rows, max_demand, min_demand};
+ghost use Rattle.dimacs_judge.specs.inside.FlowTests.{TellsFeasible};
 ghost use Rattle.dimacs_judge.specs.Tests.{Settles, TellsRow};
 ghost use Rattle.dimacs_judge.specs.inside.Tests.{TellsReason};
 
@@ -66,7 +66,7 @@ pub(crate) fn feasible<N: Network, D: Demands>(
 }
 
 /// The first arc that carries less than its lower bound or more than its capacity.
-pub(crate) fn bounds_hold<N: Network>(network: &N, flow: &Flow) -> Result<(), (Where, Reason)>
+pub fn bounds_hold<N: Network>(network: &N, flow: &Flow) -> Result<(), (Where, Reason)>
     requires one_each { length flow.now ≡ length (N.list network.now) }
     ensures { TellsRow (bound_row (N.list network.now) flow.now) result }
 {

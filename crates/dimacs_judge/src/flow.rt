@@ -37,6 +37,13 @@ impl Flow {
         self.amounts[arc as usize]
     }
 
+    /// The amounts in the order of the arcs.
+    pub fn amounts(&self) -> &[i64]
+        ensures { result.now ≡ self.now }
+    {
+        &self.amounts
+    }
+
     /// The flow that carries nothing.
     pub fn zero(alloc: Global, arcs: u32) -> Result<Flow, Memory>
         ensures { IfOk result (λ flow. flow ≡ replicate arcs (pos 0)) }

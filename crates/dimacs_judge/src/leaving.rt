@@ -11,7 +11,8 @@ ghost use Rattle.dimacs_judge.specs.Tests.{Clear};
 
 use crate::labels::escape_fault;
 use crate::least_arcs::LeastArcs;
-use crate::marks::{Mark, pass_arc};
+use crate::mark::Mark;
+use crate::marks::pass_arc;
 use dimacs_claims::Block;
 use dimacs_instance::Network;
 use dimacs_nodes::NodeTable;

@@ -19,18 +19,22 @@ mod laws;
 mod least;
 mod least_arcs;
 mod leaving;
+mod mark;
 mod marks;
 mod maximum;
 mod paths;
 mod places;
 mod potentials;
 mod queries;
+mod solution;
 mod value;
 mod verdict;
 
+pub use balances::Balances;
+pub use costs::cost_within;
 pub use cuts::cut_tests;
-pub use entries::flow_of;
-pub use feasible::{feasible_max, feasible_min};
+pub use entries::{flow_of, placed};
+pub use feasible::{bounds_hold, feasible_max, feasible_min};
 pub use flow::Flow;
 pub use infeasible::judge_infeasible;
 pub use labels::label_tests;
@@ -38,11 +42,12 @@ pub use laws::{
     exchange, labels_give_distances, passing_shows, slack_is_least, tight_cut_is_maximum,
     violated_has_no_flow,
 };
-pub use least::{judge_min, judge_min_placed};
-pub use maximum::{judge_max, judge_max_placed};
+pub use least::{judge_min, judge_min_placed, min_claim_tests};
+pub use maximum::{judge_max, judge_max_placed, max_claim_tests};
 pub use paths::judge_paths;
 pub use places::FlowPlaces;
 pub use potentials::slack_tests;
 pub use queries::{answer_queries, index_for, query_nodes_hold, source_asked};
+pub use solution::{max_solution, min_solution};
 pub use value::value_of;
 pub use verdict::{Answer, JudgeError, Verdict, Where};

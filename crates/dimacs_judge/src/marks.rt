@@ -1,134 +1,32 @@
 //! Whether the labels of blocks are distances, by one pass over the arcs for each block, or over those that leave its
 //! nodes.
 
-ghost use Rattle.std.specs.Prelude.{◌≡◌, ◌≢◌, ◌<◌, ◌≤◌, ◌+◌, ◌-◌, ◌^◌, ◌↔◌, ◌+ℤ◌, ℕ, List, get_or, pos, IfNone, IfSome, IfOk, OnOk, IsTrue, if◌then◌else◌, false, true};
+ghost use Rattle.std.specs.Prelude.{◌≡◌, ◌≢◌, ◌<◌, ◌≤◌, ◌+◌, ◌↔◌, ◌+ℤ◌, ℕ, List, IfNone, IfSome, IfOk, OnOk, IsTrue, false};
 ghost use Rattle.std.specs.Result.{result_err};
-ghost use Rattle.dimacs_lines.specs.Limits.{most_count, most_nodes};
+ghost use Rattle.dimacs_lines.specs.Limits.{most_nodes};
 ghost use Rattle.dimacs_instance.specs.declared.network.ArcView.{ArcView};
 ghost use Rattle.dimacs_claims.specs.declared.block.Label.{Label};
-ghost use Rattle.dimacs_claims.specs.Labels.{AreLabels, BlockValue, IsBlock, no_label};
+ghost use Rattle.dimacs_claims.specs.Labels.{AreLabels, BlockValue, IsBlock};
 ghost use Rattle.dimacs_nodes.specs.Tables.{HasPlace, blank_of, value_of};
 ghost use Rattle.dimacs_records.specs.Ranges.{IsWide};
 ghost use Rattle.dimacs_judge.specs.CertificateTests.{RelaxFails, label_rows, relax_row, support_row, weight_row};
 ghost use Rattle.dimacs_judge.specs.inside.CertificateTests.{distance_rows};
 ghost use Rattle.dimacs_judge.specs.inside.Leaving.{AreLeast};
-ghost use Rattle.dimacs_judge.specs.inside.Marks.{AreAsTested, AreEarlier, AreMade, AreMadeAlone, AreMadeBelow, AreUnmade, AreWide, IsMarked, IsTight, MarksArc, dist_of, is_made, marked_dist};
+ghost use Rattle.dimacs_judge.specs.inside.Marks.{AreAsTested, AreEarlier, AreMade, AreMadeAlone, AreMadeBelow, ArePassedBelow, AreUnmade, AreWide, IsMarked, IsTight, MarksArc, PassesArc, is_made, marked_dist};
 ghost use Rattle.dimacs_judge.specs.Tests.{Clear, TellsRow};
 ghost use Rattle.dimacs_judge.specs.inside.Tests.{Tells, TellsAll, TellsReason};
 
 use crate::labels::{escape_fault, is_beyond, weights_hold};
 use crate::least_arcs::LeastArcs;
 use crate::leaving::{labels_few, leaving_passed};
+use crate::mark::Mark;
 use crate::verdict::{JudgeError, Where};
-use dimacs_claims::{Block, Label, LabelList, Labels};
+use dimacs_claims::{Block, LabelList, Labels};
 use dimacs_instance::{ArcView, Network};
 use dimacs_lines::Memory;
 use dimacs_nodes::NodeTable;
 use dimacs_records::Reason;
 use std::alloc::Global;
-
-/// What a block of labels says of a node, in 16 bytes: two marks are looked up for each arc, so the smaller they are, the
-/// more often the cache has them.
-#[derive(Clone, Copy)]
-pub(crate) struct Mark {
-    /// The distance where it is less than `FAR`. Else `FAR` and the place of the label, which has the distance.
-    dist: i64,
-    /// The predecessor, until an arc is found that makes the label; then `MADE`.
-    pred: u32,
-    /// The number of the block, from 1. Other blocks say nothing of the node by this mark.
-    block: u32,
-}
-
-/// Set by no block.
-const NO_MARK: Mark = Mark {
-    dist: 0,
-    pred: 0,
-    block: 0,
-};
-
-/// Past the greatest distance that stands in a mark. Of distances beyond 64 bits below it none does either.
-const FAR: i64 = 1 << 62;
-
-/// The ID of no node.
-const MADE: u32 = u32::MAX;
-
-impl Mark {
-    /// Of the source, whose label no arc has to make.
-    fn of_source(block: u32) -> Mark
-        ensures dist { (labels : List Label) → dist_of labels result ≡ pos 0 }
-        ensures block { result.block ≡ block }
-        ensures made { is_made result ≡ true }
-    {
-        Mark {
-            dist: 0,
-            pred: MADE,
-            block,
-        }
-    }
-
-    /// Of the label at this place, which no arc was found to make.
-    #[inline(always)]
-    fn of(label: Label, place: usize, block: u32) -> Mark
-        requires { place < most_count }
-        ensures dist { (labels : List Label) → get_or labels place no_label ≡ label → dist_of labels result ≡ label.dist }
-        ensures pred { result.pred ≡ label.pred }
-        ensures block { result.block ≡ block }
-    {
-        let dist = match i64::try_from(label.dist) {
-            Ok(dist) if dist < FAR => dist,
-            _ => FAR + place as i64,
-        };
-        Mark {
-            dist,
-            pred: label.pred,
-            block,
-        }
-    }
-
-    /// Whether an arc was found that makes the label.
-    #[inline(always)]
-    fn is_made(self) -> bool
-        ensures { result ≡ is_made self }
-    {
-        self.pred == MADE
-    }
-
-    /// The same, but made where this is so.
-    #[inline(always)]
-    fn made_if(self, made: bool) -> Mark
-        ensures dist { result.dist ≡ self.dist }
-        ensures block { result.block ≡ self.block }
-        ensures pred { result.pred ≡ (if made then 2 ^ 32 - 1 else self.pred) }
-    {
-        let pred = if made { MADE } else { self.pred };
-        Mark { pred, ..self }
-    }
-
-    /// Of the label with this mark in a block of these labels.
-    #[inline(always)]
-    fn dist(self, labels: &LabelList) -> i128
-        ensures { result ≡ dist_of labels.now self }
-    {
-        if self.dist < FAR {
-            i128::from(self.dist)
-        } else {
-            far_dist(labels, (self.dist - FAR).unsigned_abs() as usize)
-        }
-    }
-}
-
-/// The distance of the label at this place, where there is one.
-#[cold]
-#[inline(never)]
-fn far_dist(labels: &LabelList, place: usize) -> i128
-    ensures { result ≡ (get_or labels.now place no_label).dist }
-{
-    if place < labels.len() {
-        labels.at(place).dist
-    } else {
-        0
-    }
-}
 
 /// What is known of the weights of the arcs: nothing, or that none is negative.
 #[derive(Clone, Copy)]
@@ -146,7 +44,7 @@ pub(crate) fn marked_blocks_hold<N: Network>(
     ensures tests { TellsAll (label_rows (N.list network.now) labels.now.blocks) result }
     ensures lawful { AreLabels labels.now }
 {
-    let mut marks = NodeTable::new(alloc, NO_MARK);
+    let mut marks = NodeTable::new(alloc, Mark::none());
     let mut weights = Weights::Untested;
     let mut least = None;
     let blocks = labels.blocks();
@@ -311,10 +209,40 @@ fn arcs_passed<N: Network>(
     ensures marked { IsMarked number block.now marks.new }
     ensures tests { Tells (distance_rows (N.list network.now) block.now) result }
 {
-    let radius = block.radius();
     let labels = block.labels();
     let mut count = 0usize;
     for i in 0..network.arcs() {
+        match pass_clear(network.arc(i), number, marks) {
+            Some(made) => count += usize::from(made),
+            None => return others_passed(network, block, i, number, count, marks),
+        }
+    }
+    if count < labels.len() {
+        return labels_made(labels, marks);
+    }
+    Ok(())
+}
+
+/// The same from the first arc on of which the marks leave a doubt, after so many labels were counted.
+#[inline(never)]
+fn others_passed<N: Network>(
+    network: &N,
+    block: &Block,
+    from: u32,
+    number: u32,
+    counted: usize,
+    marks: &mut NodeTable<Mark>,
+) -> Result<(), (Where, Reason)>
+    requires lawful { (nodes : ℕ) × IsBlock nodes block.now }
+    requires number { 1 ≤ number }
+    requires passed { ArePassedBelow (N.list network.now) block.now number from counted marks.old }
+    ensures marked { IsMarked number block.now marks.new }
+    ensures tests { Tells (distance_rows (N.list network.now) block.now) result }
+{
+    let radius = block.radius();
+    let labels = block.labels();
+    let mut count = counted;
+    for i in from..network.arcs() {
         match pass_arc(network.arc(i), radius, number, labels, marks) {
             Ok(made) => count += usize::from(made),
             Err(reason) => {
@@ -354,10 +282,48 @@ fn rest_passed<N: Network>(
     }
 }
 
-/// Looks the head up only where the tail has a label, and marks it where the arc makes its label. Tells whether it did, as
-/// no arc before it.
+/// Marks the head where the arc makes its label. Tells whether it did, as no arc before it.
 #[inline(always)]
 pub(crate) fn pass_arc(
+    arc: ArcView,
+    radius: Option<i128>,
+    number: u32,
+    labels: &LabelList,
+    marks: &mut NodeTable<Mark>,
+) -> Result<bool, Reason>
+    requires blank { (blank_of marks.old).block < number }
+    requires wide { AreWide labels.now number marks.old }
+    ensures told { TellsReason (RelaxFails radius (marked_dist labels.now number (value_of marks.old arc.tail)) (marked_dist labels.now number (value_of marks.old arc.head)) arc.cost) (result_err result) }
+    ensures marks { MarksArc labels.now number arc marks.old marks.new }
+    ensures made { IfOk result (λ made. IsTrue made → IsTight labels.now number arc marks.old) }
+{
+    match pass_clear(arc, number, marks) {
+        Some(made) => Ok(made),
+        None => pass_doubtful(arc, radius, number, labels, marks),
+    }
+}
+
+/// The same where the marks of the arc's ends leave no doubt that it holds; else does nothing.
+#[inline(always)]
+fn pass_clear(arc: ArcView, number: u32, marks: &mut NodeTable<Mark>) -> Option<bool>
+    ensures unchanged { IfNone result (marks.new ≡ marks.old) }
+    ensures passed { IfSome result (λ made. (labels : List Label) → PassesArc labels number arc made marks.old marks.new) }
+{
+    let from = marks.get(arc.tail);
+    let to = marks.get_placed(arc.head)?;
+    // One branch, which is foretold rightly as long as the labels hold.
+    if from.is_doubtful(arc, to, number) {
+        return None;
+    }
+    let made = from.makes(arc, to, number);
+    marks.put(arc.head, to.made_if(made));
+    Some(made)
+}
+
+/// The same, whatever the marks say.
+#[cold]
+#[inline(never)]
+fn pass_doubtful(
     arc: ArcView,
     radius: Option<i128>,
     number: u32,
@@ -383,31 +349,20 @@ pub(crate) fn pass_arc(
     if is_beyond(to, from, arc.cost) {
         return Err(Reason::NotShortest);
     }
-    // Put in any case: a branch would often be foretold wrongly, since two of five arcs of a road graph make a label.
-    let made = makes(arc, from, to, head.pred);
+    let made = leads_to(arc, from, to, head);
     marks.put(arc.head, head.made_if(made));
     Ok(made)
 }
 
 /// Whether the arc leads from the one distance to the other, and from the predecessor, as none before it.
-#[inline(always)]
-fn makes(arc: ArcView, from: i128, to: i128, pred: u32) -> bool
+fn leads_to(arc: ArcView, from: i128, to: i128, head: Mark) -> bool
     requires { IsWide from }
-    ensures { IsTrue result ↔ (((from +ℤ arc.cost) ≡ to) × (pred ≡ arc.tail) × (pred ≢ 2 ^ 32 - 1)) }
+    ensures { IsTrue result ↔ (((from +ℤ arc.cost) ≡ to) × (head.pred ≡ arc.tail) × (is_made head ≡ false)) }
 {
-    from + i128::from(arc.cost) == to && is_pred(arc.tail, pred)
-}
-
-/// Whether the predecessor still stands in the mark, and is this node.
-#[inline(always)]
-fn is_pred(node: u32, pred: u32) -> bool
-    ensures { IsTrue result ↔ ((pred ≡ node) × (pred ≢ 2 ^ 32 - 1)) }
-{
-    pred == node && pred != MADE
+    from + i128::from(arc.cost) == to && head.waits_for(arc.tail)
 }
 
 /// The mark of a node, where it is that of the block of this number.
-#[inline(always)]
 fn mark_by(marks: &NodeTable<Mark>, node: u32, number: u32) -> Option<Mark>
     requires { (blank_of marks.now).block < number }
     ensures none { IfNone result ((value_of marks.now node).block ≢ number) }
@@ -420,7 +375,6 @@ fn mark_by(marks: &NodeTable<Mark>, node: u32, number: u32) -> Option<Mark>
 }
 
 /// What the block of this number and these labels says of a node by its mark.
-#[inline(always)]
 fn distance_by(mark: Mark, number: u32, labels: &LabelList) -> Option<i128>
     ensures { result ≡ marked_dist labels.now number mark }
 {

@@ -1,21 +1,22 @@
 //! Judging that a flow is maximum.
 
-ghost use Rattle.std.specs.Prelude.{◌≡◌, List, ℤ};
+ghost use Rattle.std.specs.Prelude.{◌≡◌, List, ℤ, IfErr, IfOk};
 ghost use Rattle.dimacs_claims.specs.SolutionReading.{IsPlaced};
 ghost use Rattle.dimacs_claims.specs.SolutionTexts.{SolutionValue, claimed};
 ghost use Rattle.dimacs_judge.specs.declared.verdict.Verdict.TheVariants.{Max};
 ghost use Rattle.dimacs_judge.specs.Agreement.{value_row};
-ghost use Rattle.dimacs_judge.specs.Feasible.{value};
-ghost use Rattle.dimacs_judge.specs.inside.FlowTests.{AreBalances};
-ghost use Rattle.dimacs_judge.specs.MaxJudge.{ShowsMaximum, max_rows};
+ghost use Rattle.dimacs_judge.specs.Feasible.{FeasibleMax, value};
+ghost use Rattle.dimacs_judge.specs.FlowTests.{AreBalances};
+ghost use Rattle.dimacs_judge.specs.MaxJudge.{IsMaxClaim, ShowsMaximum, max_claim_rows, max_rows};
 ghost use Rattle.dimacs_judge.specs.Places.{ArePlaced};
-ghost use Rattle.dimacs_judge.specs.Tests.{Judges, TellsRow};
+ghost use Rattle.dimacs_judge.specs.Tests.{Judges, Refutes, TellsRow};
 
 use crate::agreement::{nodes_agree, value_agrees};
 use crate::balances::Balances;
 use crate::cuts::cut_tests;
 use crate::entries::placed;
 use crate::feasible::feasible;
+use crate::flow::Flow;
 use crate::places::FlowPlaces;
 use crate::verdict::{JudgeError, Verdict, Where};
 use dimacs_claims::{Cut, Place, Placed, Solution};
@@ -51,15 +52,35 @@ pub fn judge_max_placed<N: Network>(
     cut: &Cut,
 ) -> Result<Verdict, JudgeError>
     requires network { placed.now.place.arcs ≡ instance.now.arcs }
-    ensures { (s : SolutionValue) → IsPlaced placed.now.value placed.now.value_line (ArePlaced placed.now.place) s → Judges (max_rows instance.now s cut.now) (ShowsMaximum instance.now s cut.now) (λ verdict. verdict ≡ Max s.value) result }
+    ensures { (s : SolutionValue) → IsPlaced placed.now.value placed.now.value_line (ArePlaced placed.now.place) s
+        → Judges (max_rows instance.now s cut.now) (ShowsMaximum instance.now s cut.now) (λ verdict. verdict ≡ Max s.value) result }
+{
+    let network = instance.network();
+    let flow = max_claim_tests(alloc, instance, placed)?;
+    nodes_agree(network.nodes(), cut.nodes())?;
+    cut_tests(instance, flow, cut)?;
+    Ok(Verdict::Max(placed.value))
+}
+
+/// The flow that a solution claims, where it passes the tests that `judge_max` makes before it looks at the cut: those of
+/// the entries, of the bounds, of the balances and of the value; else the first that fails.
+pub fn max_claim_tests<'a, N: Network>(
+    alloc: Global,
+    instance: &MaxInstance<N>,
+    placed: &'a Placed<FlowPlaces<'_, N>>,
+) -> Result<&'a Flow, JudgeError>
+    requires network { placed.now.place.arcs ≡ instance.now.arcs }
+    ensures feasible { IfOk result (λ flow. FeasibleMax instance.now flow.now) }
+    ensures claim { IfOk result (λ flow. (s : SolutionValue) → IsPlaced placed.now.value placed.now.value_line (ArePlaced placed.now.place) s
+        → IsMaxClaim instance.now s flow.now) }
+    ensures refuted { IfErr result (λ error. (s : SolutionValue) → IsPlaced placed.now.value placed.now.value_line (ArePlaced placed.now.place) s
+        → Refutes (IsMaxClaim instance.now s) (max_claim_rows instance.now s) error) }
 {
     let network = instance.network();
     let flow = placed.place.flow()?;
     let balances = feasible(alloc, network, flow, instance)?;
     value_holds(instance, &balances, placed)?;
-    nodes_agree(network.nodes(), cut.nodes())?;
-    cut_tests(instance, flow, cut)?;
-    Ok(Verdict::Max(placed.value))
+    Ok(flow)
 }
 
 /// Whether the flow that has these balances has the claimed value.

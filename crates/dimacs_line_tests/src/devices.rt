@@ -3,7 +3,7 @@
 use crate::checks::{holds, same};
 use crate::spelling::spell_pulls;
 use dimacs_lines::{
-    CutSource, DeviceFault, FlakySink, FlakySource, MemorySink, MemorySource, Sink, Source, put_all,
+    CutSource, DeviceFault, FlakySink, FlakySource, MemorySink, MemorySource, Sink, put_all,
 };
 use std::test::Fail;
 
@@ -23,15 +23,6 @@ fn a_memory_source_gives_what_there_is_room_for(rt: HostRuntime) -> Result<(), F
         let spelled = spell_pulls(&rt, rt.alloc(), &mut source, room)?;
         same(&rt, name, spelled.as_str(), wanted);
     }
-    Ok(())
-}
-
-#[test]
-fn a_pull_without_room_takes_nothing(rt: HostRuntime) -> Result<(), Fail> {
-    let mut source = MemorySource::new(b"ab");
-    same(&rt, "a pull without room", source.pull(&mut []), Ok(0));
-    let spelled = spell_pulls(&rt, rt.alloc(), &mut source, 8)?;
-    same(&rt, "what is spelled", spelled.as_str(), "ab|");
     Ok(())
 }
 

@@ -35,26 +35,13 @@ static LINES: [(&str, &str, &str); 13] = [
 #[test]
 fn gives_the_fields_of_a_line(rt: HostRuntime) -> Result<(), Fail> {
     for &(name, line, wanted) in &LINES {
-        let spelled = spell_fields(rt.alloc(), fields(line.as_bytes()))?;
+        let bytes = line.as_bytes();
+        let spelled = spell_fields(rt.alloc(), fields(bytes))?;
         same(&rt, name, spelled.as_str(), wanted);
-    }
-    Ok(())
-}
-
-#[test]
-fn gives_the_fields_when_made_by_its_type(rt: HostRuntime) -> Result<(), Fail> {
-    for &(name, line, wanted) in &LINES {
-        let spelled = spell_fields(rt.alloc(), Fields::new(line.as_bytes()))?;
-        same(&rt, name, spelled.as_str(), wanted);
-    }
-    Ok(())
-}
-
-#[test]
-fn gives_the_fields_that_are_scanned(rt: HostRuntime) -> Result<(), Fail> {
-    for &(name, line, wanted) in &LINES {
-        let spelled = spell_tokens(rt.alloc(), line.as_bytes())?;
-        same(&rt, name, spelled.as_str(), wanted);
+        let by_type = spell_fields(rt.alloc(), Fields::new(bytes))?;
+        same(&rt, name, by_type.as_str(), wanted);
+        let scanned = spell_tokens(rt.alloc(), bytes)?;
+        same(&rt, name, scanned.as_str(), wanted);
     }
     Ok(())
 }

@@ -57,14 +57,6 @@ impl<'a, T: Write> Write for Troubled<'a, T> {
     }
 }
 
-#[test]
-fn a_file_source_gives_what_the_file_gives(rt: HostRuntime) -> Result<(), Fail> {
-    let mut source = FileSource::new(b"a 1\nb".as_slice());
-    let spelled = spell_lines(&rt, rt.alloc(), &mut source)?;
-    same(&rt, "what is spelled", spelled.as_str(), "1:a 1|2:b|end");
-    Ok(())
-}
-
 /// The calls that are refused, and what is given.
 static REFUSED_READS: [(&str, &[u8], &str); 4] = [
     ("no refusal", &[], "ab|cd|e|"),
@@ -126,48 +118,33 @@ fn a_file_that_takes_no_more_is_a_fault(rt: HostRuntime) -> Result<(), Fail> {
     Ok(())
 }
 
+/// Names of the system's files, each with what is spelled of it.
+static READ: [(&str, &str); 2] = [("/dev/null", "end"), ("/", "Device")];
+
 #[test]
-fn an_empty_file_gives_no_line(rt: HostRuntime) -> Result<(), Fail> {
-    let mut source = FileSource::new(fs::open(&rt, "/dev/null")?);
-    let spelled = spell_lines(&rt, rt.alloc(), &mut source)?;
-    same(&rt, "what is spelled", spelled.as_str(), "end");
+fn an_empty_file_gives_no_line_and_a_folder_is_a_fault(rt: HostRuntime) -> Result<(), Fail> {
+    for &(name, wanted) in &READ {
+        let mut source = FileSource::new(fs::open(&rt, name)?);
+        let spelled = spell_lines(&rt, rt.alloc(), &mut source)?;
+        same(&rt, name, spelled.as_str(), wanted);
+    }
     Ok(())
 }
 
-#[test]
-fn a_folder_cannot_be_read(rt: HostRuntime) -> Result<(), Fail> {
-    let mut source = FileSource::new(fs::open(&rt, "/")?);
-    let spelled = spell_lines(&rt, rt.alloc(), &mut source)?;
-    same(&rt, "what is spelled", spelled.as_str(), "Device");
-    Ok(())
-}
+/// Names of the system's files, each with what is answered where it is to take all.
+static WRITTEN: [(&str, Result<(), DeviceFault>); 2] = [
+    ("/dev/null", Ok(())),
+    ("/dev/full", Err(DeviceFault)),
+];
 
 #[test]
-fn a_real_file_takes_all(rt: HostRuntime) -> Result<(), Fail> {
-    let mut sink = FileSink::new(fs::create(&rt, "/dev/null")?);
-    same(&rt, "the answer", put_all(&mut sink, b"gone"), Ok(()));
+fn the_system_takes_all_unless_a_device_is_full(rt: HostRuntime) -> Result<(), Fail> {
+    for &(name, wanted) in &WRITTEN {
+        let mut sink = FileSink::new(fs::create(&rt, name)?);
+        same(&rt, name, put_all(&mut sink, b"gone"), wanted);
+    }
+    let line = b"a line on the standard output\n";
+    let put = put_all(&mut StdoutSink::new(&rt), line);
+    same(&rt, "the standard output", put, Ok(()));
     Ok(())
-}
-
-#[test]
-fn a_full_device_is_a_fault(rt: HostRuntime) -> Result<(), Fail> {
-    let mut sink = FileSink::new(fs::create(&rt, "/dev/full")?);
-    same(
-        &rt,
-        "the answer",
-        put_all(&mut sink, b"gone"),
-        Err(DeviceFault),
-    );
-    Ok(())
-}
-
-#[test]
-fn the_standard_output_takes_all(rt: HostRuntime) {
-    let mut sink = StdoutSink::new(&rt);
-    same(
-        &rt,
-        "the answer",
-        put_all(&mut sink, b"a line on the standard output\n"),
-        Ok(()),
-    );
 }

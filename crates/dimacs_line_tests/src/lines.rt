@@ -5,8 +5,7 @@ ghost use Rattle.std.specs.Prelude.{◌≡◌, None};
 use crate::checks::{holds_at, same, same_at};
 use crate::spelling::spell_lines;
 use dimacs_lines::{
-    CutSource, DeviceFault, FlakySource, Lines, LinesError, MAX_HELD, MAX_LINE, MAX_LINES,
-    MemorySource, Source,
+    CutSource, DeviceFault, FlakySource, Lines, MAX_HELD, MAX_LINE, MAX_LINES, MemorySource, Source,
 };
 use std::alloc::Global;
 use std::process::Abort;
@@ -157,80 +156,66 @@ fn holds_little_of_a_long_text(rt: HostRuntime) -> Result<(), Fail> {
     Ok(())
 }
 
-/// The length of a line, what stands after it, and what is told.
-static LONG_LINES: [(&str, usize, &str, &str); 6] = [
-    ("the longest", LONGEST, "\nz", "1:(1048576 bytes)|2:z|end"),
+/// What stands before a line, the length of the line, what stands after it, and what is told.
+static LONG_LINES: [(&str, &str, usize, &str, &str); 7] = [
+    (
+        "the longest",
+        "",
+        LONGEST,
+        "\nz",
+        "1:(1048576 bytes)|2:z|end",
+    ),
     (
         "the longest, with its end alone",
+        "",
         LONGEST,
         "\n",
         "1:(1048576 bytes)|end",
     ),
     (
         "the longest, without its end",
+        "",
         LONGEST,
         "",
         "1:(1048576 bytes)|end",
     ),
-    ("a byte more", LONGEST + 1, "\nz", "TooLong(1)"),
+    ("a byte more", "", LONGEST + 1, "\nz", "TooLong(1)"),
     (
         "a byte more, without its end",
+        "",
         LONGEST + 1,
         "",
         "TooLong(1)",
     ),
-    ("a CR more", LONGEST, "\r\n", "TooLong(1)"),
+    ("a CR more", "", LONGEST, "\r\n", "TooLong(1)"),
+    (
+        "a byte more, on the third line",
+        "a\n\n",
+        LONGEST + 1,
+        "",
+        "1:a|2:|TooLong(3)",
+    ),
 ];
 
 #[test]
 fn gives_a_line_of_the_greatest_length_and_no_longer_one(rt: HostRuntime) -> Result<(), Fail> {
-    for &(name, length, after, wanted) in &LONG_LINES {
-        let mut text = Vec::from_elem(rt.alloc(), b'x', length)?;
+    for &(name, before, length, after, wanted) in &LONG_LINES {
+        let mut text = before.as_bytes().to_vec(rt.alloc())?;
+        text.resize(before.len() + length, b'x')?;
         text.extend_from_slice(after.as_bytes())?;
         gives(&rt, rt.alloc(), name, &text, wanted)?;
-        for size in [7, 65_535] {
+        for size in [1, 7, 65_535] {
             gives_in_pieces(&rt, rt.alloc(), name, &text, size, wanted)?;
         }
     }
     Ok(())
 }
 
-/// The length of a text of one line, and what is told.
-static LONG_TEXTS: [(&str, usize, &str); 2] = [
-    ("the longest", LONGEST, "1:(1048576 bytes)|end"),
-    ("a byte more", LONGEST + 1, "TooLong(1)"),
-];
-
-#[test]
-fn gives_the_longest_line_a_byte_at_a_time(rt: HostRuntime) -> Result<(), Fail> {
-    for &(name, length, wanted) in &LONG_TEXTS {
-        let text = Vec::from_elem(rt.alloc(), b'x', length)?;
-        let sizes = Vec::from_elem(rt.alloc(), 1, length)?;
-        let mut source = CutSource::new(text.as_slice(), sizes.as_slice());
-        let spelled = spell_lines(&rt, rt.alloc(), &mut source)?;
-        same(&rt, name, spelled.as_str(), wanted);
-    }
-    Ok(())
-}
-
-#[test]
-fn names_the_line_that_is_too_long(rt: HostRuntime) -> Result<(), Fail> {
-    let mut text = Vec::new(rt.alloc());
-    text.extend_from_slice(b"a\n\n")?;
-    text.resize(3 + LONGEST + 1, b'x')?;
-    let spelled = spell_lines(&rt, rt.alloc(), &mut MemorySource::new(text.as_slice()))?;
-    same(
-        &rt,
-        "what is spelled",
-        spelled.as_str(),
-        "1:a|2:|TooLong(3)",
-    );
-    Ok(())
-}
-
-/// Gives blanks for ever, and tells nothing of them.
+/// Gives blanks for ever, at most so many at once, and tells nothing of them.
 #[derive(Drop)]
-struct EndlessBlanks;
+struct EndlessBlanks {
+    most: usize,
+}
 
 impl Source for EndlessBlanks {
     ghost coming = { λ s. None };
@@ -238,15 +223,18 @@ impl Source for EndlessBlanks {
     ghost faults = { λ s. 0 };
 
     fn pull(&mut self, into: &mut [u8]) -> Result<usize, DeviceFault> {
-        into.fill(b' ');
-        Ok(into.len())
+        let count = into.len().min(self.most);
+        into[..count].fill(b' ');
+        Ok(count)
     }
 }
 
 #[test]
 fn refuses_a_line_without_end(rt: HostRuntime) -> Result<(), Fail> {
-    let spelled = spell_lines(&rt, rt.alloc(), &mut EndlessBlanks)?;
-    same(&rt, "what is spelled", spelled.as_str(), "TooLong(1)");
+    for most in [1, 2, 7, usize::MAX] {
+        let spelled = spell_lines(&rt, rt.alloc(), &mut EndlessBlanks { most })?;
+        same_at(&rt, "blanks", most as u64, spelled.as_str(), "TooLong(1)");
+    }
     Ok(())
 }
 
@@ -297,19 +285,5 @@ fn pulls_nothing_after_a_line_that_is_too_long(rt: HostRuntime) -> Result<(), Fa
     let spelled = spell_lines(&rt, rt.alloc(), &mut counted)?;
     same(&rt, "what is spelled", spelled.as_str(), "TooLong(1)");
     same(&rt, "pulls of 65,536 bytes", counted.pulls, 17);
-    Ok(())
-}
-
-#[test]
-fn pulls_nothing_after_a_line_too_many(rt: HostRuntime) -> Result<(), Fail> {
-    let source = CutSource::new(b"ab\ncd\n", &[3]);
-    let mut counted = Counted { source, pulls: 0 };
-    let mut lines = Lines::new(rt.alloc())?;
-    lines.skip(0, MAX_LINES);
-    let wanted = Err(LinesError::TooMany(1_000_000_000_001));
-    for _ in 0..3 {
-        same(&rt, "the answer", lines.next_line(&mut counted), wanted);
-        same(&rt, "pulls", counted.pulls, 1);
-    }
     Ok(())
 }

@@ -2,7 +2,6 @@
 
 use crate::checks::{holds, holds_at, same, same_at};
 use dimacs_nodes::{NodeMap, NodeSet, NodeTable, WideMap};
-use std::alloc::Global;
 use std::test::Fail;
 
 /// The greatest ID of a node.
@@ -36,48 +35,19 @@ static UNSET: [u32; 11] = [
 ];
 
 #[test]
-fn nodes_have_no_value_before_one_is_set(rt: HostRuntime) {
-    let nodes: NodeMap<i64> = NodeMap::new(rt.alloc());
-    for &(id, _) in &VALUES {
-        same_at(&rt, "node", id as u64, nodes.get(id), None);
-    }
-}
-
-/// The nodes with their values.
-fn filled(alloc: Global) -> Result<NodeMap<i64>, Fail> {
-    let mut nodes = NodeMap::new(alloc);
+fn the_last_value_of_a_node_stands(rt: HostRuntime) -> Result<(), Fail> {
+    let mut nodes = NodeMap::new(rt.alloc());
     for &(id, value) in &VALUES {
-        nodes.set(id, value).ok().ok_or("memory")?;
+        same_at(&rt, "before, node", id as u64, nodes.get(id), None);
+        nodes.set(id, 5)?;
+        nodes.set(id, value)?;
     }
-    Ok(nodes)
-}
-
-#[test]
-fn nodes_have_the_values_that_were_set(rt: HostRuntime) -> Result<(), Fail> {
-    let nodes = filled(rt.alloc())?;
     for &(id, value) in &VALUES {
         same_at(&rt, "node", id as u64, nodes.get(id), Some(value));
     }
-    Ok(())
-}
-
-#[test]
-fn other_nodes_have_no_value(rt: HostRuntime) -> Result<(), Fail> {
-    let nodes = filled(rt.alloc())?;
     for &id in &UNSET {
-        same_at(&rt, "node", id as u64, nodes.get(id), None);
+        same_at(&rt, "unset, node", id as u64, nodes.get(id), None);
     }
-    Ok(())
-}
-
-#[test]
-fn the_last_value_of_a_node_stands(rt: HostRuntime) -> Result<(), Fail> {
-    let mut nodes = NodeMap::new(rt.alloc());
-    nodes.set(300, 'a').ok().ok_or("the first value")?;
-    nodes.set(301, 'b').ok().ok_or("the neighbour")?;
-    nodes.set(300, 'c').ok().ok_or("the second value")?;
-    same(&rt, "the value set last", nodes.get(300), Some('c'));
-    same(&rt, "the neighbour", nodes.get(301), Some('b'));
     Ok(())
 }
 
@@ -85,7 +55,7 @@ fn the_last_value_of_a_node_stands(rt: HostRuntime) -> Result<(), Fail> {
 fn values_may_be_set_from_the_last_page_to_the_first(rt: HostRuntime) -> Result<(), Fail> {
     let mut nodes = NodeMap::new(rt.alloc());
     for id in (0..2_000u32).rev() {
-        nodes.set(id, id % 7).ok().ok_or("a value")?;
+        nodes.set(id, id % 7)?;
     }
     for id in 0..2_000 {
         same_at(&rt, "node", id as u64, nodes.get(id), Some(id % 7));
@@ -107,24 +77,16 @@ static WIDE: [i128; 8] = [
 ];
 
 #[test]
-fn nodes_have_the_wide_numbers_that_were_set(rt: HostRuntime) -> Result<(), Fail> {
+fn the_last_wide_number_of_a_node_stands(rt: HostRuntime) -> Result<(), Fail> {
     let mut nodes = WideMap::new(rt.alloc());
     for (id, &number) in (250u32..).zip(&WIDE) {
         same_at(&rt, "before, node", id as u64, nodes.get(id), None);
-        nodes.set(id, number).ok().ok_or("memory")?;
+        nodes.set(id, number)?;
+        nodes.set(300, number)?;
+        same_at(&rt, "at node", id as u64, nodes.get(300), Some(number));
     }
     for (id, &number) in (250u32..).zip(&WIDE) {
         same_at(&rt, "node", id as u64, nodes.get(id), Some(number));
-    }
-    Ok(())
-}
-
-#[test]
-fn the_last_wide_number_of_a_node_stands(rt: HostRuntime) -> Result<(), Fail> {
-    let mut nodes = WideMap::new(rt.alloc());
-    for (k, &number) in (1u64..).zip(&WIDE) {
-        nodes.set(300, number).ok().ok_or("memory")?;
-        same_at(&rt, "number", k, nodes.get(300), Some(number));
     }
     Ok(())
 }
@@ -140,7 +102,7 @@ fn a_set_has_the_nodes_that_were_inserted(rt: HostRuntime) -> Result<(), Fail> {
     let mut nodes = NodeSet::new(rt.alloc());
     holds(&rt, "the empty set", !nodes.contains(0));
     for &id in &INSERTED {
-        nodes.insert(id).ok().ok_or("memory")?;
+        nodes.insert(id)?;
     }
     for &id in &INSERTED {
         holds_at(&rt, "node", id as u64, nodes.contains(id));
@@ -156,47 +118,13 @@ fn a_set_has_the_nodes_that_were_inserted(rt: HostRuntime) -> Result<(), Fail> {
     Ok(())
 }
 
-/// A table of the values, and 5 for other nodes.
-fn table(alloc: Global) -> Result<NodeTable<i64>, Fail> {
-    let mut table = NodeTable::new(alloc, 5);
-    for &(id, value) in &VALUES {
-        table.set(id, value).ok().ok_or("memory")?;
-    }
-    Ok(table)
-}
-
-#[test]
-fn a_table_has_the_values_that_were_set(rt: HostRuntime) -> Result<(), Fail> {
-    let table = table(rt.alloc())?;
-    for &(id, value) in &VALUES {
-        same_at(&rt, "node", id as u64, table.get(id), value);
-    }
-    for &id in &UNSET {
-        same_at(&rt, "a blank node", id as u64, table.get(id), 5);
-    }
-    Ok(())
-}
-
-#[test]
-fn the_last_value_in_a_table_stands(rt: HostRuntime) -> Result<(), Fail> {
-    let mut table = table(rt.alloc())?;
-    table.reserve(256).ok().ok_or("memory")?;
-    same(&rt, "the value that stays", table.get(256), 12);
-    table.set(256, -1).ok().ok_or("memory")?;
-    same(&rt, "the value set last", table.get(256), -1);
-    same(&rt, "its neighbour", table.get(255), 11);
-    Ok(())
-}
-
-#[test]
-fn a_value_is_told_where_its_page_was_taken(rt: HostRuntime) -> Result<(), Fail> {
-    let table = table(rt.alloc())?;
-    same(&rt, "a node that was set", table.get_placed(256), Some(12));
-    same(&rt, "another on its page", table.get_placed(510), Some(5));
-    same(&rt, "one on no page", table.get_placed(512), None);
-    same(&rt, "the greatest ID", table.get_placed(u32::MAX), None);
-    Ok(())
-}
+/// IDs, each with what is told of its page where that was taken.
+static PLACED: [(u32, Option<i64>); 4] = [
+    (255, Some(11)),
+    (510, Some(5)),
+    (512, None),
+    (u32::MAX, None),
+];
 
 /// IDs, and the first ID from each on that may have been set.
 static SKIPS: [(u32, usize); 8] = [
@@ -211,16 +139,27 @@ static SKIPS: [(u32, usize); 8] = [
 ];
 
 #[test]
-fn pages_that_were_not_taken_are_skipped(rt: HostRuntime) -> Result<(), Fail> {
-    let table = table(rt.alloc())?;
+fn a_table_tells_its_values_and_the_pages_that_were_taken(rt: HostRuntime) -> Result<(), Fail> {
+    let mut table = NodeTable::new(rt.alloc(), 5);
+    for &(id, value) in &VALUES {
+        table.set(id, -1)?;
+        table.reserve(id)?;
+        same_at(&rt, "before, node", id as u64, table.get(id), -1);
+        table.set(id, value)?;
+    }
+    for &(id, value) in &VALUES {
+        same_at(&rt, "node", id as u64, table.get(id), value);
+    }
+    for &id in &UNSET {
+        same_at(&rt, "a blank node", id as u64, table.get(id), 5);
+    }
+    for &(id, value) in &PLACED {
+        same_at(&rt, "placed, node", id as u64, table.get_placed(id), value);
+    }
     for &(id, wanted) in &SKIPS {
         same_at(&rt, "from node", id as u64, table.skip_blank(id), wanted);
     }
-    same(
-        &rt,
-        "past the greatest",
-        table.end(),
-        GREATEST as usize + 256,
-    );
+    let past = GREATEST as usize + 256;
+    same(&rt, "past the greatest", table.end(), past);
     Ok(())
 }

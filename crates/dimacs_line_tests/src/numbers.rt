@@ -23,14 +23,6 @@ static NO_NUMBERS: [(&str, &str); 14] = [
     ("a digit that is not ASCII", "١"),
 ];
 
-#[test]
-fn refuses_what_spells_no_number(rt: HostRuntime) {
-    for &(name, text) in &NO_NUMBERS {
-        same(&rt, name, number(text.as_bytes()), Err(BadNumber));
-        same(&rt, name, wide(text.as_bytes()), Err(BadNumber));
-    }
-}
-
 /// Fields, each with its number.
 static NUMBERS: [(&str, &str, Result<i64, NumberFault>); 18] = [
     ("nought", "0", Ok(0)),
@@ -72,13 +64,6 @@ static NUMBERS: [(&str, &str, Result<i64, NumberFault>); 18] = [
     ("2^64 and 5", "+18446744073709551621", Err(NumberRange)),
     ("10^30", "1000000000000000000000000000000", Err(NumberRange)),
 ];
-
-#[test]
-fn reads_numbers_of_64_bits(rt: HostRuntime) {
-    for &(name, text, wanted) in &NUMBERS {
-        same(&rt, name, number(text.as_bytes()), wanted);
-    }
-}
 
 /// Fields, each with its wide number.
 static WIDE_NUMBERS: [(&str, &str, Result<i128, NumberFault>); 12] = [
@@ -133,16 +118,19 @@ static WIDE_NUMBERS: [(&str, &str, Result<i128, NumberFault>); 12] = [
 ];
 
 #[test]
-fn reads_wide_numbers(rt: HostRuntime) {
-    same(
-        &rt,
-        "the greatest wide number",
-        WIDE,
-        1_000_000_000_000_000_000_000_000_000_000,
-    );
+fn reads_the_numbers_that_fields_spell(rt: HostRuntime) {
+    for &(name, text) in &NO_NUMBERS {
+        same(&rt, name, number(text.as_bytes()), Err(BadNumber));
+        same(&rt, name, wide(text.as_bytes()), Err(BadNumber));
+    }
+    for &(name, text, wanted) in &NUMBERS {
+        same(&rt, name, number(text.as_bytes()), wanted);
+    }
     for &(name, text, wanted) in &WIDE_NUMBERS {
         same(&rt, name, wide(text.as_bytes()), wanted);
     }
+    let greatest = 1_000_000_000_000_000_000_000_000_000_000;
+    same(&rt, "the greatest wide number", WIDE, greatest);
 }
 
 /// The sign and the digits around hundreds of noughts, the number and the wide number.

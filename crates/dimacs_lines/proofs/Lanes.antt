@@ -1,9 +1,9 @@
 -- A word as a list of lanes, the first one lowest.
-use Rattle.std.proofs.Common.{◌≡◌, ℕ, zero, suc, ◌+◌, ◌*◌, ◌/◌, ◌%◌, ◌^◌, ◌<◌, ◌≤◌, List, [], ◌∷◌, ◌++◌, length, map, take, drop, replicate, bit_and, All, refl, ap, ap₂, ◌∙◌, arith, w64, lit<, add_comm, mul-suc, pow-suc, pow-add, shr-shr}
+use Rattle.std.proofs.Common.{◌≡◌, ℕ, zero, suc, ◌+◌, ◌*◌, ◌/◌, ◌%◌, ◌^◌, ◌<◌, ◌≤◌, List, [], ◌∷◌, ◌++◌, length, map, take, drop, replicate, bit_xor, All, refl, ap, ap₂, ◌∙◌, arith, w64, lit<, add_comm, mul-suc, pow-suc, pow-add, shr-shr}
 use Rattle.std.specs.Int.{to_le_bytes, bytes_low_first, byte_at}
 use Rattle.std.proofs.Math.Nat.{zero-div, zero-mod, div-div-eq-div-mul}
 use Rattle.std.proofs.lemmas.List.Elements.{All-nil, All-cons, All-head, All-tail}
-use Rattle.std.proofs.lemmas.Nat.{and_block, and_mask, shr_high, mod_low, mod-pow-add, from_le_bytes-to_le_bytes_8}
+use Rattle.std.proofs.lemmas.Nat.{xor_block, shr_high, mod_low, mod-pow-add, from_le_bytes-to_le_bytes_8}
 
 -- the word with these lanes of k bits
 abbrev pub word_of : ℕ → List ℕ → ℕ
@@ -37,13 +37,13 @@ word_of-take (suc j) (b ∷ bs) h =
     let rest = word_of-take j bs (All-tail (λ b. b < 256) b bs h) in
     rw (mul-suc 8 j, mod-pow-add, shr_high (word_of 8 bs) 8 b small, mod_low (word_of 8 bs) 8 b small) (ap (λ n. n * 256 + b) rest)
 
--- `&` with 15 in each lane keeps each lane's low half
-pub word_of-map : (bs : List ℕ) → AllBytes bs → bit_and (word_of 8 bs) (word_of 8 (replicate (length bs) 15)) ≡ word_of 8 (map (λ b. b % 16) bs)
+-- `^` with 48 in each lane changes each lane so
+pub word_of-map : (bs : List ℕ) → AllBytes bs → bit_xor (word_of 8 bs) (word_of 8 (replicate (length bs) 48)) ≡ word_of 8 (map (λ b. bit_xor b 48) bs)
 word_of-map [] h = refl
 word_of-map (b ∷ bs) h =
     let small = All-head (λ b. b < 256) b bs h in
     let rest = word_of-map bs (All-tail (λ b. b < 256) b bs h) in
-    and_block 8 (word_of 8 bs) (word_of 8 (replicate (length bs) 15)) b 15 small (lit< tt) ∙ ap₂ (λ m n. m * 256 + n) rest (and_mask b 4)
+    xor_block 8 (word_of 8 bs) (word_of 8 (replicate (length bs) 48)) b 48 small (lit< tt) ∙ ap (λ m. m * 256 + bit_xor b 48) rest
 
 -- byte i of a word, and what stands above it
 byte_at-step : (i n high b : ℕ) → b < 256 → n / 256 ^ i ≡ high * 256 + b → (byte_at i n ≡ b) × (n / 256 ^ suc i ≡ high)

@@ -1,42 +1,32 @@
--- Which lanes of a word hold no digit.
-use Rattle.std.proofs.Common.{◌≡◌, ℕ, zero, suc, ◌+◌, ◌*◌, ◌/◌, ◌%◌, ◌^◌, ◌<◌, Bool, true, false, cond, eqb, List, [], ◌∷◌, length, replicate, bit_and, bit_or, bit_xor, refl, sym, ap, ap₂, ◌∙◌, arith, lit<, eqb-true, mul-one, zero-add}
-use Rattle.std.specs.Char.{is_ascii_digit}
+-- Which lanes of a word lack the bit of 16, and whether all hold digits.
+use Rattle.std.proofs.Common.{◌≡◌, ℕ, zero, suc, ◌+◌, ◌*◌, ◌/◌, ◌%◌, ◌^◌, ◌<◌, ◌↔◌, Bool, true, false, cond, eqb, ltb, ltb-true, List, [], ◌∷◌, length, replicate, bit_and, bit_xor, refl, sym, ap, ap₂, ◌∙◌, arith, lit<, eqb-true, eq-eqb, mul-one, zero-add, mul-suc, pow-add}
+use Rattle.std.specs.Int.Digits.{AllBelowBase}
 use Rattle.std.specs.Int.Bits.{shifted_half, shifted_even}
 use Rattle.std.specs.Int.Count.{count_trailing_zeros, under}
-use Rattle.std.specs.List.{prefix_len}
-use Rattle.std.proofs.lemmas.Bool.{agree_below_at}
+use Rattle.std.specs.List.{All, prefix_len}
+use Rattle.std.proofs.lemmas.Bool.{agree_below_at, lt-ltb}
 use Rattle.std.proofs.lemmas.List.Elements.{All-head, All-tail}
-use Rattle.std.proofs.lemmas.Nat.{and_block, or_block, xor_block, and_le_r, or_lt, xor_lt}
+use Rattle.std.proofs.lemmas.Nat.{and_block, xor_block, and_le_r}
+use Rattle.dimacs_lines.specs.inside.Plain.{has_sixteen}
 use Rattle.dimacs_lines.proofs.Lanes.{word_of, AllBytes}
 
 -- n lanes of c
 abbrev pub each : ℕ → ℕ → ℕ
 each n c = word_of 8 (replicate n c)
 
--- 128 in each of n lanes that holds no digit, and 0 in the others
+-- 16 in each of n lanes that lacks this bit, and 0 in the others
 abbrev pub marks : ℕ → ℕ → ℕ
-marks n word =
-    let x = bit_xor word (each n 48) in
-    bit_and (bit_or (bit_and x (each n 127) + each n 118) x) (each n 128)
-
--- a sum goes lane by lane
-block-add : (a b c d : ℕ) → a * 256 + b + (c * 256 + d) ≡ (a + c) * 256 + (b + d)
-block-add a b c d = omega arith
+marks n word = bit_xor (bit_and word (each n 16)) (each n 16)
 
 -- each lane is marked by itself
 marks-cons : (n w b : ℕ) → b < 256 → marks (suc n) (w * 256 + b) ≡ marks n w * 256 + marks 1 b
 marks-cons n w b small =
-    let x = bit_xor b 48 in
-    let sum = bit_and x 127 + 118 in
-    let x_small : x < 256 = xor_lt 8 b 48 small (lit< tt) in
-    let sum_small : sum < 256 = omega (arith, and_le_r x 127) in
-    let xs = xor_block 8 w (each n 48) b 48 small (lit< tt) in
-    let lows = and_block 8 (bit_xor w (each n 48)) (each n 127) x 127 x_small (lit< tt) in
-    rw (xs, lows, block-add, or_block 8 _ _ sum x sum_small x_small) (and_block 8 _ (each n 128) (bit_or sum x) 128 (or_lt 8 sum x sum_small x_small) (lit< tt))
+    let bits_small : bit_and b 16 < 256 = omega (arith, and_le_r b 16) in
+    rw (and_block 8 w (each n 16) b 16 small (lit< tt)) (xor_block 8 (bit_and w (each n 16)) (each n 16) (bit_and b 16) 16 bits_small (lit< tt))
 
--- a lane is marked where its byte is no digit, by a test of all 256 bytes
-marks-one : (b : ℕ) → b < 256 → marks 1 b ≡ cond (is_ascii_digit b) 0 128
-marks-one b small = eqb-true _ _ (agree_below_at (λ b. eqb (marks 1 b) (cond (is_ascii_digit b) 0 128)) (λ _. true) 256 b refl small)
+-- a lane is marked where its byte lacks the bit, by a test of all 256 bytes
+marks-one : (b : ℕ) → b < 256 → marks 1 b ≡ cond (has_sixteen b) 0 16
+marks-one b small = eqb-true _ _ (agree_below_at (λ b. eqb (marks 1 b) (cond (has_sixteen b) 0 16)) (λ _. true) 256 b refl small)
 
 -- a shift to the left adds zeros at the end
 count_trailing_zeros-shl : (j k n m : ℕ) → n ≡ j + k → count_trailing_zeros n (m * 2 ^ j) ≡ j + count_trailing_zeros k m
@@ -49,22 +39,27 @@ count_trailing_zeros-shl (suc j) k (suc n) m is =
     let rest = count_trailing_zeros-shl j k n m (omega arith) in
     ap₂ (λ d t. under d (count_trailing_zeros n t)) (shifted_even m j) (shifted_half m j) ∙ omega arith
 
--- a lane of 0 or 128, below the others
+count_trailing_zeros-odd : (k n : ℕ) → n % 2 ≡ 1 → count_trailing_zeros k n ≡ 0
+unfolding count_trailing_zeros
+count_trailing_zeros-odd zero n odd = refl
+count_trailing_zeros-odd (suc k) n odd = ap (λ d. under d (count_trailing_zeros k (n / 2))) odd
+
+-- a lane of 0 or 16, below the others
 count_trailing_zeros-lane : (p : Bool) (k n m : ℕ) → n ≡ 8 + k
-    → count_trailing_zeros n (m * 256 + cond p 0 128) / 8 ≡ cond p (1 + count_trailing_zeros k m / 8) 0
+    → count_trailing_zeros n (m * 256 + cond p 0 16) / 8 ≡ cond p (1 + count_trailing_zeros k m / 8) 0
 unfolding count_trailing_zeros
 count_trailing_zeros-lane true k n m is =
     let shifted : m * 256 + 0 ≡ m * 2 ^ 8 = omega arith in
     omega (arith, ap (count_trailing_zeros n) shifted ∙ count_trailing_zeros-shl 8 k n m is)
 count_trailing_zeros-lane false k n m is =
-    let shifted : m * 256 + 128 ≡ (m * 2 + 1) * 2 ^ 7 = omega arith in
-    let odd : (m * 2 + 1) % 2 ≡ 1 = omega arith in
-    let none : count_trailing_zeros (suc k) (m * 2 + 1) ≡ 0 = ap (λ d. under d (count_trailing_zeros k ((m * 2 + 1) / 2))) odd in
-    omega (arith, ap (count_trailing_zeros n) shifted ∙ count_trailing_zeros-shl 7 (suc k) n (m * 2 + 1) (omega arith))
+    let shifted : m * 256 + 16 ≡ (m * 16 + 1) * 2 ^ 4 = omega arith in
+    let odd : (m * 16 + 1) % 2 ≡ 1 = omega arith in
+    let none = count_trailing_zeros-odd (4 + k) (m * 16 + 1) odd in
+    omega (arith, ap (count_trailing_zeros n) shifted ∙ count_trailing_zeros-shl 4 (4 + k) n (m * 16 + 1) (omega arith))
 
--- the lanes below the lowest mark hold the digits
+-- the lanes below the lowest mark have the bit
 pub count_trailing_zeros-marks : (bs : List ℕ) → AllBytes bs
-    → count_trailing_zeros (8 * length bs) (marks (length bs) (word_of 8 bs)) / 8 ≡ prefix_len is_ascii_digit bs
+    → count_trailing_zeros (8 * length bs) (marks (length bs) (word_of 8 bs)) / 8 ≡ prefix_len has_sixteen bs
 unfolding count_trailing_zeros
 count_trailing_zeros-marks [] h = refl
 count_trailing_zeros-marks (b ∷ bs) h =
@@ -73,5 +68,41 @@ count_trailing_zeros-marks (b ∷ bs) h =
     let at_first = marks-cons n (word_of 8 bs) b small ∙ ap (λ m. marks n (word_of 8 bs) * 256 + m) (marks-one b small) in
     let rest = count_trailing_zeros-marks bs (All-tail (λ b. b < 256) b bs h) in
     ap (λ w. count_trailing_zeros (8 * suc n) w / 8) at_first
-    ∙ count_trailing_zeros-lane (is_ascii_digit b) (8 * n) (8 * suc n) (marks n (word_of 8 bs)) (omega arith)
-    ∙ ap (λ m. cond (is_ascii_digit b) (1 + m) 0) rest
+    ∙ count_trailing_zeros-lane (has_sixteen b) (8 * n) (8 * suc n) (marks n (word_of 8 bs)) (omega arith)
+    ∙ ap (λ m. cond (has_sixteen b) (1 + m) 0) rest
+
+-- the high halves of n lanes that are six more
+abbrev pub carries : ℕ → ℕ → ℕ
+carries n word = bit_and (word + each n 6) (each n 240)
+
+-- each lane is tested by itself
+carries-cons : (n w b : ℕ) → b < 240 → carries (suc n) (w * 256 + b) ≡ carries n w * 256 + carries 1 b
+carries-cons n w b small =
+    let sum : w * 256 + b + (each n 6 * 256 + 6) ≡ (w + each n 6) * 256 + (b + 6) = omega arith in
+    rw sum (and_block 8 (w + each n 6) (each n 240) (b + 6) 240 (omega arith) (lit< tt))
+
+-- a lane's test is passed by what is below ten, by a test of all bytes
+carries-one : (b : ℕ) → b < 240 → eqb (carries 1 b) 0 ≡ ltb b 10
+carries-one b small = agree_below_at (λ b. eqb (carries 1 b) 0) (λ b. ltb b 10) 240 b refl small
+
+pub carries-none : (bs : List ℕ) → All (λ b. b < 240) bs → (carries (length bs) (word_of 8 bs) ≡ 0) ↔ AllBelowBase 10 bs
+carries-none [] h = (λ none. tt, λ all. refl)
+carries-none (b ∷ bs) h =
+    let small = All-head (λ b. b < 240) b bs h in
+    let first = carries-one b small in
+    let rest = carries-none bs (All-tail (λ b. b < 240) b bs h) in
+    let split = carries-cons (length bs) (word_of 8 bs) b small in (
+      λ none. (
+        ltb-true b 10 (sym first ∙ eq-eqb (carries 1 b) 0 (omega (arith, split, none))),
+        rest.0 (omega (arith, split, none)),
+      ),
+      λ all. omega (arith, split, eqb-true (carries 1 b) 0 (first ∙ lt-ltb b 10 all.0), rest.1 all.1),
+    )
+
+-- six more in each lane is carried into no other
+pub carry_fits : (bs : List ℕ) → All (λ b. b < 240) bs → word_of 8 bs + each (length bs) 6 < 2 ^ (8 * length bs)
+carry_fits [] h = lit< tt
+carry_fits (b ∷ bs) h =
+    let small = All-head (λ b. b < 240) b bs h in
+    let rest = carry_fits bs (All-tail (λ b. b < 240) b bs h) in
+    rw (mul-suc 8 (length bs), pow-add 2 (8 * length bs) 8) (omega (arith, small, rest))

@@ -1,20 +1,38 @@
 -- The number that digits say, by places and from the first digit on.
-use Rattle.std.proofs.Common.{◌≡◌, ℕ, zero, suc, ◌+◌, ◌-◌, ◌*◌, ◌%◌, ◌^◌, ◌<◌, true, cond, List, [], ◌∷◌, ◌++◌, length, map, take, replicate, refl, sym, ap, ◌∙◌, arith, lit<, leb-true, pow-suc, get_or-take, length-take}
+use Rattle.std.proofs.Common.{◌≡◌, ℕ, zero, suc, ◌+◌, ◌-◌, ◌*◌, ◌/◌, ◌%◌, ◌^◌, ◌<◌, Bool, true, false, cond, eqb, ltb, List, [], ◌∷◌, ◌++◌, length, map, take, replicate, bit_xor, refl, sym, ap, ◌∙◌, arith, lit<, subst, leb-true, ltb-true, lt-ltb, eqb-true, eq-eqb, pow-suc, get_or-take, length-take}
+use Rattle.std.specs.Prelude.{◌||◌, not}
 use Rattle.std.specs.Char.{is_ascii_digit}
 use Rattle.std.specs.Int.Digits.{AllBelowBase, number_from_digits, number_from_digits_after}
-use Rattle.std.specs.List.{prefix_len, AllPass}
-use Rattle.std.proofs.lemmas.Bool.{and_parts}
-use Rattle.std.proofs.lemmas.List.Elements.{All-head, All-tail}
+use Rattle.std.specs.List.{All, prefix_len, AllPass}
+use Rattle.std.proofs.lemmas.Bool.{and_parts, agree_below_at}
+use Rattle.std.proofs.lemmas.List.Elements.{All-nil, All-cons, All-head, All-tail}
 use Rattle.std.proofs.lemmas.List.Sums.{prefix_len_passes}
 use Rattle.dimacs_lines.specs.Number.{place_sum}
+use Rattle.dimacs_lines.specs.inside.Plain.{has_sixteen}
 
--- a digit's value is its code's low half
-low_half : (b : ℕ) → is_ascii_digit b ≡ true → (b % 16 ≡ b - 48) × (b % 16 < 10)
-low_half b digit =
+-- a digit's value is its code with the bits of 48 turned, by a test of all bytes
+digit_value : (b : ℕ) → is_ascii_digit b ≡ true → bit_xor b 48 ≡ b - 48
+digit_value b digit =
+    let high = leb-true b 57 (and_parts _ _ digit).1 in
+    let told = agree_below_at (λ b. not (is_ascii_digit b) || eqb (bit_xor b 48) (b - 48)) (λ _. true) 256 b refl (omega (arith, high)) in
+    eqb-true (bit_xor b 48) (b - 48) (rw digit at told)
+
+-- and a byte is a digit where that is below ten
+turned_digit : (b : ℕ) → b < 256 → bit_xor b 48 < 10 → is_ascii_digit b ≡ true
+turned_digit b small below = sym (agree_below_at (λ b. ltb (bit_xor b 48) 10) is_ascii_digit 256 b refl small) ∙ lt-ltb (bit_xor b 48) 10 below
+
+-- a byte with the bit of 16 loses it
+turned_below : (b : ℕ) → b < 256 → has_sixteen b ≡ true → bit_xor b 48 < 240
+turned_below b small has =
+    let told = agree_below_at (λ b. not (has_sixteen b) || ltb (bit_xor b 48) 240) (λ _. true) 256 b refl small in
+    ltb-true (bit_xor b 48) 240 (rw has at told)
+
+digit_has_sixteen : (b : ℕ) → is_ascii_digit b ≡ true → has_sixteen b ≡ true
+digit_has_sixteen b digit =
     let both = and_parts _ _ digit in
     let low = leb-true 48 b both.0 in
     let high = leb-true b 57 both.1 in
-    (omega arith, omega arith)
+    eq-eqb (b / 16 % 2) 1 (omega arith)
 
 -- no digits come before the first
 zero-mul-add : (p s : ℕ) → 0 * p + s ≡ s
@@ -26,34 +44,66 @@ first_place n v p s = omega arith
 
 -- digits that follow those of n
 number_from_digits_after-map : (n : ℕ) (ds : List ℕ) → AllPass is_ascii_digit ds
-    → number_from_digits_after 10 n (map (λ b. b % 16) ds) ≡ n * 10 ^ length ds + place_sum ds
+    → number_from_digits_after 10 n (map (λ b. bit_xor b 48) ds) ≡ n * 10 ^ length ds + place_sum ds
 number_from_digits_after-map n [] h = omega arith
 number_from_digits_after-map n (b ∷ ds) h =
     let v = b - 48 in
     let digit = All-head (λ b. is_ascii_digit b ≡ true) b ds h in
-    ap (λ d. number_from_digits_after 10 (n * 10 + d) (map (λ b. b % 16) ds)) (low_half b digit).0
+    ap (λ d. number_from_digits_after 10 (n * 10 + d) (map (λ b. bit_xor b 48) ds)) (digit_value b digit)
     ∙ number_from_digits_after-map (n * 10 + v) ds (All-tail (λ b. is_ascii_digit b ≡ true) b ds h)
     ∙ first_place n v (10 ^ length ds) (place_sum ds) ∙ ap (λ p. n * p + (v * 10 ^ length ds + place_sum ds)) (sym (pow-suc 10 (length ds)))
 
 -- zeros in front add nothing
 pub number_from_digits-zeros : (j : ℕ) (ds : List ℕ) → AllPass is_ascii_digit ds
-    → number_from_digits 10 (replicate j 0 ++ map (λ b. b % 16) ds) ≡ place_sum ds
+    → number_from_digits 10 (replicate j 0 ++ map (λ b. bit_xor b 48) ds) ≡ place_sum ds
 number_from_digits-zeros zero ds h = number_from_digits_after-map 0 ds h ∙ zero-mul-add (10 ^ length ds) (place_sum ds)
 number_from_digits-zeros (suc j) ds h = number_from_digits-zeros j ds h
 
--- low halves of digits, and zeros in front of them, are below ten
-pub AllBelowBase-zeros : (j : ℕ) (ds : List ℕ) → AllPass is_ascii_digit ds → AllBelowBase 10 (replicate j 0 ++ map (λ b. b % 16) ds)
-AllBelowBase-zeros zero [] h = tt
-AllBelowBase-zeros zero (b ∷ ds) h =
-    let digit = All-head (λ b. is_ascii_digit b ≡ true) b ds h in
-    ((low_half b digit).1, AllBelowBase-zeros zero ds (All-tail (λ b. is_ascii_digit b ≡ true) b ds h))
-AllBelowBase-zeros (suc j) ds h = (lit< tt, AllBelowBase-zeros j ds h)
-
--- what is counted are digits
-pub AllPass-take : (n : ℕ) (bs : List ℕ) → n ≡ prefix_len is_ascii_digit bs → AllPass is_ascii_digit (take n bs)
-AllPass-take n bs counted = λ k d h.
+-- what passes a test up to the first that doesn't
+pub AllPass-take : (p : ℕ → Bool) (n : ℕ) (bs : List ℕ) → n ≡ prefix_len p bs → AllPass p (take n bs)
+AllPass-take p n bs counted = λ k d h.
     let within : k < n = omega (arith, length-take n bs) in
-    ap is_ascii_digit (get_or-take n bs k d within) ∙ prefix_len_passes is_ascii_digit bs k d (omega arith)
+    ap p (get_or-take n bs k d within) ∙ prefix_len_passes p bs k d (omega arith)
+
+-- bytes with the bit of 16, and zeros in front of them, leave room for a carry once turned
+pub All-turned : (j : ℕ) (ds : List ℕ) → All (λ b. b < 256) ds → AllPass has_sixteen ds → All (λ b. b < 240) (replicate j 0 ++ map (λ b. bit_xor b 48) ds)
+All-turned zero [] small has = All-nil (λ b. b < 240)
+All-turned zero (b ∷ ds) small has =
+    let first = turned_below b (All-head (λ b. b < 256) b ds small) (All-head (λ b. has_sixteen b ≡ true) b ds has) in
+    All-cons (λ b. b < 240) (bit_xor b 48) (map (λ b. bit_xor b 48) ds) first (All-turned zero ds (All-tail (λ b. b < 256) b ds small) (All-tail (λ b. has_sixteen b ≡ true) b ds has))
+All-turned (suc j) ds small has = All-cons (λ b. b < 240) 0 (replicate j 0 ++ map (λ b. bit_xor b 48) ds) (lit< tt) (All-turned j ds small has)
+
+-- they are digits where all are below ten then
+pub AllPass-turned : (j : ℕ) (ds : List ℕ) → All (λ b. b < 256) ds → AllBelowBase 10 (replicate j 0 ++ map (λ b. bit_xor b 48) ds) → AllPass is_ascii_digit ds
+AllPass-turned zero [] small below = All-nil (λ b. is_ascii_digit b ≡ true)
+AllPass-turned zero (b ∷ ds) small below =
+    let first = turned_digit b (All-head (λ b. b < 256) b ds small) below.0 in
+    All-cons (λ b. is_ascii_digit b ≡ true) b ds first (AllPass-turned zero ds (All-tail (λ b. b < 256) b ds small) below.1)
+AllPass-turned (suc j) ds small below = AllPass-turned j ds small below.1
+
+no_digit : (b : ℕ) → has_sixteen b ≡ false → is_ascii_digit b ≡ false
+no_digit b off = by (is_ascii_digit b) refl
+  where
+    by : (t : Bool) → is_ascii_digit b ≡ t → is_ascii_digit b ≡ false
+    by true digit = absurd (let e = digit_has_sixteen b digit in cc)
+    by false digit = digit
+
+-- the digits in front end where the bit of 16 does, if only digits come before
+pub prefix_len-digits : (n : ℕ) (bs : List ℕ) → n ≡ prefix_len has_sixteen bs → AllPass is_ascii_digit (take n bs) → n ≡ prefix_len is_ascii_digit bs
+prefix_len-digits n [] counted digits = counted
+prefix_len-digits n (b ∷ bs) counted digits = by (has_sixteen b) refl (prefix_len-digits (prefix_len has_sixteen bs) bs refl)
+  where
+    by : (t : Bool) → has_sixteen b ≡ t → (AllPass is_ascii_digit (take (prefix_len has_sixteen bs) bs) → prefix_len has_sixteen bs ≡ prefix_len is_ascii_digit bs)
+        → n ≡ prefix_len is_ascii_digit (b ∷ bs)
+    by true has more =
+        let m = prefix_len has_sixteen bs in
+        let is : n ≡ suc m = omega (arith, counted ∙ ap (λ t. cond t (1 + m) 0) has) in
+        let all = subst (λ k. AllPass is_ascii_digit (take k (b ∷ bs))) is digits in
+        let first = All-head (λ b. is_ascii_digit b ≡ true) b (take m bs) all in
+        let rest = more (All-tail (λ b. is_ascii_digit b ≡ true) b (take m bs) all) in
+        omega (arith, is, rest, ap (λ t. cond t (1 + prefix_len is_ascii_digit bs) 0) first)
+    by false off more =
+        counted ∙ ap (λ t. cond t (1 + prefix_len has_sixteen bs) 0) off ∙ sym (ap (λ t. cond t (1 + prefix_len is_ascii_digit bs) 0) (no_digit b off))
 
 -- zeros after are no digits
 pub prefix_len-padded : (n m : ℕ) (bs : List ℕ) → prefix_len is_ascii_digit (take n (bs ++ replicate m 0)) ≡ prefix_len is_ascii_digit (take n bs)

@@ -1,23 +1,32 @@
 //! Eight digits at a time, in one 64-bit word.
 
-ghost use Rattle.std.specs.Prelude.{◌≡◌, ◌%◌, ◌-◌, ◌≤◌, ◌<◌, ◌++◌, length, map, replicate, take, drop};
+ghost use Rattle.std.specs.Prelude.{◌≡◌, ◌-◌, ◌≤◌, ◌<◌, ◌++◌, ◌↔◌, length, map, replicate, take, drop, bit_xor, IsTrue, IfSome};
 ghost use Rattle.std.specs.Char.{is_ascii_digit};
 ghost use Rattle.std.specs.Int.{w64, to_le_bytes};
 ghost use Rattle.std.specs.Int.Digits.{AllBelowBase, number_from_digits};
-ghost use Rattle.std.specs.List.{prefix_len};
+ghost use Rattle.std.specs.List.{All, prefix_len};
 ghost use Rattle.dimacs_lines.specs.Number.{place_sum};
+ghost use Rattle.dimacs_lines.specs.inside.Plain.{has_sixteen};
 
-/// How many digits stand at `at`, up to eight, and the number that they say.
+/// How many digits stand at `at`, up to eight, and the number that they say. None where there is no digit, or where some other
+/// byte that has the bit of 16 set comes right after them, as few do: no blank, line's end or sign does.
 #[inline(always)]
-pub fn digits_at(line: &[u8], at: usize) -> (usize, u32)
+pub fn digits_at(line: &[u8], at: usize) -> Option<(usize, u32)>
     requires { at ≤ length line.now }
-    ensures count { result.0 ≡ prefix_len is_ascii_digit (take 8 (drop at line.now)) }
-    ensures value { result.1 ≡ place_sum (take result.0 (drop at line.now)) }
+    ensures some { IfSome result (λ found. 0 < found.0) }
+    ensures count { IfSome result (λ found. found.0 ≡ prefix_len is_ascii_digit (take 8 (drop at line.now))) }
+    ensures value { IfSome result (λ found. found.1 ≡ place_sum (take found.0 (drop at line.now))) }
 {
     let word = word_at(line, at);
-    let count = digit_count(word);
-    let value = eight_digits(digits_on_top(word, count));
-    (count as usize, value)
+    let count = count_to_end(word);
+    if count == 0 {
+        return None;
+    }
+    let values = values_on_top(word, count);
+    if !are_digits(values) {
+        return None;
+    }
+    Some((count as usize, eight_digits(values)))
 }
 
 /// The eight bytes from `at` on, the first one lowest, with zeros after the line's end.
@@ -61,29 +70,35 @@ fn short_word(bytes: &[u8]) -> u64
     u64::from_le_bytes(padded)
 }
 
-/// How many of the word's bytes are digits, from the lowest on.
+/// How many of the word's bytes have the bit of 16 set, from the lowest on. Where a number ends is known before the next one
+/// can be read, so it is found by this bit alone, and whether digits came before is tested apart.
 #[inline(always)]
-fn digit_count(word: u64) -> u32
-    ensures { result ≡ prefix_len is_ascii_digit (to_le_bytes w64 word) }
+fn count_to_end(word: u64) -> u32
+    ensures count { result ≡ prefix_len has_sixteen (to_le_bytes w64 word) }
+    ensures few { result ≤ 8 }
 {
-    // A digit's byte becomes its value, below ten. In any other the top bit is set, or 118 more sets it.
-    let values = word ^ 0x3030303030303030;
-    let sums = (values & 0x7f7f7f7f7f7f7f7f) + 0x7676767676767676;
-    let others = (sums | values) & 0x8080808080808080;
-    others.trailing_zeros() / 8
+    let ends = (word & 0x1010101010101010) ^ 0x1010101010101010;
+    ends.trailing_zeros() / 8
 }
 
-/// The low halves of the `count` lowest bytes, moved to the top, with zeros below.
+/// What the `count` lowest bytes are more than a zero's code, if they are digits, moved to the top, with zeros below.
 #[inline(always)]
-fn digits_on_top(word: u64, count: u32) -> u64
-    requires { count ≤ 8 }
+fn values_on_top(word: u64, count: u32) -> u64
+    requires some { 0 < count }
+    requires few { count ≤ 8 }
     ensures { to_le_bytes w64 result
-        ≡ replicate (8 - count) 0 ++ map (λ b. b % 16) (take count (to_le_bytes w64 word)) }
+        ≡ replicate (8 - count) 0 ++ map (λ b. bit_xor b 48) (take count (to_le_bytes w64 word)) }
 {
-    if count == 0 {
-        return 0;
-    }
-    (word & 0x0f0f0f0f0f0f0f0f) << (64 - 8 * count)
+    (word ^ 0x3030303030303030) << (64 - 8 * count)
+}
+
+/// Whether all bytes are below ten.
+#[inline(always)]
+fn are_digits(word: u64) -> bool
+    requires { All (λ b. b < 240) (to_le_bytes w64 word) }
+    ensures { IsTrue result ↔ AllBelowBase 10 (to_le_bytes w64 word) }
+{
+    (word + 0x0606060606060606) & 0xf0f0f0f0f0f0f0f0 == 0
 }
 
 /// The number that eight digits say, the first one lowest.

@@ -4,7 +4,7 @@ ghost use Rattle.std.specs.Prelude.{◌≡◌, ◌≢◌, ◌↔◌, ◌≤◌, 
 ghost use Rattle.std.specs.List.{position_or_len};
 ghost use Rattle.dimacs_lines.specs.Devices.{before_piece, CountsFault};
 ghost use Rattle.dimacs_lines.specs.Limits.{longest_line, most_lines, most_held, greatest_piece};
-ghost use Rattle.dimacs_lines.specs.Lines.{is_end};
+ghost use Rattle.dimacs_lines.specs.Lines.{is_end, AreWholeLines};
 ghost use Rattle.dimacs_lines.specs.Reader.{NextLine, CountsDevice};
 ghost use Rattle.dimacs_lines.specs.inside.Reader.{text_left};
 ghost use Rattle.dimacs_lines.specs.inside.Buffer.{PullsMore, IsEnough, IsInterruption, GivesHeld};
@@ -116,6 +116,7 @@ impl Lines {
     #[inline(always)]
     pub fn skip(&mut self, bytes: usize, lines: u64)
         requires within { bytes ≤ length self.old.held }
+        requires whole { AreWholeLines (take bytes self.old.held) lines }
         requires few { self.old.given + lines ≤ most_lines }
         ensures { self.new ≡ record self.old { held = drop bytes self.old.held; given = self.old.given + lines; line = [] } }
     {

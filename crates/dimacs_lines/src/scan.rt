@@ -164,8 +164,8 @@ fn plain_digits(line: &[u8], at: usize) -> Option<(usize, u32)>
     ensures digits { IfSome result (λ found. All IsAsciiDigit (take found.0 (drop at line.now))) }
     ensures value { IfSome result (λ found. found.1 ≡ place_sum (take found.0 (drop at line.now))) }
 {
-    let (count, size) = digits_at(line, at);
-    if count > 0 && ends_at(line, at + count) {
+    let (count, size) = digits_at(line, at)?;
+    if ends_at(line, at + count) {
         Some((count, size))
     } else {
         None

@@ -13,8 +13,8 @@ use Rattle.std.specs.declared.cmp.Ordering.{Ordering}
 use Rattle.std.specs.declared.cmp.Ordering.TheVariants.{Less, Equal, Greater}
 use Rattle.std.specs.FinMap.Entries.{by_order, put, find}
 use Rattle.std.specs.FinMap.{FinMap, empty, insert, get, entries, from_entries, get-entries, get-from_entries, entries-insert, len-entries, len-empty, same_map, nat_cmp-IsAntisymmetric}
-use Rattle.dimacs_nodes.specs.Pages.{values_below, with_option}
-use Rattle.dimacs_nodes.proofs.PageLemmas.{get-values_below, get-values_below_past}
+use Rattle.dimacs_nodes.specs.Maps.{values_below, with_option}
+use Rattle.dimacs_nodes.proofs.MapLemmas.{get-values_below, get-values_below_past}
 
 -- 1 for an entry of this node, else 0
 abbrev ones : ℕ → ℕ → ℕ

@@ -1,6 +1,6 @@
-pub mod Entries
 mod LayerLemmas
-pub mod Nodes
-pub mod PageLemmas
-pub mod SetLemmas
 mod SlotLemmas
+pub mod Entries
+pub mod MapLemmas
+pub mod Nodes
+pub mod SetLemmas

@@ -1,5 +1,5 @@
 pub mod Layers
-pub mod Pages
+pub mod Maps
 pub mod Sets
 pub mod Slots
 pub mod Tables

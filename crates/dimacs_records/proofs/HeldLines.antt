@@ -1,8 +1,10 @@
 -- Reading the plain lines that are held.
-use Rattle.std.proofs.Common.{◌≡◌, ◌+◌, ◌<◌, ◌++◌, ◌∷◌, [], ℕ, List, Option, None, Some, Result, drop, refl, ap, ◌∙◌, arith, append_assoc}
+use Rattle.std.proofs.Common.{◌≡◌, ◌+◌, ◌<◌, ◌++◌, ◌∷◌, [], ℕ, List, Option, None, Some, Result, take, drop, refl, ap, sym, ◌∙◌, arith, append_assoc, length-append}
 use Rattle.std.specs.Prelude.{IfErr, OnOk}
 use Rattle.dimacs_lines.specs.Devices.{before_piece}
-use Rattle.dimacs_lines.specs.Lines.{lines}
+use Rattle.std.proofs.lemmas.List.{take_at}
+use Rattle.std.proofs.Math.Seq.{take-add}
+use Rattle.dimacs_lines.specs.Lines.{lines, AreWholeLines}
 use Rattle.dimacs_lines.specs.Reader.{State, GivesLine}
 use Rattle.dimacs_lines.specs.declared.reader.Progress.TheVariants.{Open}
 use Rattle.dimacs_lines.specs.Limits.{most_lines}
@@ -57,3 +59,22 @@ plain_step kind all bytes given size coming r old new result says few so_far all
     let line = given_line kind bytes r size given coming says few in
     let there = comes_after kind all before after left later (given + 1) old line so_far in
     read_one kind all before after left later (given + 1) old new result line so_far (take_record kind so_far.before so_far.said (given + 1) says.line r old new result there so_far.stands says.reads.0 says.reads.1 allowed taken refused)
+
+-- after whole lines, the first line of what follows them makes one more
+pub one_more_whole : (kind : TextKind) (held : List ℕ) (bytes count size : ℕ) (r : Record) → AreWholeLines (take bytes held) count → SaysFirst kind (drop bytes held) r size → AreWholeLines (take (bytes + size) held) (count + 1)
+one_more_whole kind held bytes count size r before says =
+    let line = says.line ++ 10 ∷ [] in
+    let cut : drop bytes held ≡ line ++ drop size (drop bytes held) = says.there ∙ sym (append_assoc says.line (10 ∷ []) (drop size (drop bytes held))) in
+    let front : take size (drop bytes held) ≡ line = ap (take size) cut ∙ take_at line (drop size (drop bytes held)) size (omega (arith, says.size_is, length-append says.line (10 ∷ []))) in
+    let taken : take (bytes + size) held ≡ take bytes held ++ line = take-add bytes size held ∙ ap (λ ys. take bytes held ++ ys) front in
+    record {
+      whole = before.whole ++ says.line ∷ [];
+      counted = omega (arith, before.counted, length-append before.whole (says.line ∷ []));
+      come_first = λ rest.
+          ap (λ ys. lines (ys ++ rest)) taken
+          ∙ ap lines (append_assoc (take bytes held) line rest)
+          ∙ before.come_first (line ++ rest)
+          ∙ ap (λ ys. before.whole ++ lines ys) (append_assoc says.line (10 ∷ []) rest)
+          ∙ ap (λ ls. before.whole ++ ls) (says.first rest)
+          ∙ sym (append_assoc before.whole (says.line ∷ []) (lines rest));
+    }

@@ -1,9 +1,9 @@
 //! Reading a whole text.
 
-ghost use Rattle.std.specs.Prelude.{◌≡◌, ◌≢◌, ◌+◌, ◌≤◌, ◌++◌, ◌∷◌, [], ℕ, List, Option, Some, IfOk, IfErr, IfSome, OnOk, length};
+ghost use Rattle.std.specs.Prelude.{◌≡◌, ◌≢◌, ◌+◌, ◌≤◌, ◌++◌, ◌∷◌, [], ℕ, List, Option, Some, IfOk, IfErr, IfSome, OnOk, length, take};
 ghost use Rattle.std.specs.Option.{option_len};
 ghost use Rattle.dimacs_lines.specs.Devices.{before_piece};
-ghost use Rattle.dimacs_lines.specs.Lines.{lines};
+ghost use Rattle.dimacs_lines.specs.Lines.{lines, AreWholeLines};
 ghost use Rattle.dimacs_lines.specs.inside.Reader.{text_left};
 ghost use Rattle.dimacs_lines.specs.declared.reader.Progress.TheVariants.{Open};
 ghost use Rattle.dimacs_lines.specs.Limits.{most_lines};
@@ -112,6 +112,7 @@ fn take_plain<R: Reading>(
     requires few { given + length held.now ≤ most_lines }
     ensures kind { R.kind reading.new ≡ kind }
     ensures within { IfOk result (λ taken. taken.bytes ≤ length held.now) }
+    ensures whole { IfOk result (λ taken. AreWholeLines (take taken.bytes held.now) taken.lines) }
     ensures few { IfOk result (λ taken. given + taken.lines ≤ most_lines) }
     ensures takes { (all : List (List ℕ)) (coming : Option (List ℕ)) → IsReadSoFar kind all given (before_piece held.now coming) (R.stands_for reading.old) → TakesPlain kind all given held.now coming (R.stands_for reading.new) result }
     ensures spelled { IfOk result (λ taken. HasTaken kind (given + 1) (R.stands_for reading.old) → HasTaken kind (given + taken.lines + 1) (R.stands_for reading.new)) }

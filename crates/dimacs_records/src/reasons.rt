@@ -48,6 +48,8 @@ pub enum Reason {
     Escapes,
     NotShortest,
     NegativeWeight,
+    NotMaximum,
+    NotLeast,
 }
 
 impl Reason {
@@ -98,6 +100,8 @@ impl Reason {
             Reason::Escapes => "Escapes",
             Reason::NotShortest => "NotShortest",
             Reason::NegativeWeight => "NegativeWeight",
+            Reason::NotMaximum => "NotMaximum",
+            Reason::NotLeast => "NotLeast",
         }
     }
 }

@@ -1,5 +1,6 @@
 pub mod FileLemmas
 pub mod JudgingLemmas
+pub mod PlanLemmas
 mod WordLemmas
 pub mod ReportLemmas
 pub mod SolvingLemmas

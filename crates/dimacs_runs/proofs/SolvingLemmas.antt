@@ -86,20 +86,20 @@ module _ {V W : Type 0} (x : TextSays V) (y : TextSays W) (next : V → W → St
 
 -- the producer of a maximum flow answered
 pub maximum_tells : (i : MaxValue) (limit : ℕ) (answer : Result MaxAnswer SolveError) → SolvesMax i limit answer → MayProduce (FindsMaximum i limit) (maximum_produced answer)
-maximum_tells i limit (Ok (answers.Optimal solution cut)) found = ((claimed solution, cut, found, refl), λ refusal never. absurd never)
+maximum_tells i limit (Ok (answers.Optimal solution cut)) found = ((found.0, claimed solution, cut, found.1, refl), λ refusal never. absurd never)
 maximum_tells i limit (Ok answers.GaveUp) gave_up = ((gave_up, refl), λ refusal never. absurd never)
 maximum_tells i limit (Err (solve_errors.NegativeWeight arc)) never = absurd never
 maximum_tells i limit (Err (solve_errors.Refused place reason)) never = absurd never
 maximum_tells i limit (Err solve_errors.Memory) nothing = tt
 
 -- the producer of a flow of least cost answered
-pub least_tells : (i : MinValue) (answer : Result MinAnswer SolveError) → SolvesMin i answer → MayProduce (FindsLeast i) (least_produced answer)
-least_tells i (Ok (least.Optimal solution potentials)) found = (inl (claimed solution, potentials, found, refl), λ refusal never. absurd never)
-least_tells i (Ok (least.Infeasible set)) found = (inr (set, found, refl), λ refusal never. absurd never)
-least_tells i (Ok least.GaveUp) gave_up = (refl, λ refusal never. absurd never)
-least_tells i (Err (solve_errors.NegativeWeight arc)) never = absurd never
-least_tells i (Err (solve_errors.Refused place reason)) never = absurd never
-least_tells i (Err solve_errors.Memory) nothing = tt
+pub least_tells : (i : MinValue) (limit : ℕ) (answer : Result MinAnswer SolveError) → SolvesMin i limit answer → MayProduce (FindsLeast i limit) (least_produced answer)
+least_tells i limit (Ok (least.Optimal solution potentials)) found = (inl (claimed solution, potentials, found, refl), λ refusal never. absurd never)
+least_tells i limit (Ok (least.Infeasible set)) found = (inr (set, found, refl), λ refusal never. absurd never)
+least_tells i limit (Ok least.GaveUp) gave_up = ((gave_up, refl), λ refusal never. absurd never)
+least_tells i limit (Err (solve_errors.NegativeWeight arc)) never = absurd never
+least_tells i limit (Err (solve_errors.Refused place reason)) never = absurd never
+least_tells i limit (Err solve_errors.Memory) nothing = tt
 
 same_first : (arcs : List ArcView) (j k : ℕ) → IsFirstNegative arcs j → IsFirstNegative arcs k → j ≡ k
 same_first arcs j k f g = elim (cases_order f.index g.index) [

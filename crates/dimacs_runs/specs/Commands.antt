@@ -1,6 +1,14 @@
 -- What a command does with its files and with the output, from its words to its exit status.
-use Rattle.std.specs.Prelude.{ℕ, ◌≡◌, ◌⊎◌, List, [], ◌∷◌, Option, Some, Result, Err, map}
+use Rattle.std.specs.Prelude.{ℕ, ◌≡◌, ◌⊎◌, ◌++◌, List, [], ◌∷◌, Option, None, Some, Result, Ok, Err, IsErr, drop, map, take}
+use Rattle.std.specs.List.{flat_map}
 use Rattle.std.specs.String.{string_bytes}
+use Rattle.dimacs_lines.specs.Devices.{one_more}
+use Rattle.dimacs_runs.specs.declared.command.Ending.{Ending}
+use Rattle.dimacs_runs.specs.declared.failure.CommandError.{CommandError}
+use Rattle.dimacs_runs.specs.declared.failure.CommandError.TheVariants.{Device, Memory}
+use Rattle.dimacs_runs.specs.declared.failure.Failure.TheVariants.{File, Output}
+use Rattle.dimacs_runs.specs.declared.failure.FileCall.{FileCall}
+use Rattle.dimacs_runs.specs.declared.failure.FileCall.TheVariants as calls
 use Rattle.dimacs_runs.specs.declared.jobs.Job.{Job}
 use Rattle.dimacs_runs.specs.declared.jobs.Job.TheVariants.{Convert, Show, Judge, Solve}
 use Rattle.dimacs_runs.specs.declared.jobs.JudgeKind.{JudgeKind}
@@ -8,79 +16,154 @@ use Rattle.dimacs_runs.specs.declared.jobs.JudgeKind.TheVariants as judges
 use Rattle.dimacs_runs.specs.declared.jobs.SolveJob.{SolveJob}
 use Rattle.dimacs_runs.specs.declared.jobs.SolveJob.TheVariants as solves
 use Rattle.dimacs_runs.specs.declared.outcome.RunError.{RunError}
+use Rattle.dimacs_runs.specs.declared.outcome.RunError.TheVariants as run_errors
 use Rattle.dimacs_runs.specs.declared.outcome.Status.{Status}
-use Rattle.dimacs_runs.specs.Files.{Begins, Closed, Created, FileEvent, Opened, TakesPlace, after_events}
+use Rattle.dimacs_runs.specs.Files.{Created, FileEvent, FilesSeen, NotCreated, NotOpened, Opened, Read, ReadFile, Sees, WrittenFile, Wrote, closed_written, failures}
 use Rattle.dimacs_runs.specs.Jobs.{Asks}
-use Rattle.dimacs_runs.specs.Judged.{Judged}
-use Rattle.dimacs_runs.specs.Judgings.{CountsDevices}
+use Rattle.dimacs_runs.specs.Judged.{Judged, JudgedInfeasible}
 use Rattle.dimacs_runs.specs.Outcomes.{status_number}
 use Rattle.dimacs_runs.specs.Outputs.{ReportsAll}
 use Rattle.dimacs_runs.specs.Runs.{Converted, Reports, Shown}
-use Rattle.dimacs_runs.specs.Solved.{Solved}
+use Rattle.dimacs_runs.specs.Solved.{SolvedMax, SolvedMin, SolvedPaths}
 
 -- what files of these names hold, where that is told
 abbrev pub Contents : Type 0
 Contents = List ℕ → Option (List ℕ)
 
--- what is told of the files and of the output: what was done so far, what the output has accepted, and the faults of both
+-- what is seen of the files and of the output: what the output has accepted, where that is told, and its faults
 pub record Seen : Type 0 where
-  pub done : Option (List FileEvent)
+  pub files : FilesSeen
   pub output : Option (List ℕ)
-  pub faults : List ℕ
+  pub faults : ℕ
 
--- the files of a judge hold these texts, in the order of their words
-abbrev pub HoldClaim : JudgeKind → List (List ℕ) → Contents → List ℕ → List ℕ → List ℕ → Type 0
-HoldClaim judges.Infeasible (instance ∷ certificate ∷ []) holds a b c = (holds instance ≡ Some a) × (holds certificate ≡ Some c)
-HoldClaim judges.Max (instance ∷ claim ∷ certificate ∷ []) holds a b c = (holds instance ≡ Some a) × (holds claim ≡ Some b) × (holds certificate ≡ Some c)
-HoldClaim judges.Min (instance ∷ claim ∷ certificate ∷ []) holds a b c = (holds instance ≡ Some a) × (holds claim ≡ Some b) × (holds certificate ≡ Some c)
-HoldClaim judges.Paths (graph ∷ queries ∷ labels ∷ []) holds a b c = (holds graph ≡ Some a) × (holds queries ≡ Some b) × (holds labels ≡ Some c)
-HoldClaim kind other holds a b c = ⊥
+abbrev pub seen_by : FilesSeen → Option (List ℕ) → ℕ → Seen
+seen_by files output faults = record { files = files; output = output; faults = faults }
 
--- a file could not be opened or created: those before it were, and nothing else was done
-pub record StopsOpening (opening : List FileEvent) (result : Result Status RunError) (old new : Seen) : Type 0 where
+-- the files that a run opens, and those that it creates, in the order of its words
+pub record Plan : Type 0 where
+  pub opened : List (List ℕ)
+  pub created : List (List ℕ)
+
+abbrev pub reads : List (List ℕ) → Plan
+reads names = record { opened = names; created = [] }
+
+-- so many are read, and those after them written
+abbrev pub reads_first : ℕ → List (List ℕ) → Plan
+reads_first count names = record { opened = take count names; created = drop count names }
+
+-- a graph and queries, or an instance alone
+abbrev pub read_count : SolveJob → ℕ
+read_count (solves.Max limit) = 1
+read_count (solves.Min limit) = 1
+read_count solves.Paths = 2
+
+abbrev pub plan_of : Job → Plan
+plan_of (Convert kind file) = reads (file.now ∷ [])
+plan_of (Show kind file) = reads (file.now ∷ [])
+plan_of (Judge kind files) = reads (map string_bytes files.now)
+plan_of (Solve job files) = reads_first (read_count job) (map string_bytes files.now)
+
+-- what is told of the texts of the files that are read: by what those that are created and the output had accepted, and what they have then
+abbrev pub Telling : Type 1
+Telling = List (List ℕ) → Result Status CommandError → List (Option (List ℕ)) → List (Option (List ℕ)) → Type 0
+
+abbrev pub TellsOne : (List ℕ → Status → List ℕ → Type 0) → Telling
+TellsOne tells (text ∷ []) result (old ∷ []) (new ∷ []) = Reports (tells text) result old new
+TellsOne tells other result old new = ⊥
+
+-- nothing is claimed of an instance without a feasible flow
+abbrev pub TellsJudged : JudgeKind → Telling
+TellsJudged judges.Infeasible (instance ∷ set ∷ []) result (old ∷ []) (new ∷ []) = Reports (JudgedInfeasible instance set) result old new
+TellsJudged kind (instance ∷ claim ∷ certificate ∷ []) result (old ∷ []) (new ∷ []) = Reports (Judged kind instance claim certificate) result old new
+TellsJudged kind other result old new = ⊥
+
+-- nothing is claimed with distances: the claim goes nowhere
+abbrev pub TellsSolved : SolveJob → Telling
+TellsSolved (solves.Max limit) (instance ∷ []) result old new = ReportsAll (SolvedMax limit instance) result old new
+TellsSolved (solves.Min limit) (instance ∷ []) result old new = ReportsAll (SolvedMin limit instance) result old new
+TellsSolved solves.Paths (graph ∷ queries ∷ []) result old new = ReportsAll (SolvedPaths graph queries) result (None ∷ old) (None ∷ new)
+TellsSolved job other result old new = ⊥
+
+abbrev pub tells_of : Job → Telling
+tells_of (Convert kind file) = TellsOne (Converted kind)
+tells_of (Show kind file) = TellsOne (Shown kind)
+tells_of (Judge kind files) = TellsJudged kind
+tells_of (Solve job files) = TellsSolved job
+
+-- a file could not be opened: those before it were, and nothing else was done
+pub record StopsOpening (plan : Plan) (events : List FileEvent) : Type 0 where
+  pub before : List (List ℕ)
+  pub name : List ℕ
+  pub after : List (List ℕ)
   pub error : RunError
-  pub failed : result ≡ Err error
-  pub begun : Begins opening old.done new.done
-  pub unwritten : new.output ≡ old.output
+  pub whole : plan.opened ≡ before ++ name ∷ after
+  pub happened : events ≡ map Opened before ++ NotOpened name error ∷ []
 
--- the files of a flow were opened and created, and closed with the claim and the certificate that go with the report
-pub record FindsFlow (job : SolveJob) (instance claim certificate : List ℕ) (holds : Contents) (empty : Option (List ℕ)) (result : Result Status RunError) (old new : Seen) : Type 0 where
-  pub claimed : Option (List ℕ)
-  pub certified : Option (List ℕ)
-  pub done : new.done ≡ after_events old.done (Opened instance ∷ Created claim ∷ Created certificate ∷ Closed claim claimed ∷ Closed certificate certified ∷ [])
-  pub reports : (a b : List ℕ) → holds instance ≡ Some a → ReportsAll (Solved job a b) result (empty ∷ empty ∷ old.output ∷ []) (claimed ∷ certified ∷ new.output ∷ [])
+abbrev pub closed_empty : Option (List ℕ) → List ℕ → FileEvent
+closed_empty empty name = closed_written name empty 0
 
--- the files of distances were opened and created, and closed with the labels that go with the report; nothing is claimed
-pub record FindsDistances (graph queries labels : List ℕ) (holds : Contents) (empty : Option (List ℕ)) (result : Result Status RunError) (old new : Seen) : Type 0 where
-  pub labelled : Option (List ℕ)
-  pub done : new.done ≡ after_events old.done (Opened graph ∷ Opened queries ∷ Created labels ∷ Closed labels labelled ∷ [])
-  pub reports : (a b : List ℕ) → holds graph ≡ Some a → holds queries ≡ Some b → ReportsAll (Solved solves.Paths a b) result (Some [] ∷ empty ∷ old.output ∷ []) (Some [] ∷ labelled ∷ new.output ∷ [])
+-- a file could not be created: those before it were, and they were closed with nothing accepted
+pub record StopsCreating (plan : Plan) (empty : Option (List ℕ)) (events : List FileEvent) : Type 0 where
+  pub before : List (List ℕ)
+  pub name : List ℕ
+  pub after : List (List ℕ)
+  pub error : RunError
+  pub whole : plan.created ≡ before ++ name ∷ after
+  pub happened : events ≡ map Opened plan.opened ++ map Created before ++ NotCreated name error ∷ map (closed_empty empty) before
 
--- what a producer does with the files of these names: it reads those in front, and writes those after them
-abbrev pub Produces : SolveJob → List (List ℕ) → Contents → Option (List ℕ) → Result Status RunError → Seen → Seen → Type 0
-Produces (solves.Max limit) (instance ∷ claim ∷ certificate ∷ []) holds empty result old new =
-    StopsOpening (Opened instance ∷ Created claim ∷ Created certificate ∷ []) result old new ⊎ FindsFlow (solves.Max limit) instance claim certificate holds empty result old new
-Produces (solves.Min limit) (instance ∷ claim ∷ certificate ∷ []) holds empty result old new =
-    StopsOpening (Opened instance ∷ Created claim ∷ Created certificate ∷ []) result old new ⊎ FindsFlow (solves.Min limit) instance claim certificate holds empty result old new
-Produces solves.Paths (graph ∷ queries ∷ labels ∷ []) holds empty result old new =
-    StopsOpening (Opened graph ∷ Opened queries ∷ Created labels ∷ []) result old new ⊎ FindsDistances graph queries labels holds empty result old new
-Produces job other holds empty result old new = ⊥
+-- there was no memory, or a file could not be opened, created or read
+abbrev pub WritesNothing : Result Status CommandError → Type 0
+WritesNothing (Err Memory) = Unit {0}
+WritesNothing (Err (Device (File calls.Open name))) = Unit {0}
+WritesNothing (Err (Device (File calls.Create name))) = Unit {0}
+WritesNothing (Err (Device (File calls.Read name))) = Unit {0}
+WritesNothing other = ⊥
 
--- the files are opened in the order of their words, and what is told of the texts that they hold is put to the output
-abbrev pub DoesJob : Job → Contents → Option (List ℕ) → Result Status RunError → Seen → Seen → Type 0
-DoesJob (Convert kind file) holds empty result old new =
-    TakesPlace (Opened file.now ∷ []) result old.done new.done × ((bytes : List ℕ) → holds file.now ≡ Some bytes → Reports (Converted kind bytes) result old.output new.output)
-DoesJob (Show kind file) holds empty result old new =
-    TakesPlace (Opened file.now ∷ []) result old.done new.done × ((bytes : List ℕ) → holds file.now ≡ Some bytes → Reports (Shown kind bytes) result old.output new.output)
-DoesJob (Judge kind files) holds empty result old new =
-    TakesPlace (map Opened (map string_bytes files.now)) result old.done new.done × ((a b c : List ℕ) → HoldClaim kind (map string_bytes files.now) holds a b c → Reports (Judged kind a b c) result old.output new.output)
-DoesJob (Solve job files) holds empty result old new = Produces job (map string_bytes files.now) holds empty result old new
+-- what files that were created and the output have accepted, at first and at last
+abbrev pub at_first : List (List ℕ) → Option (List ℕ) → Option (List ℕ) → List (Option (List ℕ))
+at_first created empty output = map (λ (name : List ℕ). empty) created ++ output ∷ []
 
--- the run of the job, with one fault more where a device failed, and none otherwise
-abbrev pub RunsJob : Job → Contents → Option (List ℕ) → Result Status RunError → Seen → Seen → Type 0
-RunsJob job holds empty result old new = DoesJob job holds empty result old new × CountsDevices result old.faults new.faults
+abbrev pub at_last : List WrittenFile → Option (List ℕ) → List (Option (List ℕ))
+at_last written output = map (λ (file : WrittenFile). file.accepted) written ++ output ∷ []
 
--- the words ask for no run, and nothing is done; or the run that they ask for ends with this status
-abbrev pub Commands : List (List ℕ) → Contents → Option (List ℕ) → ℕ → Seen → Seen → Type 0
-Commands words holds empty status old new =
-    (((wanted : Job) → ¬ Asks words wanted) × (status ≡ 2) × (new ≡ old)) ⊎ ((wanted : Job) × (ended : Result Status RunError) × Asks words wanted × RunsJob wanted holds empty ended old new × (status ≡ status_number ended))
+-- all files were opened and created, and closed after they were read and written, and what is told of the texts was put
+pub record UsesFiles (plan : Plan) (holds : Contents) (empty : Option (List ℕ)) (tells : Telling) (events : List FileEvent) (result : Result Status CommandError) (old new : Option (List ℕ)) : Type 0 where
+  pub read : List ReadFile
+  pub written : List WrittenFile
+  pub all_read : map (λ (file : ReadFile). file.name) read ≡ plan.opened
+  pub all_written : map (λ (file : WrittenFile). file.name) written ≡ plan.created
+  pub happened : events ≡ map Opened plan.opened ++ map Created plan.created ++ map Read read ++ map Wrote written
+  pub told : (texts : List (List ℕ)) → map holds plan.opened ≡ map Some texts → tells texts result (at_first plan.created empty old) (at_last written new)
+  pub nothing_written : WritesNothing result → at_last written new ≡ at_first plan.created empty old
+
+-- the failures of files that the end of a run tells of
+abbrev pub failures_told : Result Status CommandError → List (FileCall × List ℕ)
+failures_told (Err (Device (File call name))) = (call, name.now) ∷ []
+failures_told other = []
+
+-- the faults of the output: one more where the end of a run tells of it
+abbrev pub output_faults : Result Status CommandError → ℕ → ℕ
+output_faults (Err (Device Output)) faults = one_more faults
+output_faults other faults = faults
+
+-- the files of a plan were used, or one of them could not be opened or created and nothing was put; and the device that is told of is the only one that failed
+pub record RunsFiles (plan : Plan) (holds : Contents) (empty : Option (List ℕ)) (tells : Telling) (result : Result Status CommandError) (old new : Seen) : Type 0 where
+  pub events : List FileEvent
+  pub seen : Sees events old.files new.files
+  pub failure : flat_map failures events ≡ failures_told result
+  pub faults : new.faults ≡ output_faults result old.faults
+  pub ends : ((StopsOpening plan events ⊎ StopsCreating plan empty events) × IsErr result × (new.output ≡ old.output)) ⊎ UsesFiles plan holds empty tells events result old.output new.output
+
+abbrev pub RunsJob : Job → Contents → Option (List ℕ) → Result Status CommandError → Seen → Seen → Type 0
+RunsJob job holds empty result old new = RunsFiles (plan_of job) holds empty (tells_of job) result old new
+
+-- how the command ends after a run, with the device that failed
+abbrev pub ending_of : Result Status CommandError → Ending
+ending_of (Ok status) = record { status = status_number (Ok status); failure = None }
+ending_of (Err (Device failure)) = record { status = status_number (Err run_errors.Device); failure = Some failure }
+ending_of (Err Memory) = record { status = status_number (Err run_errors.Memory); failure = None }
+
+-- the words ask for no run, and nothing is done; or the run that they ask for ends so
+abbrev pub Commands : List (List ℕ) → Contents → Option (List ℕ) → Ending → Seen → Seen → Type 0
+Commands words holds empty ending old new =
+    (((wanted : Job) → ¬ Asks words wanted) × (ending ≡ record { status = 2; failure = None }) × (new ≡ old)) ⊎ ((wanted : Job) × (ended : Result Status CommandError) × Asks words wanted × RunsJob wanted holds empty ended old new × (ending ≡ ending_of ended))

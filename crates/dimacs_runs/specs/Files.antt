@@ -1,36 +1,75 @@
 -- What is done with files, as far as it is told.
 use Rattle.std.specs.Prelude.{ℕ, ◌++◌, ◌==◌, ◌≡◌, if◌then◌else◌, List, [], ◌∷◌, Option, None, Some, Result, Ok, Err}
+use Rattle.std.specs.List.{flat_map}
 use Rattle.dimacs_lines.specs.Devices.{one_more}
+use Rattle.dimacs_runs.specs.declared.failure.FileCall.{FileCall}
+use Rattle.dimacs_runs.specs.declared.failure.FileCall.TheVariants as calls
 use Rattle.dimacs_runs.specs.declared.outcome.RunError.{RunError}
+use Rattle.dimacs_runs.specs.declared.outcome.RunError.TheVariants.{Device, Memory}
 
--- a file was opened, to be read; created, or emptied; or closed after it was written, with what it has accepted
+-- a file that was closed after it was read, with its faults
+pub record ReadFile : Type 0 where
+  pub name : List ℕ
+  pub faults : ℕ
+
+-- a file that was closed after it was written, with what it has accepted
+pub record WrittenFile : Type 0 where
+  pub name : List ℕ
+  pub accepted : Option (List ℕ)
+  pub faults : ℕ
+
+-- a file was opened, to be read, or created, or emptied; or it could not be; or it was closed
 pub data FileEvent : Type 0 where
   Opened : List ℕ → FileEvent
+  NotOpened : List ℕ → RunError → FileEvent
   Created : List ℕ → FileEvent
-  Closed : List ℕ → Option (List ℕ) → FileEvent
+  NotCreated : List ℕ → RunError → FileEvent
+  Read : ReadFile → FileEvent
+  Wrote : WrittenFile → FileEvent
+
+-- what came of a call that was to open this file, and of one that was to create it
+abbrev pub opening : {X : Type 0} → Result X RunError → List ℕ → FileEvent
+opening (Ok file) name = Opened name
+opening (Err error) name = NotOpened name error
+
+abbrev pub creating : {X : Type 0} → Result X RunError → List ℕ → FileEvent
+creating (Ok file) name = Created name
+creating (Err error) name = NotCreated name error
+
+-- a file of this name was closed, with so many faults, after it was read; or after it was written, with what it has accepted
+abbrev pub closed_read : List ℕ → ℕ → FileEvent
+closed_read name faults = Read (record { name = name; faults = faults })
+
+abbrev pub closed_written : List ℕ → Option (List ℕ) → ℕ → FileEvent
+closed_written name accepted faults = Wrote (record { name = name; accepted = accepted; faults = faults })
+
+-- the call that failed, and the name of the file, where a file with faults was closed, or a device refused one
+abbrev pub failures : FileEvent → List (FileCall × List ℕ)
+failures (Opened name) = []
+failures (NotOpened name Device) = (calls.Open, name) ∷ []
+failures (NotOpened name Memory) = []
+failures (Created name) = []
+failures (NotCreated name Device) = (calls.Create, name) ∷ []
+failures (NotCreated name Memory) = []
+failures (Read file) = if file.faults == 0 then [] else (calls.Read, file.name) ∷ []
+failures (Wrote file) = if file.faults == 0 then [] else (calls.Write, file.name) ∷ []
+
+-- what was done with files, where that is told, and how often one failed: a `u64` that wraps
+pub record FilesSeen : Type 0 where
+  pub done : Option (List FileEvent)
+  pub faults : ℕ
 
 -- what was done once these events are over. Files that tell nothing go on telling nothing.
 abbrev pub after_events : Option (List FileEvent) → List FileEvent → Option (List FileEvent)
 after_events None events = None
 after_events (Some earlier) events = Some (earlier ++ events)
 
--- what was done after a call that was to do this, and does nothing where it fails
-abbrev pub after_call : {X : Type 0} → Result X RunError → Option (List FileEvent) → FileEvent → Option (List FileEvent)
-after_call (Ok file) earlier event = after_events earlier (event ∷ [])
-after_call (Err error) earlier event = earlier
+-- one fault more for each failure
+abbrev pub faults_after : {X : Type 0} → ℕ → List X → ℕ
+faults_after faults [] = faults
+faults_after faults (failure ∷ more) = faults_after (one_more faults) more
 
--- the faults of files once one is closed: one more where it had any
-abbrev pub faults_with : ℕ → ℕ → ℕ
-faults_with faults closed = if closed == 0 then faults else one_more faults
-
--- a beginning of these events took place, and no other
-pub record Begins (events : List FileEvent) (old new : Option (List FileEvent)) : Type 0 where
-  pub front : List FileEvent
-  pub rest : List FileEvent
-  pub whole : events ≡ front ++ rest
-  pub happened : new ≡ after_events old front
-
--- all of these events took place; after an error, a beginning of them
-abbrev pub TakesPlace : {X : Type 0} → List FileEvent → Result X RunError → Option (List FileEvent) → Option (List FileEvent) → Type 0
-TakesPlace events (Ok x) old new = new ≡ after_events old events
-TakesPlace events (Err error) old new = Begins events old new
+-- these events took place, and nothing else
+pub record Sees (events : List FileEvent) (old new : FilesSeen) : Type 0 where
+  pub done : new.done ≡ after_events old.done events
+  pub faults : new.faults ≡ faults_after old.faults (flat_map failures events)

@@ -1,5 +1,8 @@
--- The exit statuses of the command, and the lines on the standard error that tell of them.
+-- The exit statuses of the command, and the lines on the standard error that tell of them and of a device that failed.
 use Rattle.std.specs.Prelude.{ℕ, ◌==◌, if◌then◌else◌, List, Option, None, Some, Result, Ok, Err, codes}
+use Rattle.dimacs_runs.specs.declared.failure.Failure.{Failure}
+use Rattle.dimacs_runs.specs.declared.failure.Failure.TheVariants.{File, Output}
+use Rattle.dimacs_runs.specs.declared.failure.FileCall.TheVariants as calls
 use Rattle.dimacs_runs.specs.declared.outcome.Status.{Status}
 use Rattle.dimacs_runs.specs.declared.outcome.Status.TheVariants.{Done, Refused, GaveUp}
 use Rattle.dimacs_runs.specs.declared.outcome.RunError.{RunError}
@@ -19,3 +22,16 @@ complaint_of status =
     else if status == 3 then Some (codes "dimacs: device fault")
     else if status == 4 then Some (codes "dimacs: out of memory")
     else None
+
+-- the name of the device that failed
+abbrev pub failed_device : Failure → List ℕ
+failed_device (File call name) = name.now
+failed_device Output = codes "standard output"
+
+-- what could not be done with it
+abbrev pub failed_call : Failure → List ℕ
+failed_call (File calls.Open name) = codes "cannot be opened"
+failed_call (File calls.Create name) = codes "cannot be created"
+failed_call (File calls.Read name) = codes "cannot be read"
+failed_call (File calls.Write name) = codes "cannot be written"
+failed_call Output = codes "cannot be written"

@@ -4,7 +4,6 @@ use Rattle.dimacs_lines.specs.Devices.{after_piece}
 use Rattle.dimacs_lines.specs.Puts.{AcceptsFront}
 use Rattle.dimacs_runs.specs.declared.outcome.Status.{Status}
 use Rattle.dimacs_runs.specs.declared.outcome.Status.TheVariants.{Refused}
-use Rattle.dimacs_runs.specs.declared.outcome.RunError.{RunError}
 
 -- each sink has accepted its text
 abbrev pub AcceptAll : List (List ℕ) → List (Option (List ℕ)) → List (Option (List ℕ)) → Type 0
@@ -25,6 +24,6 @@ abbrev pub MayTell : (Status → List (List ℕ) → Type 0) → Status → List
 MayTell tells status out = tells status out × ((refusal : List (List ℕ)) → tells Refused refusal → (status ≡ Refused) × (out ≡ refusal))
 
 -- all that is told was put; after an error, nothing or a beginning of it
-abbrev pub ReportsAll : (Status → List (List ℕ) → Type 0) → Result Status RunError → List (Option (List ℕ)) → List (Option (List ℕ)) → Type 0
+abbrev pub ReportsAll : {E : Type 0} → (Status → List (List ℕ) → Type 0) → Result Status E → List (Option (List ℕ)) → List (Option (List ℕ)) → Type 0
 ReportsAll tells (Ok status) old new = (out : List (List ℕ)) × MayTell tells status out × AcceptAll out old new
 ReportsAll tells (Err error) old new = (new ≡ old) ⊎ ((status : Status) × (out : List (List ℕ)) × MayTell tells status out × AcceptInTurn out old new)

@@ -1,6 +1,6 @@
 -- What a run puts, and with which status it ends.
 use Rattle.std.specs.Prelude.{ℕ, ◌≡◌, ◌⊎◌, List, Option, Result, Ok, Err, codes}
-use Rattle.dimacs_lines.specs.Devices.{after_piece, one_more}
+use Rattle.dimacs_lines.specs.Devices.{after_piece}
 use Rattle.dimacs_lines.specs.Lines.{lines}
 use Rattle.dimacs_lines.specs.Puts.{AcceptsFront}
 use Rattle.dimacs_records.specs.declared.kinds.TextKind.{TextKind}
@@ -17,8 +17,6 @@ use Rattle.dimacs_instance.specs.MinTexts.{SpellsMin, canonical_min, shown_min}
 use Rattle.dimacs_instance.specs.QueryTexts.{SpellsQueries, canonical_queries, shown_queries}
 use Rattle.dimacs_runs.specs.declared.outcome.Status.{Status}
 use Rattle.dimacs_runs.specs.declared.outcome.Status.TheVariants.{Done, Refused, GaveUp}
-use Rattle.dimacs_runs.specs.declared.outcome.RunError.{RunError}
-use Rattle.dimacs_runs.specs.declared.outcome.RunError.TheVariants.{Device, Memory}
 use Rattle.dimacs_runs.specs.Refusals.{refusal_line}
 
 -- the text in the words of a refusal
@@ -65,12 +63,6 @@ abbrev pub TellsAlone : (Status → List ℕ → Type 0) → Status → List ℕ
 TellsAlone tells status out = tells status out × ((s : Status) (other : List ℕ) → tells s other → (s ≡ status) × (other ≡ out))
 
 -- all that is to be told was put; after an error, nothing or a beginning of it
-abbrev pub Reports : (Status → List ℕ → Type 0) → Result Status RunError → Option (List ℕ) → Option (List ℕ) → Type 0
+abbrev pub Reports : {E : Type 0} → (Status → List ℕ → Type 0) → Result Status E → Option (List ℕ) → Option (List ℕ) → Type 0
 Reports tells (Ok status) old new = (out : List ℕ) × TellsAlone tells status out × (new ≡ after_piece old out)
 Reports tells (Err error) old new = (new ≡ old) ⊎ ((status : Status) × (out : List ℕ) × TellsAlone tells status out × AcceptsFront old out new)
-
--- the faults of the source and of the sink after a run: one more of one of them where it told of a device
-abbrev pub CountsRun : Result Status RunError → ℕ → ℕ → ℕ → ℕ → Type 0
-CountsRun (Ok status) source source_after sink sink_after = (source_after ≡ source) × (sink_after ≡ sink)
-CountsRun (Err Memory) source source_after sink sink_after = (source_after ≡ source) × (sink_after ≡ sink)
-CountsRun (Err Device) source source_after sink sink_after = ((source_after ≡ one_more source) × (sink_after ≡ sink)) ⊎ ((source_after ≡ source) × (sink_after ≡ one_more sink))

@@ -1,5 +1,5 @@
 -- What a producer tells of the bytes of an instance, and of queries: the text of a claim, that of its certificate, and a report. A text that isn't put is empty here.
-use Rattle.std.specs.Prelude.{ℕ, ◌≡◌, ◌⊎◌, List, [], ◌∷◌, Option, Some, Ok}
+use Rattle.std.specs.Prelude.{ℕ, ◌≡◌, ◌<◌, ◌⊎◌, List, [], ◌∷◌, Option, Some, Ok}
 use Rattle.dimacs_records.specs.declared.kinds.TextKind.{TextKind}
 use Rattle.dimacs_records.specs.declared.kinds.TextKind.TheVariants as kinds
 use Rattle.dimacs_records.specs.declared.reasons.Reason.{Reason}
@@ -22,6 +22,7 @@ use Rattle.dimacs_judge.specs.InfeasibleJudge.{ShowsNoFlow}
 use Rattle.dimacs_judge.specs.QueryTests.{query_node_row}
 use Rattle.dimacs_judge.specs.Tests.{Clear, FirstOfRow}
 use Rattle.dimacs_solve.specs.Climbing.{GivesUp}
+use Rattle.dimacs_solve.specs.Descending.{GivesUpMin}
 use Rattle.dimacs_solve.specs.Paths.{IsFirstNegative, SolvesPaths}
 use Rattle.dimacs_solve.specs.SolveMax.{IsOptimal}
 use Rattle.dimacs_solve.specs.SolveMin.{IsLeastAnswer}
@@ -43,18 +44,18 @@ abbrev pub FaultAloneOr : {V : Type 0} → TextSays V → (V → Status → List
 FaultAloneOr text next status out =
     ((l : ℕ) × (f : ℕ) × (r : Reason) × text.fault l f r × (status ≡ Refused) × (out ≡ report_alone (refusal_line text.name l f r))) ⊎ ((v : _) × text.spells v × next v status out)
 
--- a solution, a cut that shows it maximum, and the verdict on them; or that none of so many flows is maximum
+-- a solution, a cut that shows it maximum, and the verdict on them; or that none of so many flows is maximum, as where the limit is 0
 abbrev pub FindsMaximum : MaxValue → ℕ → Status → List (List ℕ) → Type 0
-FindsMaximum i limit Done out = (s : SolutionValue) × (c : CutValue) × IsOptimal i s c × (out ≡ canonical_solution s ∷ canonical_cut c ∷ max_line s.value ∷ [])
+FindsMaximum i limit Done out = (0 < limit) × (s : SolutionValue) × (c : CutValue) × IsOptimal i s c × (out ≡ canonical_solution s ∷ canonical_cut c ∷ max_line s.value ∷ [])
 FindsMaximum i limit Refused out = ⊥
 FindsMaximum i limit GaveUp out = GivesUp i limit × (out ≡ report_alone gave_up_line)
 
--- a solution, potentials that show that it costs least, and the verdict on them; a set that shows that no flow is feasible, and the verdict on it; or neither
-abbrev pub FindsLeast : MinValue → Status → List (List ℕ) → Type 0
-FindsLeast i Done out =
-    ((s : SolutionValue) × (p : PotentialsValue) × IsLeastAnswer i s p × (out ≡ canonical_solution s ∷ canonical_potentials p ∷ min_line s.value ∷ [])) ⊎ ((c : CutValue) × ShowsNoFlow i c × (out ≡ [] ∷ canonical_cut c ∷ infeasible_line ∷ []))
-FindsLeast i Refused out = ⊥
-FindsLeast i GaveUp out = out ≡ report_alone gave_up_line
+-- a solution, potentials that show that it costs least, and the verdict on them; a set that shows that no flow is feasible, and the verdict on it; or that none of so many flows is least, or that the least cost is out of range
+abbrev pub FindsLeast : MinValue → ℕ → Status → List (List ℕ) → Type 0
+FindsLeast i limit Done out =
+    ((s : SolutionValue) × (p : PotentialsValue) × IsLeastAnswer i limit s p × (out ≡ canonical_solution s ∷ canonical_potentials p ∷ min_line s.value ∷ [])) ⊎ ((c : CutValue) × ShowsNoFlow i c × (out ≡ [] ∷ canonical_cut c ∷ infeasible_line ∷ []))
+FindsLeast i limit Refused out = ⊥
+FindsLeast i limit GaveUp out = GivesUpMin i limit × (out ≡ report_alone gave_up_line)
 
 -- the first query that names no node; else the first arc of negative weight
 abbrev pub RefusesPaths : NetworkValue → QueriesValue → Where → Reason → Type 0
@@ -69,8 +70,8 @@ FindsPaths g q GaveUp out = ⊥
 abbrev pub SolvedMax : ℕ → List ℕ → Status → List (List ℕ) → Type 0
 SolvedMax limit instance = FaultAloneOr (says kinds.Max SpellsMax instance) (λ i. FindsMaximum i limit)
 
-abbrev pub SolvedMin : List ℕ → Status → List (List ℕ) → Type 0
-SolvedMin instance = FaultAloneOr (says kinds.Min SpellsMin instance) FindsLeast
+abbrev pub SolvedMin : ℕ → List ℕ → Status → List (List ℕ) → Type 0
+SolvedMin limit instance = FaultAloneOr (says kinds.Min SpellsMin instance) (λ i. FindsLeast i limit)
 
 abbrev pub SolvedPaths : List ℕ → List ℕ → Status → List (List ℕ) → Type 0
 SolvedPaths graph queries =
@@ -81,7 +82,7 @@ SolvedPaths graph queries =
 -- what is told of an instance, and of queries where paths are asked for
 abbrev pub Solved : SolveJob → List ℕ → List ℕ → Status → List (List ℕ) → Type 0
 Solved (Max limit) instance queries = SolvedMax limit instance
-Solved (Min limit) instance queries = SolvedMin instance
+Solved (Min limit) instance queries = SolvedMin limit instance
 Solved Paths instance queries = SolvedPaths instance queries
 
 -- the bytes of the queries, where there are any

@@ -1,10 +1,11 @@
 //! The command, from its words to its exit status.
 
-ghost use Rattle.std.specs.Prelude.{◌≡◌, ◌∷◌, [], map};
+ghost use Rattle.std.specs.Prelude.{◌≡◌, map};
 ghost use Rattle.std.specs.String.{string_bytes};
-ghost use Rattle.dimacs_runs.specs.Commands.{Commands, RunsJob, Seen};
+ghost use Rattle.dimacs_runs.specs.Commands.{Commands, RunsJob, ending_of, seen_by};
 ghost use Rattle.dimacs_runs.specs.inside.Commands.{HasFiles};
 
+use crate::failure::{CommandError, Failure};
 use crate::files::Files;
 use crate::jobs::Job;
 use crate::outcome::{RunError, Status, exit_status};
@@ -17,30 +18,68 @@ use std::alloc::Global;
 /// The status of words that ask for no run.
 pub const NO_RUN: u8 = 2;
 
-/// Runs what the words after the program's name ask for, and answers the exit status. Files that are read are opened
-/// first, in the order of their words, then those that are written are created; the first that fails ends the run.
-pub fn run_command<F: Files, K: Sink>(
-    alloc: Global,
-    words: &[String],
-    files: &mut F,
-    output: &mut K,
-) -> u8
-    ensures commands { Commands (map string_bytes words.now) (F.holds files.old) F.empty result (record { done = F.done files.old; output = K.accepted output.old; faults = F.faults files.old ∷ K.faults output.old ∷ [] }) (record { done = F.done files.new; output = K.accepted output.new; faults = F.faults files.new ∷ K.faults output.new ∷ [] }) }
-{
-    match job(words) {
-        Some(wanted) => exit_status(&run_job(alloc, wanted, files, output)),
-        None => NO_RUN,
+/// How the command ended.
+#[derive(Clone, Copy, Debug, PartialEq, Eq)]
+pub struct Ending<'a> {
+    /// The exit status.
+    pub status: u8,
+    /// What failed, where the status tells of a device.
+    pub failure: Option<Failure<'a>>,
+}
+
+impl<'a> Ending<'a> {
+    /// The end of a command whose run ended so.
+    fn of(ended: Result<Status, CommandError<'a>>) -> Ending<'a>
+        ensures { result ≡ ending_of ended.entry }
+    {
+        match ended {
+            Ok(status) => Ending {
+                status: exit_status(&Ok(status)),
+                failure: None,
+            },
+            Err(CommandError::Device(failure)) => Ending {
+                status: exit_status(&Err(RunError::Device)),
+                failure: Some(failure),
+            },
+            Err(CommandError::Memory) => Ending {
+                status: exit_status(&Err(RunError::Memory)),
+                failure: None,
+            },
+        }
     }
 }
 
-fn run_job<F: Files, K: Sink>(
+/// Runs what the words after the program's name ask for, and answers how it ended. Files that are read are opened
+/// first, in the order of their words, then those that are written are created; the first that fails ends the run.
+pub fn run_command<'a, F: Files, K: Sink>(
     alloc: Global,
-    job: Job<'_>,
+    words: &'a [String],
     files: &mut F,
     output: &mut K,
-) -> Result<Status, RunError>
+) -> Ending<'a>
+    ensures commands { Commands (map string_bytes words.now) (F.holds files.old) F.empty result
+        (seen_by (F.seen files.old) (K.accepted output.old) (K.faults output.old))
+        (seen_by (F.seen files.new) (K.accepted output.new) (K.faults output.new)) }
+{
+    match job(words) {
+        Some(wanted) => Ending::of(run_job(alloc, wanted, files, output)),
+        None => Ending {
+            status: NO_RUN,
+            failure: None,
+        },
+    }
+}
+
+fn run_job<'a, F: Files, K: Sink>(
+    alloc: Global,
+    job: Job<'a>,
+    files: &mut F,
+    output: &mut K,
+) -> Result<Status, CommandError<'a>>
     requires { HasFiles job }
-    ensures runs { RunsJob job.entry (F.holds files.old) F.empty result (record { done = F.done files.old; output = K.accepted output.old; faults = F.faults files.old ∷ K.faults output.old ∷ [] }) (record { done = F.done files.new; output = K.accepted output.new; faults = F.faults files.new ∷ K.faults output.new ∷ [] }) }
+    ensures runs { RunsJob job.entry (F.holds files.old) F.empty result
+        (seen_by (F.seen files.old) (K.accepted output.old) (K.faults output.old))
+        (seen_by (F.seen files.new) (K.accepted output.new) (K.faults output.new)) }
 {
     match job {
         Job::Convert(kind, name) => convert_file(alloc, kind, name, files, output),

@@ -1,10 +1,11 @@
 //! Converting a text to its canonical form.
 
-ghost use Rattle.std.specs.Prelude.{◌≡◌, ◌≢◌, ℕ, List, Some, Err};
+ghost use Rattle.std.specs.Prelude.{◌≡◌, ◌≢◌, ◌∷◌, [], ℕ, List, Some, Err};
 ghost use Rattle.dimacs_lines.specs.Lines.{lines};
 ghost use Rattle.dimacs_records.specs.Faults.{Fault};
 ghost use Rattle.dimacs_runs.specs.declared.outcome.RunError.TheVariants.{Memory};
-ghost use Rattle.dimacs_runs.specs.Runs.{Converted, text_word, TellsText, Reports, CountsRun};
+ghost use Rattle.dimacs_runs.specs.Judgings.{CountsDevices};
+ghost use Rattle.dimacs_runs.specs.Runs.{Converted, text_word, TellsText, Reports};
 
 use crate::ending::{done, refuse};
 use crate::outcome::{RunError, Status};
@@ -25,7 +26,7 @@ pub fn run_convert<S: Source, K: Sink>(
     sink: &mut K,
 ) -> Result<Status, RunError>
     ensures reports { (bytes : List ℕ) → S.coming text.old ≡ Some bytes → Reports (Converted kind bytes) result (K.accepted sink.old) (K.accepted sink.new) }
-    ensures faults { CountsRun result (S.faults text.old) (S.faults text.new) (K.faults sink.old) (K.faults sink.new) }
+    ensures faults { CountsDevices result (S.faults text.old ∷ K.faults sink.old ∷ []) (S.faults text.new ∷ K.faults sink.new ∷ []) }
     ensures nothing_written { S.faults text.new ≢ S.faults text.old → K.accepted sink.new ≡ K.accepted sink.old }
     ensures memory { result ≡ Err Memory → K.accepted sink.new ≡ K.accepted sink.old }
 {
@@ -47,7 +48,7 @@ fn convert<T: Text, S: Source, K: Sink>(
     sink: &mut K,
 ) -> Result<Status, RunError>
     ensures reports { (bytes : List ℕ) → S.coming text.old ≡ Some bytes → Reports (TellsText (T.spells bytes) T.canonical (Fault T.kind (lines bytes)) (text_word T.kind)) result (K.accepted sink.old) (K.accepted sink.new) }
-    ensures faults { CountsRun result (S.faults text.old) (S.faults text.new) (K.faults sink.old) (K.faults sink.new) }
+    ensures faults { CountsDevices result (S.faults text.old ∷ K.faults sink.old ∷ []) (S.faults text.new ∷ K.faults sink.new ∷ []) }
     ensures nothing_written { S.faults text.new ≢ S.faults text.old → K.accepted sink.new ≡ K.accepted sink.old }
     ensures memory { result ≡ Err Memory → K.accepted sink.new ≡ K.accepted sink.old }
 {

@@ -1,8 +1,7 @@
 //! The files that a command names.
 
-ghost use Rattle.std.specs.Prelude.{◌≡◌, [], ◌∷◌, List, ℕ, Option, IfOk};
-ghost use Rattle.dimacs_runs.specs.Files.{FileEvent, Opened, Created, Closed, after_call, after_events, faults_with};
-ghost use Rattle.dimacs_runs.specs.Judgings.{CountsDevices};
+ghost use Rattle.std.specs.Prelude.{◌≡◌, ◌≢◌, ◌↔◌, [], ◌∷◌, List, ℕ, Option, IfOk, IsTrue};
+ghost use Rattle.dimacs_runs.specs.Files.{FilesSeen, Sees, closed_read, closed_written, creating, opening};
 
 use crate::outcome::RunError;
 use dimacs_lines::{Sink, Source};
@@ -21,34 +20,29 @@ pub trait Files {
     /// What a file that was created has accepted: nothing, where that is told.
     ghost empty: { Option (List ℕ) };
 
-    /// What was done so far, in order, where that is told.
-    ghost done: { Self → Option (List FileEvent) };
-
-    /// How often a file failed: as it was opened or created, or before it was closed. A `u64` that wraps.
-    ghost faults: { Self → ℕ };
+    /// What was done so far, and how often a file failed.
+    ghost seen: { Self → FilesSeen };
 
     /// Opens a file to be read.
     fn open(&mut self, name: &str) -> Result<Self::Input, RunError>
         ensures holds { holds self.new ≡ holds self.old }
         ensures coming { IfOk result (λ file. Self.Input.coming file ≡ holds self.old name.now) }
         ensures faultless { IfOk result (λ file. Self.Input.faults file ≡ 0) }
-        ensures done { done self.new ≡ after_call result (done self.old) (Opened name.now) }
-        ensures fault { CountsDevices result (faults self.old ∷ []) (faults self.new ∷ []) };
+        ensures seen { Sees (opening result name.now ∷ []) (seen self.old) (seen self.new) };
 
     /// Creates a file to be written, or empties it.
     fn create(&mut self, name: &str) -> Result<Self::Output, RunError>
         ensures empty { IfOk result (λ file. Self.Output.accepted file ≡ empty) }
         ensures faultless { IfOk result (λ file. Self.Output.faults file ≡ 0) }
-        ensures done { done self.new ≡ after_call result (done self.old) (Created name.now) }
-        ensures fault { CountsDevices result (faults self.old ∷ []) (faults self.new ∷ []) };
+        ensures seen { Sees (creating result name.now ∷ []) (seen self.old) (seen self.new) };
 
-    /// Closes a file that was read.
-    fn close_input(&mut self, file: Self::Input)
-        ensures done { done self.new ≡ done self.old }
-        ensures fault { faults self.new ≡ faults_with (faults self.old) (Self.Input.faults file) };
+    /// Closes a file of this name that was read, and answers whether it had failed.
+    fn close_input(&mut self, name: &str, file: Self::Input) -> bool
+        ensures failed { IsTrue result ↔ (Self.Input.faults file ≢ 0) }
+        ensures seen { Sees (closed_read name.now (Self.Input.faults file) ∷ []) (seen self.old) (seen self.new) };
 
-    /// Closes a file that was written, of this name.
-    fn close_output(&mut self, name: &str, file: Self::Output)
-        ensures done { done self.new ≡ after_events (done self.old) (Closed name.now (Self.Output.accepted file) ∷ []) }
-        ensures fault { faults self.new ≡ faults_with (faults self.old) (Self.Output.faults file) };
+    /// Closes a file of this name that was written, and answers whether it had failed.
+    fn close_output(&mut self, name: &str, file: Self::Output) -> bool
+        ensures failed { IsTrue result ↔ (Self.Output.faults file ≢ 0) }
+        ensures seen { Sees (closed_written name.now (Self.Output.accepted file) (Self.Output.faults file) ∷ []) (seen self.old) (seen self.new) };
 }

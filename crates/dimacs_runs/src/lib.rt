@@ -4,8 +4,11 @@
 mod command;
 mod convert;
 mod counted;
+mod discard;
 mod ending;
+mod failure;
 mod files;
+mod in_use;
 mod jobs;
 mod judge;
 mod outcome;
@@ -20,9 +23,10 @@ mod told;
 mod verdict;
 mod words;
 
-pub use command::{NO_RUN, run_command};
+pub use command::{Ending, NO_RUN, run_command};
 pub use convert::run_convert;
 pub use counted::Counted;
+pub use failure::{CommandError, Failure, FileCall};
 pub use files::Files;
 pub use jobs::{Job, JudgeKind, SolveJob};
 pub use judge::run_judge;

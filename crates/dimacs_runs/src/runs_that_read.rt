@@ -1,73 +1,72 @@
 //! The runs that read files.
 
-ghost use Rattle.std.specs.Prelude.{◌≡◌, ◌∷◌, [], ℕ, List, Some, length, map};
+ghost use Rattle.std.specs.Prelude.{◌≡◌, ◌∷◌, [], length, map};
 ghost use Rattle.std.specs.String.{string_bytes};
 ghost use Rattle.dimacs_runs.specs.declared.jobs.JudgeKind.TheVariants as judges;
-ghost use Rattle.dimacs_runs.specs.Commands.{HoldClaim};
-ghost use Rattle.dimacs_runs.specs.Files.{Opened, TakesPlace};
+ghost use Rattle.dimacs_runs.specs.Commands.{RunsFiles, TellsJudged, TellsOne, reads, seen_by};
 ghost use Rattle.dimacs_runs.specs.Jobs.{file_count};
-ghost use Rattle.dimacs_runs.specs.Judged.{Judged};
-ghost use Rattle.dimacs_runs.specs.Judgings.{CountsDevices};
-ghost use Rattle.dimacs_runs.specs.Runs.{Converted, Reports, Shown};
+ghost use Rattle.dimacs_runs.specs.Runs.{Converted, Shown};
 
 use crate::convert::run_convert;
+use crate::failure::{CommandError, name_failure};
 use crate::files::Files;
+use crate::in_use::{close_read, open};
 use crate::jobs::JudgeKind;
 use crate::judge::run_judge;
-use crate::outcome::{RunError, Status};
+use crate::outcome::Status;
 use crate::show::run_show;
 use dimacs_lines::{MemorySource, Sink};
 use dimacs_records::TextKind;
 use std::alloc::Global;
 
 /// Converts the text in the file of this name.
-pub(crate) fn convert_file<F: Files, K: Sink>(
+pub(crate) fn convert_file<'a, F: Files, K: Sink>(
     alloc: Global,
     kind: TextKind,
-    name: &str,
+    name: &'a str,
     files: &mut F,
     output: &mut K,
-) -> Result<Status, RunError>
-    ensures opens { TakesPlace (Opened name.now ∷ []) result (F.done files.old) (F.done files.new) }
-    ensures reports { (bytes : List ℕ) → F.holds files.old name.now ≡ Some bytes → Reports (Converted kind bytes) result (K.accepted output.old) (K.accepted output.new) }
-    ensures faults { CountsDevices result (F.faults files.old ∷ K.faults output.old ∷ []) (F.faults files.new ∷ K.faults output.new ∷ []) }
+) -> Result<Status, CommandError<'a>>
+    ensures runs { RunsFiles (reads (name.now ∷ [])) (F.holds files.old) F.empty (TellsOne (Converted kind)) result
+        (seen_by (F.seen files.old) (K.accepted output.old) (K.faults output.old))
+        (seen_by (F.seen files.new) (K.accepted output.new) (K.faults output.new)) }
 {
-    let mut text = files.open(name)?;
-    let ended = run_convert(alloc, kind, &mut text, output);
-    files.close_input(text);
-    ended
+    let mut text = open(files, name)?;
+    let ended = run_convert(alloc, kind, &mut text.device, output);
+    let failure = close_read(files, text);
+    name_failure(ended, failure)
 }
 
 /// Shows what the text in the file of this name is.
-pub(crate) fn show_file<F: Files, K: Sink>(
+pub(crate) fn show_file<'a, F: Files, K: Sink>(
     alloc: Global,
     kind: TextKind,
-    name: &str,
+    name: &'a str,
     files: &mut F,
     output: &mut K,
-) -> Result<Status, RunError>
-    ensures opens { TakesPlace (Opened name.now ∷ []) result (F.done files.old) (F.done files.new) }
-    ensures reports { (bytes : List ℕ) → F.holds files.old name.now ≡ Some bytes → Reports (Shown kind bytes) result (K.accepted output.old) (K.accepted output.new) }
-    ensures faults { CountsDevices result (F.faults files.old ∷ K.faults output.old ∷ []) (F.faults files.new ∷ K.faults output.new ∷ []) }
+) -> Result<Status, CommandError<'a>>
+    ensures runs { RunsFiles (reads (name.now ∷ [])) (F.holds files.old) F.empty (TellsOne (Shown kind)) result
+        (seen_by (F.seen files.old) (K.accepted output.old) (K.faults output.old))
+        (seen_by (F.seen files.new) (K.accepted output.new) (K.faults output.new)) }
 {
-    let mut text = files.open(name)?;
-    let ended = run_show(alloc, kind, &mut text, output);
-    files.close_input(text);
-    ended
+    let mut text = open(files, name)?;
+    let ended = run_show(alloc, kind, &mut text.device, output);
+    let failure = close_read(files, text);
+    name_failure(ended, failure)
 }
 
 /// Judges by the files of these names.
-pub(crate) fn judge_files<F: Files, K: Sink>(
+pub(crate) fn judge_files<'a, F: Files, K: Sink>(
     alloc: Global,
     kind: JudgeKind,
-    names: &[String],
+    names: &'a [String],
     files: &mut F,
     output: &mut K,
-) -> Result<Status, RunError>
+) -> Result<Status, CommandError<'a>>
     requires { length names.now ≡ file_count kind }
-    ensures opens { TakesPlace (map Opened (map string_bytes names.now)) result (F.done files.old) (F.done files.new) }
-    ensures reports { (a b c : List ℕ) → HoldClaim kind (map string_bytes names.now) (F.holds files.old) a b c → Reports (Judged kind a b c) result (K.accepted output.old) (K.accepted output.new) }
-    ensures faults { CountsDevices result (F.faults files.old ∷ K.faults output.old ∷ []) (F.faults files.new ∷ K.faults output.new ∷ []) }
+    ensures runs { RunsFiles (reads (map string_bytes names.now)) (F.holds files.old) F.empty (TellsJudged kind) result
+        (seen_by (F.seen files.old) (K.accepted output.old) (K.faults output.old))
+        (seen_by (F.seen files.new) (K.accepted output.new) (K.faults output.new)) }
 {
     if kind == JudgeKind::Infeasible {
         let [instance, set] = names else {
@@ -90,59 +89,58 @@ pub(crate) fn judge_files<F: Files, K: Sink>(
 }
 
 /// Judges a claim by the files of the instance, the claim and its certificate.
-fn judge_claim<F: Files, K: Sink>(
+fn judge_claim<'a, F: Files, K: Sink>(
     alloc: Global,
     kind: JudgeKind,
-    instance: &str,
-    claim: &str,
-    certificate: &str,
+    instance: &'a str,
+    claim: &'a str,
+    certificate: &'a str,
     files: &mut F,
     output: &mut K,
-) -> Result<Status, RunError>
-    ensures opens { TakesPlace (Opened instance.now ∷ Opened claim.now ∷ Opened certificate.now ∷ []) result (F.done files.old) (F.done files.new) }
-    ensures reports { (a b c : List ℕ) → HoldClaim kind (instance.now ∷ claim.now ∷ certificate.now ∷ []) (F.holds files.old) a b c → Reports (Judged kind a b c) result (K.accepted output.old) (K.accepted output.new) }
-    ensures faults { CountsDevices result (F.faults files.old ∷ K.faults output.old ∷ []) (F.faults files.new ∷ K.faults output.new ∷ []) }
+) -> Result<Status, CommandError<'a>>
+    ensures runs { RunsFiles (reads (instance.now ∷ claim.now ∷ certificate.now ∷ [])) (F.holds files.old) F.empty (TellsJudged kind) result
+        (seen_by (F.seen files.old) (K.accepted output.old) (K.faults output.old))
+        (seen_by (F.seen files.new) (K.accepted output.new) (K.faults output.new)) }
 {
-    let mut instance_text = files.open(instance)?;
-    let mut claim_text = files.open(claim)?;
-    let mut certificate_text = files.open(certificate)?;
+    let mut instance = open(files, instance)?;
+    let mut claim = open(files, claim)?;
+    let mut certificate = open(files, certificate)?;
     let ended = run_judge(
         alloc,
         kind,
-        &mut instance_text,
-        &mut claim_text,
-        &mut certificate_text,
+        &mut instance.device,
+        &mut claim.device,
+        &mut certificate.device,
         output,
     );
-    files.close_input(instance_text);
-    files.close_input(claim_text);
-    files.close_input(certificate_text);
-    ended
+    let failure = close_read(files, instance)
+        .or(close_read(files, claim))
+        .or(close_read(files, certificate));
+    name_failure(ended, failure)
 }
 
 /// Judges a set of nodes by the files of the instance and the set; nothing is claimed.
-fn judge_set<F: Files, K: Sink>(
+fn judge_set<'a, F: Files, K: Sink>(
     alloc: Global,
-    instance: &str,
-    set: &str,
+    instance: &'a str,
+    set: &'a str,
     files: &mut F,
     output: &mut K,
-) -> Result<Status, RunError>
-    ensures opens { TakesPlace (Opened instance.now ∷ Opened set.now ∷ []) result (F.done files.old) (F.done files.new) }
-    ensures reports { (a b c : List ℕ) → HoldClaim judges.Infeasible (instance.now ∷ set.now ∷ []) (F.holds files.old) a b c → Reports (Judged judges.Infeasible a b c) result (K.accepted output.old) (K.accepted output.new) }
-    ensures faults { CountsDevices result (F.faults files.old ∷ K.faults output.old ∷ []) (F.faults files.new ∷ K.faults output.new ∷ []) }
+) -> Result<Status, CommandError<'a>>
+    ensures runs { RunsFiles (reads (instance.now ∷ set.now ∷ [])) (F.holds files.old) F.empty (TellsJudged judges.Infeasible) result
+        (seen_by (F.seen files.old) (K.accepted output.old) (K.faults output.old))
+        (seen_by (F.seen files.new) (K.accepted output.new) (K.faults output.new)) }
 {
-    let mut instance_text = files.open(instance)?;
-    let mut set_text = files.open(set)?;
+    let mut instance = open(files, instance)?;
+    let mut set = open(files, set)?;
     let ended = run_judge(
         alloc,
         JudgeKind::Infeasible,
-        &mut instance_text,
+        &mut instance.device,
         &mut MemorySource::new(&[]),
-        &mut set_text,
+        &mut set.device,
         output,
     );
-    files.close_input(instance_text);
-    files.close_input(set_text);
-    ended
+    let failure = close_read(files, instance).or(close_read(files, set));
+    name_failure(ended, failure)
 }

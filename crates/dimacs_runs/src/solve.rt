@@ -32,9 +32,9 @@ use std::alloc::Global;
 /// the line of a refusal, or the line that tells that a limit was reached, and then nothing else.
 ///
 /// `Max` puts a solution and a cut; it gives up after so many flows, none of them maximum. `Min` puts a solution and
-/// potentials, or a set alone where there is no flow; it gives up where one more path than the limit is needed, or where
-/// the judge refuses what was found. `Paths` reads queries too, after a graph without a fault, and puts labels alone; it
-/// never gives up, and refuses a query that names no node, and then a negative weight.
+/// potentials, or a set alone where there is no flow; it gives up after so many steps, each to a better flow, none of
+/// them least, or where the least cost is out of range. `Paths` reads queries too, after a graph without a fault, and
+/// puts labels alone; it never gives up, and refuses a query that names no node, and then a negative weight.
 pub fn run_solve<P: Source, Q: Source, C: Sink, D: Sink, K: Sink>(
     alloc: Global,
     job: SolveJob,
@@ -81,7 +81,7 @@ fn produce_least<P: Source>(
     limit: u64,
     instance: &mut P,
 ) -> Result<Produced, RunError>
-    ensures produces { (a : List ℕ) → P.coming instance.old ≡ Some a → MayProduce (SolvedMin a) result }
+    ensures produces { (a : List ℕ) → P.coming instance.old ≡ Some a → MayProduce (SolvedMin limit a) result }
     ensures faults { CountsDevices result (P.faults instance.old ∷ []) (P.faults instance.new ∷ []) }
 {
     match read::<MinInstance<PlainArcs<ArcView>>, P>(alloc, instance) {

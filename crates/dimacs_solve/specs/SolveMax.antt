@@ -1,5 +1,5 @@
 -- What solving maximum flow answers.
-use Rattle.std.specs.Prelude.{ℕ, Result, Ok, Err}
+use Rattle.std.specs.Prelude.{ℕ, ◌<◌, Result, Ok, Err}
 use Rattle.dimacs_claims.specs.Cuts.{CutValue}
 use Rattle.dimacs_claims.specs.SolutionTexts.{SolutionValue, claimed}
 use Rattle.dimacs_instance.specs.MaxFlows.{MaxValue}
@@ -9,15 +9,15 @@ use Rattle.dimacs_solve.specs.declared.maximum.MaxAnswer.TheVariants.{Optimal, G
 use Rattle.dimacs_solve.specs.declared.error.SolveError.{SolveError}
 use Rattle.dimacs_solve.specs.declared.error.SolveError.TheVariants.{NegativeWeight, Refused, Memory}
 use Rattle.dimacs_solve.specs.Climbing.{GivesUp}
-use Rattle.dimacs_solve.specs.Entries.{IsSolutionOf}
+use Rattle.dimacs_judge.specs.Entries.{IsSolutionOf}
 
 -- the solution has an entry for every arc, and the cut shows that it is maximum
 abbrev pub IsOptimal : MaxValue → SolutionValue → CutValue → Type 0
 IsOptimal i s cut = IsSolutionOf i.arcs s × ShowsMaximum i s cut
 
--- what is answered; want of memory says nothing, and there is no other error
+-- what is answered: with the limit 0, that it gave up; want of memory says nothing, and there is no other error
 abbrev pub SolvesMax : MaxValue → ℕ → Result MaxAnswer SolveError → Type 0
-SolvesMax i limit (Ok (Optimal solution cut)) = IsOptimal i (claimed solution) cut
+SolvesMax i limit (Ok (Optimal solution cut)) = (0 < limit) × IsOptimal i (claimed solution) cut
 SolvesMax i limit (Ok GaveUp) = GivesUp i limit
 SolvesMax i limit (Err (NegativeWeight arc)) = ⊥
 SolvesMax i limit (Err (Refused place reason)) = ⊥

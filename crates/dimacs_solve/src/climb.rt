@@ -3,11 +3,11 @@
 ghost use Rattle.std.specs.Prelude.{IfOk};
 ghost use Rattle.dimacs_solve.specs.inside.Climbing.{Climbs};
 
-use crate::improve::improve;
+use crate::improve::improve_max;
 use dimacs_claims::Cut;
-use dimacs_decide::{Decision, Incidence, decide_max_over};
+use dimacs_decide::{Incidence, MaxDecision, decide_max_over};
 use dimacs_instance::{MaxInstance, Network};
-use dimacs_judge::{Flow, JudgeError};
+use dimacs_judge::Flow;
 use dimacs_lines::Memory;
 use std::alloc::Global;
 
@@ -27,14 +27,13 @@ pub(crate) fn climb<N: Network>(
 ) -> Result<Ascent, Memory>
     ensures { IfOk result (Climbs instance.now limit) }
 {
-    let incidence = Incidence::new(alloc, instance)?;
-    let mut flow = Flow::zero(alloc, instance.network().arcs())?;
+    let network = instance.network();
+    let incidence = Incidence::new(alloc, network)?;
+    let mut flow = Flow::zero(alloc, network.arcs())?;
     for _turn in 0..limit {
-        match decide_max_over(alloc, instance, &incidence, &flow) {
-            Ok(Decision::Optimal(cut)) => return Ok(Ascent::Top(flow, cut)),
-            Ok(Decision::Better(better)) => flow = improve(alloc, instance, better),
-            Err(JudgeError::Refused(..)) => unreachable!(),
-            Err(JudgeError::Memory) => return Err(Memory),
+        match decide_max_over(alloc, instance, &incidence, &flow)? {
+            MaxDecision::Optimal(cut) => return Ok(Ascent::Top(flow, cut)),
+            MaxDecision::Better(better) => flow = improve_max(alloc, instance, better),
         }
     }
     Ok(Ascent::GaveUp)

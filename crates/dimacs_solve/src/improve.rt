@@ -10,7 +10,7 @@ use std::alloc::Global;
 
 /// A feasible flow of no less value: what the preflows make of this one, if it passes the test; else, and where memory
 /// runs out, this one.
-pub(crate) fn improve<N: Network>(alloc: Global, instance: &MaxInstance<N>, flow: Flow) -> Flow
+pub fn improve_max<N: Network>(alloc: Global, instance: &MaxInstance<N>, flow: Flow) -> Flow
     requires { FeasibleMax instance.now flow }
     ensures feasible { FeasibleMax instance.now result }
     ensures value { value instance.now flow ≤ℤ value instance.now result }

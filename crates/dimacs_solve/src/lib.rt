@@ -3,20 +3,22 @@
 
 mod adjacency;
 mod climb;
+mod descend;
 mod distance;
-mod entries;
 mod error;
 mod frontier;
 mod improve;
+mod jump;
 mod least;
 mod marks;
 mod maximum;
-mod node_numbers;
 mod paths;
 mod preflow;
+mod question;
 mod search;
 
 pub use error::SolveError;
+pub use improve::improve_max;
 pub use least::{MinAnswer, solve_min};
 pub use maximum::{MaxAnswer, solve_max};
 pub use paths::solve_paths;

@@ -1,9 +1,15 @@
-//! The tests of producers, a file for each: that they find an answer where there is one, and that what they promise
-//! means what was meant, by answers worked out by hand.
+//! The tests of producers and of what certifies, a file for each: that they find an answer where there is one, and that
+//! what they promise means what was meant, by answers worked out by hand.
 #![tactic(auto)]
 
 #[cfg(test)]
+mod certified_max;
+#[cfg(test)]
+mod certified_min;
+#[cfg(test)]
 mod checks;
+#[cfg(test)]
+mod distances;
 #[cfg(test)]
 mod least;
 #[cfg(test)]

@@ -3,7 +3,7 @@
 use crate::checks::{holds, same};
 use crate::tables::{case, cell, number, rows};
 use dimacs_claims::Cut;
-use dimacs_decide::{Decision, decide_max};
+use dimacs_decide::{MaxDecision, decide_max};
 use dimacs_instance::{CapacityArc, ForwardStar, MaxInstance, Network, read_max};
 use dimacs_judge::{Flow, Verdict, feasible_max, judge_max};
 use dimacs_lines::MemorySource;
@@ -95,11 +95,11 @@ fn decides(rt: &impl Abort, alloc: Global, line: &str) -> Result<(), Fail> {
     feasible_max(alloc, &instance, &flow)?;
     let decision = decide_max(alloc, &instance, &flow)?;
     match decision {
-        Decision::Optimal(cut) => {
+        MaxDecision::Optimal(cut) => {
             same(rt, name, word, "cut");
             has_nodes(rt, name, &cut, &wanted);
         }
-        Decision::Better(better) => {
+        MaxDecision::Better(better) => {
             same(rt, name, word, "flow");
             has_amounts(rt, name, &better, &wanted);
         }

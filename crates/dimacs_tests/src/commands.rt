@@ -1,6 +1,6 @@
 //! The command from its words to its exit status, over files in memory.
 
-ghost use Rattle.std.specs.Prelude.{◌≡◌, ◌≢◌, ◌+◌, ◌%◌, ◌^◌, None, Err};
+ghost use Rattle.std.specs.Prelude.{◌≡◌, ◌≢◌, ◌+◌, ◌%◌, ◌^◌, ◌==◌, if◌then◌else◌, not, None};
 ghost use Rattle.dimacs_runs.specs.declared.outcome.RunError.TheVariants.{Device};
 
 use crate::checks::{holds, same};
@@ -92,6 +92,18 @@ impl MemoryFiles {
         self.faults = self.faults.wrapping_add(1);
         RunError::Device
     }
+
+    /// Counts a file that is closed after so many faults, and answers whether there were any.
+    fn count(&mut self, faults: u64) -> bool
+        ensures failed { result ≡ not (faults == 0) }
+        ensures fault { self.new.faults ≡ (if faults == 0 then self.old.faults else (self.old.faults + 1) % 2 ^ 64) }
+    {
+        let failed = faults != 0;
+        if failed {
+            self.faults = self.faults.wrapping_add(1);
+        }
+        failed
+    }
 }
 
 /// The text in the file of this name.
@@ -113,9 +125,7 @@ impl Files for MemoryFiles {
 
     ghost empty = { None };
 
-    ghost done = { λ s. None };
-
-    ghost faults = { λ s. s.faults };
+    ghost seen = { λ s. record { done = None; faults = s.faults } };
 
     fn open(&mut self, name: &str) -> Result<Quiet<FlakySource<'static>>, RunError> {
         if name == "greedy" {
@@ -140,20 +150,16 @@ impl Files for MemoryFiles {
         Ok(Quiet(Counted::new(FlakySink::new(self.alloc, &[], fails))))
     }
 
-    fn close_input(&mut self, file: Quiet<FlakySource<'static>>) {
-        if file.0.faults() != 0 {
-            self.faults = self.faults.wrapping_add(1);
-        }
+    fn close_input(&mut self, _name: &str, file: Quiet<FlakySource<'static>>) -> bool {
+        self.count(file.0.faults())
     }
 
-    fn close_output(&mut self, name: &str, file: Quiet<FlakySink<'static>>) {
-        if file.0.faults() != 0 {
-            self.faults = self.faults.wrapping_add(1);
-        }
+    fn close_output(&mut self, name: &str, file: Quiet<FlakySink<'static>>) -> bool {
         let _ = self.note("=", name);
         if let Ok(text) = str::from_utf8(file.0.device().bytes()) {
             let _ = self.done.push_str(text);
         }
+        self.count(file.0.faults())
     }
 }
 
@@ -189,6 +195,17 @@ judge-max max flow |  |  | 2
 --help |  |  | 2
 solve-max pipe a b --limit |  |  | 2";
 
+/// Command lines, each with the device that fails and what could not be done with it.
+static FAILURES: &str = "\
+convert gr absent | absent cannot be opened
+convert gr broken | broken cannot be read
+judge-max max absent cut | absent cannot be opened
+judge-max broken broken broken | broken cannot be read
+solve-max pipe a denied | denied cannot be created
+solve-max pipe full b | full cannot be written
+solve-max pipe a full | full cannot be written
+solve-paths cycle source full | full cannot be written";
+
 /// Whether the command line of a case ends as the case says.
 fn ends(rt: &impl Abort, alloc: Global, line: &str) -> Result<(), Fail> {
     let case = case(alloc, line)?;
@@ -203,7 +220,12 @@ fn ends(rt: &impl Abort, alloc: Global, line: &str) -> Result<(), Fail> {
     let mut printed = MemorySink::new(alloc);
     let given = words(alloc, command)?;
     let ended = run_command(alloc, &given, &mut files, &mut printed);
-    same(rt, command, ended, status.parse::<u8>().expect(rt, command));
+    same(
+        rt,
+        command,
+        ended.status,
+        status.parse::<u8>().expect(rt, command),
+    );
     holds(rt, command, printed.bytes() == output.as_bytes());
     holds(rt, command, files.done.as_str().starts_with(done));
     Ok(())
@@ -213,6 +235,31 @@ fn ends(rt: &impl Abort, alloc: Global, line: &str) -> Result<(), Fail> {
 fn commands_end_with_their_statuses(rt: HostRuntime) -> Result<(), Fail> {
     for line in rows(&rt, COMMANDS, 29) {
         ends(&rt, rt.alloc(), line)?;
+    }
+    Ok(())
+}
+
+/// Whether the failure of a command line is told as the case says.
+fn tells(rt: &impl Abort, alloc: Global, line: &str) -> Result<(), Fail> {
+    let case = case(alloc, line)?;
+    let (command, told) = cell(rt, &case);
+    let mut files = MemoryFiles {
+        alloc,
+        done: String::new(alloc),
+        faults: 0,
+    };
+    let given = words(alloc, command)?;
+    let ended = run_command(alloc, &given, &mut files, &mut MemorySink::new(alloc));
+    let failure = ended.failure.expect(rt, command);
+    let words = format!(in alloc; "{} {}", failure.device(), failure.call())?;
+    same(rt, command, words.as_str(), told);
+    Ok(())
+}
+
+#[test]
+fn failures_name_their_files(rt: HostRuntime) -> Result<(), Fail> {
+    for line in rows(&rt, FAILURES, 8) {
+        tells(&rt, rt.alloc(), line)?;
     }
     Ok(())
 }

@@ -1,16 +1,13 @@
 -- Inside: what a search over the steps that a flow leaves has found.
-use Rattle.std.specs.Prelude.{ℕ, suc, zero, ◌≡◌, ◌≢◌, ◌⊎◌, ◌<◌, ◌≤◌, ◌+◌, ◌==◌, Bool, nat_lt, cond, List, [], ◌∷◌, ◌++◌, length, slice_index, ℤ, pos, ◌≤ℤ◌, ◌<ℤ◌}
-use Rattle.std.specs.List.{AllZip}
+use Rattle.std.specs.Prelude.{ℕ, ◌≡◌, ◌≢◌, ◌⊎◌, ◌<◌, ◌≤◌, ◌+◌, ◌==◌, Bool, nat_lt, List, [], ◌∷◌, ◌++◌, length, slice_index, ℤ, pos, ◌≤ℤ◌, ◌<ℤ◌, Option, Some, None}
 use Rattle.dimacs_instance.specs.declared.network.ArcView.{ArcView}
-use Rattle.dimacs_judge.specs.Rows.{arc_at, amount_at}
+use Rattle.dimacs_records.specs.Ranges.{IsNode}
+use Rattle.dimacs_judge.specs.Rows.{arc_at}
 use Rattle.dimacs_instance.specs.declared.links.Side.{Side}
 use Rattle.dimacs_decide.specs.declared.search.Visit.{Visit}
+use Rattle.dimacs_decide.specs.inside.Counting.{count_below}
 use Rattle.dimacs_instance.specs.Links.{end_of, other_end}
-use Rattle.dimacs_decide.specs.inside.Rooms.{room_at}
-
--- every arc carries from 0 to its capacity
-abbrev pub KeepsBounds : List ArcView → List ℤ → Type 0
-KeepsBounds arcs x = AllZip (λ a z. (pos 0 ≤ℤ z) × (z ≤ℤ a.cap)) arcs x
+use Rattle.dimacs_decide.specs.inside.Rooms.{room_on}
 
 abbrev pub unvisited : Visit
 unvisited = record { room = pos 0; rank = 0; via = 0 }
@@ -24,10 +21,6 @@ room_of visits v = (visits v).room
 abbrev pub via_of : (ℕ → Visit) → ℕ → ℕ
 via_of visits v = (visits v).via
 
--- how much more can be sent along the arc of this index from this side
-abbrev pub room_on : List ArcView → List ℤ → Side → ℕ → ℤ
-room_on arcs x side k = room_at side (arc_at arcs k) (amount_at x k)
-
 -- v was reached along an arc with room, from a node that was reached before with no less room
 pub record IsReachedBy (arcs : List ArcView) (x : List ℤ) (visits : ℕ → Visit) (v : ℕ) : Type 0 where
   pub side : Side
@@ -39,13 +32,17 @@ pub record IsReachedBy (arcs : List ArcView) (x : List ℤ) (visits : ℕ → Vi
   pub before : room_of visits v ≤ℤ room_of visits (end_of side (arc_at arcs (via_of visits v)))
   pub room : room_of visits v ≤ℤ room_on arcs x side (via_of visits v)
 
-abbrev pub IsResidualTree : List ArcView → List ℤ → ℕ → (ℕ → Visit) → Type 0
-IsResidualTree arcs x s visits = (v : ℕ) → v ≢ s → 0 < rank_of visits v → IsReachedBy arcs x visits v
+-- all nodes but the roots, whose rank is 1, were reached from others
+abbrev pub IsResidualTree : List ArcView → List ℤ → (ℕ → Visit) → Type 0
+IsResidualTree arcs x visits = (v : ℕ) → 1 < rank_of visits v → IsReachedBy arcs x visits v
+
+-- no more is sent from a root than it has too much
+abbrev pub HaveSurplus : ℕ → (ℕ → ℤ) → (ℕ → Visit) → Type 0
+HaveSurplus nodes surplus visits = (v : ℕ) → rank_of visits v ≡ 1 → IsNode nodes v × (room_of visits v ≤ℤ surplus v)
 
 -- how many of the nodes below n are not reached
 abbrev pub unreached : (ℕ → Visit) → ℕ → ℕ
-unreached visits zero = 0
-unreached visits (suc n) = unreached visits n + cond (rank_of visits n == 0) 1 0
+unreached visits n = count_below (λ v. rank_of visits v == 0) n
 
 abbrev pub is_in : (ℕ → Visit) → ℕ → Bool
 is_in visits v = nat_lt 0 (rank_of visits v)
@@ -55,18 +52,22 @@ abbrev pub IsSidePassed : List ArcView → List ℤ → (ℕ → Visit) → ℕ 
 IsSidePassed arcs x visits v side =
     (k : ℕ) → k < length arcs → end_of side (arc_at arcs k) ≡ v → pos 0 <ℤ room_on arcs x side k → 0 < rank_of visits (other_end side (arc_at arcs k))
 
+-- nothing is left to do at a node that lacks nothing and is passed on both sides
+abbrev pub IsDone : List ArcView → List ℤ → (ℕ → ℤ) → (ℕ → Visit) → ℕ → Type 0
+IsDone arcs x surplus visits v = (pos 0 ≤ℤ surplus v) × ((side : Side) → IsSidePassed arcs x visits v side)
+
 -- v stands in the queue after the first so many
 abbrev pub IsQueued : List ℕ → ℕ → ℕ → Type 0
 IsQueued queue done v = (j : ℕ) × (done ≤ j) × (j < length queue) × (slice_index queue j ≡ v)
 
--- a search from s among so many nodes, of which the first so many of the queue are done
-pub record IsResidualSearch (nodes : ℕ) (arcs : List ArcView) (x : List ℤ) (s : ℕ) (visits : ℕ → Visit) (queue : List ℕ) (done : ℕ) : Type 0 where
-  pub tree : IsResidualTree arcs x s visits
-  pub source : 0 < rank_of visits s
+-- a search among so many nodes, from some that have too much, of which the first so many of the queue are done
+pub record IsResidualSearch (nodes : ℕ) (arcs : List ArcView) (x : List ℤ) (surplus : ℕ → ℤ) (visits : ℕ → Visit) (queue : List ℕ) (done : ℕ) : Type 0 where
+  pub tree : IsResidualTree arcs x visits
+  pub roots : HaveSurplus nodes surplus visits
   pub rooms : (v : ℕ) → 0 < rank_of visits v → pos 0 <ℤ room_of visits v
   pub ranks : (v : ℕ) → rank_of visits v + unreached visits (nodes + 1) ≤ nodes + 1
   pub queued : (j : ℕ) → j < length queue → (slice_index queue j ≤ nodes) × (0 < rank_of visits (slice_index queue j))
-  pub pending : (v : ℕ) → 0 < rank_of visits v → IsQueued queue done v ⊎ ((side : Side) → IsSidePassed arcs x visits v side)
+  pub pending : (v : ℕ) → 0 < rank_of visits v → IsQueued queue done v ⊎ IsDone arcs x surplus visits v
 
 -- the entry of a node that is reached from another by an arc that has so much room
 pub record IsNext (from : Visit) (arc : ℕ) (most : ℤ) (e : Visit) : Type 0 where
@@ -94,8 +95,14 @@ pub record Grows (nodes : ℕ) (visits : ℕ → Visit) (queue : List ℕ) (visi
   pub longer : length queue ≤ length queue'
   pub each : unreached visits' (nodes + 1) + length queue' ≡ unreached visits (nodes + 1) + length queue
 
--- a search from s that came to t, or to all that can be reached
-pub record IsExplored (arcs : List ArcView) (x : List ℤ) (s t : ℕ) (visits : ℕ → Visit) : Type 0 where
-  pub source : 0 < rank_of visits s
-  pub tree : IsResidualTree arcs x s visits
-  pub closed : rank_of visits t ≡ 0 → (v : ℕ) → 0 < rank_of visits v → (side : Side) → IsSidePassed arcs x visits v side
+-- a reached node that lacks some; where there is none, all that can be reached are done
+abbrev pub IsFound : List ArcView → List ℤ → (ℕ → ℤ) → (ℕ → Visit) → Option ℕ → Type 0
+IsFound arcs x surplus visits (Some t) = (0 < rank_of visits t) × (surplus t <ℤ pos 0)
+IsFound arcs x surplus visits None = (v : ℕ) → 0 < rank_of visits v → IsDone arcs x surplus visits v
+
+-- a search that came to a node that lacks some, or to all that can be reached
+pub record IsExplored (nodes : ℕ) (arcs : List ArcView) (x : List ℤ) (surplus : ℕ → ℤ) (visits : ℕ → Visit) (found : Option ℕ) : Type 0 where
+  pub tree : IsResidualTree arcs x visits
+  pub roots : HaveSurplus nodes surplus visits
+  pub rooms : (v : ℕ) → 0 < rank_of visits v → pos 0 <ℤ room_of visits v
+  pub found_is : IsFound arcs x surplus visits found

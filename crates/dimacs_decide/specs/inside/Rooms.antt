@@ -1,10 +1,15 @@
 -- Inside: how much more arcs can carry.
-use Rattle.std.specs.Prelude.{ℤ, ◌-ℤ◌}
+use Rattle.std.specs.Prelude.{ℕ, List, ℤ, ◌-ℤ◌}
 use Rattle.dimacs_instance.specs.declared.network.ArcView.{ArcView}
 use Rattle.dimacs_instance.specs.declared.links.Side.{Side}
 use Rattle.dimacs_instance.specs.declared.links.Side.TheVariants.{Tail, Head}
+use Rattle.dimacs_judge.specs.Rows.{arc_at, amount_at}
 
 -- how much more can be sent along the arc from this end
 abbrev pub room_at : Side → ArcView → ℤ → ℤ
 room_at Tail a x = a.cap -ℤ x
-room_at Head a x = x
+room_at Head a x = x -ℤ a.low
+
+-- how much more can be sent along the arc of this index from this end
+abbrev pub room_on : List ArcView → List ℤ → Side → ℕ → ℤ
+room_on arcs x side k = room_at side (arc_at arcs k) (amount_at x k)

@@ -1,18 +1,19 @@
 -- Inside: marks of the nodes that a block labels.
-use Rattle.std.specs.Prelude.{ℕ, ◌≡◌, ◌≢◌, ◌<◌, ◌+◌, ◌-◌, ◌^◌, ◌⊎◌, ◌↔◌, ◌==◌, Bool, true, false, if◌then◌else◌, List, Contains, get_or, count_by, Option, Some, None, IfSome, ℤ, pos, ◌+ℤ◌, ◌-ℤ◌, int_lt, unsigned_abs}
+use Rattle.std.specs.Prelude.{ℕ, ◌≡◌, ◌≢◌, ◌<◌, ◌≤◌, ◌+◌, ◌^◌, ◌⊎◌, ◌↔◌, ◌==◌, Bool, true, false, if◌then◌else◌, List, Contains, get_or, count_by, Option, Some, None, IfSome, ℤ, pos, ◌+ℤ◌, ◌-ℤ◌, ◌<ℤ◌, ◌≤ℤ◌, int_lt, nat_le, unsigned_abs}
 use Rattle.dimacs_nodes.specs.declared.node_table.NodeTable.{NodeTable}
 use Rattle.dimacs_nodes.specs.Tables.{blank_of, value_of}
+use Rattle.dimacs_records.specs.declared.reasons.Reason.{Reason}
 use Rattle.dimacs_records.specs.Ranges.{IsWide}
 use Rattle.dimacs_instance.specs.declared.network.ArcView.{ArcView}
 use Rattle.dimacs_claims.specs.declared.block.Label.{Label}
 use Rattle.dimacs_claims.specs.Labels.{BlockValue, label, no_label}
-use Rattle.dimacs_judge.specs.declared.marks.Mark.{Mark}
+use Rattle.dimacs_judge.specs.declared.mark.Mark.{Mark}
 use Rattle.dimacs_judge.specs.declared.marks.Weights.{Weights}
 use Rattle.dimacs_judge.specs.declared.marks.Weights.TheVariants.{Untested, NotNegative}
-use Rattle.dimacs_judge.specs.CertificateTests.{negative_row}
+use Rattle.dimacs_judge.specs.CertificateTests.{RelaxFails, negative_row, relax_row}
 use Rattle.dimacs_judge.specs.Rows.{arc_at}
 use Rattle.dimacs_judge.specs.Labels.{HasTightArc}
-use Rattle.dimacs_judge.specs.Tests.{Clear}
+use Rattle.dimacs_judge.specs.Tests.{Clear, ClearBelow}
 
 -- what is known of the weights holds
 abbrev pub AreAsTested : List ArcView → Weights → Type 0
@@ -21,15 +22,22 @@ AreAsTested arcs NotNegative = Clear (negative_row arcs)
 
 -- past the greatest distance that stands in a mark
 abbrev pub far : ℤ
-far = pos (2 ^ 62)
+far = pos (2 ^ 61)
 
 -- the distance that stands in a mark, or that of the label at the place which stands there in its stead
 abbrev pub dist_of : List Label → Mark → ℤ
 dist_of labels mark = if int_lt mark.dist far then mark.dist else (get_or labels (unsigned_abs (mark.dist -ℤ far)) no_label).dist
 
--- no predecessor stands in the mark: an arc that makes the label was found, or none has to be
+-- an arc that makes the label was found, or none has to be
 abbrev pub is_made : Mark → Bool
-is_made mark = mark.pred == 2 ^ 32 - 1
+is_made mark = nat_le (2 ^ 31) mark.pred
+
+-- the marks of the ends say both distances themselves, and the head's is no more than the tail's and the weight
+pub record HoldsNear (number : ℕ) (weight : ℤ) (from to : Mark) : Type 0 where
+  pub known : to.block ≡ number
+  pub tail : from.dist <ℤ far
+  pub head : to.dist <ℤ far
+  pub near : to.dist ≤ℤ (from.dist +ℤ weight)
 
 -- what the block of this number and these labels says of a node by its mark
 abbrev pub marked_dist : List Label → ℕ → Mark → Option ℤ
@@ -104,3 +112,17 @@ pub record MarksArc (labels : List Label) (number : ℕ) (a : ArcView) (old new 
   pub others : (v : ℕ) → v ≢ a.head → value_of new v ≡ value_of old v
   pub head : SaysSame (value_of old a.head) (value_of new a.head)
   pub made : (is_made (value_of new a.head) ≡ true) ↔ ((is_made (value_of old a.head) ≡ true) ⊎ IsTight labels number a old)
+
+-- the arc holds, whatever the radius, and the marks tell whether it makes the label of its head
+pub record PassesArc (labels : List Label) (number : ℕ) (a : ArcView) (makes : Bool) (old new : NodeTable Mark) : Type 0 where
+  pub holds : (radius : Option ℤ) (reason : Reason) → ¬ RelaxFails radius (marked_dist labels number (value_of old a.tail)) (marked_dist labels number (value_of old a.head)) a.cost reason
+  pub marks : MarksArc labels number a old new
+  pub made : makes ≡ true → IsTight labels number a old
+
+-- the first n arcs hold, the marks tell what they make, and so many of the labels were counted as made
+pub record ArePassedBelow (arcs : List ArcView) (b : BlockValue) (number n counted : ℕ) (marks : NodeTable Mark) : Type 0 where
+  pub marked : IsMarked number b marks
+  pub sound : AreMadeAlone arcs b marks
+  pub made : AreMadeBelow arcs b n marks
+  pub count : counted ≤ made_count b marks
+  pub clear : ClearBelow (relax_row arcs b) n

@@ -1,15 +1,19 @@
 -- Inside: numbers that stand in bytes with one byte right after them.
-use Rattle.std.specs.Prelude.{ℕ, ◌≡◌, ◌≤◌, ◌<◌, List, length}
+use Rattle.std.specs.Prelude.{ℕ, ◌≡◌, ◌≤◌, ◌<◌, ◌/◌, ◌%◌, ◌==◌, Bool, List, length}
 use Rattle.std.specs.List.{All}
 use Rattle.std.specs.Char.{IsAsciiDigit}
 use Rattle.dimacs_lines.specs.Number.{place_sum}
 use Rattle.dimacs_lines.specs.Plain.{EndsAt}
 
--- one to eight digits stand there, and say n
+-- the byte's bit of 16, which all digits have
+abbrev pub has_sixteen : ℕ → Bool
+has_sixteen b = b / 16 % 2 == 1
+
+-- one to sixteen digits stand there, and say n
 pub record DigitsAt (bytes : List ℕ) (at stop n next : ℕ) : Type 0 where
   pub digits : List ℕ
   pub some : 0 < length digits
-  pub few : length digits ≤ 8
+  pub few : length digits ≤ 16
   pub each : All IsAsciiDigit digits
   pub says : n ≡ place_sum digits
   pub ends : EndsAt bytes at stop digits next

@@ -1,7 +1,17 @@
 -- Inside: what a command does with its files and with the output, from its words to its exit status.
-use Rattle.std.specs.Prelude.{◌≡◌, length}
+use Rattle.std.specs.Prelude.{ℕ, ◌≡◌, List, [], ◌∷◌, Option, None, Some, Result, Ok, Err, length}
+use Rattle.dimacs_runs.specs.declared.failure.CommandError.{CommandError}
+use Rattle.dimacs_runs.specs.declared.failure.CommandError.TheVariants.{Device, Memory}
+use Rattle.dimacs_runs.specs.declared.failure.Failure.{Failure}
+use Rattle.dimacs_runs.specs.declared.failure.Failure.TheVariants.{File, Output}
+use Rattle.dimacs_runs.specs.declared.failure.FileCall.{FileCall}
 use Rattle.dimacs_runs.specs.declared.jobs.Job.{Job}
 use Rattle.dimacs_runs.specs.declared.jobs.Job.TheVariants.{Convert, Show, Judge, Solve}
+use Rattle.dimacs_runs.specs.declared.outcome.RunError.{RunError}
+use Rattle.dimacs_runs.specs.declared.outcome.RunError.TheVariants as run_errors
+use Rattle.dimacs_runs.specs.declared.outcome.Status.{Status}
+use Rattle.dimacs_runs.specs.Commands.{failures_told, output_faults}
+use Rattle.dimacs_runs.specs.Files.{FileEvent, FilesSeen, Sees, failures}
 use Rattle.dimacs_runs.specs.Jobs.{file_count}
 
 -- there are as many files as the run has
@@ -10,3 +20,23 @@ HasFiles (Convert kind file) = Unit {0}
 HasFiles (Show kind file) = Unit {0}
 HasFiles (Judge kind files) = length files.now ≡ file_count kind
 HasFiles (Solve job files) = length files.now ≡ 3
+
+-- the end of a run over files one of which failed so, or none
+abbrev pub named : Result Status RunError → Option Failure → Result Status CommandError
+named (Ok status) failure = Ok status
+named (Err run_errors.Device) None = Err (Device Output)
+named (Err run_errors.Device) (Some failure) = Err (Device failure)
+named (Err run_errors.Memory) failure = Err Memory
+
+-- this is the first of these failures of files
+abbrev pub IsFirstOf : Option Failure → List (FileCall × List ℕ) → Type 0
+IsFirstOf None all = all ≡ []
+IsFirstOf (Some (File call name)) all = (rest : List (FileCall × List ℕ)) × (all ≡ (call, name.now) ∷ rest)
+IsFirstOf (Some Output) all = ⊥
+
+-- a file could not be opened or created, which is told of
+pub record FailsWith (event : RunError → FileEvent) (old new : FilesSeen) (error : CommandError) : Type 0 where
+  pub cause : RunError
+  pub seen : Sees (event cause ∷ []) old new
+  pub failure : failures (event cause) ≡ failures_told (Err error)
+  pub output : (faults : ℕ) → output_faults (Err error) faults ≡ faults

@@ -1,7 +1,7 @@
 use Rattle.std.proofs.Common.{List, ℤ}
 use Rattle.dimacs_judge.specs.Tests.{ClearBelow}
 use Rattle.dimacs_judge.specs.FlowTests.{balance_row}
-use Rattle.dimacs_judge.specs.inside.FlowTests.{AreBalances}
+use Rattle.dimacs_judge.specs.FlowTests.{AreBalances}
 use Rattle.dimacs_judge.proofs.feasible.balances_hold.Given as goal
 
 abbrev pub invariant-loop-v : goal.invariant-loop-v

@@ -1,7 +1,7 @@
 use Rattle.std.proofs.Common.{◌≡◌, ◌≤◌, ◌<◌, length, get_or, ◌∙◌, ap, sym, arith}
 use Rattle.dimacs_claims.specs.declared.block.Label.{Label}
 use Rattle.dimacs_claims.specs.Labels.{IsLabel, no_label}
-use Rattle.dimacs_judge.proofs.MarkLemmas.{all_marked, has_not_made, marked_source, marked_more}
+use Rattle.dimacs_judge.proofs.MarkLemmas.{all_marked, marked_source, marked_more, unmade_below}
 use Rattle.dimacs_judge.proofs.marks.mark_labels.Goals as goal
 
 pub loop-i-init : goal.loop-i-init
@@ -22,7 +22,7 @@ loop-i-preserved c =
     let lawful = c.requires.lawful in
     let pred = rw is at mark.pred in
     let within : IsLabel lawful.0 (get_or b.labels c.loop-i.i no_label) = lawful.2.within c.loop-i.i no_label inside in
-    marked_more c.args.number lawful.0 b c.loop-i.i c.loop-i.marks c.set-in-loop-i.new.self _ lawful.2 inside c.loop-i.invariant e.blank (rw is at e.set) (rw is at e.others) dist pred mark.block (has_not_made c.of.result (λ made. omega (arith, pred, made, within.pred.1, lawful.1)))
+    marked_more c.args.number lawful.0 b c.loop-i.i c.loop-i.marks c.set-in-loop-i.new.self _ lawful.2 inside c.loop-i.invariant e.blank (rw is at e.set) (rw is at e.others) dist pred mark.block (unmade_below c.of.result (omega (arith, pred, within.pred.1, lawful.1)))
 
 pub returns-clause-marked : goal.returns-clause-marked
 returns-clause-marked c =

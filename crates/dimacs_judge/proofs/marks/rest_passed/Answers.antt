@@ -1,5 +1,5 @@
 use Rattle.std.proofs.Common.{◌≤◌, ap, arith, length}
-use Rattle.dimacs_judge.specs.declared.marks.Mark.{Mark}
+use Rattle.dimacs_judge.specs.declared.mark.Mark.{Mark}
 use Rattle.dimacs_judge.proofs.MarkLemmas.{alone_after, made_after, made_all, marked_after, marked_wide, wide_after}
 use Rattle.dimacs_judge.proofs.marks.rest_passed.Goals as goal
 

@@ -1,12 +1,15 @@
-use Rattle.std.proofs.Common.{◌≡◌, ℕ, ◌-◌, ◌≤◌, List, ◌++◌, min, length, take, drop, replicate, w64, sym, ap, subst, ◌∙◌, arith, take-take, length-take}
+use Rattle.std.proofs.Common.{◌≡◌, ℕ, ◌-◌, ◌<◌, ◌≤◌, List, ◌++◌, min, length, take, drop, replicate, map, bit_xor, refl, w64, sym, ap, subst, ◌∙◌, arith, take-take, length-take}
 use Rattle.std.specs.Char.{is_ascii_digit}
 use Rattle.std.specs.Int.{to_le_bytes}
 use Rattle.std.specs.Int.Digits.{AllBelowBase, number_from_digits}
-use Rattle.std.specs.List.{prefix_len}
+use Rattle.std.specs.List.{All, prefix_len}
 use Rattle.std.proofs.lemmas.List.{take-append-le}
+use Rattle.std.proofs.lemmas.List.Elements.{All-take}
 use Rattle.std.proofs.lemmas.List.Sums.{prefix_len-le-length}
 use Rattle.dimacs_lines.specs.Number.{place_sum}
-use Rattle.dimacs_lines.proofs.PlaceSums.{number_from_digits-zeros, AllBelowBase-zeros, AllPass-take, prefix_len-padded}
+use Rattle.dimacs_lines.specs.inside.Plain.{has_sixteen}
+use Rattle.dimacs_lines.proofs.Lanes.{AllBytes-to_le_bytes}
+use Rattle.dimacs_lines.proofs.PlaceSums.{number_from_digits-zeros, All-turned, AllPass-take, AllPass-turned, prefix_len-digits, prefix_len-padded}
 use Rattle.dimacs_lines.proofs.digits.digits_at.Goals as goal
 
 -- what is counted stands within the line
@@ -15,25 +18,35 @@ take-padded n bs counted =
     let within : n ≤ min 8 (length bs) = omega (arith, prefix_len-le-length is_ascii_digit (take 8 bs), length-take 8 bs) in
     take-take n 8 (bs ++ replicate 8 0) (omega arith) ∙ take-append-le n bs (replicate 8 0) (omega arith)
 
-pub eight_digits-value-requires : goal.eight_digits-value-requires
-eight_digits-value-requires c =
-    let count = c.digit_count-count.result in
+pub are_digits-requires : goal.are_digits-requires
+are_digits-requires c =
+    let count = c.count_to_end-count.result in
     let bytes = to_le_bytes w64 c.word_at-word.result in
-    let digits = AllPass-take count bytes c.digit_count-count.ensures in
-    subst (AllBelowBase 10) (sym c.digits_on_top.ensures) (AllBelowBase-zeros (8 - count) (take count bytes) digits)
+    let small = All-take (λ b. b < 256) count bytes (AllBytes-to_le_bytes c.word_at-word.result) in
+    subst (All (λ b. b < 240)) (sym c.values_on_top-values.ensures) (All-turned (8 - count) (take count bytes) small (AllPass-take has_sixteen count bytes c.count_to_end-count.ensures.count))
+
+pub eight_digits-requires : goal.eight_digits-requires
+eight_digits-requires c = c.are_digits.ensures.0 c.if-not-are_digits.false
 
 pub returns-clause-count : goal.returns-clause-count
 returns-clause-count c =
+    let count = c.count_to_end-count.result in
+    let bytes = to_le_bytes w64 c.word_at-word.result in
     let rest = drop c.args.at c.args.line.now in
-    c.digit_count-count.ensures ∙ ap (prefix_len is_ascii_digit) c.word_at-word.ensures ∙ prefix_len-padded 8 8 rest
+    let small = All-take (λ b. b < 256) count bytes (AllBytes-to_le_bytes c.word_at-word.result) in
+    let below = subst (AllBelowBase 10) c.values_on_top-values.ensures (c.are_digits.ensures.0 c.if-not-are_digits.false) in
+    let digits = AllPass-turned (8 - count) (take count bytes) small below in
+    prefix_len-digits count bytes c.count_to_end-count.ensures.count digits ∙ ap (prefix_len is_ascii_digit) c.word_at-word.ensures ∙ prefix_len-padded 8 8 rest
 
 pub returns-clause-value : goal.returns-clause-value
 returns-clause-value c =
-    let count = c.digit_count-count.result in
+    let count = c.count_to_end-count.result in
     let bytes = to_le_bytes w64 c.word_at-word.result in
     let rest = drop c.args.at c.args.line.now in
-    let digits = AllPass-take count bytes c.digit_count-count.ensures in
-    let counted = c.digit_count-count.ensures ∙ ap (prefix_len is_ascii_digit) c.word_at-word.ensures ∙ prefix_len-padded 8 8 rest in
+    let small = All-take (λ b. b < 256) count bytes (AllBytes-to_le_bytes c.word_at-word.result) in
+    let below = subst (AllBelowBase 10) c.values_on_top-values.ensures (c.are_digits.ensures.0 c.if-not-are_digits.false) in
+    let digits = AllPass-turned (8 - count) (take count bytes) small below in
+    let counted = prefix_len-digits count bytes c.count_to_end-count.ensures.count digits ∙ ap (prefix_len is_ascii_digit) c.word_at-word.ensures ∙ prefix_len-padded 8 8 rest in
     let within = ap (take count) c.word_at-word.ensures ∙ take-padded count rest counted in
-    c.eight_digits-value.ensures ∙ ap (number_from_digits 10) c.digits_on_top.ensures
+    c.eight_digits.ensures ∙ ap (number_from_digits 10) c.values_on_top-values.ensures
     ∙ number_from_digits-zeros (8 - count) (take count bytes) digits ∙ ap place_sum within

@@ -1,7 +1,7 @@
 use Rattle.dimacs_lines.proofs.PlainLemmas.{digits_stand}
 use Rattle.dimacs_lines.proofs.plain.plain_size.Goals as goal
 
-pub returns-then-bytes-end : goal.returns-then-bytes-end
-returns-then-bytes-end c =
-    let found = c.digits_at-count.ensures in
-    digits_stand c.args.bytes.now c.args.at c.args.stop c.digits_at-count.result.0 c.digits_at-count.result.1 c.if-end-bytes.true found.count found.value c.if-count-gt0.true c.if-bytes-end.true
+pub returns-then-bytes-end-clause-digits : goal.returns-then-bytes-end-clause-digits
+returns-then-bytes-end-clause-digits c =
+    let found = c.in_ok-count.ensures in
+    digits_stand c.args.bytes.now c.args.at c.args.stop c.in_ok-count.count c.in_ok-count.size c.if-end-bytes.true found.count found.value found.some c.if-bytes-end.true

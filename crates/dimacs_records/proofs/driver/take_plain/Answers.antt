@@ -4,7 +4,7 @@ use Rattle.std.proofs.lemmas.Slice.{between_to_end}
 use Rattle.dimacs_lines.specs.Limits.{most_lines}
 use Rattle.dimacs_records.specs.inside.Plain.{SaysFirst}
 use Rattle.dimacs_records.specs.Spelling.{texts_in}
-use Rattle.dimacs_records.proofs.HeldLines.{plain_step}
+use Rattle.dimacs_records.proofs.HeldLines.{one_more_whole, plain_step}
 use Rattle.dimacs_records.proofs.TakenLines.{one_taken}
 use Rattle.dimacs_records.proofs.driver.take_plain.Goals as goal
 
@@ -34,6 +34,7 @@ loop-line-preserved g c =
     record {
       kind = c.take.ensures.kind ∙ loop.invariant.kind;
       within = omega (arith, loop.invariant.within, says.within, length-drop loop.bytes held);
+      whole = one_more_whole c.args.kind held loop.bytes loop.lines line.size line.said loop.invariant.whole says;
       few = omega (arith, loop.invariant.few, says.size_is);
       read = λ all coming h.
           let step = plain_step c.args.kind all bytes given line.size coming line.said (g.R.Reading.stands_for loop.reading) (g.R.Reading.stands_for c.take.new.self) (Ok c.in_default-take.field-0) says few (loop.invariant.read all coming h)

@@ -1,5 +1,6 @@
-use Rattle.std.proofs.Common.{◌≡◌, ◌+◌, ◌-◌, ◌≤◌, ℕ, List, Option, length, drop}
+use Rattle.std.proofs.Common.{◌≡◌, ◌+◌, ◌-◌, ◌≤◌, ℕ, List, Option, length, take, drop}
 use Rattle.dimacs_lines.specs.Devices.{before_piece}
+use Rattle.dimacs_lines.specs.Lines.{AreWholeLines}
 use Rattle.dimacs_records.specs.inside.Driver.{HasTaken, IsReadSoFar}
 use Rattle.dimacs_records.proofs.driver.take_plain.Given as goal
 
@@ -8,6 +9,7 @@ abbrev pub invariant-loop-line : goal.invariant-loop-line
 invariant-loop-line g l = record {
   kind : g.R.Reading.kind l.reading ≡ l.kind;
   within : l.bytes ≤ length l.held;
+  whole : AreWholeLines (take l.bytes l.held) l.lines;
   few : l.lines ≤ l.bytes;
   read : (all : List (List ℕ)) (coming : Option (List ℕ)) → IsReadSoFar l.kind all l.given (before_piece l.held coming) (g.R.Reading.stands_for l.fn.reading)
       → IsReadSoFar l.kind all (l.given + l.lines) (before_piece (drop l.bytes l.held) coming) (g.R.Reading.stands_for l.reading);

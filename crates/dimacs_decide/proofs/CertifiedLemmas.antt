@@ -1,0 +1,34 @@
+-- A claimed flow of which something is decided.
+use Rattle.std.proofs.Common.{List, ℤ}
+use Rattle.dimacs_claims.specs.SolutionTexts.{SolutionValue}
+use Rattle.dimacs_instance.specs.MaxFlows.{MaxValue}
+use Rattle.dimacs_instance.specs.MinFlows.{MinValue}
+use Rattle.dimacs_judge.specs.MaxJudge.{IsMaxClaim}
+use Rattle.dimacs_judge.specs.MinJudge.{IsMinClaim}
+use Rattle.dimacs_decide.specs.declared.maximum.MaxDecision.{MaxDecision}
+use Rattle.dimacs_decide.specs.declared.maximum.MaxDecision.TheVariants as of_max
+use Rattle.dimacs_decide.specs.declared.least.MinDecision.{MinDecision}
+use Rattle.dimacs_decide.specs.declared.least.MinDecision.TheVariants as of_min
+use Rattle.dimacs_decide.specs.CertifiedMax.{CertifiesMax}
+use Rattle.dimacs_decide.specs.CertifiedMin.{CertifiesMin}
+use Rattle.dimacs_decide.specs.MaxDecision.{DecidesMax}
+use Rattle.dimacs_decide.specs.MinDecision.{DecidesMin}
+
+-- ---- maximum
+pub max_certified : (i : MaxValue) (s : SolutionValue) (x : List ℤ) (decision : MaxDecision) → IsMaxClaim i s x → DecidesMax i x decision → CertifiesMax i s decision
+max_certified i s x (of_max.Optimal cut) claim told = (x, record { claim = claim; nodes_are = told.2; tight = told.1 }, told.0)
+max_certified i s x (of_max.Better y) claim told = (x, record { claim = claim; not_maximum = told.0; feasible = told.1; greater = rw claim.value_is at told.2 })
+
+-- whatever is said of it, it is what is claimed
+pub max_claimed : (i : MaxValue) (s : SolutionValue) (decision : MaxDecision) → CertifiesMax i s decision → (x : List ℤ) × IsMaxClaim i s x
+max_claimed i s (of_max.Optimal cut) told = let (x, passes, best) = told in (x, passes.claim)
+max_claimed i s (of_max.Better y) told = let (x, improved) = told in (x, improved.claim)
+
+-- ---- least
+pub min_certified : (i : MinValue) (s : SolutionValue) (x : List ℤ) (decision : MinDecision) → IsMinClaim i s x → DecidesMin i x decision → CertifiesMin i s decision
+min_certified i s x (of_min.Optimal potentials) claim told = (x, record { claim = claim; nodes_are = told.2; slack = told.1 }, told.0)
+min_certified i s x (of_min.Better y) claim told = (x, record { claim = claim; not_least = told.0; feasible = told.1; less = rw claim.cost_is at told.2 })
+
+pub min_claimed : (i : MinValue) (s : SolutionValue) (decision : MinDecision) → CertifiesMin i s decision → (x : List ℤ) × IsMinClaim i s x
+min_claimed i s (of_min.Optimal potentials) told = let (x, passes, best) = told in (x, passes.claim)
+min_claimed i s (of_min.Better y) told = let (x, improved) = told in (x, improved.claim)

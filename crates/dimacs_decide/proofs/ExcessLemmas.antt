@@ -1,0 +1,40 @@
+-- The sum of excesses, node by node.
+use Rattle.std.proofs.Common.{◌≡◌, ℕ, suc, zero, ◌+◌, ◌-◌, ◌*◌, ◌^◌, ◌≤◌, List, ℤ, pos, negsuc, ◌+ℤ◌, ◌≤ℤ◌, refl, ap, arith}
+use Rattle.std.proofs.lemmas.Int.{ints}
+use Rattle.dimacs_instance.specs.MinFlows.{MinValue, positive_part}
+use Rattle.dimacs_judge.specs.Flows.{sum_nodes}
+use Rattle.dimacs_judge.specs.inside.Ranges.{IsOfSize}
+use Rattle.dimacs_judge.proofs.Sums.{sum_nodes-same}
+use Rattle.dimacs_decide.specs.FeasibilityDecision.{surplus_at, total_excess}
+use Rattle.dimacs_decide.specs.inside.Surpluses.{AreSurpluses}
+
+-- the sum of the excesses of the nodes below this one, which is not large
+pub record IsExcessBelow (surplus : ℕ → ℤ) (id : ℕ) (sum : ℤ) : Type 0 where
+  pub is : sum ≡ sum_nodes (λ v. pos (positive_part (surplus v))) (id - 1)
+  pub least : pos 0 ≤ℤ sum
+  pub most : sum ≤ℤ pos (id * 2 ^ 99)
+
+part_size : (z : ℤ) → IsOfSize (2 ^ 99) z → positive_part z ≤ 2 ^ 99
+part_size (pos n) h = omega (arith, ints, h.1)
+part_size (negsuc n) h = omega arith
+
+pub excess_none : (surplus : ℕ → ℤ) → IsExcessBelow surplus 1 (pos 0)
+excess_none surplus = record { is = refl; least = omega (arith, ints); most = omega (arith, ints) }
+
+pub excess_more : (surplus : ℕ → ℤ) (id : ℕ) (sum : ℤ) → 1 ≤ id → IsOfSize (2 ^ 99) (surplus id) → IsExcessBelow surplus id sum → IsExcessBelow surplus (id + 1) (sum +ℤ pos (positive_part (surplus id)))
+excess_more surplus zero sum some size is = absurd (omega (arith, some))
+excess_more surplus (suc id) sum some size is =
+    let small = part_size (surplus (suc id)) size in
+    let f : ℕ → ℤ = λ v. pos (positive_part (surplus v)) in
+    let e : suc id - 1 ≡ id = omega arith in
+    let o : suc id + 1 - 1 ≡ suc id = omega arith in
+    let before : sum_nodes f (suc id - 1) ≡ sum_nodes f id = ap (sum_nodes f) e in
+    let after : sum_nodes f (suc id + 1 - 1) ≡ sum_nodes f (suc id) = ap (sum_nodes f) o in
+    record {
+      is = omega (arith, ints, is.is, before, after);
+      least = omega (arith, ints, is.least);
+      most = omega (arith, ints, is.most, small);
+    }
+
+pub excess_is : (i : MinValue) (x : List ℤ) (surplus : ℕ → ℤ) → AreSurpluses i x surplus → sum_nodes (λ v. pos (positive_part (surplus v))) i.nodes ≡ total_excess i x
+excess_is i x surplus are = sum_nodes-same (λ v. pos (positive_part (surplus v))) (λ v. pos (positive_part (surplus_at i x v))) i.nodes (λ v h. ap (λ (z : ℤ). pos (positive_part z)) (are v h))

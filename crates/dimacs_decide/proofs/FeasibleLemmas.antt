@@ -1,0 +1,233 @@
+-- What surpluses tell of a flow that keeps the bounds.
+use Rattle.std.proofs.Common.{◌≡◌, ◌≢◌, inl, inr, ℕ, ◌+◌, ◌<◌, ◌≤◌, ◌==◌, ◌&&◌, Bool, true, false, not, List, [], ◌∷◌, All, ℤ, pos, negsuc, ◌+ℤ◌, ◌-ℤ◌, ◌≤ℤ◌, ◌<ℤ◌, refl, sym, ap, subst, ◌∙◌, arith, eq-eqb}
+use Rattle.std.proofs.lemmas.Int.{ints}
+use Rattle.std.proofs.lemmas.Bool.{cases_eq, cases_order, false≢true, ne_eqb}
+use Rattle.std.proofs.lemmas.List.Elements.{All-head, All-tail}
+use Rattle.std.specs.List.{AllZip}
+use Rattle.dimacs_nodes.proofs.Nodes.{contains-insert}
+use Rattle.dimacs_records.specs.Ranges.{IsNode}
+use Rattle.dimacs_claims.specs.Cuts.{CutValue, empty_cut, with_node}
+use Rattle.dimacs_instance.specs.declared.network.ArcView.{ArcView}
+use Rattle.dimacs_instance.specs.Arcs.{JoinsNodes}
+use Rattle.dimacs_instance.specs.MinFlows.{IsMin, MinValue, positive_part, supply_of}
+use Rattle.dimacs_judge.specs.Cuts.{enters, leaves, members}
+use Rattle.dimacs_judge.specs.Feasible.{FeasibleMin}
+use Rattle.dimacs_judge.specs.Flows.{net, when}
+use Rattle.dimacs_judge.specs.InfeasibleJudge.{ShowsNoFlow}
+use Rattle.dimacs_judge.specs.ViolatedSets.{Violated}
+use Rattle.dimacs_judge.proofs.Duality.{across_is, violated_has_no_flow}
+use Rattle.dimacs_judge.proofs.Sums.{sum_nodes-zero}
+use Rattle.dimacs_decide.specs.Bounds.{KeepsBounds}
+use Rattle.dimacs_decide.specs.FeasibilityDecision.{surplus_at, total_excess}
+use Rattle.dimacs_decide.specs.inside.Sending.{IsSent, IsStuck}
+use Rattle.dimacs_decide.specs.declared.surplus.Standing.{Standing}
+use Rattle.dimacs_decide.specs.declared.surplus.Standing.TheVariants.{Even, Excess, Short}
+use Rattle.dimacs_decide.specs.inside.Surpluses.{AreSurpluses, Stands}
+use Rattle.dimacs_decide.proofs.SumLemmas.{across_of, sum_nodes-less, sum_nodes-split}
+
+-- ---- positive parts
+part_of : (z : ℤ) → pos 0 ≤ℤ z → pos (positive_part z) ≡ z
+part_of (pos n) h = refl
+part_of (negsuc n) h = absurd (omega (arith, ints))
+
+part_none : (z : ℤ) → z ≤ℤ pos 0 → pos (positive_part z) ≡ pos 0
+part_none (pos n) h = omega (arith, ints)
+part_none (negsuc n) h = refl
+
+-- ---- no surplus
+pub even_tells : (i : MinValue) (x : List ℤ) (surplus : ℕ → ℤ) → KeepsBounds i.arcs x → AreSurpluses i x surplus → ((v : ℕ) → 1 ≤ v → v < i.nodes + 1 → surplus v ≡ pos 0) → FeasibleMin i x
+even_tells i x surplus within are none = record {
+  within = within;
+  balanced = λ v node. omega (arith, ints, are v node, none v node.0 (omega (arith, node.1)));
+}
+
+-- ---- a set that more is supplied in than can leave it
+shows : (i : MinValue) (set : CutValue) → IsMin i → set.nodes ≡ i.nodes → Violated i (members set) → ShowsNoFlow i set
+shows i set law of bad = (record { nodes_are = of; violated = bad }, violated_has_no_flow i law.joined (members set) bad)
+
+when_some : (b : Bool) (z : ℤ) → (b ≡ true → pos 0 ≤ℤ z) → pos 0 ≤ℤ when b z
+when_some true z h = h refl
+when_some false z h = omega (arith, ints)
+
+pub stuck_tells : (i : MinValue) (x : List ℤ) (surplus : ℕ → ℤ) (reached : ℕ → Type 0) (set : CutValue) → IsMin i → AreSurpluses i x surplus → (r : ℕ) → IsNode i.nodes r → reached r → pos 0 <ℤ surplus r
+    → IsStuck i.nodes i.arcs x surplus reached set → ShowsNoFlow i set
+stuck_tells i x surplus reached set law are r node begun some is =
+    let c = members set in
+    let inside : c r ≡ true = is.has r node begun in
+    let each : (v : ℕ) → IsNode i.nodes v → pos 0 ≤ℤ when (c v) (surplus_at i x v) = λ v h. when_some (c v) (surplus_at i x v) (λ e. omega (arith, ints, are v h, is.shut.none_lacks v h e)) in
+    let here : pos 0 <ℤ when (c r) (surplus_at i x r) = rw inside (omega (arith, ints, some, are r node)) in
+    let more = sum_nodes-less (λ v. pos 0) (λ v. when (c v) (surplus_at i x v)) i.nodes r each node here in
+    let split = sum_nodes-split c (supply_of i) (net i.arcs x) i.nodes in
+    let crossing = across_is c i.nodes i.arcs x law.joined in
+    let most = across_of (λ a. a.cap) (λ a. a.low) c i.arcs x is.shut.shut in
+    shows i set law is.of (inl (omega (arith, ints, more, sum_nodes-zero (λ v. pos 0) i.nodes (λ v h. refl), split, crossing, most)))
+
+-- ---- all nodes lack
+when_all : (b : Bool) (z : ℤ) → b ≡ true → when b z ≡ z
+when_all b z e = rw e refl
+
+no_crossing : (b d : Bool) (z low cap : ℤ) → b ≡ true → d ≡ true → ((b && not d) ≡ true → z ≡ low) × ((d && not b) ≡ true → z ≡ cap)
+no_crossing true true z low cap e f = (λ h. absurd (false≢true h), λ h. absurd (false≢true h))
+no_crossing true false z low cap e f = absurd (false≢true f)
+no_crossing false d z low cap e f = absurd (false≢true e)
+
+none_cross : (nodes : ℕ) (set : ℕ → Bool) (arcs : List ArcView) (x : List ℤ) → All (JoinsNodes nodes) arcs → KeepsBounds arcs x → ((v : ℕ) → IsNode nodes v → set v ≡ true)
+    → AllZip (λ a z. (leaves set a ≡ true → z ≡ a.low) × (enters set a ≡ true → z ≡ a.cap)) arcs x
+none_cross nodes set [] [] joined w all = tt
+none_cross nodes set [] (z ∷ x) joined w all = absurd w
+none_cross nodes set (a ∷ arcs) [] joined w all = absurd w
+none_cross nodes set (a ∷ arcs) (z ∷ x) joined w all =
+    let ends = All-head (JoinsNodes nodes) a arcs joined in
+    (no_crossing (set a.tail) (set a.head) z a.low a.cap (all a.tail ends.0) (all a.head ends.1), none_cross nodes set arcs x (All-tail (JoinsNodes nodes) a arcs joined) w.1 all)
+
+pub short_tells : (i : MinValue) (x : List ℤ) (surplus : ℕ → ℤ) (set : CutValue) → IsMin i → KeepsBounds i.arcs x → AreSurpluses i x surplus → set.nodes ≡ i.nodes → ((v : ℕ) → IsNode i.nodes v → members set v ≡ true)
+    → ((v : ℕ) → 1 ≤ v → v < i.nodes + 1 → surplus v ≤ℤ pos 0) → (r : ℕ) → IsNode i.nodes r → surplus r <ℤ pos 0 → ShowsNoFlow i set
+short_tells i x surplus set law within are of all low r node less =
+    let c = members set in
+    let each : (v : ℕ) → IsNode i.nodes v → when (c v) (surplus_at i x v) ≤ℤ pos 0 = λ v h. let e = when_all (c v) (surplus_at i x v) (all v h) in omega (arith, ints, e, are v h, low v h.0 (omega (arith, h.1))) in
+    let here : when (c r) (surplus_at i x r) <ℤ pos 0 = let e = when_all (c r) (surplus_at i x r) (all r node) in omega (arith, ints, e, are r node, less) in
+    let fewer = sum_nodes-less (λ v. when (c v) (surplus_at i x v)) (λ v. pos 0) i.nodes r each node here in
+    let split = sum_nodes-split c (supply_of i) (net i.arcs x) i.nodes in
+    let crossing = across_is c i.nodes i.arcs x law.joined in
+    let least = across_of (λ a. a.low) (λ a. a.cap) c i.arcs x (none_cross i.nodes c i.arcs x law.joined within all) in
+    shows i set law of (inr (omega (arith, ints, fewer, sum_nodes-zero (λ v. pos 0) i.nodes (λ v h. refl), split, crossing, least)))
+
+-- ---- some was sent
+module _ (i : MinValue) (x y : List ℤ) (surplus : ℕ → ℤ) (are : AreSurpluses i x surplus) (sent : IsSent i.nodes i.arcs x y surplus) where
+  abbrev left : List ℤ → ℕ → ℤ
+  left z v = pos (positive_part (surplus_at i z v))
+
+  apart : sent.from ≢ sent.to
+  apart e = let f = ap surplus e in omega (arith, ints, f, sent.some, sent.enough, sent.lacked)
+
+  at_from : surplus_at i y sent.from ≡ surplus_at i x sent.from -ℤ sent.amount
+  at_from =
+      let here : (sent.from == sent.from) ≡ true = eq-eqb sent.from sent.from refl in
+      let there : (sent.to == sent.from) ≡ false = ne_eqb sent.to sent.from (λ e. apart (sym e)) in
+      let shift : net i.arcs y sent.from ≡ net i.arcs x sent.from +ℤ sent.amount = sent.shifts sent.from ∙ rw (here, there) (omega (arith, ints)) in
+      omega (arith, ints, shift)
+
+  at_to : surplus_at i y sent.to ≡ surplus_at i x sent.to +ℤ sent.amount
+  at_to =
+      let here : (sent.to == sent.to) ≡ true = eq-eqb sent.to sent.to refl in
+      let there : (sent.from == sent.to) ≡ false = ne_eqb sent.from sent.to apart in
+      let shift : net i.arcs y sent.to ≡ net i.arcs x sent.to -ℤ sent.amount = sent.shifts sent.to ∙ rw (here, there) (omega (arith, ints)) in
+      omega (arith, ints, shift)
+
+  elsewhere : (v : ℕ) → v ≢ sent.from → v ≢ sent.to → surplus_at i y v ≡ surplus_at i x v
+  elsewhere v not_from not_to =
+      let here : (sent.from == v) ≡ false = ne_eqb sent.from v (λ e. not_from (sym e)) in
+      let there : (sent.to == v) ≡ false = ne_eqb sent.to v (λ e. not_to (sym e)) in
+      let shift : net i.arcs y v ≡ net i.arcs x v = sent.shifts v ∙ rw (here, there) (omega (arith, ints)) in
+      omega (arith, ints, shift)
+
+  less_at : left y sent.from <ℤ left x sent.from
+  less_at =
+      let is = are sent.from sent.from_within in
+      let before = part_of (surplus_at i x sent.from) (omega (arith, ints, is, sent.some, sent.enough)) in
+      let after = part_of (surplus_at i y sent.from) (omega (arith, ints, is, at_from, sent.enough)) in
+      omega (arith, ints, before, after, at_from, sent.some)
+
+  no_more : (v : ℕ) → IsNode i.nodes v → left y v ≤ℤ left x v
+  no_more v node = elim (cases_eq v sent.from) [
+    | inl same ↦ subst (λ u. left y u ≤ℤ left x u) (sym same) (omega (arith, ints, less_at))
+    | inr not_from ↦ elim (cases_eq v sent.to) [
+      | inl same ↦
+          let is = are sent.to sent.to_within in
+          let after = part_none (surplus_at i y sent.to) (omega (arith, ints, is, at_to, sent.lacked)) in
+          let le : left y sent.to ≤ℤ left x sent.to = omega (arith, ints, after) in
+          subst (λ u. left y u ≤ℤ left x u) (sym same) le
+      | inr not_to ↦ let e = elsewhere v not_from not_to in rw e (omega (arith, ints))
+    ]
+  ]
+
+  pub sent_tells : (¬ FeasibleMin i x) × KeepsBounds i.arcs y × (total_excess i y <ℤ total_excess i x)
+  sent_tells = (
+    λ feasible. let is = are sent.from sent.from_within in let e = feasible.balanced sent.from sent.from_within in omega (arith, ints, is, e, sent.some, sent.enough),
+    sent.within,
+    sum_nodes-less (left y) (left x) i.nodes sent.from no_more sent.from_within less_at,
+  )
+
+-- ---- the surpluses of the nodes below this one
+pub record AreSurplusesBelow (i : MinValue) (x : List ℤ) (id : ℕ) (surplus : ℕ → ℤ) : Type 0 where
+  pub below : (v : ℕ) → 1 ≤ v → v < id → surplus v ≡ surplus_at i x v
+  pub above : (v : ℕ) → id ≤ v → surplus v ≡ pos 0
+
+pub surpluses_none : (i : MinValue) (x : List ℤ) (surplus : ℕ → ℤ) → ((v : ℕ) → surplus v ≡ pos 0) → AreSurplusesBelow i x 1 surplus
+surpluses_none i x surplus none = record {
+  below = λ v some less. absurd (omega (arith, some, less));
+  above = λ v more. none v;
+}
+
+pub surpluses_skip : (i : MinValue) (x : List ℤ) (id : ℕ) (surplus : ℕ → ℤ) → AreSurplusesBelow i x id surplus → surplus_at i x id ≡ pos 0 → AreSurplusesBelow i x (id + 1) surplus
+surpluses_skip i x id surplus is none = record {
+  below = λ v some less. elim (cases_order v id) [
+    | inl same ↦ subst (λ u. surplus u ≡ surplus_at i x u) (sym same) (is.above id (omega arith) ∙ sym none)
+    | inr apart ↦ elim apart [ inl low ↦ is.below v some low | inr high ↦ absurd (omega (arith, high, less)) ]
+  ];
+  above = λ v more. is.above v (omega (arith, more));
+}
+
+pub surpluses_more : (i : MinValue) (x : List ℤ) (id : ℕ) (surplus after : ℕ → ℤ) → AreSurplusesBelow i x id surplus → after id ≡ surplus_at i x id → ((v : ℕ) → v ≢ id → after v ≡ surplus v) → AreSurplusesBelow i x (id + 1) after
+surpluses_more i x id surplus after is here others = record {
+  below = λ v some less. elim (cases_order v id) [
+    | inl same ↦ subst (λ u. after u ≡ surplus_at i x u) (sym same) here
+    | inr apart ↦ elim apart [ inl low ↦ others v (λ e. omega (arith, e, low)) ∙ is.below v some low | inr high ↦ absurd (omega (arith, high, less)) ]
+  ];
+  above = λ v more. others v (λ e. omega (arith, e, more)) ∙ is.above v (omega (arith, more));
+}
+
+pub surpluses_all : (i : MinValue) (x : List ℤ) (id : ℕ) (surplus : ℕ → ℤ) → i.nodes < id → AreSurplusesBelow i x id surplus → AreSurpluses i x surplus
+surpluses_all i x id surplus over is v node = is.below v node.0 (omega (arith, node.1, over))
+
+-- ---- all nodes in a set
+pub record HasAllBelow (nodes id : ℕ) (set : CutValue) : Type 0 where
+  pub of : set.nodes ≡ nodes
+  pub below : (v : ℕ) → 1 ≤ v → v < id → members set v ≡ true
+
+pub all_none : (nodes : ℕ) → HasAllBelow nodes 1 (empty_cut nodes)
+all_none nodes = record { of = refl; below = λ v some less. absurd (omega (arith, some, less)) }
+
+pub all_more : (nodes id : ℕ) (set : CutValue) → HasAllBelow nodes id set → HasAllBelow nodes (id + 1) (with_node set id)
+all_more nodes id set is =
+    let there : members (with_node set id) id ≡ true = contains-insert set.ids id id ∙ rw (eq-eqb id id refl) refl in
+    record {
+      of = is.of;
+      below = λ v some less. elim (cases_eq v id) [
+        | inl same ↦ subst (λ u. members (with_node set id) u ≡ true) (sym same) there
+        | inr ne ↦ contains-insert set.ids id v ∙ rw (ne_eqb v id ne) (is.below v some (omega (arith, less, ne)))
+      ];
+    }
+
+-- ---- how the nodes below this one stand
+pub record StandsLow (nodes id : ℕ) (surplus : ℕ → ℤ) (standing : Standing) : Type 0 where
+  pub low : (v : ℕ) → 1 ≤ v → v < id → surplus v ≤ℤ pos 0
+  pub stands : Stands nodes id surplus standing
+
+pub stands_none : (nodes : ℕ) (surplus : ℕ → ℤ) → StandsLow nodes 1 surplus Even
+stands_none nodes surplus = record {
+  low = λ v some less. absurd (omega (arith, some, less));
+  stands = λ v some less. absurd (omega (arith, some, less));
+}
+
+one_more_node : (P : ℕ → Type 0) (id : ℕ) → ((v : ℕ) → 1 ≤ v → v < id → P v) → P id → (v : ℕ) → 1 ≤ v → v < id + 1 → P v
+one_more_node P id before here v some less = elim (cases_order v id) [
+  | inl same ↦ subst P (sym same) here
+  | inr apart ↦ elim apart [ inl low ↦ before v some low | inr high ↦ absurd (omega (arith, high, less)) ]
+]
+
+still_stands : (nodes id : ℕ) (surplus : ℕ → ℤ) (standing : Standing) → Stands nodes id surplus standing → surplus id ≡ pos 0 → Stands nodes (id + 1) surplus standing
+still_stands nodes id surplus Even is none = one_more_node (λ v. surplus v ≡ pos 0) id is none
+still_stands nodes id surplus Short is none = (one_more_node (λ v. surplus v ≤ℤ pos 0) id is.0 (omega (arith, ints, none)), is.1)
+still_stands nodes id surplus Excess is none = is
+
+pub stands_even : (nodes id : ℕ) (surplus : ℕ → ℤ) (standing : Standing) → StandsLow nodes id surplus standing → surplus id ≡ pos 0 → StandsLow nodes (id + 1) surplus standing
+stands_even nodes id surplus standing is none = record {
+  low = one_more_node (λ v. surplus v ≤ℤ pos 0) id is.low (omega (arith, ints, none));
+  stands = still_stands nodes id surplus standing is.stands none;
+}
+
+pub stands_short : (nodes id : ℕ) (surplus : ℕ → ℤ) (standing : Standing) → StandsLow nodes id surplus standing → IsNode nodes id → surplus id <ℤ pos 0 → StandsLow nodes (id + 1) surplus Short
+stands_short nodes id surplus standing is node less =
+    let low : (v : ℕ) → 1 ≤ v → v < id + 1 → surplus v ≤ℤ pos 0 = one_more_node (λ v. surplus v ≤ℤ pos 0) id is.low (omega (arith, ints, less)) in
+    record { low = low; stands = (low, (id, node, less)) }

@@ -1,0 +1,93 @@
+-- What heights and cycles tell of a flow.
+use Rattle.std.proofs.Common.{◌≡◌, ◌≢◌, inl, inr, ℕ, ◌+◌, ◌<◌, ◌≤◌, ◌==◌, cond, if◌then◌else◌, Bool, true, false, List, length, Some, ℤ, pos, ◌<ℤ◌, refl, sym, ap, subst, ◌∙◌, arith, eq-eqb}
+use Rattle.std.proofs.lemmas.Int.{ints}
+use Rattle.std.proofs.lemmas.Bool.{cases_order, ne_eqb}
+use Rattle.std.proofs.lemmas.Bool.Decides.{Decides-int_eq}
+use Rattle.std.proofs.lemmas.Slice.Zip.{AllZip-long}
+use Rattle.std.specs.Prelude.{unwrap_or}
+use Rattle.std.specs.Ordering.{int_eq}
+use Rattle.std.specs.FinMap.{get, insert, remove}
+use Rattle.dimacs_nodes.proofs.Nodes.{get-empty, get-insert}
+use Rattle.dimacs_records.specs.Ranges.{IsNode}
+use Rattle.dimacs_claims.specs.Potentials.{PotentialsValue, potential_of, with_potential, zero_potentials}
+use Rattle.dimacs_instance.specs.MinFlows.{MinValue, IsMin}
+use Rattle.dimacs_judge.specs.Feasible.{FeasibleMin}
+use Rattle.dimacs_judge.specs.Flows.{cost, net}
+use Rattle.dimacs_judge.specs.Optimum.{Least}
+use Rattle.dimacs_judge.specs.Potentials.{IsSlackAt, Slack}
+use Rattle.dimacs_judge.specs.Rows.{no_arc, arc_at, amount_at}
+use Rattle.dimacs_judge.proofs.Duality.{slack_is_least}
+use Rattle.dimacs_judge.proofs.Passing.{pair_at, pairs_from}
+use Rattle.dimacs_instance.specs.declared.links.Side.TheVariants.{Tail, Head}
+use Rattle.dimacs_decide.specs.Bounds.{KeepsBounds}
+use Rattle.dimacs_decide.specs.declared.heights.Label.{Label}
+use Rattle.dimacs_decide.specs.inside.Heights.{AreSettled, height_of}
+use Rattle.dimacs_decide.proofs.HeightLemmas.{settled_slack}
+use Rattle.dimacs_decide.proofs.SideLemmas.{near_within}
+
+-- ---- potentials that are set
+pub potential_set : (p : PotentialsValue) (id : ℕ) (n : ℤ) → n ≢ pos 0 → (v : ℕ) → potential_of (with_potential p id n) v ≡ cond (v == id) n (potential_of p v)
+potential_set p id n some v = by_test (int_eq n (pos 0)) refl
+  where
+    by_found : (b : Bool) → unwrap_or (cond b (Some n) (get p.values v)) (pos 0) ≡ cond b n (unwrap_or (get p.values v) (pos 0))
+    by_found true = refl
+    by_found false = refl
+
+    by_test : (b : Bool) → int_eq n (pos 0) ≡ b → potential_of (record p { values = if b then remove p.values id else insert p.values id n }) v ≡ cond (v == id) n (potential_of p v)
+    by_test true e = absurd (some ((Decides-int_eq n (pos 0)).0 e))
+    by_test false e = ap (λ o. unwrap_or o (pos 0)) (get-insert p.values id v n) ∙ by_found (v == id)
+
+-- the potentials of the nodes below id are their heights, and the others are 0
+pub record AreHeightsBelow (labels : ℕ → Label) (nodes id : ℕ) (p : PotentialsValue) : Type 0 where
+  pub of : p.nodes ≡ nodes
+  pub below : (v : ℕ) → 1 ≤ v → v < id → potential_of p v ≡ height_of labels v
+  pub above : (v : ℕ) → id ≤ v → potential_of p v ≡ pos 0
+
+pub potentials_none : (labels : ℕ → Label) (nodes : ℕ) → AreHeightsBelow labels nodes 1 (zero_potentials nodes)
+potentials_none labels nodes = record {
+  of = refl;
+  below = λ v some less. absurd (omega (arith, some, less));
+  above = λ v more. ap (λ o. unwrap_or o (pos 0)) (get-empty v);
+}
+
+pub potentials_skip : (labels : ℕ → Label) (nodes id : ℕ) (p : PotentialsValue) → AreHeightsBelow labels nodes id p → height_of labels id ≡ pos 0 → AreHeightsBelow labels nodes (id + 1) p
+potentials_skip labels nodes id p is none = record {
+  of = is.of;
+  below = λ v some less. elim (cases_order v id) [
+    | inl same ↦ subst (λ u. potential_of p u ≡ height_of labels u) (sym same) (is.above id (omega arith) ∙ sym none)
+    | inr apart ↦ elim apart [ inl low ↦ is.below v some low | inr high ↦ absurd (omega (arith, high, less)) ]
+  ];
+  above = λ v more. is.above v (omega (arith, more));
+}
+
+pub potentials_more : (labels : ℕ → Label) (nodes id : ℕ) (p : PotentialsValue) (n : ℤ) → AreHeightsBelow labels nodes id p → n ≡ height_of labels id → n ≢ pos 0 → AreHeightsBelow labels nodes (id + 1) (with_potential p id n)
+potentials_more labels nodes id p n is same some =
+    let there : potential_of (with_potential p id n) id ≡ n = potential_set p id n some id ∙ rw (eq-eqb id id refl) refl in
+    let other : (v : ℕ) → (v ≡ id → ⊥) → potential_of (with_potential p id n) v ≡ potential_of p v = λ v ne. potential_set p id n some v ∙ rw (ne_eqb v id ne) refl in
+    record {
+      of = is.of;
+      below = λ v some less. elim (cases_order v id) [
+        | inl e ↦ subst (λ u. potential_of (with_potential p id n) u ≡ height_of labels u) (sym e) (there ∙ same)
+        | inr apart ↦ elim apart [ inl low ↦ other v (λ e. omega (arith, e, low)) ∙ is.below v some low | inr high ↦ absurd (omega (arith, high, less)) ]
+      ];
+      above = λ v more. other v (λ e. omega (arith, e, more)) ∙ is.above v (omega (arith, more));
+    }
+
+-- ---- the answers
+pub settled_tells : (i : MinValue) (x : List ℤ) (labels : ℕ → Label) (p : ℕ → ℤ) → IsMin i → FeasibleMin i x → AreSettled i.arcs x (length i.arcs) labels → ((v : ℕ) → IsNode i.nodes v → p v ≡ height_of labels v)
+    → Least i x × Slack i.arcs x p
+settled_tells i x labels p law feasible settled same =
+    let at : (k : ℕ) → k < length i.arcs → IsSlackAt p (arc_at i.arcs k) (amount_at x k) = λ k less.
+    let within = pair_at _ i.arcs x k no_arc (pos 0) feasible.within less in
+    let slack = settled_slack i.arcs x labels k within.0 within.1 (settled k less Tail) (settled k less Head) in
+    let tail = same (arc_at i.arcs k).tail (near_within Tail i.nodes i.arcs k law.joined less) in
+    let head = same (arc_at i.arcs k).head (near_within Head i.nodes i.arcs k law.joined less) in
+    rw (tail, head) slack in
+    let slack : Slack i.arcs x p = pairs_from (IsSlackAt p) i.arcs x no_arc (pos 0) (AllZip-long _ i.arcs x feasible.within) at in
+    (slack_is_least i law.joined x p feasible slack, slack)
+
+pub less_tells : (i : MinValue) (x y : List ℤ) → FeasibleMin i x → KeepsBounds i.arcs y → ((v : ℕ) → net i.arcs y v ≡ net i.arcs x v) → cost i.arcs y <ℤ cost i.arcs x
+    → (¬ Least i x) × FeasibleMin i y × (cost i.arcs y <ℤ cost i.arcs x)
+less_tells i x y feasible within balances less =
+    let other : FeasibleMin i y = record { within = within; balanced = λ v node. balances v ∙ feasible.balanced v node } in
+    (λ best. let le = best.least y other in omega (arith, ints, le, less), other, less)

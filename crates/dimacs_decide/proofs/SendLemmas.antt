@@ -1,0 +1,121 @@
+-- What a search that is over tells, and more that was sent by it.
+use Rattle.std.proofs.Common.{◌≡◌, inl, inr, ℕ, suc, zero, ◌+◌, ◌<◌, ◌≤◌, ◌&&◌, Bool, true, false, not, nat_lt, List, length, All, ℤ, pos, ◌+ℤ◌, ◌-ℤ◌, ◌≤ℤ◌, ◌<ℤ◌, Some, refl, sym, subst, ◌∙◌, arith, eq-eqb}
+use Rattle.std.proofs.lemmas.Int.{ints, by_lt_z}
+use Rattle.std.proofs.lemmas.Bool.{cases_order, lt-ltb, ne_eqb, false≢true}
+use Rattle.std.proofs.lemmas.Slice.Zip.{AllZip-long}
+use borrow.Author.Tests.{ltb-true}
+use Rattle.std.specs.FinSet.{contains-empty}
+use Rattle.std.specs.Ordering.{nat_cmp}
+use Rattle.dimacs_nodes.proofs.Nodes.{contains-insert}
+use Rattle.dimacs_claims.specs.Cuts.{CutValue, empty_cut, with_node}
+use Rattle.dimacs_records.specs.Ranges.{IsNode}
+use Rattle.dimacs_instance.specs.declared.network.ArcView.{ArcView}
+use Rattle.dimacs_instance.specs.Arcs.{JoinsNodes}
+use Rattle.dimacs_judge.specs.Cuts.{members}
+use Rattle.dimacs_judge.specs.Rows.{no_arc, arc_at, amount_at}
+use Rattle.dimacs_judge.proofs.Passing.{pair_at, pairs_from}
+use Rattle.dimacs_instance.specs.declared.links.Side.TheVariants.{Tail, Head}
+use Rattle.dimacs_decide.specs.Bounds.{KeepsBounds}
+use Rattle.dimacs_decide.specs.declared.search.Visit.{Visit}
+use Rattle.dimacs_decide.specs.inside.Raising.{Shifts}
+use Rattle.dimacs_decide.specs.inside.Residual.{HaveSurplus, IsDone, IsExplored, IsResidualTree, is_in, rank_of, room_of}
+use Rattle.dimacs_decide.specs.inside.Sending.{IsSent, IsShut, IsShutAt}
+use Rattle.dimacs_decide.proofs.SideLemmas.{far_within, near_within}
+
+-- ---- a set that no step leaves
+shut_arc : (b d : Bool) (z low cap : ℤ) → low ≤ℤ z → z ≤ℤ cap → (b ≡ true → pos 0 <ℤ (cap -ℤ z) → d ≡ true) → (d ≡ true → pos 0 <ℤ (z -ℤ low) → b ≡ true) → ((b && not d) ≡ true → z ≡ cap) × ((d && not b) ≡ true → z ≡ low)
+shut_arc true true z low cap h g to back = (λ e. absurd (false≢true e), λ e. absurd (false≢true e))
+shut_arc true false z low cap h g to back = (λ e. by_lt_z z cap (λ l. absurd (false≢true (to refl (omega (arith, ints, l))))) (λ l. omega (arith, ints, l, g)), λ e. absurd (false≢true e))
+shut_arc false true z low cap h g to back = (λ e. absurd (false≢true e), λ e. by_lt_z low z (λ l. absurd (false≢true (back refl (omega (arith, ints, l))))) (λ l. omega (arith, ints, l, h)))
+shut_arc false false z low cap h g to back = (λ e. absurd (false≢true e), λ e. absurd (false≢true e))
+
+module _ (nodes : ℕ) (arcs : List ArcView) (x : List ℤ) (surplus : ℕ → ℤ) (visits : ℕ → Visit) (set : ℕ → Bool) (joined : All (JoinsNodes nodes) arcs) (within : KeepsBounds arcs x)
+    (done : (v : ℕ) → 0 < rank_of visits v → IsDone arcs x surplus visits v) (same : (v : ℕ) → IsNode nodes v → set v ≡ is_in visits v) where
+  pub reached_inside : (v : ℕ) → IsNode nodes v → 0 < rank_of visits v → set v ≡ true
+  reached_inside v node reached = same v node ∙ lt-ltb 0 (rank_of visits v) reached
+
+  inside_reached : (v : ℕ) → IsNode nodes v → set v ≡ true → 0 < rank_of visits v
+  inside_reached v node inside = ltb-true 0 (rank_of visits v) (sym (same v node) ∙ inside)
+
+  shut_at : (k : ℕ) → k < length arcs → IsShutAt set (arc_at arcs k) (amount_at x k)
+  shut_at k h =
+      let a = arc_at arcs k in
+      let bounds = pair_at _ arcs x k no_arc (pos 0) within h in
+      let tail = near_within Tail nodes arcs k joined h in
+      let head = near_within Head nodes arcs k joined h in
+      shut_arc (set a.tail) (set a.head) (amount_at x k) a.low a.cap bounds.0 bounds.1
+      (λ inside room. reached_inside a.head head ((done a.tail (inside_reached a.tail tail inside)).1 Tail k h refl room))
+      (λ inside room. reached_inside a.tail tail ((done a.head (inside_reached a.head head inside)).1 Head k h refl room))
+
+  pub is_shut : IsShut nodes arcs x surplus set
+  is_shut = record {
+    shut = pairs_from (IsShutAt set) arcs x no_arc (pos 0) (AllZip-long _ arcs x within) shut_at;
+    none_lacks = λ v node inside. (done v (inside_reached v node inside)).0;
+  }
+
+-- ---- what was sent
+pub reached_node : (nodes : ℕ) (arcs : List ArcView) (x : List ℤ) (surplus : ℕ → ℤ) (visits : ℕ → Visit) → All (JoinsNodes nodes) arcs → IsResidualTree arcs x visits → HaveSurplus nodes surplus visits → (v : ℕ) → 0 < rank_of visits v → IsNode nodes v
+reached_node nodes arcs x surplus visits joined tree roots v some = elim (cases_order (rank_of visits v) 1) [
+  | inl same ↦ (roots v same).0
+  | inr apart ↦ elim apart [
+    | inl low ↦ absurd (omega (arith, low, some))
+    | inr high ↦ let by = tree v (omega (arith, high)) in subst (IsNode nodes) by.to (far_within by.side nodes arcs _ joined by.within)
+  ]
+]
+
+pub is_sent : (nodes : ℕ) (arcs : List ArcView) (x y : List ℤ) (surplus : ℕ → ℤ) (visits : ℕ → Visit) (from to : ℕ) (amount : ℤ) → All (JoinsNodes nodes) arcs → IsExplored nodes arcs x surplus visits (Some to)
+    → pos 0 <ℤ amount → (amount +ℤ surplus to) ≤ℤ pos 0 → KeepsBounds arcs y → rank_of visits from ≡ 1 → amount ≤ℤ room_of visits from → Shifts arcs x y from to amount → IsSent nodes arcs x y surplus
+is_sent nodes arcs x y surplus visits from to amount joined is some lacked within root room shifts =
+    let (node, enough) = is.roots from root in
+    record {
+      from = from;
+      to = to;
+      amount = amount;
+      from_within = node;
+      to_within = reached_node nodes arcs x surplus visits joined is.tree is.roots to is.found_is.0;
+      some = some;
+      enough = omega (arith, ints, enough, room);
+      lacked = lacked;
+      within = within;
+      shifts = shifts;
+    }
+
+-- ---- the nodes that were reached
+pub record IsCutBelow (visits : ℕ → Visit) (nodes id : ℕ) (cut : CutValue) : Type 0 where
+  pub of : cut.nodes ≡ nodes
+  pub below : (v : ℕ) → 1 ≤ v → v < id → members cut v ≡ is_in visits v
+  pub above : (v : ℕ) → id ≤ v → members cut v ≡ false
+
+pub cut_none : (visits : ℕ → Visit) (nodes : ℕ) → IsCutBelow visits nodes 1 (empty_cut nodes)
+cut_none visits nodes = record {
+  of = refl;
+  below = λ v some less. absurd (omega (arith, some, less));
+  above = λ v more. contains-empty nat_cmp v;
+}
+
+pub cut_more_out : (visits : ℕ → Visit) (nodes id : ℕ) (cut : CutValue) → IsCutBelow visits nodes id cut → is_in visits id ≡ false → IsCutBelow visits nodes (id + 1) cut
+cut_more_out visits nodes id cut is out = record {
+  of = is.of;
+  below = λ v some less. elim (cases_order v id) [
+    | inl same ↦ rw same (is.above id (omega arith) ∙ sym out)
+    | inr apart ↦ elim apart [ inl low ↦ is.below v some low | inr high ↦ absurd (omega (arith, high, less)) ]
+  ];
+  above = λ v more. is.above v (omega (arith, more));
+}
+
+pub cut_more_in : (visits : ℕ → Visit) (nodes id : ℕ) (cut : CutValue) → IsCutBelow visits nodes id cut → is_in visits id ≡ true → IsCutBelow visits nodes (id + 1) (with_node cut id)
+cut_more_in visits nodes id cut is inside =
+    let there : members (with_node cut id) id ≡ true = contains-insert cut.ids id id ∙ rw (eq-eqb id id refl) refl in
+    let other : (v : ℕ) → (v ≡ id → ⊥) → members (with_node cut id) v ≡ members cut v = λ v ne. contains-insert cut.ids id v ∙ rw (ne_eqb v id ne) refl in
+    record {
+      of = is.of;
+      below = λ v some less. elim (cases_order v id) [
+        | inl same ↦ rw same (there ∙ sym inside)
+        | inr apart ↦ elim apart [ inl low ↦ other v (λ e. omega (arith, e, low)) ∙ is.below v some low | inr high ↦ absurd (omega (arith, high, less)) ]
+      ];
+      above = λ v more. other v (λ e. omega (arith, e, more)) ∙ is.above v (omega (arith, more));
+    }
+
+pub not_in : (rank : ℕ) → rank ≤ 0 → nat_lt 0 rank ≡ false
+not_in zero h = refl
+not_in (suc rank) h = absurd (omega (arith, h))

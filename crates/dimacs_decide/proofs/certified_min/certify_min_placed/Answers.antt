@@ -1,0 +1,12 @@
+use Rattle.dimacs_judge.specs.MinJudge.{min_claim_rows}
+use Rattle.dimacs_judge.proofs.Settling.{refuted_settles}
+use Rattle.dimacs_decide.proofs.CertifiedLemmas.{min_certified, min_claimed}
+use Rattle.dimacs_decide.proofs.certified_min.certify_min_placed.Goals as goal
+
+pub returns-in_err-flow : goal.returns-in_err-flow
+returns-in_err-flow g c = λ s is.
+    let i = c.args.instance.now in
+    refuted_settles _ _ (min_claim_rows i s) (min_claimed i s) _ (c.in_err-flow.ensures.refuted s is) _ c.from_residual.ensures.1
+
+pub returns : goal.returns
+returns g c = λ s is. min_certified c.args.instance.now s c.in_ok-flow.flow.now c.in_ok-decision.decision (c.in_ok-flow.ensures.claim s is) c.in_ok-decision.ensures

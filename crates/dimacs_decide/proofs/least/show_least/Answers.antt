@@ -1,0 +1,27 @@
+use Rattle.std.proofs.Common.{◌≡◌, ◌∙◌, List, [], ◌∷◌, Result, Ok, Err, arith, length, sym}
+use Rattle.std.specs.Prelude.{IsTrue, is_ok}
+use Rattle.std.proofs.lemmas.Bool.{false≢true}
+use Rattle.std.proofs.lemmas.Slice.Zip.{AllZip-long}
+use Rattle.dimacs_claims.specs.Potentials.{potential_of}
+use Rattle.dimacs_records.specs.declared.reasons.Reason.{Reason}
+use Rattle.dimacs_judge.specs.declared.verdict.Where.{Where}
+use Rattle.dimacs_judge.specs.CertificateTests.{slack_row}
+use Rattle.dimacs_judge.specs.Tests.{Row, Decides}
+use Rattle.dimacs_judge.proofs.Duality.{slack_is_least}
+use Rattle.dimacs_decide.proofs.least.show_least.Goals as goal
+
+-- where no test fails, it holds
+holds : {P : Type 0} (rows : List Row) (tested : Result Unit (Where × Reason)) → Decides P rows tested → IsTrue (is_ok tested) → P
+holds rows (Ok done) decided ok = decided
+holds rows (Err refusal) decided ok = absurd (false≢true ok)
+
+pub slack_tests-requires : goal.slack_tests-requires
+slack_tests-requires g c = omega (arith, AllZip-long _ _ _ c.requires.within)
+
+pub returns-then-nodes : goal.returns-then-nodes
+returns-then-nodes g c = λ ok.
+    let i = c.args.instance.now in
+    let p = c.args.potentials.now in
+    let slack = holds (slack_row i.arcs (potential_of p) c.args.flow.now ∷ []) c.slack_tests.result c.slack_tests.ensures (sym c.is_ok.ensures.value ∙ ok) in
+    let nodes : p.nodes ≡ i.nodes = sym c.nodes.ensures.nodes ∙ c.if-nodes.true ∙ c.nodes-2.ensures ∙ c.network.ensures.nodes in
+    (slack_is_least i c.network.ensures.lawful.joined c.args.flow.now (potential_of p) c.requires slack, slack, nodes)

@@ -1,0 +1,70 @@
+use Rattle.std.proofs.Common.{◌≡◌, ◌+◌, ◌<◌, ◌≤◌, ◌∙◌, ap, sym, subst, arith, length, ◌++◌, ◌∷◌, []}
+use Rattle.std.proofs.lemmas.List.{length-append}
+use Rattle.dimacs_nodes.specs.Tables.{value_of}
+use Rattle.dimacs_decide.specs.inside.Heights.{below_of}
+use Rattle.dimacs_decide.specs.inside.Traces.{IsFollowing}
+use Rattle.dimacs_decide.proofs.CountLemmas.{one_zero_fewer}
+use Rattle.dimacs_decide.proofs.TraceLemmas.{follow_back, follow_begin, follow_keeps, follow_more, follow_over, some_place}
+use Rattle.dimacs_decide.proofs.trace.Trace.follow.Goals as goal
+
+pub loop-self-init : goal.loop-self-init
+loop-self-init g c =
+    let path = c.args.self.now.path.items in
+    let places = value_of c.args.self.now.places in
+    let begun = follow_begin (g.N.Network.node_count c.args.network.now) (g.N.Network.list c.args.network.now) (value_of c.args.labels.now) c.args.start path places c.requires.start c.requires.trace in
+    record {
+      following = subst (λ b. IsFollowing (g.N.Network.node_count c.args.network.now) (g.N.Network.list c.args.network.now) (value_of c.args.labels.now) c.args.start b path places c.args.start) (sym (c.len-begin.ensures ∙ c.args.self.now.path.ok.0)) begun;
+      keeps = λ v some. some;
+    }
+
+pub loop-self-smaller : goal.loop-self-smaller
+loop-self-smaller g c =
+    let nodes = g.N.Network.node_count c.args.network.now in
+    let path = c.loop-self.self.path.items in
+    let places = value_of c.loop-self.self.places in
+    let at = c.loop-self.at in
+    let is = c.loop-self.invariant.following in
+    let none : places at ≡ 0 = sym c.get.ensures.value ∙ c.loop-self-test.true in
+    let longer : c.push.new.self.items ≡ path ++ at ∷ [] = c.in_ok-push.ensures.items in
+    let here : value_of c.set.new.self at ≡ length path + 1 = c.in_ok-set.ensures.set ∙ c.len.ensures ∙ c.push.new.self.ok.0 ∙ ap length longer ∙ length-append path (at ∷ []) in
+    let fewer = one_zero_fewer places (value_of c.set.new.self) at c.in_ok-set.ensures.others (nodes + 1) (omega (arith, is.inside)) none (omega (arith, here)) in
+    omega (arith, fewer)
+
+pub loop-self-preserved : goal.loop-self-preserved
+loop-self-preserved g c =
+    let nodes = g.N.Network.node_count c.args.network.now in
+    let arcs = g.N.Network.list c.args.network.now in
+    let labels = value_of c.args.labels.now in
+    let path = c.loop-self.self.path.items in
+    let places = value_of c.loop-self.self.places in
+    let after = value_of c.set.new.self in
+    let at = c.loop-self.at in
+    let is = c.loop-self.invariant.following in
+    let none : places at ≡ 0 = sym c.get.ensures.value ∙ c.loop-self-test.true in
+    let longer : c.push.new.self.items ≡ path ++ at ∷ [] = c.in_ok-push.ensures.items in
+    let here : after at ≡ length path + 1 = c.in_ok-set.ensures.set ∙ c.len.ensures ∙ c.push.new.self.ok.0 ∙ ap length longer ∙ length-append path (at ∷ []) in
+    let next : c.below-at.result ≡ below_of arcs (labels at) = c.below-at.ensures ∙ ap (below_of arcs) c.get-in-loop-self.ensures.value in
+    let more = follow_more nodes arcs c.args.flow.now labels c.requires.joined c.requires.bounds c.requires.heights c.args.start c.len-begin.result path places at is none after here c.in_ok-set.ensures.others in
+    record {
+      following = rw (longer, next) more;
+      keeps = λ v some. follow_keeps nodes arcs c.args.flow.now labels c.requires.joined c.requires.bounds c.requires.heights c.args.start c.len-begin.result path places at is none after here c.in_ok-set.ensures.others v (c.loop-self.invariant.keeps v some);
+    }
+
+pub returns-then-place-begin-clause-followed : goal.returns-then-place-begin-clause-followed
+returns-then-place-begin-clause-followed g c =
+    let nodes = g.N.Network.node_count c.args.network.now in
+    let arcs = g.N.Network.list c.args.network.now in
+    let places = value_of c.loop-self.self.places in
+    let at = c.loop-self.at in
+    let seen : 0 < places at = some_place (places at) (λ e. c.loop-self-test.false (c.get.ensures.value ∙ e)) in
+    let within : places at ≤ c.len-begin.result = rw c.get-place.ensures.value at c.if-place-begin.true in
+    follow_over nodes arcs c.args.flow.now (value_of c.args.labels.now) c.requires.joined c.requires.bounds c.requires.heights c.args.start c.len-begin.result c.loop-self.self.path.items places at c.loop-self.invariant.following seen within
+
+pub returns-clause-followed : goal.returns-clause-followed
+returns-clause-followed g c =
+    let nodes = g.N.Network.node_count c.args.network.now in
+    let arcs = g.N.Network.list c.args.network.now in
+    let places = value_of c.loop-self.self.places in
+    let at = c.loop-self.at in
+    let more : c.len-begin.result < places at = rw c.get-place.ensures.value at c.if-place-begin.false in
+    rw (c.in_ok-push-2.ensures.items, c.get-place.ensures.value) (follow_back nodes arcs c.args.flow.now (value_of c.args.labels.now) c.requires.joined c.requires.bounds c.requires.heights c.args.start c.len-begin.result c.loop-self.self.path.items places at c.loop-self.invariant.following more)

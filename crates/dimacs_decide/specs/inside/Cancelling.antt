@@ -1,0 +1,22 @@
+-- Inside: a flow that is sent round a cycle.
+use Rattle.std.specs.Prelude.{ℕ, ◌≡◌, ◌≢◌, ◌==◌, ◌<◌, List, length, ℤ, pos, ◌+ℤ◌, ◌-ℤ◌, ◌*ℤ◌, ◌≤ℤ◌, ◌<ℤ◌}
+use Rattle.dimacs_instance.specs.declared.network.ArcView.{ArcView}
+use Rattle.dimacs_methods.specs.declared.potentials.claim.ResidualArc.{ResidualArc}
+use Rattle.dimacs_judge.specs.Flows.{net, cost, when}
+use Rattle.dimacs_judge.specs.Rows.{arc_at, amount_at}
+use Rattle.dimacs_decide.specs.Bounds.{KeepsBounds}
+use Rattle.dimacs_decide.specs.inside.Cycles.{ending_of, gain_after, node_after, residual_at}
+use Rattle.dimacs_decide.specs.inside.Rooms.{room_on}
+
+-- the amount, which is some, can be sent along the first so many residual arcs
+pub record IsRoomFor (arcs : List ArcView) (x : List ℤ) (cycle : List ResidualArc) (n : ℕ) (amount : ℤ) : Type 0 where
+  pub some : pos 0 <ℤ amount
+  pub each : (j : ℕ) → j < n → amount ≤ℤ room_on arcs x (residual_at cycle j).side (residual_at cycle j).arc
+
+-- the amount was sent along the first n residual arcs, and costs so much less
+pub record IsCancelling (arcs : List ArcView) (x y : List ℤ) (cycle : List ResidualArc) (n : ℕ) (amount : ℤ) : Type 0 where
+  pub within : KeepsBounds arcs y
+  pub balance : (u : ℕ) → net arcs y u ≡ (net arcs x u +ℤ when (node_after arcs cycle 0 == u) amount) -ℤ when (node_after arcs cycle n == u) amount
+  pub heads : (k : ℕ) → k < length arcs → ((j : ℕ) → j < n → ending_of arcs (residual_at cycle j) ≢ (arc_at arcs k).head) → amount_at y k ≤ℤ amount_at x k
+  pub tails : (k : ℕ) → k < length arcs → ((j : ℕ) → j < n → ending_of arcs (residual_at cycle j) ≢ (arc_at arcs k).tail) → amount_at x k ≤ℤ amount_at y k
+  pub costs : cost arcs y ≡ cost arcs x -ℤ amount *ℤ gain_after arcs cycle n

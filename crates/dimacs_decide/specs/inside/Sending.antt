@@ -1,0 +1,43 @@
+-- Inside: more sent from nodes that have too much to one that lacks some.
+use Rattle.std.specs.Prelude.{ℕ, ◌≡◌, Bool, true, List, ℤ, pos, ◌+ℤ◌, ◌≤ℤ◌, ◌<ℤ◌}
+use Rattle.std.specs.List.{AllZip}
+use Rattle.dimacs_claims.specs.Cuts.{CutValue}
+use Rattle.dimacs_instance.specs.declared.network.ArcView.{ArcView}
+use Rattle.dimacs_judge.specs.Cuts.{enters, leaves, members}
+use Rattle.dimacs_records.specs.Ranges.{IsNode}
+use Rattle.dimacs_decide.specs.Bounds.{KeepsBounds}
+use Rattle.dimacs_decide.specs.declared.send.Sending.{Sending}
+use Rattle.dimacs_decide.specs.declared.send.Sending.TheVariants.{Sent, Stuck}
+use Rattle.dimacs_decide.specs.inside.Raising.{Shifts}
+
+-- y is x with an amount sent from a node that has as much too much to one that lacks as much
+pub record IsSent (nodes : ℕ) (arcs : List ArcView) (x y : List ℤ) (surplus : ℕ → ℤ) : Type 0 where
+  pub from : ℕ
+  pub to : ℕ
+  pub amount : ℤ
+  pub from_within : IsNode nodes from
+  pub to_within : IsNode nodes to
+  pub some : pos 0 <ℤ amount
+  pub enough : amount ≤ℤ surplus from
+  pub lacked : (amount +ℤ surplus to) ≤ℤ pos 0
+  pub within : KeepsBounds arcs y
+  pub shifts : Shifts arcs x y from to amount
+
+-- an arc that leaves the set is full, and one that enters it carries its lower bound
+abbrev pub IsShutAt : (ℕ → Bool) → ArcView → ℤ → Type 0
+IsShutAt set a x = (leaves set a ≡ true → x ≡ a.cap) × (enters set a ≡ true → x ≡ a.low)
+
+-- no more can leave the set, and no node of it lacks some
+pub record IsShut (nodes : ℕ) (arcs : List ArcView) (x : List ℤ) (surplus : ℕ → ℤ) (set : ℕ → Bool) : Type 0 where
+  pub shut : AllZip (IsShutAt set) arcs x
+  pub none_lacks : (v : ℕ) → IsNode nodes v → set v ≡ true → pos 0 ≤ℤ surplus v
+
+-- the set is of so many nodes, and has all that were reached before
+pub record IsStuck (nodes : ℕ) (arcs : List ArcView) (x : List ℤ) (surplus : ℕ → ℤ) (reached : ℕ → Type 0) (set : CutValue) : Type 0 where
+  pub of : set.nodes ≡ nodes
+  pub has : (v : ℕ) → IsNode nodes v → reached v → members set v ≡ true
+  pub shut : IsShut nodes arcs x surplus (members set)
+
+abbrev pub IsRightSending : ℕ → List ArcView → List ℤ → (ℕ → ℤ) → (ℕ → Type 0) → Sending → Type 0
+IsRightSending nodes arcs x surplus reached (Sent y) = IsSent nodes arcs x y surplus
+IsRightSending nodes arcs x surplus reached (Stuck set) = IsStuck nodes arcs x surplus reached set

@@ -1,0 +1,41 @@
+-- Inside: what a search over tight arcs has reached.
+use Rattle.std.specs.Prelude.{ℕ, zero, suc, ◌≡◌, ◌≤◌, ◌+◌, Bool, true, not, List, All, length, get_or, Option, Some, None, is_some, ℤ}
+use Rattle.dimacs_instance.specs.declared.network.ArcView.{ArcView}
+use Rattle.dimacs_claims.specs.Labels.{BlockValue, IsBlock, label, no_label}
+use Rattle.dimacs_judge.specs.Labels.{HasTightArc}
+use Rattle.dimacs_decide.specs.Distances.{IsTight, IsTightlyReached}
+use Rattle.dimacs_decide.specs.inside.Counting.{count_below}
+
+-- the node at a place of a block: first the source, then those of the labels
+abbrev pub node_at : BlockValue → ℕ → ℕ
+node_at b zero = b.source
+node_at b (suc k) = (get_or b.labels k no_label).id
+
+-- how many of the nodes below n are not reached
+abbrev pub absent : (ℕ → Bool) → ℕ → ℕ
+absent reached n = count_below (λ v. not (reached v)) n
+
+-- the labels of nodes that were reached over tight arcs; each has the distance that is claimed of its node
+pub record IsTightTree (nodes : ℕ) (arcs : List ArcView) (claim : ℕ → Option ℤ) (b : BlockValue) (reached : ℕ → Bool) : Type 0 where
+  pub whole : b.radius ≡ None
+  pub lawful : IsBlock nodes b
+  pub marked : (v : ℕ) → reached v ≡ is_some (label b v)
+  pub claimed : (v : ℕ) (d : ℤ) → label b v ≡ Some d → claim v ≡ Some d
+  pub made : All (HasTightArc arcs b) b.labels
+  pub walks : (v : ℕ) → reached v ≡ true → IsTightlyReached arcs b.source claim v
+  pub count : absent reached (nodes + 1) + length b.labels ≡ nodes
+
+-- each tight arc from v leads to a node that was reached
+abbrev pub IsPassed : List ArcView → (ℕ → Option ℤ) → (ℕ → Bool) → ℕ → Type 0
+IsPassed arcs claim reached v = All (λ a. a.tail ≡ v → IsTight claim a → reached a.head ≡ true) arcs
+
+-- more nodes may be reached, and those before keep their places
+pub record TreeGrows (b : BlockValue) (reached : ℕ → Bool) (b' : BlockValue) (reached' : ℕ → Bool) : Type 0 where
+  pub kept : (v : ℕ) → reached v ≡ true → reached' v ≡ true
+  pub places : (j : ℕ) → j ≤ length b.labels → node_at b' j ≡ node_at b j
+  pub longer : length b.labels ≤ length b'.labels
+
+-- all nodes that tight arcs lead to
+pub record IsWholeTightTree (nodes : ℕ) (arcs : List ArcView) (claim : ℕ → Option ℤ) (b : BlockValue) (reached : ℕ → Bool) : Type 0 where
+  pub tree : IsTightTree nodes arcs claim b reached
+  pub closed : (v : ℕ) → IsTightlyReached arcs b.source claim v → reached v ≡ true

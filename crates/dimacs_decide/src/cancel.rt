@@ -1,0 +1,59 @@
+//! Sending round a cycle what there is room for.
+
+ghost use Rattle.std.specs.Prelude.{ℕ, ◌≡◌, ◌≤ℤ◌, ◌<ℤ◌, pos, All, length};
+ghost use Rattle.dimacs_instance.specs.MinFlows.{HasBounds};
+ghost use Rattle.dimacs_judge.specs.Flows.{cost, net};
+ghost use Rattle.dimacs_decide.specs.Bounds.{KeepsBounds};
+ghost use Rattle.dimacs_decide.specs.inside.Cancelling.{IsRoomFor};
+ghost use Rattle.dimacs_decide.specs.inside.Cycles.{IsSaving};
+
+use crate::room::room_from;
+use dimacs_instance::{Network, Side};
+use dimacs_judge::Flow;
+use dimacs_methods::ResidualArc;
+
+#[inline(always)]
+fn lesser(a: i64, b: i64) -> i64
+    ensures first { result ≤ℤ a }
+    ensures second { result ≤ℤ b }
+    ensures some { pos 0 <ℤ a → pos 0 <ℤ b → pos 0 <ℤ result }
+{
+    if a < b { a } else { b }
+}
+
+/// What can be sent along all residual arcs of a cycle.
+fn least_room<N: Network>(network: &N, cycle: &[ResidualArc], flow: &Flow) -> i64
+    requires bounds { All HasBounds (N.list network.now) }
+    requires within { KeepsBounds (N.list network.now) flow.now }
+    requires cycle { IsSaving (N.list network.now) flow.now cycle.now }
+    ensures { IsRoomFor (N.list network.now) flow.now cycle.now (length cycle.now) result }
+{
+    let mut least = i64::MAX;
+    for j in 0..cycle.len() {
+        let residual = cycle[j];
+        let arc = network.arc(residual.arc);
+        let room = room_from(residual.side, arc, flow.amount(residual.arc));
+        least = lesser(least, room);
+    }
+    least
+}
+
+/// Sends round a cycle what there is room for.
+pub(crate) fn cancel<N: Network>(network: &N, cycle: &[ResidualArc], flow: &mut Flow)
+    requires bounds { All HasBounds (N.list network.now) }
+    requires within { KeepsBounds (N.list network.now) flow.old }
+    requires cycle { IsSaving (N.list network.now) flow.old cycle.now }
+    ensures within { KeepsBounds (N.list network.now) flow.new }
+    ensures balances { (v : ℕ) → net (N.list network.now) flow.new v ≡ net (N.list network.now) flow.old v }
+    ensures less { cost (N.list network.now) flow.new <ℤ cost (N.list network.now) flow.old }
+{
+    let amount = least_room(network, cycle, flow);
+    for j in 0..cycle.len() {
+        let residual = cycle[j];
+        let carried = flow.amount(residual.arc);
+        match residual.side {
+            Side::Tail => flow.set(residual.arc, carried + amount),
+            Side::Head => flow.set(residual.arc, carried - amount),
+        }
+    }
+}

@@ -1,0 +1,45 @@
+//! Whether a claimed flow is maximum.
+
+ghost use Rattle.std.specs.Prelude.{◌≡◌};
+ghost use Rattle.dimacs_claims.specs.SolutionReading.{IsPlaced};
+ghost use Rattle.dimacs_claims.specs.SolutionTexts.{SolutionValue, claimed};
+ghost use Rattle.dimacs_judge.specs.MaxJudge.{max_claim_rows};
+ghost use Rattle.dimacs_judge.specs.Places.{ArePlaced};
+ghost use Rattle.dimacs_judge.specs.Tests.{Settles};
+ghost use Rattle.dimacs_decide.specs.CertifiedMax.{CertifiesMax};
+
+use crate::maximum::{MaxDecision, decide_max};
+use dimacs_claims::{Placed, Solution};
+use dimacs_instance::{MaxInstance, Network};
+use dimacs_judge::{FlowPlaces, JudgeError, max_claim_tests, placed};
+use std::alloc::Global;
+
+/// Whether the solution's flow is maximum. `Optimal` with a cut with which `judge_max` says yes to the solution; `Better`
+/// with a feasible flow of greater value than the solution claims. Else the first test that fails of those which
+/// `judge_max` makes before it looks at a cut, in the same order; `Memory` says nothing of the claim.
+pub fn certify_max<N: Network>(
+    alloc: Global,
+    instance: &MaxInstance<N>,
+    solution: &Solution,
+) -> Result<MaxDecision, JudgeError>
+    ensures { Settles (CertifiesMax instance.now (claimed solution.now)) (max_claim_rows instance.now (claimed solution.now)) result }
+{
+    let placed = placed(alloc, instance.network(), solution)?;
+    certify_max_placed(alloc, instance, &placed)
+}
+
+/// The same of a solution whose entries were placed on the arcs of the instance: what `certify_max` answers of any
+/// solution that the placed values stand for.
+pub fn certify_max_placed<N: Network>(
+    alloc: Global,
+    instance: &MaxInstance<N>,
+    placed: &Placed<FlowPlaces<'_, N>>,
+) -> Result<MaxDecision, JudgeError>
+    requires network { placed.now.place.arcs ≡ instance.now.arcs }
+    ensures { (s : SolutionValue) → IsPlaced placed.now.value placed.now.value_line (ArePlaced placed.now.place) s
+        → Settles (CertifiesMax instance.now s) (max_claim_rows instance.now s) result }
+{
+    let flow = max_claim_tests(alloc, instance, placed)?;
+    let decision = decide_max(alloc, instance, flow)?;
+    Ok(decision)
+}

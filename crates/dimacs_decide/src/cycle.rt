@@ -1,0 +1,104 @@
+//! Cycles of residual arcs: one that was handed over is tested, and one of raised nodes is told.
+
+ghost use Rattle.std.specs.Prelude.{◌≡◌, ◌<◌, ◌≤◌, ◌+◌, ◌-◌, IsTrue, All, length, IfOk};
+ghost use Rattle.dimacs_lines.specs.Limits.{most_nodes};
+ghost use Rattle.dimacs_instance.specs.MinFlows.{HasBounds};
+ghost use Rattle.dimacs_nodes.specs.Tables.{value_of};
+ghost use Rattle.dimacs_decide.specs.Bounds.{KeepsBounds};
+ghost use Rattle.dimacs_decide.specs.inside.Cycles.{IsSaving, LeadsFrom, ending_of, gain_of};
+ghost use Rattle.dimacs_decide.specs.inside.Heights.{AreHeights};
+ghost use Rattle.dimacs_decide.specs.inside.Traces.{IsCycle};
+
+use crate::heights::{Label, gain};
+use crate::room::room_from;
+use crate::trace::Cycle;
+use dimacs_instance::Network;
+use dimacs_judge::Flow;
+use dimacs_lines::Memory;
+use dimacs_methods::ResidualArc;
+use dimacs_nodes::NodeTable;
+use std::alloc::Global;
+
+/// Whether residual arcs, of which nothing is known, are a cycle along which there is room, which comes to no node twice
+/// and saves something. Takes memory by the nodes that it comes to.
+pub(crate) fn is_saving<N: Network>(
+    alloc: Global,
+    network: &N,
+    flow: &Flow,
+    cycle: &[ResidualArc],
+) -> Result<bool, Memory>
+    requires few_nodes { N.node_count network.now ≤ most_nodes }
+    requires bounds { All HasBounds (N.list network.now) }
+    requires within { KeepsBounds (N.list network.now) flow.now }
+    ensures { IfOk result (λ saving. IsTrue saving → IsSaving (N.list network.now) flow.now cycle.now) }
+{
+    let count = cycle.len();
+    if count == 0 || count > network.nodes() as usize {
+        return Ok(false);
+    }
+    let mut reached = NodeTable::new(alloc, false);
+    let mut at = ending(network, cycle[count - 1]);
+    let mut saved: i128 = 0;
+    for j in 0..count {
+        let residual = cycle[j];
+        if !leads_from(network, flow, at, residual) {
+            return Ok(false);
+        }
+        at = ending(network, residual);
+        if reached.get(at) {
+            return Ok(false);
+        }
+        reached.set(at, true)?;
+        saved += gain(residual.side, network.arc(residual.arc));
+    }
+    Ok(saved > 0)
+}
+
+/// Whether a residual arc begins at a node, and there is room along it.
+#[inline(always)]
+fn leads_from<N: Network>(network: &N, flow: &Flow, from: u32, residual: ResidualArc) -> bool
+    requires bounds { All HasBounds (N.list network.now) }
+    requires within { KeepsBounds (N.list network.now) flow.now }
+    ensures { IsTrue result → LeadsFrom (N.list network.now) flow.now from residual }
+{
+    if residual.arc >= network.arcs() {
+        return false;
+    }
+    let arc = network.arc(residual.arc);
+    residual.side.near(arc) == from && room_from(residual.side, arc, flow.amount(residual.arc)) > 0
+}
+
+/// The node to which a residual arc leads, 0 where it has no arc.
+#[inline(always)]
+fn ending<N: Network>(network: &N, residual: ResidualArc) -> u32
+    ensures { result ≡ ending_of (N.list network.now) residual }
+{
+    if residual.arc >= network.arcs() {
+        return 0;
+    }
+    residual.side.far(network.arc(residual.arc))
+}
+
+/// The residual arcs by which the nodes of a cycle were raised, from the lowest on.
+pub(crate) fn raised_along<N: Network>(
+    alloc: Global,
+    network: &N,
+    flow: &Flow,
+    labels: &NodeTable<Label>,
+    cycle: &Cycle,
+) -> Result<Vec<ResidualArc>, Memory>
+    requires heights { AreHeights (N.list network.now) flow.now (value_of labels.now) }
+    requires cycle { IsCycle (N.list network.now) (value_of labels.now) cycle.now.path.items cycle.now.first (length cycle.now.path.items - 1) }
+    ensures { IfOk result (λ residuals. IsSaving (N.list network.now) flow.now residuals.items) }
+{
+    let mut residuals = Vec::new(alloc);
+    let last = cycle.path.len() - 1;
+    for k in 0..last - cycle.first {
+        let label = labels.get(cycle.path[last - k - 1]);
+        residuals.push(ResidualArc {
+            arc: label.via - 1,
+            side: label.side,
+        })?;
+    }
+    Ok(residuals)
+}

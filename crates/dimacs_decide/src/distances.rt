@@ -1,0 +1,126 @@
+//! Whether claimed distances are true, by a search over the arcs that are tight.
+
+ghost use Rattle.std.specs.Prelude.{◌≤◌, ◌+ℤ◌, ◌<ℤ◌, ◌↔◌, IsTrue, None};
+ghost use Rattle.dimacs_lines.specs.Limits.{most_nodes};
+ghost use Rattle.dimacs_records.specs.Ranges.{IsNode, IsWide};
+ghost use Rattle.dimacs_instance.specs.Links.{AreLinksOf};
+ghost use Rattle.dimacs_instance.specs.declared.links.Side.TheVariants.{Tail};
+ghost use Rattle.dimacs_judge.specs.Tests.{TellsRow};
+ghost use Rattle.dimacs_judge.specs.inside.Tests.{TellsReason};
+ghost use Rattle.dimacs_judge.specs.CertificateTests.{RelaxFails};
+ghost use Rattle.dimacs_nodes.specs.Tables.{value_of};
+ghost use Rattle.dimacs_decide.specs.Distances.{DecidesDistances, claim_row, reach_row, source_row};
+ghost use Rattle.dimacs_decide.specs.inside.TightTrees.{IsWholeTightTree};
+
+use crate::claim::DistanceClaim;
+use crate::tight_tree::{TightTree, tight_tree};
+use dimacs_claims::Labels;
+use dimacs_instance::{ArcView, Graph, Links, Network, Side};
+use dimacs_judge::{JudgeError, Where};
+use dimacs_records::Reason;
+use std::alloc::Global;
+
+/// Decides whether claimed distances from a source are true: labels that say the same and pass the judge's tests, exactly
+/// where they are; else the first test that fails, which shows that they aren't. Weights may be negative. Takes time in
+/// proportion to the nodes and arcs, and memory by the arcs and the nodes that are reached; the one error besides is
+/// `Memory`, which says nothing of the claim.
+///
+/// The tests in their order: `NotShortest` at the source, where its claim isn't 0; each arc of whose tail something is
+/// claimed, from 1: `Escapes` where nothing is claimed of its head, else `NotShortest`; then each node, by ID:
+/// `NoTightArc` where something is claimed of it and no tight arcs lead to it from the source.
+pub fn decide_distances<N: Network, C: DistanceClaim>(
+    alloc: Global,
+    graph: &Graph<N>,
+    source: u32,
+    claim: &C,
+) -> Result<Labels, JudgeError>
+    requires { IsNode graph.now.nodes source }
+    ensures { DecidesDistances graph.now source (C.claimed claim.now) result }
+{
+    let links = Links::new(alloc, graph.network(), Side::Tail)?;
+    decide_distances_over(alloc, graph, &links, source, claim)
+}
+
+/// Decides it over the arcs by their tails, which several questions can share.
+pub fn decide_distances_over<N: Network, C: DistanceClaim>(
+    alloc: Global,
+    graph: &Graph<N>,
+    links: &Links,
+    source: u32,
+    claim: &C,
+) -> Result<Labels, JudgeError>
+    requires source { IsNode graph.now.nodes source }
+    requires links { AreLinksOf Tail graph.now.arcs links.now }
+    ensures { DecidesDistances graph.now source (C.claimed claim.now) result }
+{
+    let network = graph.network();
+    source_holds(source, claim)?;
+    arcs_hold(network, claim)?;
+    let tree = tight_tree(alloc, network, links, source, claim)?;
+    nodes_hold(network, claim, &tree)?;
+    let mut labels = Labels::new(alloc, network.nodes());
+    labels.push(tree.into_block())?;
+    Ok(labels)
+}
+
+/// Whether the claim of the source is 0.
+fn source_holds<C: DistanceClaim>(source: u32, claim: &C) -> Result<(), (Where, Reason)>
+    ensures { TellsRow (source_row source (C.claimed claim.now)) result }
+{
+    match claim.of(source) {
+        Some(dist) if dist == 0 => Ok(()),
+        _ => Err((Where::Node(source), Reason::NotShortest)),
+    }
+}
+
+/// The first arc with a claimed tail of whose head nothing is claimed, or too much.
+fn arcs_hold<N: Network, C: DistanceClaim>(network: &N, claim: &C) -> Result<(), (Where, Reason)>
+    ensures { TellsRow (claim_row (N.list network.now) (C.claimed claim.now)) result }
+{
+    for i in 0..network.arcs() {
+        if let Some(reason) = arc_fault(claim, network.arc(i)) {
+            return Err((Where::Arc(i + 1), reason));
+        }
+    }
+    Ok(())
+}
+
+/// Looks the head up only where something is claimed of the tail.
+#[inline(always)]
+fn arc_fault<C: DistanceClaim>(claim: &C, arc: ArcView) -> Option<Reason>
+    ensures { TellsReason (RelaxFails None (C.claimed claim.now arc.tail) (C.claimed claim.now arc.head) arc.cost) result }
+{
+    let from = claim.of(arc.tail)?;
+    match claim.of(arc.head) {
+        None => Some(Reason::Escapes),
+        Some(to) if is_beyond(to, from, arc.cost) => Some(Reason::NotShortest),
+        Some(_) => None,
+    }
+}
+
+/// Whether `to` is further than the weight leads from `from`.
+#[inline(always)]
+fn is_beyond(to: i128, from: i128, weight: i64) -> bool
+    requires { IsWide from }
+    ensures { IsTrue result ↔ ((from +ℤ weight) <ℤ to) }
+{
+    to > from + i128::from(weight)
+}
+
+/// The first node of which something is claimed and that the search did not reach.
+fn nodes_hold<N: Network, C: DistanceClaim>(
+    network: &N,
+    claim: &C,
+    tree: &TightTree,
+) -> Result<(), (Where, Reason)>
+    requires few_nodes { N.node_count network.now ≤ most_nodes }
+    requires tree { IsWholeTightTree (N.node_count network.now) (N.list network.now) (C.claimed claim.now) tree.now.block (value_of tree.now.reached) }
+    ensures { TellsRow (reach_row (record { nodes = N.node_count network.now; arcs = N.list network.now }) tree.now.block.source (C.claimed claim.now)) result }
+{
+    for v in 1..network.nodes() + 1 {
+        if claim.of(v).is_some() && !tree.reaches(v) {
+            return Err((Where::Node(v), Reason::NoTightArc));
+        }
+    }
+    Ok(())
+}

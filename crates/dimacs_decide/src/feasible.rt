@@ -1,0 +1,104 @@
+//! Whether a flow that keeps the bounds is feasible, by a search from its excesses to its deficits.
+
+ghost use Rattle.std.specs.Prelude.{◌≡◌, ◌≤◌, ◌+◌, ◌<ℤ◌, ℕ, pos, true, IfOk};
+ghost use Rattle.dimacs_lines.specs.Limits.{most_nodes};
+ghost use Rattle.dimacs_records.specs.Ranges.{IsNode};
+ghost use Rattle.dimacs_judge.specs.Cuts.{members};
+ghost use Rattle.dimacs_nodes.specs.Tables.{value_of};
+ghost use Rattle.dimacs_decide.specs.Bounds.{KeepsBounds};
+ghost use Rattle.dimacs_decide.specs.FeasibilityDecision.{DecidesFeasible};
+ghost use Rattle.dimacs_decide.specs.Links.{IsIncidenceOf};
+ghost use Rattle.dimacs_decide.specs.inside.Surpluses.{AreSurpluses};
+
+use crate::links::Incidence;
+use crate::search::Search;
+use crate::send::{Sending, send};
+use crate::surplus::{Standing, assess, surpluses};
+use dimacs_claims::Cut;
+use dimacs_instance::{MinInstance, Network};
+use dimacs_judge::Flow;
+use dimacs_lines::Memory;
+use dimacs_nodes::NodeTable;
+use std::alloc::Global;
+
+/// What is said of a flow that keeps the bounds of the arcs.
+#[derive(Drop)]
+pub enum FeasibilityDecision {
+    /// It is feasible.
+    Balanced,
+    /// No flow is feasible, by this set, which is violated.
+    Infeasible(Cut),
+    /// This flow keeps the bounds too, and leaves less excess.
+    Nearer(Flow),
+}
+
+/// Decides whether a flow that keeps the bounds is feasible, and if not, whether one can be. Takes time in proportion
+/// to the nodes and arcs, and memory by the arcs and the nodes that have one. The one error is `Memory`, which says
+/// nothing of the flow.
+pub fn decide_feasible<N: Network>(
+    alloc: Global,
+    instance: &MinInstance<N>,
+    flow: &Flow,
+) -> Result<FeasibilityDecision, Memory>
+    requires { KeepsBounds instance.now.arcs flow.now }
+    ensures { IfOk result (DecidesFeasible instance.now flow.now) }
+{
+    let incidence = Incidence::new(alloc, instance.network())?;
+    decide_feasible_over(alloc, instance, &incidence, flow)
+}
+
+/// Decides it over the arcs by their ends, which several questions can share.
+pub fn decide_feasible_over<N: Network>(
+    alloc: Global,
+    instance: &MinInstance<N>,
+    incidence: &Incidence,
+    flow: &Flow,
+) -> Result<FeasibilityDecision, Memory>
+    requires within { KeepsBounds instance.now.arcs flow.now }
+    requires incidence { IsIncidenceOf instance.now.arcs incidence.now }
+    ensures { IfOk result (DecidesFeasible instance.now flow.now) }
+{
+    let surplus = surpluses(alloc, instance, flow)?;
+    let nodes = instance.network().nodes();
+    match assess(nodes, &surplus) {
+        Standing::Even => Ok(FeasibilityDecision::Balanced),
+        Standing::Short => Ok(FeasibilityDecision::Infeasible(every_node(alloc, nodes)?)),
+        Standing::Excess => nearer_or_stuck(alloc, instance, incidence, flow, surplus),
+    }
+}
+
+/// Decides it where some node has an excess.
+fn nearer_or_stuck<N: Network>(
+    alloc: Global,
+    instance: &MinInstance<N>,
+    incidence: &Incidence,
+    flow: &Flow,
+    surplus: NodeTable<i128>,
+) -> Result<FeasibilityDecision, Memory>
+    requires within { KeepsBounds instance.now.arcs flow.now }
+    requires incidence { IsIncidenceOf instance.now.arcs incidence.now }
+    requires surplus { AreSurpluses instance.now flow.now (value_of surplus) }
+    requires excess { (v : ℕ) × IsNode instance.now.nodes v × (pos 0 <ℤ value_of surplus v) }
+    ensures { IfOk result (DecidesFeasible instance.now flow.now) }
+{
+    let network = instance.network();
+    let mut search = Search::new(alloc, surplus);
+    search.begin_all(network.nodes())?;
+    match send(alloc, network, incidence, flow, search)? {
+        Sending::Sent(nearer) => Ok(FeasibilityDecision::Nearer(nearer)),
+        Sending::Stuck(set) => Ok(FeasibilityDecision::Infeasible(set)),
+    }
+}
+
+/// The set of all nodes.
+fn every_node(alloc: Global, nodes: u32) -> Result<Cut, Memory>
+    requires { nodes ≤ most_nodes }
+    ensures nodes { IfOk result (λ set. set.nodes ≡ nodes) }
+    ensures members { IfOk result (λ set. (v : ℕ) → IsNode nodes v → members set v ≡ true) }
+{
+    let mut set = Cut::new(alloc, nodes);
+    for id in 1..nodes + 1 {
+        set.add(id)?;
+    }
+    Ok(set)
+}

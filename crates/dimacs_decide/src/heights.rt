@@ -1,0 +1,132 @@
+//! Raising potentials over the steps that a flow leaves.
+
+ghost use Rattle.std.specs.Prelude.{ℕ, ℤ, List, ◌≡◌, ◌<◌, ◌≤◌, ◌+◌, ◌*◌, ◌<ℤ◌, ◌≤ℤ◌, pos, All, length, IfOk, OnOk};
+ghost use Rattle.std.specs.List.{AllZip};
+ghost use Rattle.dimacs_lines.specs.Limits.{most_count, most_nodes};
+ghost use Rattle.dimacs_instance.specs.declared.network.ArcView.{ArcView};
+ghost use Rattle.dimacs_instance.specs.Arcs.{JoinsNodes};
+ghost use Rattle.dimacs_instance.specs.Links.{end_of, other_end};
+ghost use Rattle.dimacs_instance.specs.MinFlows.{HasBounds};
+ghost use Rattle.dimacs_records.specs.Ranges.{IsWhole};
+ghost use Rattle.dimacs_judge.specs.Rows.{arc_at, amount_at};
+ghost use Rattle.dimacs_nodes.specs.Tables.{value_of};
+ghost use Rattle.dimacs_decide.specs.Bounds.{KeepsBounds};
+ghost use Rattle.dimacs_decide.specs.inside.Heights.{AreHeights, BelowBound, IsRound, Lifts, below_of, either_of, gain_at, height_of, unraised};
+
+use crate::room::room_from;
+use dimacs_instance::{ArcView, Network, Side};
+use dimacs_judge::Flow;
+use dimacs_lines::Memory;
+use dimacs_nodes::NodeTable;
+
+/// How high a node's potential was raised, and by which arc: 1 + its index, 0 for none, and the end from which it is
+/// taken.
+#[derive(Clone, Copy)]
+pub(crate) struct Label {
+    pub height: i128,
+    pub via: u32,
+    pub side: Side,
+}
+
+/// The label of a node that was not raised.
+pub(crate) fn unraised_label() -> Label
+    ensures { result ≡ unraised }
+{
+    Label {
+        height: 0,
+        via: 0,
+        side: Side::Tail,
+    }
+}
+
+/// The node from which a label was raised, 0 for none.
+#[inline(always)]
+pub(crate) fn below<N: Network>(network: &N, label: Label) -> u32
+    requires { label.via ≤ length (N.list network.now) }
+    ensures { result ≡ below_of (N.list network.now) label }
+{
+    if label.via == 0 {
+        return 0;
+    }
+    label.side.near(network.arc(label.via - 1))
+}
+
+/// What is saved for each unit that is sent along the arc from this side.
+#[inline(always)]
+pub(crate) fn gain(side: Side, arc: ArcView) -> i128
+    requires { IsWhole arc.cost }
+    ensures { result ≡ gain_at side arc }
+{
+    match side {
+        Side::Tail => -i128::from(arc.cost),
+        Side::Head => i128::from(arc.cost),
+    }
+}
+
+/// Raises the node at the other end of an arc, where the arc has room from this side and the node is too low.
+#[inline(always)]
+fn lift<N: Network>(
+    network: &N,
+    flow: &Flow,
+    side: Side,
+    via: u32,
+    labels: &mut NodeTable<Label>,
+) -> Result<bool, Memory>
+    requires via { via < length (N.list network.now) }
+    requires few_arcs { length (N.list network.now) ≤ most_count }
+    requires bounds { All HasBounds (N.list network.now) }
+    requires within { KeepsBounds (N.list network.now) flow.now }
+    requires least { (v : ℕ) → pos 0 ≤ℤ height_of (value_of labels.old) v }
+    requires bounded { BelowBound 1073741824 (value_of labels.old) }
+    ensures { IfOk result (λ lifted. Lifts (N.list network.now) flow.now side via (value_of labels.old) lifted (value_of labels.new)) }
+{
+    let arc = network.arc(via);
+    if room_from(side, arc, flow.amount(via)) <= 0 {
+        return Ok(false);
+    }
+    let to = side.far(arc);
+    let height = labels.get(side.near(arc)).height + gain(side, arc);
+    if height <= labels.get(to).height {
+        return Ok(false);
+    }
+    let label = Label {
+        height,
+        via: via + 1,
+        side,
+    };
+    labels.set(to, label)?;
+    Ok(true)
+}
+
+/// Whether something had changed, or one of both sides was raised.
+#[inline(always)]
+fn either(changed: bool, forward: bool, backward: bool) -> bool
+    ensures { result ≡ either_of changed forward backward }
+{
+    if forward || backward { true } else { changed }
+}
+
+/// Goes over all arcs once, from both sides, and says whether a node was raised.
+pub(crate) fn round<N: Network>(
+    network: &N,
+    flow: &Flow,
+    labels: &mut NodeTable<Label>,
+) -> Result<bool, Memory>
+    requires few_nodes { N.node_count network.now ≤ most_nodes }
+    requires few_arcs { length (N.list network.now) ≤ most_count }
+    requires joined { All (JoinsNodes (N.node_count network.now)) (N.list network.now) }
+    requires bounds { All HasBounds (N.list network.now) }
+    requires within { KeepsBounds (N.list network.now) flow.now }
+    requires heights { AreHeights (N.list network.now) flow.now (value_of labels.old) }
+    requires bounded { BelowBound (N.node_count network.now + 1) (value_of labels.old) }
+    ensures heights { OnOk result (AreHeights (N.list network.now) flow.now (value_of labels.new)) }
+    ensures round { IfOk result (λ changed. IsRound (N.node_count network.now) (N.list network.now) flow.now (length (N.list network.now)) (value_of labels.old) changed (value_of labels.new)) }
+{
+    let mut changed = false;
+    for i in 0..network.arcs() {
+        let forward = lift(network, flow, Side::Tail, i, labels)?;
+        let backward = lift(network, flow, Side::Head, i, labels)?;
+        changed = either(changed, forward, backward);
+    }
+    Ok(changed)
+}

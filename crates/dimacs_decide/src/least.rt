@@ -1,0 +1,229 @@
+//! Whether a flow is of least cost: by potentials or a cycle that were guessed, which are tested, or else by raising
+//! potentials over the steps that it leaves.
+
+ghost use Rattle.std.specs.Prelude.{◌≡◌, ◌≤◌, ◌≤ℤ◌, ◌+◌, ℕ, pos, IfOk, IsTrue};
+ghost use Rattle.dimacs_lines.specs.Limits.{most_nodes};
+ghost use Rattle.dimacs_claims.specs.Potentials.{potential_of};
+ghost use Rattle.dimacs_records.specs.Ranges.{IsNode, IsWide};
+ghost use Rattle.dimacs_judge.specs.Feasible.{FeasibleMin};
+ghost use Rattle.dimacs_nodes.specs.Tables.{value_of};
+ghost use Rattle.dimacs_instance.specs.declared.links.Side.TheVariants.{Tail};
+ghost use Rattle.dimacs_decide.specs.MinDecision.{DecidesMin};
+ghost use Rattle.dimacs_decide.specs.inside.Cycles.{IsSaving};
+ghost use Rattle.dimacs_decide.specs.inside.Heights.{AreStarted, BelowBound, bound, height_of};
+
+use crate::cancel::cancel;
+use crate::cycle::{is_saving, raised_along};
+use crate::heights::{Label, round, unraised_label};
+use crate::trace::cycle_in;
+use dimacs_claims::Potentials;
+use dimacs_instance::{MinInstance, Network, Side};
+use dimacs_judge::{Flow, slack_tests};
+use dimacs_lines::Memory;
+use dimacs_methods::{Guess, ResidualArc, guess_potentials};
+use dimacs_nodes::NodeTable;
+use std::alloc::Global;
+
+/// What is said of the cost of a feasible flow.
+#[derive(Drop)]
+pub enum MinDecision {
+    /// It is least, by these potentials, which are slack.
+    Optimal(Potentials),
+    /// It isn't: this flow is feasible and costs less.
+    Better(Flow),
+}
+
+/// Decides whether a feasible flow is of least cost. Mostly takes a few passes over the arcs, and memory by the arcs and
+/// by the nodes that have one. The one error is `Memory`, which says nothing of the flow.
+pub fn decide_min<N: Network>(
+    alloc: Global,
+    instance: &MinInstance<N>,
+    flow: &Flow,
+) -> Result<MinDecision, Memory>
+    requires { FeasibleMin instance.now flow.now }
+    ensures { IfOk result (DecidesMin instance.now flow.now) }
+{
+    match guess_potentials(alloc, instance, flow.amounts())? {
+        Guess::Least(potentials) => decided_by_potentials(alloc, instance, flow, potentials),
+        Guess::Cycle(cycle) => decided_by_cycle(alloc, instance, flow, &cycle),
+        Guess::GaveUp(potentials) => decide_min_from(alloc, instance, flow, &potentials),
+    }
+}
+
+/// Decides it by raising these potentials: where they are slack, in one round. Any potentials will do. Goes over the arcs
+/// in rounds, no more than there are nodes and mostly far fewer. Takes memory by the nodes that have an arc.
+pub fn decide_min_from<N: Network>(
+    alloc: Global,
+    instance: &MinInstance<N>,
+    flow: &Flow,
+    start: &Potentials,
+) -> Result<MinDecision, Memory>
+    requires { FeasibleMin instance.now flow.now }
+    ensures { IfOk result (DecidesMin instance.now flow.now) }
+{
+    let labels = started(alloc, instance.network().nodes(), start)?;
+    decided(alloc, instance, flow, labels)
+}
+
+/// Decides it by potentials of which nothing is known.
+fn decided_by_potentials<N: Network>(
+    alloc: Global,
+    instance: &MinInstance<N>,
+    flow: &Flow,
+    potentials: Potentials,
+) -> Result<MinDecision, Memory>
+    requires { FeasibleMin instance.now flow.now }
+    ensures { IfOk result (DecidesMin instance.now flow.now) }
+{
+    if show_least(instance, flow, &potentials) {
+        return Ok(MinDecision::Optimal(potentials));
+    }
+    decide_min_from(alloc, instance, flow, &potentials)
+}
+
+/// Whether potentials show that the flow is least: they are those of the instance's nodes, and slack.
+fn show_least<N: Network>(instance: &MinInstance<N>, flow: &Flow, potentials: &Potentials) -> bool
+    requires { FeasibleMin instance.now flow.now }
+    ensures { IsTrue result → DecidesMin instance.now flow.now (MinDecision.Optimal potentials.now) }
+{
+    potentials.nodes() == instance.network().nodes()
+        && slack_tests(instance, flow, potentials).is_ok()
+}
+
+/// Decides it by residual arcs of which nothing is known.
+fn decided_by_cycle<N: Network>(
+    alloc: Global,
+    instance: &MinInstance<N>,
+    flow: &Flow,
+    cycle: &[ResidualArc],
+) -> Result<MinDecision, Memory>
+    requires { FeasibleMin instance.now flow.now }
+    ensures { IfOk result (DecidesMin instance.now flow.now) }
+{
+    if is_saving(alloc, instance.network(), flow, cycle)? {
+        return better_by(alloc, instance, flow, cycle);
+    }
+    let labels = NodeTable::new(alloc, unraised_label());
+    decided(alloc, instance, flow, labels)
+}
+
+/// Sends round a cycle that saves something what there is room for.
+fn better_by<N: Network>(
+    alloc: Global,
+    instance: &MinInstance<N>,
+    flow: &Flow,
+    cycle: &[ResidualArc],
+) -> Result<MinDecision, Memory>
+    requires feasible { FeasibleMin instance.now flow.now }
+    requires cycle { IsSaving instance.now.arcs flow.now cycle.now }
+    ensures { IfOk result (DecidesMin instance.now flow.now) }
+{
+    let mut better = flow.copy(alloc)?;
+    cancel(instance.network(), cycle, &mut better);
+    Ok(MinDecision::Better(better))
+}
+
+/// Goes over the arcs in rounds.
+fn decided<N: Network>(
+    alloc: Global,
+    instance: &MinInstance<N>,
+    flow: &Flow,
+    labels: NodeTable<Label>,
+) -> Result<MinDecision, Memory>
+    requires feasible { FeasibleMin instance.now flow.now }
+    requires started { AreStarted (value_of labels) }
+    ensures { IfOk result (DecidesMin instance.now flow.now) }
+{
+    let network = instance.network();
+    let mut labels = labels;
+    let mut changed = true;
+    while changed {
+        changed = round(network, flow, &mut labels)?;
+        if changed {
+            if let Some(cycle) = cycle_in(alloc, network, flow, &labels)? {
+                let cycle = raised_along(alloc, network, flow, &labels, &cycle)?;
+                return better_by(alloc, instance, flow, &cycle);
+            }
+        }
+    }
+    let potentials = potentials_of(alloc, network.nodes(), &labels)?;
+    Ok(MinDecision::Optimal(potentials))
+}
+
+/// The greatest height from which raising begins: 2^96.
+const HIGHEST: i128 = 79228162514264337593543950336;
+
+/// A number in the range of heights from which raising begins.
+fn clamped(number: i128) -> i128
+    ensures low { pos 0 ≤ℤ result }
+    ensures high { result ≤ℤ bound 0 }
+{
+    if number < 0 {
+        0
+    } else if number > HIGHEST {
+        HIGHEST
+    } else {
+        number
+    }
+}
+
+/// The least potential of a node, or 0.
+fn least_of(nodes: u32, start: &Potentials) -> i128
+    requires { nodes ≤ most_nodes }
+    ensures { IsWide result }
+{
+    let mut least: i128 = 0;
+    for id in 1..nodes + 1 {
+        let value = start.of(id);
+        if value < least {
+            least = value;
+        }
+    }
+    least
+}
+
+/// Heights that differ as these potentials do, where those don't differ by more than 2^96.
+fn started(alloc: Global, nodes: u32, start: &Potentials) -> Result<NodeTable<Label>, Memory>
+    requires { nodes ≤ most_nodes }
+    ensures { IfOk result (λ labels. AreStarted (value_of labels)) }
+{
+    let least = least_of(nodes, start);
+    let mut labels = NodeTable::new(alloc, unraised_label());
+    labels.set(0, unraised_at(HIGHEST))?;
+    for id in 1..nodes + 1 {
+        let height = clamped(start.of(id) - least);
+        if height > 0 {
+            labels.set(id, unraised_at(height))?;
+        }
+    }
+    Ok(labels)
+}
+
+/// The label of a node that is this high and was not raised.
+fn unraised_at(height: i128) -> Label
+    ensures { result ≡ record { height = height; via = 0; side = Tail } }
+{
+    Label {
+        height,
+        via: 0,
+        side: Side::Tail,
+    }
+}
+
+/// The heights of the nodes.
+fn potentials_of(alloc: Global, nodes: u32, labels: &NodeTable<Label>) -> Result<Potentials, Memory>
+    requires few_nodes { nodes ≤ most_nodes }
+    requires least { (v : ℕ) → pos 0 ≤ℤ height_of (value_of labels.now) v }
+    requires bounded { BelowBound (nodes + 1) (value_of labels.now) }
+    ensures nodes { IfOk result (λ p. p.nodes ≡ nodes) }
+    ensures values { IfOk result (λ p. (v : ℕ) → IsNode nodes v → potential_of p v ≡ height_of (value_of labels.now) v) }
+{
+    let mut potentials = Potentials::new(alloc, nodes);
+    for id in 1..nodes + 1 {
+        let height = labels.get(id).height;
+        if height > 0 {
+            potentials.set(id, height)?;
+        }
+    }
+    Ok(potentials)
+}

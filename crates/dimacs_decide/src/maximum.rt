@@ -1,0 +1,78 @@
+//! Whether a flow is maximum, by a search of the steps that it leaves.
+
+ghost use Rattle.std.specs.Prelude.{◌≢◌, ◌<◌, ℕ, List, ℤ, IfOk};
+ghost use Rattle.dimacs_records.specs.Ranges.{IsNode};
+ghost use Rattle.dimacs_instance.specs.declared.network.ArcView.{ArcView};
+ghost use Rattle.dimacs_judge.specs.Feasible.{FeasibleMax};
+ghost use Rattle.dimacs_nodes.specs.Tables.{value_of};
+ghost use Rattle.dimacs_decide.specs.MaxDecision.{DecidesMax};
+ghost use Rattle.dimacs_decide.specs.Links.{IsIncidenceOf};
+ghost use Rattle.dimacs_decide.specs.inside.Residual.{IsResidualSearch, rank_of};
+ghost use Rattle.dimacs_decide.specs.inside.Surpluses.{AreEnds};
+
+use crate::links::Incidence;
+use crate::search::{MOST, Search};
+use crate::send::{Sending, send};
+use dimacs_claims::Cut;
+use dimacs_instance::{MaxInstance, Network};
+use dimacs_judge::Flow;
+use dimacs_lines::Memory;
+use dimacs_nodes::NodeTable;
+use std::alloc::Global;
+
+/// What is said of the value of a feasible flow.
+#[derive(Drop)]
+pub enum MaxDecision {
+    /// It is maximum, by this cut, which is tight.
+    Optimal(Cut),
+    /// It isn't: this flow is feasible and has greater value.
+    Better(Flow),
+}
+
+/// Decides whether a feasible flow is maximum. Takes time in proportion to the nodes and arcs, and memory by the arcs and
+/// the nodes that have one. The one error is `Memory`, which says nothing of the flow.
+pub fn decide_max<N: Network>(
+    alloc: Global,
+    instance: &MaxInstance<N>,
+    flow: &Flow,
+) -> Result<MaxDecision, Memory>
+    requires { FeasibleMax instance.now flow.now }
+    ensures { IfOk result (DecidesMax instance.now flow.now) }
+{
+    let incidence = Incidence::new(alloc, instance.network())?;
+    decide_max_over(alloc, instance, &incidence, flow)
+}
+
+/// Decides it over the arcs by their ends, which several questions can share.
+pub fn decide_max_over<N: Network>(
+    alloc: Global,
+    instance: &MaxInstance<N>,
+    incidence: &Incidence,
+    flow: &Flow,
+) -> Result<MaxDecision, Memory>
+    requires feasible { FeasibleMax instance.now flow.now }
+    requires incidence { IsIncidenceOf instance.now.arcs incidence.now }
+    ensures { IfOk result (DecidesMax instance.now flow.now) }
+{
+    let network = instance.network();
+    let search = begun(alloc, instance.source(), instance.sink())?;
+    match send(alloc, network, incidence, flow, search)? {
+        Sending::Sent(better) => Ok(MaxDecision::Better(better)),
+        Sending::Stuck(cut) => Ok(MaxDecision::Optimal(cut)),
+    }
+}
+
+/// A search from the source to the sink.
+fn begun(alloc: Global, source: u32, sink: u32) -> Result<Search, Memory>
+    requires { source ≢ sink }
+    ensures ends { IfOk result (λ search. AreEnds source sink (value_of search.surplus)) }
+    ensures reached { IfOk result (λ search. 0 < rank_of (value_of search.visits) source) }
+    ensures begun { IfOk result (λ search. (nodes : ℕ) (arcs : List ArcView) (x : List ℤ) → IsNode nodes source → IsResidualSearch nodes arcs x (value_of search.surplus) (value_of search.visits) search.queue.items 0) }
+{
+    let mut surplus = NodeTable::new(alloc, 0i128);
+    surplus.set(source, MOST)?;
+    surplus.set(sink, -MOST)?;
+    let mut search = Search::new(alloc, surplus);
+    search.begin(source)?;
+    Ok(search)
+}

@@ -1,0 +1,192 @@
+//! The search over tight arcs: those whose weight leads from the distance that is claimed of the tail to that of the head.
+
+ghost use Rattle.std.specs.Prelude.{◌≡◌, ◌<◌, ◌≤◌, ◌+ℤ◌, ◌↔◌, IsTrue, All, length, true, Some, IfOk, IfSome, OnOk, MatchOption, pos};
+ghost use Rattle.dimacs_lines.specs.Limits.{most_nodes};
+ghost use Rattle.dimacs_records.specs.Ranges.{IsNode, IsWide};
+ghost use Rattle.dimacs_instance.specs.Arcs.{JoinsNodes};
+ghost use Rattle.dimacs_instance.specs.Links.{AreLinksOf};
+ghost use Rattle.dimacs_instance.specs.declared.links.Side.TheVariants.{Tail};
+ghost use Rattle.dimacs_judge.specs.Rows.{arc_at};
+ghost use Rattle.dimacs_nodes.specs.Tables.{value_of};
+ghost use Rattle.dimacs_decide.specs.Distances.{IsTight};
+ghost use Rattle.dimacs_decide.specs.inside.TightTrees.{IsPassed, IsTightTree, IsWholeTightTree, TreeGrows, node_at};
+
+use crate::claim::DistanceClaim;
+use dimacs_claims::{Block, Label};
+use dimacs_instance::{ArcView, Links, Network};
+use dimacs_lines::Memory;
+use dimacs_nodes::NodeTable;
+use std::alloc::Global;
+
+/// The nodes that a search over tight arcs has reached, as labels in the order of the search, each with the node from
+/// which it was reached.
+#[derive(Drop)]
+pub(crate) struct TightTree {
+    block: Block,
+    reached: NodeTable<bool>,
+}
+
+impl TightTree {
+    /// The search that has reached its source alone.
+    fn new<N: Network, C: DistanceClaim>(
+        alloc: Global,
+        network: &N,
+        source: u32,
+        claim: &C,
+    ) -> Result<TightTree, Memory>
+        requires source { IsNode (N.node_count network.now) source }
+        requires claimed { C.claimed claim.now source ≡ Some (pos 0) }
+        ensures source { IfOk result (λ tree. tree.block.source ≡ source) }
+        ensures tree { IfOk result (λ tree. IsTightTree (N.node_count network.now) (N.list network.now) (C.claimed claim.now) tree.block (value_of tree.reached)) }
+    {
+        let mut reached = NodeTable::new(alloc, false);
+        reached.set(source, true)?;
+        let block = Block::new(alloc, source);
+        Ok(TightTree { block, reached })
+    }
+
+    /// Whether the search has reached a node.
+    #[inline(always)]
+    pub fn reaches(&self, node: u32) -> bool
+        ensures { result ≡ value_of self.now.reached node }
+    {
+        self.reached.get(node)
+    }
+
+    /// The labels of the nodes that were reached.
+    pub fn into_block(self) -> Block
+        ensures { result ≡ self.block }
+    {
+        self.block
+    }
+
+    /// How many nodes were reached from the source.
+    #[inline(always)]
+    fn len(&self) -> usize
+        ensures { result ≡ length self.now.block.labels }
+    {
+        self.block.labels().len()
+    }
+
+    /// The node at a place in the order of the search, the source at 0.
+    #[inline(always)]
+    fn node(&self, at: usize) -> u32
+        requires { at ≤ length self.now.block.labels }
+        ensures { result ≡ node_at self.now.block at }
+    {
+        if at == 0 {
+            self.block.source()
+        } else {
+            self.block.labels().at(at - 1).id
+        }
+    }
+
+    /// Goes over the arcs that leave a node that was reached.
+    fn pass<N: Network, C: DistanceClaim>(
+        &mut self,
+        network: &N,
+        claim: &C,
+        links: &Links,
+        from: u32,
+    ) -> Result<(), Memory>
+        requires few_nodes { N.node_count network.now ≤ most_nodes }
+        requires joined { All (JoinsNodes (N.node_count network.now)) (N.list network.now) }
+        requires links { AreLinksOf Tail (N.list network.now) links.now }
+        requires tree { IsTightTree (N.node_count network.now) (N.list network.now) (C.claimed claim.now) self.old.block (value_of self.old.reached) }
+        requires reached { value_of self.old.reached from ≡ true }
+        ensures tree { OnOk result (IsTightTree (N.node_count network.now) (N.list network.now) (C.claimed claim.now) self.new.block (value_of self.new.reached)) }
+        ensures grows { OnOk result (TreeGrows self.old.block (value_of self.old.reached) self.new.block (value_of self.new.reached)) }
+        ensures passed { OnOk result (IsPassed (N.list network.now) (C.claimed claim.now) (value_of self.new.reached) from) }
+    {
+        let mut next = links.last(from);
+        while next > 0 {
+            let via = next - 1;
+            self.follow(network, claim, via)?;
+            next = links.before(via);
+        }
+        Ok(())
+    }
+
+    /// Reaches the head of an arc from its tail, which was reached, if the arc is tight and the head was not reached.
+    #[inline(always)]
+    fn follow<N: Network, C: DistanceClaim>(
+        &mut self,
+        network: &N,
+        claim: &C,
+        via: u32,
+    ) -> Result<(), Memory>
+        requires few_nodes { N.node_count network.now ≤ most_nodes }
+        requires joined { All (JoinsNodes (N.node_count network.now)) (N.list network.now) }
+        requires via { via < length (N.list network.now) }
+        requires tree { IsTightTree (N.node_count network.now) (N.list network.now) (C.claimed claim.now) self.old.block (value_of self.old.reached) }
+        requires reached { value_of self.old.reached (arc_at (N.list network.now) via).tail ≡ true }
+        ensures tree { OnOk result (IsTightTree (N.node_count network.now) (N.list network.now) (C.claimed claim.now) self.new.block (value_of self.new.reached)) }
+        ensures grows { OnOk result (TreeGrows self.old.block (value_of self.old.reached) self.new.block (value_of self.new.reached)) }
+        ensures followed { OnOk result (IsTight (C.claimed claim.now) (arc_at (N.list network.now) via) → value_of self.new.reached (arc_at (N.list network.now) via).head ≡ true) }
+    {
+        let arc = network.arc(via);
+        if self.reached.get(arc.head) {
+            return Ok(());
+        }
+        let Some(dist) = tight_dist(claim, arc) else {
+            return Ok(());
+        };
+        self.reached.set(arc.head, true)?;
+        self.block.add(Label {
+            dist,
+            id: arc.head,
+            pred: arc.tail,
+        })?;
+        Ok(())
+    }
+}
+
+/// The distance that is claimed of the head of an arc, if the arc is tight.
+#[inline(always)]
+fn tight_dist<C: DistanceClaim>(claim: &C, arc: ArcView) -> Option<i128>
+    ensures tight { MatchOption result (¬ IsTight (C.claimed claim.now) arc) (λ dist. IsTight (C.claimed claim.now) arc × (C.claimed claim.now arc.head ≡ Some dist)) }
+    ensures wide { IfSome result IsWide }
+{
+    let from = claim.of(arc.tail)?;
+    let to = claim.of(arc.head)?;
+    if leads_to(from, arc.cost, to) {
+        Some(to)
+    } else {
+        None
+    }
+}
+
+/// Whether the weight leads from `from` to `to`.
+#[inline(always)]
+fn leads_to(from: i128, weight: i64, to: i128) -> bool
+    requires { IsWide from }
+    ensures { IsTrue result ↔ (to ≡ from +ℤ weight) }
+{
+    to == from + i128::from(weight)
+}
+
+/// The nodes that tight arcs lead to from the source, in the order of a search.
+pub(crate) fn tight_tree<N: Network, C: DistanceClaim>(
+    alloc: Global,
+    network: &N,
+    links: &Links,
+    source: u32,
+    claim: &C,
+) -> Result<TightTree, Memory>
+    requires few_nodes { N.node_count network.now ≤ most_nodes }
+    requires joined { All (JoinsNodes (N.node_count network.now)) (N.list network.now) }
+    requires links { AreLinksOf Tail (N.list network.now) links.now }
+    requires source { IsNode (N.node_count network.now) source }
+    requires claimed { C.claimed claim.now source ≡ Some (pos 0) }
+    ensures source { IfOk result (λ tree. tree.block.source ≡ source) }
+    ensures tree { IfOk result (λ tree. IsWholeTightTree (N.node_count network.now) (N.list network.now) (C.claimed claim.now) tree.block (value_of tree.reached)) }
+{
+    let mut tree = TightTree::new(alloc, network, source, claim)?;
+    let mut at = 0;
+    while at <= tree.len() {
+        let from = tree.node(at);
+        tree.pass(network, claim, links, from)?;
+        at += 1;
+    }
+    Ok(tree)
+}

@@ -1,0 +1,111 @@
+//! Flows of least cost.
+
+use crate::number::Number;
+use crate::problem::Problem;
+use crate::scaling::Scaling;
+use crate::simplex::Simplex;
+use dimacs_claims::Potentials;
+use dimacs_instance::{MinInstance, Network};
+use dimacs_lines::{Memory, WIDE};
+use std::alloc::Global;
+
+/// An amount for each arc, and a potential for each node.
+#[derive(Drop)]
+pub struct LeastFlow {
+    pub amounts: Vec<i64>,
+    pub potentials: Potentials,
+}
+
+/// A flow of least cost, and potentials that show it; where no flow is feasible, one that leaves the least excess.
+///
+/// The network simplex is quicker on most instances, and takes very long on some large ones. Those are left to cost
+/// scaling.
+pub fn make_least_flow<N: Network>(
+    alloc: Global,
+    instance: &MinInstance<N>,
+) -> Result<LeastFlow, Memory> {
+    let problem = Problem::new(alloc, instance)?;
+    let found = if problem.longest_path() < LONGEST && problem.imbalance() < MOST {
+        by_simplex::<N, i64>(alloc, &problem)?
+    } else {
+        by_simplex::<N, i128>(alloc, &problem)?
+    };
+    match found {
+        Some(flow) => Ok(flow),
+        None if prices_fit(&problem) && problem.greatest_excess() < MOST => {
+            by_scaling::<N, i64>(alloc, &problem)
+        }
+        None => by_scaling::<N, i128>(alloc, &problem),
+    }
+}
+
+/// The potentials of the simplex fit 64 bits where no path costs as much: 2^60.
+const LONGEST: i128 = 1152921504606846976;
+
+/// Amounts fit 64 bits where all that may be moved is less: 2^62.
+const MOST: i128 = 4611686018427387904;
+
+/// Prices fit 64 bits where a cost and twice a number of nodes have no more bits together.
+const PRICE_BITS: u32 = 60;
+
+/// What the simplex may do for each arc and node, in arcs and nodes looked at, and for the whole.
+const WORK_FOR_EACH: u64 = 500;
+
+const WORK_FOR_ALL: u64 = 1073741824;
+
+/// Whether prices of cost scaling fit 64 bits. In the first phase they fall by a few times the tolerance for each node,
+/// and less later.
+fn prices_fit<N: Network>(problem: &Problem<'_, N>) -> bool {
+    let bits = problem.bits();
+    bits.nodes.wrapping_mul(2).wrapping_add(bits.cost) <= PRICE_BITS
+}
+
+/// What the simplex comes to, unless it takes too much work.
+fn by_simplex<N: Network, V: Number>(
+    alloc: Global,
+    problem: &Problem<'_, N>,
+) -> Result<Option<LeastFlow>, Memory> {
+    let mut simplex: Simplex<V> = Simplex::new(alloc, problem)?;
+    let work = problem
+        .size()
+        .wrapping_mul(WORK_FOR_EACH)
+        .wrapping_add(WORK_FOR_ALL);
+    if !simplex.run(alloc, work)? {
+        return Ok(None);
+    }
+    let potentials = simplex.potentials(alloc)?;
+    Ok(Some(LeastFlow {
+        amounts: simplex.amounts(alloc, problem.network())?,
+        potentials: by_id(alloc, problem, &potentials)?,
+    }))
+}
+
+fn by_scaling<N: Network, V: Number>(
+    alloc: Global,
+    problem: &Problem<'_, N>,
+) -> Result<LeastFlow, Memory> {
+    let mut scaling: Scaling<V> = Scaling::new(alloc, problem)?;
+    scaling.run(alloc)?;
+    let potentials = scaling.potentials(alloc)?;
+    Ok(LeastFlow {
+        amounts: scaling.amounts(alloc, problem.network())?,
+        potentials: by_id(alloc, problem, &potentials)?,
+    })
+}
+
+/// The potentials by the nodes' IDs, with the judge's sign, but those that are out of the range of potentials.
+fn by_id<N: Network>(
+    alloc: Global,
+    problem: &Problem<'_, N>,
+    values: &[i128],
+) -> Result<Potentials, Memory> {
+    let mut potentials = Potentials::new(alloc, problem.instance().network().nodes());
+    for (id, value) in problem.ids().iter().zip(values) {
+        let id = *id;
+        let value = value.wrapping_neg();
+        if 1 <= id && id <= potentials.nodes() && value != 0 && -WIDE <= value && value <= WIDE {
+            potentials.set(id, value)?;
+        }
+    }
+    Ok(potentials)
+}

@@ -1,0 +1,17 @@
+//! Methods that find flows and potentials quickly, for those who test what they find: nothing of it is believed.
+//!
+//! Nothing is promised of an answer but that it comes, and that the call is safe: tables are read without harm beyond
+//! their ends, sums may wrap, and each loop has an end that doesn't rest on what the method means to do.
+#![tactic(auto)]
+
+mod least_flow;
+mod node_numbers;
+mod number;
+mod potentials;
+mod problem;
+mod scaling;
+mod simplex;
+
+pub use least_flow::{LeastFlow, make_least_flow};
+pub use node_numbers::NodeNumbers;
+pub use potentials::{Guess, ResidualArc, guess_potentials};

@@ -1,0 +1,76 @@
+//! Numbers for the nodes that occur.
+
+use dimacs_instance::{MinInstance, Network};
+use dimacs_lines::Memory;
+use dimacs_nodes::NodeMap;
+use std::alloc::Global;
+
+/// A number for each node that has an arc or a supply, from 0, so that tables by node grow with what came and not with
+/// the number of nodes that is declared.
+#[derive(Drop)]
+pub struct NodeNumbers {
+    numbers: NodeMap<u32>,
+    /// The ID of each number.
+    ids: Vec<u32>,
+}
+
+impl NodeNumbers {
+    /// Numbers the nodes in the order in which they occur.
+    pub fn new<N: Network>(
+        alloc: Global,
+        instance: &MinInstance<N>,
+    ) -> Result<NodeNumbers, Memory> {
+        let mut numbers = NodeNumbers::of_ends(alloc, instance.network())?;
+        numbers.add_supplied(instance)?;
+        Ok(numbers)
+    }
+
+    /// Numbers the nodes that have an arc, in the order in which they occur.
+    pub fn of_ends<N: Network>(alloc: Global, network: &N) -> Result<NodeNumbers, Memory> {
+        let mut numbers = NodeNumbers {
+            numbers: NodeMap::new(alloc),
+            ids: Vec::new(alloc),
+        };
+        numbers.add_ends(network)?;
+        Ok(numbers)
+    }
+
+    fn add_ends<N: Network>(&mut self, network: &N) -> Result<(), Memory> {
+        for i in 0..network.arcs() {
+            let arc = network.arc(i);
+            self.add(arc.tail)?;
+            self.add(arc.head)?;
+        }
+        Ok(())
+    }
+
+    fn add_supplied<N: Network>(&mut self, instance: &MinInstance<N>) -> Result<(), Memory> {
+        for id in 1..=instance.network().nodes() {
+            if instance.supply(id) != 0 {
+                self.add(id)?;
+            }
+        }
+        Ok(())
+    }
+
+    /// Gives a node a number, if it has none.
+    fn add(&mut self, id: u32) -> Result<(), Memory> {
+        if self.numbers.get(id).is_some() {
+            return Ok(());
+        }
+        let number = u32::try_from(self.ids.len()).unwrap_or(u32::MAX);
+        self.ids.push(id)?;
+        self.numbers.set(id, number)
+    }
+
+    /// The number of a node that occurs, and 0 of any other.
+    #[inline]
+    pub fn of(&self, id: u32) -> u32 {
+        self.numbers.get(id).unwrap_or(0)
+    }
+
+    /// The IDs of the nodes that occur, by number.
+    pub fn ids(&self) -> &[u32] {
+        &self.ids
+    }
+}

@@ -1,0 +1,131 @@
+//! Numbers that a method reckons with.
+
+/// A whole number: of 64 bits where all that is reckoned fits, else of 128. Sums and products wrap.
+pub(crate) trait Number: Copy + Ord {
+    fn of(value: i64) -> Self;
+
+    /// The number of this value; 0 where it doesn't fit.
+    fn of_wide(value: i128) -> Self;
+
+    /// The value; 0 where it doesn't fit.
+    fn narrow(self) -> i64;
+
+    fn wide(self) -> i128;
+
+    fn greatest() -> Self;
+
+    fn plus(self, other: Self) -> Self;
+
+    fn minus(self, other: Self) -> Self;
+
+    fn times(self, factor: Self) -> Self;
+
+    fn doubled(self, times: u32) -> Self;
+
+    /// Rounded down.
+    fn halved(self, times: u32) -> Self;
+}
+
+impl Number for i64 {
+    #[inline(always)]
+    fn of(value: i64) -> i64 {
+        value
+    }
+
+    #[inline(always)]
+    fn of_wide(value: i128) -> i64 {
+        i64::try_from(value).unwrap_or(0)
+    }
+
+    #[inline(always)]
+    fn narrow(self) -> i64 {
+        self
+    }
+
+    #[inline(always)]
+    fn wide(self) -> i128 {
+        i128::from(self)
+    }
+
+    #[inline(always)]
+    fn greatest() -> i64 {
+        i64::MAX
+    }
+
+    #[inline(always)]
+    fn plus(self, other: i64) -> i64 {
+        self.wrapping_add(other)
+    }
+
+    #[inline(always)]
+    fn minus(self, other: i64) -> i64 {
+        self.wrapping_sub(other)
+    }
+
+    #[inline(always)]
+    fn times(self, factor: i64) -> i64 {
+        self.wrapping_mul(factor)
+    }
+
+    #[inline(always)]
+    fn doubled(self, times: u32) -> i64 {
+        self.wrapping_shl(times)
+    }
+
+    #[inline(always)]
+    fn halved(self, times: u32) -> i64 {
+        self.wrapping_shr(times)
+    }
+}
+
+impl Number for i128 {
+    #[inline(always)]
+    fn of(value: i64) -> i128 {
+        i128::from(value)
+    }
+
+    #[inline(always)]
+    fn of_wide(value: i128) -> i128 {
+        value
+    }
+
+    #[inline(always)]
+    fn narrow(self) -> i64 {
+        i64::try_from(self).unwrap_or(0)
+    }
+
+    #[inline(always)]
+    fn wide(self) -> i128 {
+        self
+    }
+
+    #[inline(always)]
+    fn greatest() -> i128 {
+        i128::MAX
+    }
+
+    #[inline(always)]
+    fn plus(self, other: i128) -> i128 {
+        self.wrapping_add(other)
+    }
+
+    #[inline(always)]
+    fn minus(self, other: i128) -> i128 {
+        self.wrapping_sub(other)
+    }
+
+    #[inline(always)]
+    fn times(self, factor: i128) -> i128 {
+        self.wrapping_mul(factor)
+    }
+
+    #[inline(always)]
+    fn doubled(self, times: u32) -> i128 {
+        self.wrapping_shl(times)
+    }
+
+    #[inline(always)]
+    fn halved(self, times: u32) -> i128 {
+        self.wrapping_shr(times)
+    }
+}

@@ -1,0 +1,178 @@
+//! Potentials for a flow that is claimed to be least, or a cycle of residual arcs that makes it cheaper.
+//!
+//! A residual arc leads along an arc that can carry more, at the arc's cost, or back along one that can carry less, at
+//! what that saves. Distances are slack potentials, with the other sign, where no residual arc leads to a node that is
+//! farther from its beginning than it costs. They are looked for in four stages, each of which may be the last one:
+//!
+//! 1. An arc that can carry both more and less fixes how far its ends are apart. Nodes that such arcs join are one group:
+//!    within it a node has a shift, and the group has a distance.
+//! 2. What remains are links, residual arcs between groups. Rounds over all links, forth and back, lower the distances.
+//! 3. Where that would take many rounds, a group with one link into it, or out of it, is joined to the other end.
+//! 4. Groups that were lowered wait in a queue, and the links out of each are looked at in turn. The tree of the links
+//!    that lowered last is kept: what hangs on a group that is lowered is lowered with it, or leaves the tree until it is
+//!    reached again. A group that would be lowered from one that hangs on it closes a cycle.
+//!
+//! Nothing of it is promised: who asks tests the potentials, or the cycle.
+
+mod claim;
+mod cycle;
+mod groups;
+mod join;
+mod links;
+mod listing;
+mod numbering;
+mod rounds;
+mod search;
+mod step;
+mod tables;
+mod tight;
+mod tree;
+mod waiting;
+
+use crate::number::Number;
+use crate::potentials::claim::Claim;
+use crate::potentials::cycle::{cycle_over, cycle_within};
+use crate::potentials::groups::{Groups, Places};
+use crate::potentials::join::joints;
+use crate::potentials::links::{Link, Linked, all_links, joined_links};
+use crate::potentials::listing::Listing;
+use crate::potentials::rounds::settled_by_rounds;
+use crate::potentials::search::{End, lower_all};
+use crate::potentials::tables::member;
+use crate::potentials::tree::Tree;
+pub use claim::ResidualArc;
+use dimacs_claims::Potentials;
+use dimacs_instance::{MinInstance, Network};
+use dimacs_lines::{Memory, WIDE};
+use std::alloc::Global;
+
+/// What is thought of a flow.
+#[derive(Drop)]
+pub enum Guess {
+    /// It is least: these potentials are slack.
+    Least(Potentials),
+    /// It isn't: these residual arcs are a cycle and cost less than 0 together. Each begins where the one before it ends,
+    /// and the first where the last ends.
+    Cycle(Vec<ResidualArc>),
+    /// It took too long. These potentials are a start for another method.
+    GaveUp(Potentials),
+}
+
+/// Links and groups that the search may look at, for each arc and each node.
+const BUDGET: u64 = 256;
+
+/// Sums of a few walks fit 64 bits where all costs, without their signs, sum to less than this: 2^57.
+const NARROW: u128 = 144115188075855872;
+
+/// Looks for potentials under which a flow is slack, or for a cycle that makes it cheaper. The amounts are those of the
+/// arcs in their order, within the bounds. Takes memory by the arcs, and by the nodes that have one.
+pub fn guess_potentials<N: Network>(
+    alloc: Global,
+    instance: &MinInstance<N>,
+    amounts: &[i64],
+) -> Result<Guess, Memory> {
+    let claim = Claim::new(alloc, instance, amounts)?;
+    if claim.cost_sum() < NARROW {
+        tie_and_link::<N, i64>(alloc, &claim)
+    } else {
+        tie_and_link::<N, i128>(alloc, &claim)
+    }
+}
+
+/// The first two stages.
+fn tie_and_link<N: Network, V: Number>(
+    alloc: Global,
+    claim: &Claim<'_, N>,
+) -> Result<Guess, Memory> {
+    let mut groups: Groups<V> = Groups::apart(alloc, claim.nodes())?;
+    let tied = groups.tie_all(claim);
+    let places = groups.places(alloc)?;
+    if !tied {
+        return torn(alloc, claim, &places);
+    }
+    let Linked::Links(links) = all_links(alloc, claim, &places)? else {
+        return torn(alloc, claim, &places);
+    };
+    let mut distances = vec![in alloc; V::of(0); places.groups() as usize]?;
+    if settled_by_rounds(&links, &mut distances) {
+        let potentials = potentials(alloc, claim, &places, &distances)?;
+        return Ok(Guess::Least(potentials));
+    }
+    drop(distances);
+    join_and_settle(alloc, claim, places, links)
+}
+
+/// The third stage.
+fn join_and_settle<N: Network, V: Number>(
+    alloc: Global,
+    claim: &Claim<'_, N>,
+    places: Places<V>,
+    links: Vec<Link<V>>,
+) -> Result<Guess, Memory> {
+    let Some(joints) = joints(alloc, &links, places.groups())? else {
+        return settle(alloc, claim, &places, links);
+    };
+    let mut places = places;
+    places.join(&joints);
+    match joined_links(links, &joints) {
+        Linked::Links(links) => settle(alloc, claim, &places, links),
+        Linked::Torn => torn(alloc, claim, &places),
+    }
+}
+
+/// The fourth stage.
+fn settle<N: Network, V: Number>(
+    alloc: Global,
+    claim: &Claim<'_, N>,
+    places: &Places<V>,
+    links: Vec<Link<V>>,
+) -> Result<Guess, Memory> {
+    let groups = places.groups();
+    let links = Listing::new(alloc, &links, groups)?;
+    let mut tree = Tree::new(alloc, groups)?;
+    let budget = (u64::from(claim.arcs()) + u64::from(claim.nodes())) * BUDGET;
+    match lower_all(alloc, &links, &mut tree, budget)? {
+        End::Settled => {
+            let potentials = potentials(alloc, claim, places, tree.distances())?;
+            Ok(Guess::Least(potentials))
+        }
+        End::Cycle(way) => {
+            let cycle = cycle_over(alloc, claim, places, &way)?;
+            Ok(Guess::Cycle(cycle))
+        }
+        End::TooLong => {
+            let potentials = potentials(alloc, claim, places, tree.distances())?;
+            Ok(Guess::GaveUp(potentials))
+        }
+    }
+}
+
+/// Where a residual arc within a group costs too little.
+fn torn<N: Network, V: Number>(
+    alloc: Global,
+    claim: &Claim<'_, N>,
+    places: &Places<V>,
+) -> Result<Guess, Memory> {
+    let cycle = cycle_within(alloc, claim, places)?;
+    Ok(Guess::Cycle(cycle))
+}
+
+/// The distances of nodes with the other sign.
+fn potentials<N: Network, V: Number>(
+    alloc: Global,
+    claim: &Claim<'_, N>,
+    places: &Places<V>,
+    distances: &[V],
+) -> Result<Potentials, Memory> {
+    let mut potentials = Potentials::new(alloc, claim.instance().network().nodes());
+    for number in 0..claim.nodes() {
+        let place = places.of(number);
+        let distance = member(distances, place.group, V::of(0)).plus(place.shift);
+        let value = V::of(0).minus(distance).wide();
+        let id = claim.id(number);
+        if 1 <= id && id <= potentials.nodes() && value != 0 && -WIDE <= value && value <= WIDE {
+            potentials.set(id, value)?;
+        }
+    }
+    Ok(potentials)
+}

@@ -1,0 +1,108 @@
+//! The flow that is claimed to be least, and the residual arcs that it leaves.
+
+use crate::potentials::numbering::Numbering;
+use dimacs_instance::{ArcView, MinInstance, Network, Side};
+use dimacs_lines::Memory;
+use std::alloc::Global;
+
+/// An arc along which more can be sent: from its tail, or back from its head.
+#[derive(Clone, Copy)]
+pub struct ResidualArc {
+    /// The index of the arc, from 0.
+    pub arc: u32,
+    pub side: Side,
+}
+
+/// Whether an arc can carry more, and whether it can carry less.
+#[derive(Clone, Copy)]
+pub(crate) struct Room {
+    pub more: bool,
+    pub less: bool,
+}
+
+/// A flow that is claimed to be least.
+#[derive(Drop)]
+pub(crate) struct Claim<'a, N: Network> {
+    instance: &'a MinInstance<N>,
+    /// What the arcs carry, in their order.
+    amounts: &'a [i64],
+    numbering: Numbering,
+}
+
+impl<'a, N: Network> Claim<'a, N> {
+    pub(crate) fn new(
+        alloc: Global,
+        instance: &'a MinInstance<N>,
+        amounts: &'a [i64],
+    ) -> Result<Claim<'a, N>, Memory> {
+        let numbering = Numbering::new(alloc, instance.network())?;
+        Ok(Claim {
+            instance,
+            amounts,
+            numbering,
+        })
+    }
+
+    pub(crate) fn instance(&self) -> &'a MinInstance<N> {
+        self.instance
+    }
+
+    /// The number of arcs.
+    #[inline(always)]
+    pub(crate) fn arcs(&self) -> u32 {
+        self.instance.network().arcs()
+    }
+
+    /// The arc of an index.
+    #[inline(always)]
+    pub(crate) fn arc(&self, i: u32) -> Option<ArcView> {
+        let network = self.instance.network();
+        if i < network.arcs() {
+            Some(network.arc(i))
+        } else {
+            None
+        }
+    }
+
+    /// The room of the arc of an index.
+    #[inline(always)]
+    pub(crate) fn room(&self, i: u32, arc: ArcView) -> Room {
+        match self.amounts.get(i as usize) {
+            Some(&amount) => Room {
+                more: amount < arc.cap,
+                less: arc.low < amount,
+            },
+            None => Room {
+                more: false,
+                less: false,
+            },
+        }
+    }
+
+    /// The number of a node that has an arc.
+    #[inline(always)]
+    pub(crate) fn number(&self, id: u32) -> u32 {
+        self.numbering.of(id)
+    }
+
+    /// All numbers of nodes are less.
+    pub(crate) fn nodes(&self) -> u32 {
+        self.numbering.count()
+    }
+
+    /// The node of a number, 0 where there is none.
+    pub(crate) fn id(&self, number: u32) -> u32 {
+        self.numbering.id(number)
+    }
+
+    /// The sum of all costs without sign.
+    pub(crate) fn cost_sum(&self) -> u128 {
+        let mut sum: u128 = 0;
+        for i in 0..self.arcs() {
+            if let Some(arc) = self.arc(i) {
+                sum = sum.wrapping_add(u128::from(arc.cost.unsigned_abs()));
+            }
+        }
+        sum
+    }
+}

@@ -1,0 +1,156 @@
+//! The residual arcs of a cycle that costs less than nothing.
+
+use crate::number::Number;
+use crate::potentials::claim::{Claim, ResidualArc};
+use crate::potentials::groups::Places;
+use crate::potentials::step::Step;
+use crate::potentials::tables::{member, set_member};
+use crate::potentials::tight::Tight;
+use dimacs_instance::{Network, Side};
+use dimacs_lines::Memory;
+use std::alloc::Global;
+
+/// The cheapest step from a group to the next one of a cycle.
+#[derive(Clone, Copy)]
+struct Cheapest<V> {
+    cost: V,
+    next: u32,
+    step: Option<Step<V>>,
+}
+
+/// A cycle over these groups: a cheapest step from each to the next one, and tight steps within them.
+pub(crate) fn cycle_over<N: Network, V: Number>(
+    alloc: Global,
+    claim: &Claim<'_, N>,
+    places: &Places<V>,
+    groups: &[u32],
+) -> Result<Vec<ResidualArc>, Memory> {
+    let none = Cheapest {
+        cost: V::greatest(),
+        next: u32::MAX,
+        step: None,
+    };
+    let mut cheapest = vec![in alloc; none; places.groups() as usize]?;
+    set_next(&mut cheapest, groups, none);
+    for i in 0..claim.arcs() {
+        compare(claim, places, i, Side::Tail, &mut cheapest);
+        compare(claim, places, i, Side::Head, &mut cheapest);
+    }
+    let steps = steps_of(alloc, groups, &cheapest, none)?;
+    close(alloc, claim, places, &steps)
+}
+
+/// A cycle with a step that costs less than the way within its group from its beginning to its end. Empty where there is
+/// none.
+pub(crate) fn cycle_within<N: Network, V: Number>(
+    alloc: Global,
+    claim: &Claim<'_, N>,
+    places: &Places<V>,
+) -> Result<Vec<ResidualArc>, Memory> {
+    let mut steps = Vec::new(alloc);
+    if let Some(step) = first_too_cheap(claim, places) {
+        steps.push(step)?;
+    }
+    close(alloc, claim, places, &steps)
+}
+
+/// The first step that costs less than the way within its group.
+fn first_too_cheap<N: Network, V: Number>(
+    claim: &Claim<'_, N>,
+    places: &Places<V>,
+) -> Option<Step<V>> {
+    for i in 0..claim.arcs() {
+        let forth = too_cheap(claim, places, i, Side::Tail);
+        let either = forth.or(too_cheap(claim, places, i, Side::Head));
+        if either.is_some() {
+            return either;
+        }
+    }
+    None
+}
+
+/// The step of an arc from a side, if it costs less than the way within its group.
+fn too_cheap<N: Network, V: Number>(
+    claim: &Claim<'_, N>,
+    places: &Places<V>,
+    i: u32,
+    side: Side,
+) -> Option<Step<V>> {
+    let step = Step::of(claim, i, side)?;
+    let excess = step.excess(places)?;
+    if excess < V::of(0) { Some(step) } else { None }
+}
+
+/// Tells each group of a cycle which one is next.
+fn set_next<V: Number>(cheapest: &mut [Cheapest<V>], groups: &[u32], none: Cheapest<V>) {
+    let Some(&last) = groups.last() else {
+        return;
+    };
+    let mut before = last;
+    for group in groups {
+        let next = Cheapest {
+            next: *group,
+            ..none
+        };
+        set_member(cheapest, before, next);
+        before = *group;
+    }
+}
+
+/// Keeps the step of an arc from a side, if it leads from a group to the next one and is the cheapest so far.
+fn compare<N: Network, V: Number>(
+    claim: &Claim<'_, N>,
+    places: &Places<V>,
+    i: u32,
+    side: Side,
+    cheapest: &mut [Cheapest<V>],
+) {
+    let Some(step) = Step::of(claim, i, side) else {
+        return;
+    };
+    let link = step.link(places);
+    let Some(best) = cheapest.get_mut(link.from as usize) else {
+        return;
+    };
+    if link.to == best.next && link.cost < best.cost {
+        best.cost = link.cost;
+        best.step = Some(step);
+    }
+}
+
+/// The step from each group to the next one.
+fn steps_of<V: Number>(
+    alloc: Global,
+    groups: &[u32],
+    cheapest: &[Cheapest<V>],
+    none: Cheapest<V>,
+) -> Result<Vec<Step<V>>, Memory> {
+    let mut steps = Vec::with_capacity(alloc, groups.len())?;
+    for group in groups {
+        if let Some(step) = member(cheapest, *group, none).step {
+            steps.push(step)?;
+        }
+    }
+    Ok(steps)
+}
+
+/// Joins these steps to a cycle by tight ones within groups.
+fn close<N: Network, V: Number>(
+    alloc: Global,
+    claim: &Claim<'_, N>,
+    places: &Places<V>,
+    steps: &[Step<V>],
+) -> Result<Vec<ResidualArc>, Memory> {
+    let mut cycle = Vec::new(alloc);
+    let Some(&last) = steps.last() else {
+        return Ok(cycle);
+    };
+    let mut tight = Tight::new(alloc, claim, places)?;
+    let mut before = last;
+    for step in steps {
+        tight.connect(before.to, step.from, &mut cycle)?;
+        cycle.push(step.arc)?;
+        before = *step;
+    }
+    Ok(cycle)
+}

@@ -1,0 +1,188 @@
+//! Groups of nodes that are known distances apart.
+
+use crate::number::Number;
+use crate::potentials::claim::Claim;
+use crate::potentials::tables::{count_of, member, set_member};
+use dimacs_instance::Network;
+use dimacs_lines::Memory;
+use std::alloc::Global;
+
+/// Where a node stands in a group.
+#[derive(Clone, Copy)]
+pub(crate) struct Place<V> {
+    /// How much farther the node is than the group.
+    pub shift: V,
+    pub group: u32,
+}
+
+/// The place of each node in its group. Groups have numbers from 0.
+#[derive(Drop)]
+pub(crate) struct Places<V> {
+    places: Vec<Place<V>>,
+    groups: u32,
+}
+
+/// Sets that are being joined, as trees: each node tells the one above it, and how much farther it is than that; a root
+/// tells itself.
+#[derive(Drop)]
+pub(crate) struct Groups<V> {
+    above: Vec<Place<V>>,
+}
+
+impl<V: Number> Places<V> {
+    /// How many groups there are.
+    pub(crate) fn groups(&self) -> u32 {
+        self.groups
+    }
+
+    #[inline(always)]
+    pub(crate) fn of(&self, node: u32) -> Place<V> {
+        place_of(&self.places, node)
+    }
+
+    /// The places, by the numbers of the nodes.
+    pub(crate) fn all(&self) -> &[Place<V>] {
+        &self.places
+    }
+
+    /// The same places where the groups were joined to groups of groups.
+    pub(crate) fn join(&mut self, joints: &Places<V>) {
+        for place in self.places.iter_mut() {
+            let joint = joints.of(place.group);
+            *place = Place {
+                shift: place.shift.plus(joint.shift),
+                group: joint.group,
+            };
+        }
+        self.groups = joints.groups;
+    }
+}
+
+impl<V: Number> Groups<V> {
+    /// Each node is a group of its own.
+    pub(crate) fn apart(alloc: Global, nodes: u32) -> Result<Groups<V>, Memory> {
+        let mut above = Vec::with_capacity(alloc, nodes as usize)?;
+        for node in 0..nodes {
+            above.push(Place {
+                shift: V::of(0),
+                group: node,
+            })?;
+        }
+        Ok(Groups { above })
+    }
+
+    /// The root of a node's group. On the way every second node is put below the one above the one above it.
+    #[inline(always)]
+    pub(crate) fn find(&mut self, node: u32) -> Place<V> {
+        let mut at = node;
+        let mut sum = V::of(0);
+        for _ in 0..u32::MAX {
+            let first = place_of(&self.above, at);
+            let second = place_of(&self.above, first.group);
+            if second.group == first.group {
+                return Place {
+                    shift: sum.plus(first.shift),
+                    group: first.group,
+                };
+            }
+            let both = Place {
+                shift: first.shift.plus(second.shift),
+                group: second.group,
+            };
+            set_member(&mut self.above, at, both);
+            at = both.group;
+            sum = sum.plus(both.shift);
+        }
+        Place {
+            shift: sum,
+            group: at,
+        }
+    }
+
+    /// Whether nothing was put above a node.
+    #[inline(always)]
+    pub(crate) fn is_root(&self, node: u32) -> bool {
+        place_of(&self.above, node).group == node
+    }
+
+    /// Puts one node so much farther than another. False where it is known to be at another distance.
+    pub(crate) fn tie(&mut self, from: u32, to: u32, cost: V) -> bool {
+        let here = self.find(from);
+        let there = self.find(to);
+        let shift = here.shift.plus(cost).minus(there.shift);
+        if here.group == there.group {
+            return shift == V::of(0);
+        }
+        let below = Place {
+            shift,
+            group: here.group,
+        };
+        set_member(&mut self.above, there.group, below);
+        true
+    }
+
+    /// Ties the ends of all arcs that can carry both more and less. Stops with false at one that contradicts those
+    /// before it.
+    pub(crate) fn tie_all<N: Network>(&mut self, claim: &Claim<'_, N>) -> bool {
+        for i in 0..claim.arcs() {
+            let Some(arc) = claim.arc(i) else {
+                continue;
+            };
+            let room = claim.room(i, arc);
+            if room.more && room.less {
+                let tail = claim.number(arc.tail);
+                let head = claim.number(arc.head);
+                if !self.tie(tail, head, V::of(arc.cost)) {
+                    return false;
+                }
+            }
+        }
+        true
+    }
+
+    /// Numbers the groups.
+    pub(crate) fn places(mut self, alloc: Global) -> Result<Places<V>, Memory> {
+        let nodes = count_of(&self.above);
+        let nowhere = Place {
+            shift: V::of(0),
+            group: 0,
+        };
+        let mut places = vec![in alloc; nowhere; nodes as usize]?;
+        let groups = self.number_roots(&mut places);
+        for node in 0..nodes {
+            let root = self.find(node);
+            let own = Place {
+                shift: root.shift,
+                group: place_of(&places, root.group).group,
+            };
+            set_member(&mut places, node, own);
+        }
+        Ok(Places { places, groups })
+    }
+
+    /// Numbers the groups at their roots. Gives how many there are.
+    fn number_roots(&self, places: &mut [Place<V>]) -> u32 {
+        let mut groups: u32 = 0;
+        for node in 0..count_of(&self.above) {
+            if self.is_root(node) {
+                let own = Place {
+                    shift: V::of(0),
+                    group: groups,
+                };
+                set_member(places, node, own);
+                groups = groups.wrapping_add(1);
+            }
+        }
+        groups
+    }
+}
+
+/// The place of a node; a group of its own past the end.
+#[inline(always)]
+fn place_of<V: Number>(places: &[Place<V>], node: u32) -> Place<V> {
+    let past = Place {
+        shift: V::of(0),
+        group: node,
+    };
+    member(places, node, past)
+}

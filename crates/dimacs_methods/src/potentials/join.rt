@@ -1,0 +1,195 @@
+//! Joining groups that have one way in, or one way out.
+
+use crate::number::Number;
+use crate::potentials::groups::{Groups, Places};
+use crate::potentials::links::Link;
+use crate::potentials::tables::{count_of, member, set_member};
+use dimacs_lines::Memory;
+use std::alloc::Global;
+
+/// How many links lead into a group, or out of it, and the exclusive or of their numbers: where there is one, it is its
+/// number.
+#[derive(Clone, Copy)]
+struct Degree {
+    count: u32,
+    mix: u32,
+}
+
+const NO_DEGREE: Degree = Degree { count: 0, mix: 0 };
+
+/// Groups that are being joined along links.
+#[derive(Drop)]
+struct Joining<'a, V> {
+    links: &'a [Link<V>],
+    groups: Groups<V>,
+    into: Vec<Degree>,
+    out: Vec<Degree>,
+    /// Groups that may have one link into them or out of them.
+    todo: Vec<u32>,
+    joined: u32,
+}
+
+/// Joins groups with one link into them, or out of them, to the group at its other end: distances exist where they exist
+/// with this link tight. None where few can be joined.
+pub(crate) fn joints<V: Number>(
+    alloc: Global,
+    links: &[Link<V>],
+    groups: u32,
+) -> Result<Option<Places<V>>, Memory> {
+    let mut joining = Joining::new(alloc, links, groups)?;
+    joining.run()?;
+    if joining.joined < groups / 8 {
+        return Ok(None);
+    }
+    let places = joining.groups.places(alloc)?;
+    Ok(Some(places))
+}
+
+impl Degree {
+    #[inline(always)]
+    fn with(self, link: u32) -> Degree {
+        Degree {
+            count: self.count.wrapping_add(1),
+            mix: self.mix ^ link,
+        }
+    }
+
+    #[inline(always)]
+    fn without(self, link: u32) -> Degree {
+        Degree {
+            count: self.count.wrapping_sub(1),
+            mix: self.mix ^ link,
+        }
+    }
+}
+
+impl<'a, V: Number> Joining<'a, V> {
+    fn new(alloc: Global, links: &'a [Link<V>], count: u32) -> Result<Joining<'a, V>, Memory> {
+        let mut joining = Joining {
+            links,
+            groups: Groups::apart(alloc, count)?,
+            into: vec![in alloc; NO_DEGREE; count as usize]?,
+            out: vec![in alloc; NO_DEGREE; count as usize]?,
+            todo: Vec::new(alloc),
+            joined: 0,
+        };
+        joining.count_links();
+        for group in 0..count {
+            joining.ask(group)?;
+        }
+        Ok(joining)
+    }
+
+    fn count_links(&mut self) {
+        let mut number: u32 = 0;
+        for link in self.links {
+            let out = degree_of(&self.out, link.from).with(number);
+            set_member(&mut self.out, link.from, out);
+            let into = degree_of(&self.into, link.to).with(number);
+            set_member(&mut self.into, link.to, into);
+            number = number.wrapping_add(1);
+        }
+    }
+
+    /// Remembers a group that has one link into it or out of it.
+    fn ask(&mut self, group: u32) -> Result<(), Memory> {
+        if self.only_link(group).is_some() {
+            self.todo.push(group)?;
+        }
+        Ok(())
+    }
+
+    fn run(&mut self) -> Result<(), Memory> {
+        for _ in 0..u64::MAX {
+            let Some(group) = self.todo.pop() else {
+                break;
+            };
+            if self.groups.is_root(group) {
+                self.join(group)?;
+            }
+        }
+        Ok(())
+    }
+
+    /// The number of the only link into a group, or else of the only one out of it.
+    fn only_link(&self, group: u32) -> Option<u32> {
+        let into = degree_of(&self.into, group);
+        let out = degree_of(&self.out, group);
+        if into.count == 1 {
+            Some(into.mix)
+        } else if out.count == 1 {
+            Some(out.mix)
+        } else {
+            None
+        }
+    }
+
+    /// Joins a group to the other end of its only link.
+    fn join(&mut self, group: u32) -> Result<(), Memory> {
+        let Some(number) = self.only_link(group) else {
+            return Ok(());
+        };
+        let Some(&link) = self.links.get(number as usize) else {
+            return Ok(());
+        };
+        let from = self.groups.find(link.from).group;
+        let to = self.groups.find(link.to).group;
+        if from == to || from != group && to != group {
+            return Ok(());
+        }
+        let back = self.other_link(group, number);
+        self.groups.tie(link.from, link.to, link.cost);
+        let root = self.groups.find(group).group;
+        merge(&mut self.into, from, to, root);
+        merge(&mut self.out, from, to, root);
+        self.leave_out(root, number);
+        if back != number && self.is_within(back) {
+            self.leave_out(root, back);
+        }
+        self.joined = self.joined.wrapping_add(1);
+        self.ask(root)
+    }
+
+    /// Of a group with one link into it and one out of it, the one that isn't this; else this.
+    fn other_link(&self, group: u32, number: u32) -> u32 {
+        let into = degree_of(&self.into, group);
+        let out = degree_of(&self.out, group);
+        if into.count == 1 && out.count == 1 {
+            into.mix ^ out.mix ^ number
+        } else {
+            number
+        }
+    }
+
+    /// Whether a link leads from a group to itself.
+    fn is_within(&mut self, number: u32) -> bool {
+        match self.links.get(number as usize) {
+            Some(&link) => self.groups.find(link.from).group == self.groups.find(link.to).group,
+            None => false,
+        }
+    }
+
+    /// Counts a link of a group to itself no longer.
+    fn leave_out(&mut self, group: u32, number: u32) {
+        let into = degree_of(&self.into, group).without(number);
+        set_member(&mut self.into, group, into);
+        let out = degree_of(&self.out, group).without(number);
+        set_member(&mut self.out, group, out);
+    }
+}
+
+/// Adds up the degrees of two groups that are joined.
+fn merge(degrees: &mut [Degree], one: u32, other: u32, root: u32) {
+    let a = degree_of(degrees, one);
+    let b = degree_of(degrees, other);
+    let sum = Degree {
+        count: a.count.wrapping_add(b.count),
+        mix: a.mix ^ b.mix,
+    };
+    set_member(degrees, root, sum);
+}
+
+#[inline(always)]
+fn degree_of(degrees: &[Degree], group: u32) -> Degree {
+    member(degrees, group, NO_DEGREE)
+}

@@ -1,0 +1,145 @@
+//! Residual arcs between groups.
+
+use crate::number::Number;
+use crate::potentials::claim::Claim;
+use crate::potentials::groups::{Place, Places};
+use crate::potentials::listing::Listed;
+use crate::potentials::tables::{member, set_member};
+use dimacs_instance::Network;
+use dimacs_lines::Memory;
+use std::alloc::Global;
+
+/// A residual arc from one group to another, which is at most so much farther.
+#[derive(Clone, Copy)]
+pub(crate) struct Link<V> {
+    pub cost: V,
+    pub from: u32,
+    pub to: u32,
+}
+
+impl<V: Number> Listed for Link<V> {
+    #[inline(always)]
+    fn key(&self) -> u32 {
+        self.from
+    }
+}
+
+/// All links, unless a residual arc within a group costs too little.
+#[derive(Drop)]
+pub(crate) enum Linked<V> {
+    Links(Vec<Link<V>>),
+    Torn,
+}
+
+impl<V: Number> Link<V> {
+    /// The link of an arc that can carry more or can carry less, and not both.
+    #[inline(always)]
+    pub(crate) fn of<N: Network>(
+        claim: &Claim<'_, N>,
+        places: &Places<V>,
+        i: u32,
+    ) -> Option<Link<V>> {
+        let arc = claim.arc(i)?;
+        let room = claim.room(i, arc);
+        if room.more == room.less {
+            return None;
+        }
+        let tail = places.of(claim.number(arc.tail));
+        let head = places.of(claim.number(arc.head));
+        let cost = V::of(arc.cost);
+        if room.more {
+            Some(Link::between(tail, cost, head))
+        } else {
+            Some(Link::between(head, V::of(0).minus(cost), tail))
+        }
+    }
+
+    /// The link of a residual arc.
+    #[inline(always)]
+    pub(crate) fn between(near: Place<V>, cost: V, far: Place<V>) -> Link<V> {
+        Link {
+            cost: near.shift.plus(cost).minus(far.shift),
+            from: near.group,
+            to: far.group,
+        }
+    }
+
+    /// The same link where groups were joined.
+    #[inline(always)]
+    pub(crate) fn joined(self, joints: &Places<V>) -> Link<V> {
+        Link::between(joints.of(self.from), self.cost, joints.of(self.to))
+    }
+
+    #[inline(always)]
+    pub(crate) fn is_within(&self) -> bool {
+        self.from == self.to
+    }
+
+    /// Lowers the distance of the group that it leads to. Whether that was needed.
+    #[inline(always)]
+    fn lower(&self, distances: &mut [V]) -> bool {
+        let distance = member(distances, self.from, V::of(0)).plus(self.cost);
+        if member(distances, self.to, distance) <= distance {
+            return false;
+        }
+        set_member(distances, self.to, distance);
+        true
+    }
+}
+
+/// The links between groups.
+pub(crate) fn all_links<N: Network, V: Number>(
+    alloc: Global,
+    claim: &Claim<'_, N>,
+    places: &Places<V>,
+) -> Result<Linked<V>, Memory> {
+    let mut links = Vec::with_capacity(alloc, claim.arcs() as usize)?;
+    for i in 0..claim.arcs() {
+        let Some(link) = Link::of(claim, places, i) else {
+            continue;
+        };
+        if !link.is_within() {
+            links.push(link)?;
+        } else if link.cost < V::of(0) {
+            return Ok(Linked::Torn);
+        }
+    }
+    Ok(Linked::Links(links))
+}
+
+/// The links between groups that were joined.
+pub(crate) fn joined_links<V: Number>(links: Vec<Link<V>>, joints: &Places<V>) -> Linked<V> {
+    let mut links = links;
+    let mut torn = false;
+    links.retain_mut(|link| {
+        *link = link.joined(joints);
+        torn = torn || link.is_within() && link.cost < V::of(0);
+        !link.is_within()
+    });
+    if torn {
+        return Linked::Torn;
+    }
+    Linked::Links(links)
+}
+
+/// Looks at all links once, in their order. Gives how many lowered a distance.
+pub(crate) fn round_forth<V: Number>(links: &[Link<V>], distances: &mut [V]) -> usize {
+    let mut lowered: usize = 0;
+    for link in links {
+        if link.lower(distances) {
+            lowered = lowered.wrapping_add(1);
+        }
+    }
+    lowered
+}
+
+/// The same from the last link to the first.
+pub(crate) fn round_back<V: Number>(links: &[Link<V>], distances: &mut [V]) -> usize {
+    let mut lowered: usize = 0;
+    for link in links.iter().rev() {
+        if link.lower(distances) {
+            lowered = lowered.wrapping_add(1);
+        }
+    }
+    lowered
+}

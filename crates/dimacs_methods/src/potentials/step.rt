@@ -1,0 +1,61 @@
+//! Residual arcs with their ends and costs.
+
+use crate::number::Number;
+use crate::potentials::claim::{Claim, ResidualArc};
+use crate::potentials::groups::Places;
+use crate::potentials::links::Link;
+use crate::potentials::listing::Listed;
+use dimacs_instance::{Network, Side};
+
+/// A residual arc, between nodes by their numbers.
+#[derive(Clone, Copy)]
+pub(crate) struct Step<V> {
+    pub cost: V,
+    pub from: u32,
+    pub to: u32,
+    pub arc: ResidualArc,
+}
+
+/// Steps are listed by the node that they lead to.
+impl<V: Number> Listed for Step<V> {
+    #[inline(always)]
+    fn key(&self) -> u32 {
+        self.to
+    }
+}
+
+impl<V: Number> Step<V> {
+    /// The step along an arc from a side, if there is room.
+    pub(crate) fn of<N: Network>(claim: &Claim<'_, N>, i: u32, side: Side) -> Option<Step<V>> {
+        let arc = claim.arc(i)?;
+        let room = claim.room(i, arc);
+        let (has_room, cost) = match side {
+            Side::Tail => (room.more, V::of(arc.cost)),
+            Side::Head => (room.less, V::of(0).minus(V::of(arc.cost))),
+        };
+        if !has_room {
+            return None;
+        }
+        Some(Step {
+            cost,
+            from: claim.number(side.near(arc)),
+            to: claim.number(side.far(arc)),
+            arc: ResidualArc { arc: i, side },
+        })
+    }
+
+    /// It as a link between groups.
+    pub(crate) fn link(&self, places: &Places<V>) -> Link<V> {
+        Link::between(places.of(self.from), self.cost, places.of(self.to))
+    }
+
+    /// How much more it costs than the way from its beginning to its end, where these are in one group.
+    pub(crate) fn excess(&self, places: &Places<V>) -> Option<V> {
+        let link = self.link(places);
+        if link.is_within() {
+            Some(link.cost)
+        } else {
+            None
+        }
+    }
+}

@@ -1,0 +1,108 @@
+//! Ways within groups.
+
+use crate::number::Number;
+use crate::potentials::claim::{Claim, ResidualArc};
+use crate::potentials::groups::Places;
+use crate::potentials::listing::Listing;
+use crate::potentials::step::Step;
+use crate::potentials::tables::{member, set_member};
+use dimacs_instance::{Network, Side};
+use dimacs_lines::Memory;
+use std::alloc::Global;
+
+/// The steps within groups that cost no more than the way from their beginning to their end, and the ways over them that
+/// were found.
+#[derive(Drop)]
+pub(crate) struct Tight<V> {
+    steps: Listing<Step<V>>,
+    /// The step by which a way leads on from a node that was found.
+    onward: Vec<Option<Step<V>>>,
+    queue: Vec<u32>,
+}
+
+impl<V: Number> Tight<V> {
+    pub(crate) fn new<N: Network>(
+        alloc: Global,
+        claim: &Claim<'_, N>,
+        places: &Places<V>,
+    ) -> Result<Tight<V>, Memory> {
+        let mut steps = Vec::new(alloc);
+        for i in 0..claim.arcs() {
+            add_tight(claim, places, i, Side::Tail, &mut steps)?;
+            add_tight(claim, places, i, Side::Head, &mut steps)?;
+        }
+        let nodes = claim.nodes();
+        Ok(Tight {
+            steps: Listing::new(alloc, &steps, nodes)?,
+            onward: vec![in alloc; None; nodes as usize]?,
+            queue: Vec::new(alloc),
+        })
+    }
+
+    /// Adds a way with fewest steps from one node to another to the end of a path. A group is connected once.
+    pub(crate) fn connect(
+        &mut self,
+        from: u32,
+        to: u32,
+        path: &mut Vec<ResidualArc>,
+    ) -> Result<(), Memory> {
+        self.search(from, to)?;
+        let mut at = from;
+        for _ in 0..self.queue.len() {
+            if at == to {
+                break;
+            }
+            let Some(step) = member(&self.onward, at, None) else {
+                break;
+            };
+            path.push(step.arc)?;
+            at = step.to;
+        }
+        Ok(())
+    }
+
+    /// Searches back from one node, until it comes to another.
+    fn search(&mut self, from: u32, to: u32) -> Result<(), Memory> {
+        self.queue.clear();
+        self.queue.push(to)?;
+        for k in 0..u32::MAX {
+            let Some(&node) = self.queue.get(k as usize) else {
+                break;
+            };
+            if node == from {
+                break;
+            }
+            self.find_before(node, to)?;
+        }
+        Ok(())
+    }
+
+    /// Finds the nodes from which a step leads to this one.
+    fn find_before(&mut self, node: u32, to: u32) -> Result<(), Memory> {
+        for step in self.steps.of(node) {
+            let found = member(&self.onward, step.from, Some(*step)).is_some();
+            if !found && step.from != to {
+                set_member(&mut self.onward, step.from, Some(*step));
+                self.queue.push(step.from)?;
+            }
+        }
+        Ok(())
+    }
+}
+
+/// Adds the step of an arc from a side, if it is tight.
+fn add_tight<N: Network, V: Number>(
+    claim: &Claim<'_, N>,
+    places: &Places<V>,
+    i: u32,
+    side: Side,
+    steps: &mut Vec<Step<V>>,
+) -> Result<(), Memory> {
+    if let Some(step) = Step::of(claim, i, side)
+        && let Some(excess) = step.excess(places)
+        && excess == V::of(0)
+    {
+        steps.push(step)?;
+    }
+    Ok(())
+}

@@ -1,0 +1,251 @@
+//! The tree of the links that lowered distances last.
+
+use crate::number::Number;
+use crate::potentials::links::Link;
+use crate::potentials::listing::Listing;
+use crate::potentials::tables::{count_of, member, set_member};
+use crate::potentials::waiting::Waiting;
+use dimacs_lines::Memory;
+use std::alloc::Global;
+
+/// Where a group hangs. All that are in the tree stand in a ring, each before those that hang on it, and these before
+/// any others.
+#[derive(Clone, Copy)]
+struct Node {
+    parent: u32,
+    before: u32,
+    after: u32,
+    /// How many groups hang on it directly, or `OUT`.
+    children: u32,
+}
+
+/// In the place of a number of children, of a group that isn't in the tree.
+const OUT: u32 = u32::MAX;
+
+/// A part of the ring: a group and all that hangs on it.
+#[derive(Clone, Copy)]
+struct Part {
+    last: u32,
+    /// The group after the last one.
+    after: u32,
+}
+
+/// What becomes of the groups that hang on one that is lowered.
+#[derive(Clone, Copy)]
+enum Subtree<V> {
+    /// They change with it by so much.
+    Moves(V),
+    /// They leave the tree, until they are reached again.
+    Leaves,
+}
+
+/// While walking over subtrees cost at most so many times the links that were looked at, they are lowered with their
+/// roots. Without this limit deep trees are walked over again and again.
+const WALKS: u64 = 2;
+
+/// Distances of groups, and the link by which each was lowered last.
+#[derive(Drop)]
+pub(crate) struct Tree<V> {
+    distances: Vec<V>,
+    nodes: Vec<Node>,
+    pub waiting: Waiting,
+    /// How many links were looked at.
+    looked: u64,
+    /// Over how many groups walks went.
+    walked: u64,
+}
+
+impl<V: Number> Tree<V> {
+    /// All groups hang on one root, whose number is theirs.
+    pub(crate) fn new(alloc: Global, groups: u32) -> Result<Tree<V>, Memory> {
+        let root = groups;
+        let mut nodes = Vec::with_capacity(alloc, groups as usize + 1)?;
+        for group in 0..groups {
+            nodes.push(Node {
+                parent: root,
+                before: if group == 0 { root } else { group - 1 },
+                after: group + 1,
+                children: 0,
+            })?;
+        }
+        nodes.push(Node {
+            parent: root,
+            before: root.saturating_sub(1),
+            after: 0,
+            children: groups,
+        })?;
+        Ok(Tree {
+            distances: vec![in alloc; V::of(0); groups as usize]?,
+            nodes,
+            waiting: Waiting::new(alloc, groups)?,
+            looked: 0,
+            walked: 0,
+        })
+    }
+
+    /// How many groups there are.
+    pub(crate) fn groups(&self) -> u32 {
+        count_of(&self.distances)
+    }
+
+    pub(crate) fn distances(&self) -> &[V] {
+        &self.distances
+    }
+
+    /// What the search has cost: links that were looked at, and groups that were walked over.
+    #[inline(always)]
+    pub(crate) fn work(&self) -> u64 {
+        self.looked.wrapping_add(self.walked)
+    }
+
+    #[inline(always)]
+    pub(crate) fn distance(&self, group: u32) -> V {
+        member(&self.distances, group, V::of(0))
+    }
+
+    /// The group on which one hangs.
+    #[inline(always)]
+    pub(crate) fn parent(&self, group: u32) -> u32 {
+        self.node(group).parent
+    }
+
+    /// Looks at the links out of a group. Gives the group to which one leads that closes a cycle.
+    #[inline(always)]
+    pub(crate) fn look(&mut self, links: &Listing<Link<V>>, from: u32) -> Option<u32> {
+        if self.node(from).children == OUT {
+            return None;
+        }
+        let start = self.distance(from);
+        let links = links.of(from);
+        self.looked = self.looked.wrapping_add(links.len() as u64);
+        for link in links {
+            let distance = start.plus(link.cost);
+            let old = member(&self.distances, link.to, distance);
+            if distance < old && !self.lower(link.to, from, distance.minus(old)) {
+                return Some(link.to);
+            }
+        }
+        None
+    }
+
+    /// Lowers a group by a change below 0, and hangs it on another. False where that one hangs on it.
+    fn lower(&mut self, group: u32, parent: u32, change: V) -> bool {
+        let node = self.node(group);
+        if node.children == OUT {
+            self.reach(group, change);
+            self.hang(group, group, parent);
+            return true;
+        }
+        if self.walked > self.looked.wrapping_mul(WALKS) {
+            let Some(part) = self.walk(group, parent, &Subtree::Leaves) else {
+                return false;
+            };
+            self.cut(node, part);
+            self.reach(group, change);
+            self.hang(group, group, parent);
+            return true;
+        }
+        let Some(part) = self.walk(group, parent, &Subtree::Moves(change)) else {
+            return false;
+        };
+        self.cut(node, part);
+        self.hang(group, part.last, parent);
+        true
+    }
+
+    /// Walks over a group and what hangs on it. None where `other` hangs on it.
+    #[inline(always)]
+    fn walk(&mut self, group: u32, other: u32, subtree: &Subtree<V>) -> Option<Part> {
+        let mut last = group;
+        let mut at = group;
+        let mut open: u32 = 1;
+        for _ in 0..u32::MAX {
+            if at == other {
+                return None;
+            }
+            let node = self.node(at);
+            open = open.wrapping_add(node.children).wrapping_sub(1);
+            last = at;
+            at = node.after;
+            self.walked = self.walked.wrapping_add(1);
+            self.pass(last, subtree);
+            if open == 0 {
+                break;
+            }
+        }
+        Some(Part { last, after: at })
+    }
+
+    #[inline(always)]
+    fn pass(&mut self, group: u32, subtree: &Subtree<V>) {
+        match subtree {
+            Subtree::Moves(change) => self.change(group, *change),
+            Subtree::Leaves => self.set_children(group, OUT),
+        }
+    }
+
+    /// Changes the distance of a group, which waits then.
+    #[inline(always)]
+    fn change(&mut self, group: u32, change: V) {
+        let distance = self.distance(group).plus(change);
+        set_member(&mut self.distances, group, distance);
+        self.waiting.push(group);
+    }
+
+    /// Changes the distance of a group that comes into the tree, with nothing that hangs on it.
+    #[inline(always)]
+    fn reach(&mut self, group: u32, change: V) {
+        self.change(group, change);
+        self.set_children(group, 0);
+    }
+
+    /// Takes the part out of the ring that begins with this node's group.
+    #[inline(always)]
+    fn cut(&mut self, node: Node, part: Part) {
+        self.neighbour(node.before, part.after);
+        let children = self.node(node.parent).children;
+        self.set_children(node.parent, children.wrapping_sub(1));
+    }
+
+    /// Puts a part of the ring, up to its last group, after another group, on which its first then hangs.
+    #[inline(always)]
+    fn hang(&mut self, first: u32, last: u32, parent: u32) {
+        let after = self.node(parent).after;
+        self.neighbour(parent, first);
+        self.neighbour(last, after);
+        let children = self.node(parent).children;
+        self.set_children(parent, children.wrapping_add(1));
+        if let Some(node) = self.nodes.get_mut(first as usize) {
+            node.parent = parent;
+        }
+    }
+
+    /// Puts one group right after another.
+    #[inline(always)]
+    fn neighbour(&mut self, before: u32, after: u32) {
+        if let Some(node) = self.nodes.get_mut(before as usize) {
+            node.after = after;
+        }
+        if let Some(node) = self.nodes.get_mut(after as usize) {
+            node.before = before;
+        }
+    }
+
+    #[inline(always)]
+    fn set_children(&mut self, group: u32, children: u32) {
+        if let Some(node) = self.nodes.get_mut(group as usize) {
+            node.children = children;
+        }
+    }
+
+    #[inline(always)]
+    fn node(&self, group: u32) -> Node {
+        let past = Node {
+            parent: group,
+            before: group,
+            after: group,
+            children: OUT,
+        };
+        member(&self.nodes, group, past)
+    }
+}

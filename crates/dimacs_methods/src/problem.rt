@@ -1,0 +1,131 @@
+//! An instance, as a method reckons with it.
+
+use crate::node_numbers::NodeNumbers;
+use dimacs_instance::{MinInstance, Network};
+use dimacs_lines::Memory;
+use std::alloc::Global;
+
+/// A minimum cost flow instance, and how great the numbers in it are.
+#[derive(Drop)]
+pub(crate) struct Problem<'a, N: Network> {
+    instance: &'a MinInstance<N>,
+    numbers: NodeNumbers,
+    /// The excess of each node, by number, where each arc carries its lower bound: its supply, with what comes in and
+    /// less what goes out. It is a deficit where it is negative.
+    excess: Vec<i128>,
+    /// The greatest cost, without sign.
+    greatest: i128,
+    /// The sum of all capacities.
+    capacity: i128,
+}
+
+/// How often 1 has to be doubled to be greater than these numbers.
+#[derive(Clone, Copy)]
+pub(crate) struct Bits {
+    pub nodes: u32,
+    pub cost: u32,
+}
+
+impl<'a, N: Network> Problem<'a, N> {
+    pub(crate) fn new(
+        alloc: Global,
+        instance: &'a MinInstance<N>,
+    ) -> Result<Problem<'a, N>, Memory> {
+        let numbers = NodeNumbers::new(alloc, instance)?;
+        let mut excess = Vec::with_capacity(alloc, numbers.ids().len())?;
+        for id in numbers.ids() {
+            excess.push(i128::from(instance.supply(*id)))?;
+        }
+        let mut problem = Problem {
+            instance,
+            numbers,
+            excess,
+            greatest: 0,
+            capacity: 0,
+        };
+        problem.look_at_arcs(instance.network());
+        Ok(problem)
+    }
+
+    fn look_at_arcs(&mut self, network: &N) {
+        for i in 0..network.arcs() {
+            let arc = network.arc(i);
+            self.greatest = self.greatest.max(i128::from(arc.cost).wrapping_abs());
+            self.capacity = self.capacity.wrapping_add(i128::from(arc.cap));
+            if arc.low > 0 {
+                let low = i128::from(arc.low);
+                self.add_excess(arc.tail, low.wrapping_neg());
+                self.add_excess(arc.head, low);
+            }
+        }
+    }
+
+    fn add_excess(&mut self, id: u32, amount: i128) {
+        let number = self.numbers.of(id) as usize;
+        if let Some(excess) = self.excess.get_mut(number) {
+            *excess = excess.wrapping_add(amount);
+        }
+    }
+
+    pub(crate) fn instance(&self) -> &'a MinInstance<N> {
+        self.instance
+    }
+
+    pub(crate) fn network(&self) -> &'a N {
+        self.instance.network()
+    }
+
+    /// The number of a node.
+    #[inline(always)]
+    pub(crate) fn number(&self, id: u32) -> u32 {
+        self.numbers.of(id)
+    }
+
+    /// The IDs of the nodes, by number.
+    pub(crate) fn ids(&self) -> &[u32] {
+        self.numbers.ids()
+    }
+
+    /// The excess of each node, by number.
+    pub(crate) fn excess(&self) -> &[i128] {
+        &self.excess
+    }
+
+    /// More than any path costs.
+    pub(crate) fn longest_path(&self) -> i128 {
+        let nodes = i128::try_from(self.excess.len()).unwrap_or(0);
+        self.greatest.wrapping_mul(nodes).wrapping_add(1)
+    }
+
+    /// The sum of all excesses and deficits.
+    pub(crate) fn imbalance(&self) -> i128 {
+        let mut sum: i128 = 0;
+        for amount in &self.excess {
+            sum = sum.wrapping_add(amount.wrapping_abs());
+        }
+        sum
+    }
+
+    /// No node has more excess or deficit, whatever the arcs carry.
+    pub(crate) fn greatest_excess(&self) -> i128 {
+        self.imbalance().wrapping_add(self.capacity)
+    }
+
+    /// How many arcs and nodes there are.
+    pub(crate) fn size(&self) -> u64 {
+        let nodes = u64::try_from(self.excess.len()).unwrap_or(0);
+        u64::from(self.network().arcs()).wrapping_add(nodes)
+    }
+
+    pub(crate) fn bits(&self) -> Bits {
+        let nodes = i128::try_from(self.excess.len()).unwrap_or(0);
+        Bits {
+            nodes: bits_of(nodes),
+            cost: bits_of(self.greatest),
+        }
+    }
+}
+
+fn bits_of(number: i128) -> u32 {
+    i128::BITS.wrapping_sub(number.leading_zeros())
+}

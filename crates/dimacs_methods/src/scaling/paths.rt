@@ -1,0 +1,135 @@
+//! Short paths over arcs of negative reduced cost.
+
+use crate::number::Number;
+use crate::scaling::residual::Node;
+use crate::scaling::{LONGEST, Scaling};
+use dimacs_lines::Memory;
+
+/// How a path leads on from a node.
+#[derive(Clone, Copy)]
+enum Step {
+    /// By the half at this place.
+    Along(u32),
+    /// It doesn't: the node's price was lowered.
+    Back,
+}
+
+/// What the halves at a node have from its cursor on.
+#[derive(Clone, Copy)]
+enum Scan<V> {
+    /// The first of negative reduced cost stands at this place.
+    Negative(u32),
+    /// None is of negative reduced cost, and this is the least.
+    Least(V),
+}
+
+impl<V: Number> Scaling<V> {
+    /// Finds a path from a node with excess, to a deficit or as far as paths go.
+    pub(crate) fn find_path(&mut self, start: u32) -> Result<(), Memory> {
+        self.path.clear();
+        let mut tip = start;
+        for _ in 0..u64::MAX {
+            let is_done = self.path.len() >= LONGEST || self.left == 0;
+            if is_done || self.residual.node(tip).excess < V::of(0) {
+                break;
+            }
+            match self.step(tip) {
+                Step::Along(place) => {
+                    let closes_cycle = self.path.contains(&place);
+                    self.path.push(place)?;
+                    if closes_cycle {
+                        break;
+                    }
+                    tip = self.residual.half(place).to;
+                }
+                Step::Back => {
+                    if let Some(place) = self.path.pop() {
+                        tip = self.residual.at(place);
+                    }
+                }
+            }
+        }
+        Ok(())
+    }
+
+    /// The next half of negative reduced cost at a node. Where there is none, the node's price is lowered.
+    #[inline(always)]
+    fn step(&mut self, number: u32) -> Step {
+        let node = self.residual.node(number);
+        match self.scan(&node) {
+            Scan::Negative(place) => {
+                self.look_from(number, place);
+                Step::Along(place)
+            }
+            Scan::Least(reduced) => {
+                self.relabel(number, reduced);
+                Step::Back
+            }
+        }
+    }
+
+    #[inline(always)]
+    fn scan(&self, node: &Node<V>) -> Scan<V> {
+        let mut least = V::greatest();
+        let mut place = node.cursor;
+        for half in self.residual.between(node.cursor, node.end) {
+            if half.room > 0 {
+                let reduced = self.residual.reduced(node.price, half);
+                if reduced < V::of(0) {
+                    return Scan::Negative(place);
+                }
+                least = least.min(reduced);
+            }
+            place = place.wrapping_add(1);
+        }
+        Scan::Least(least)
+    }
+
+    /// Lowers a node's price, so that some arc gets a negative reduced cost: the best one before the cursor, that by which
+    /// the path came, or one of this reduced cost. Where there is none, an update finds that.
+    fn relabel(&mut self, number: u32, least: V) {
+        let node = self.residual.node(number);
+        let mut least = least.min(self.reduced_back(node.price));
+        for half in self.residual.between(node.start, node.cursor) {
+            if half.room > 0 {
+                least = least.min(self.residual.reduced(node.price, half));
+            }
+        }
+        if least < V::greatest() {
+            let lowering = least.plus(V::of(1).doubled(self.level));
+            self.residual.lower(number, lowering);
+        }
+        self.look_from(number, node.start);
+        self.left = self.left.saturating_sub(1);
+    }
+
+    /// The reduced cost of the way back along the last arc of the path, to a node of this price. The greatest number
+    /// where there is none.
+    fn reduced_back(&self, price: V) -> V {
+        match self.path.last() {
+            Some(place) => {
+                let half = self.residual.half(*place);
+                let back = self.residual.half(half.back);
+                self.residual.reduced(price, &back)
+            }
+            None => V::greatest(),
+        }
+    }
+
+    /// Moves excess along the path, as much as each arc has room for.
+    pub(crate) fn send_along(&mut self, start: u32) -> Result<(), Memory> {
+        let mut from = start;
+        for place in &self.path {
+            let half = self.residual.half(*place);
+            let excess = self.residual.node(from).excess;
+            let amount = V::of(half.room).min(excess).narrow();
+            self.residual.send(from, *place, amount);
+            let after = self.residual.node(half.to).excess;
+            if after > V::of(0) && after <= V::of(amount) {
+                self.active.push_back(half.to)?;
+            }
+            from = half.to;
+        }
+        Ok(())
+    }
+}

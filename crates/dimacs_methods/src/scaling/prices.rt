@@ -1,0 +1,57 @@
+//! Potentials for costs that aren't scaled.
+
+use crate::number::Number;
+use crate::scaling::Scaling;
+use dimacs_lines::Memory;
+use std::alloc::Global;
+
+impl<V: Number> Scaling<V> {
+    /// The prices less a residue, divided by what costs were multiplied with, and rounded down.
+    ///
+    /// An arc with room whose scaled reduced cost is 0 or more then has one of 0 or more, whatever the residue is. So has
+    /// one of -1, unless the residue is that of the price of the node that it leads to. There are more residues than
+    /// nodes, so there is one that no such node has.
+    pub(crate) fn potentials(&self, alloc: Global) -> Result<Vec<i128>, Memory> {
+        let residue = self.free_residue(alloc)?;
+        let mut potentials = Vec::with_capacity(alloc, self.residual.nodes.len())?;
+        for node in &self.residual.nodes {
+            let price = node.price.wide().wrapping_sub(residue);
+            potentials.push(price.halved(self.doublings))?;
+        }
+        Ok(potentials)
+    }
+
+    fn free_residue(&self, alloc: Global) -> Result<i128, Memory> {
+        let taken = self.taken_residues(alloc)?;
+        let mut residue: i128 = 0;
+        for is_taken in &taken {
+            if !*is_taken {
+                return Ok(residue);
+            }
+            residue = residue.wrapping_add(1);
+        }
+        Ok(0)
+    }
+
+    /// The residues of the prices of nodes to which an arc of negative reduced cost leads.
+    fn taken_residues(&self, alloc: Global) -> Result<Vec<bool>, Memory> {
+        let residues = usize::try_from(1i128.doubled(self.doublings)).unwrap_or(0);
+        let mut taken = vec![in alloc; false; residues]?;
+        for node in &self.residual.nodes {
+            for half in self.residual.between(node.start, node.end) {
+                if half.room > 0 && self.residual.reduced(node.price, half) < V::of(0) {
+                    let residue = self.residue(self.residual.price(half.to));
+                    if let Some(is_taken) = taken.get_mut(residue) {
+                        *is_taken = true;
+                    }
+                }
+            }
+        }
+        Ok(taken)
+    }
+
+    fn residue(&self, price: V) -> usize {
+        let floor = price.halved(self.doublings).doubled(self.doublings);
+        usize::try_from(price.minus(floor).wide()).unwrap_or(0)
+    }
+}

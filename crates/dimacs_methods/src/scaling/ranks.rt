@@ -1,0 +1,87 @@
+//! Nodes by rank.
+
+use dimacs_lines::Memory;
+use std::alloc::Global;
+
+/// No node.
+const NONE: u32 = u32::MAX;
+
+#[derive(Clone, Copy)]
+struct Link {
+    before: u32,
+    after: u32,
+}
+
+/// The nodes of each rank, in lists from which any of them can be taken out.
+#[derive(Drop)]
+pub(crate) struct Ranks {
+    first: Vec<u32>,
+    links: Vec<Link>,
+}
+
+impl Ranks {
+    pub(crate) fn new(alloc: Global, ranks: usize, nodes: usize) -> Result<Ranks, Memory> {
+        let alone = Link {
+            before: NONE,
+            after: NONE,
+        };
+        Ok(Ranks {
+            first: vec![in alloc; NONE; ranks]?,
+            links: vec![in alloc; alone; nodes]?,
+        })
+    }
+
+    /// The number of ranks, which stands for that of a node that has none.
+    pub(crate) fn count(&self) -> u32 {
+        u32::try_from(self.first.len()).unwrap_or(u32::MAX)
+    }
+
+    /// Takes all nodes out.
+    pub(crate) fn clear(&mut self) {
+        self.first.fill(NONE);
+    }
+
+    #[inline(always)]
+    fn first(&self, rank: u32) -> u32 {
+        self.first.get(rank as usize).copied().unwrap_or(NONE)
+    }
+
+    pub(crate) fn put(&mut self, node: u32, rank: u32) {
+        let after = self.first(rank);
+        if let Some(link) = self.links.get_mut(node as usize) {
+            link.before = NONE;
+            link.after = after;
+        }
+        if let Some(link) = self.links.get_mut(after as usize) {
+            link.before = node;
+        }
+        if let Some(first) = self.first.get_mut(rank as usize) {
+            *first = node;
+        }
+    }
+
+    /// Takes a node out of its rank.
+    pub(crate) fn remove(&mut self, node: u32, rank: u32) {
+        let Some(link) = self.links.get(node as usize).copied() else {
+            return;
+        };
+        if let Some(earlier) = self.links.get_mut(link.before as usize) {
+            earlier.after = link.after;
+        } else if let Some(first) = self.first.get_mut(rank as usize) {
+            *first = link.after;
+        }
+        if let Some(later) = self.links.get_mut(link.after as usize) {
+            later.before = link.before;
+        }
+    }
+
+    /// Takes some node of this rank out.
+    pub(crate) fn take(&mut self, rank: u32) -> Option<u32> {
+        let node = self.first(rank);
+        if node == NONE {
+            return None;
+        }
+        self.remove(node, rank);
+        Some(node)
+    }
+}

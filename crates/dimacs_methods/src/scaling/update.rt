@@ -1,0 +1,160 @@
+//! Lowering prices by how far nodes are from a deficit.
+
+use crate::number::Number;
+use crate::scaling::Scaling;
+use crate::scaling::residual::{Half, Node};
+use dimacs_lines::Memory;
+use std::alloc::Global;
+
+impl<V: Number> Scaling<V> {
+    /// Lowers the price of each node by the tolerance for each rank between it and a deficit. `false` where some excess
+    /// reaches no deficit within the ranks.
+    pub(crate) fn update(&mut self) -> bool {
+        let count = self.count_of_ranks();
+        let mut left = self.rank_deficits();
+        for rank in 0..count {
+            left = left.minus(self.settle(rank, left));
+            if left <= V::of(0) {
+                self.lower(rank);
+                return true;
+            }
+        }
+        self.lower(count);
+        false
+    }
+
+    /// The number of ranks, which stands for that of a node that has none.
+    fn count_of_ranks(&self) -> u32 {
+        self.ranks.count()
+    }
+
+    /// Puts the nodes with a deficit at rank 0, all others at none. Gives the sum of excesses.
+    fn rank_deficits(&mut self) -> V {
+        self.ranks.clear();
+        let none = self.count_of_ranks();
+        let mut sum = V::of(0);
+        let mut number: u32 = 0;
+        for node in &mut self.residual.nodes {
+            node.rank = none;
+            if node.excess < V::of(0) {
+                node.rank = 0;
+                self.ranks.put(number, 0);
+            } else {
+                sum = sum.plus(node.excess);
+            }
+            number = number.wrapping_add(1);
+        }
+        sum
+    }
+
+    /// Goes over the nodes of a rank, as long as less excess than `left` was found at them. Gives how much was.
+    fn settle(&mut self, rank: u32, left: V) -> V {
+        let mut found = V::of(0);
+        for _ in 0..u64::MAX {
+            if found >= left {
+                break;
+            }
+            let Some(number) = self.ranks.take(rank) else {
+                break;
+            };
+            let node = self.residual.node(number);
+            for place in node.start..node.end {
+                let half = self.residual.half(place);
+                self.reach(&node, &half);
+            }
+            if node.excess > V::of(0) {
+                found = found.plus(node.excess);
+            }
+        }
+        found
+    }
+
+    /// Ranks the node from which an arc leads to this one, where it is nearer that way.
+    #[inline(always)]
+    fn reach(&mut self, node: &Node<V>, half: &Half<V>) {
+        let other = self.residual.node(half.to);
+        if other.rank <= node.rank {
+            return;
+        }
+        let gap = V::of(i64::from(other.rank.wrapping_sub(node.rank)));
+        let reduced = other.price.minus(node.price).minus(half.cost);
+        let farther = reduced.halved(self.level).plus(V::of(1)).max(V::of(0));
+        if farther >= gap || self.residual.room_back(half) == 0 {
+            return;
+        }
+        if other.rank < self.count_of_ranks() {
+            self.ranks.remove(half.to, other.rank);
+        }
+        let farther = u32::try_from(farther.narrow()).unwrap_or(0);
+        let rank = node.rank.wrapping_add(farther);
+        self.ranks.put(half.to, rank);
+        if let Some(other) = self.residual.nodes.get_mut(half.to as usize) {
+            other.rank = rank;
+        }
+    }
+
+    /// Lowers prices by ranks, up to this one.
+    fn lower(&mut self, most: u32) {
+        let level = self.level;
+        for node in &mut self.residual.nodes {
+            let rank = node.rank.min(most);
+            if rank > 0 {
+                node.price = node.price.minus(V::of(i64::from(rank)).doubled(level));
+                node.cursor = node.start;
+            }
+        }
+    }
+
+    /// Leaves the excess where it is at nodes that reach no deficit. `true` where there is some.
+    ///
+    /// No flow can leave these nodes any more, so that they stay cut off.
+    pub(crate) fn park(&mut self, alloc: Global) -> Result<bool, Memory> {
+        let reaching = self.reaching(alloc)?;
+        let mut parked = false;
+        for (node, reaches) in self.residual.nodes.iter_mut().zip(&reaching) {
+            if !*reaches && node.excess > V::of(0) {
+                node.excess = V::of(0);
+                parked = true;
+            }
+        }
+        Ok(parked)
+    }
+
+    /// Which nodes reach a deficit.
+    fn reaching(&self, alloc: Global) -> Result<Vec<bool>, Memory> {
+        let mut reaching = vec![in alloc; false; self.residual.nodes.len()]?;
+        let mut waiting = Vec::new(alloc);
+        let mut number: u32 = 0;
+        for node in &self.residual.nodes {
+            if node.excess < V::of(0) {
+                mark(&mut reaching, number);
+                waiting.push(number)?;
+            }
+            number = number.wrapping_add(1);
+        }
+        for _ in 0..u64::MAX {
+            let Some(number) = waiting.pop() else {
+                break;
+            };
+            let node = self.residual.node(number);
+            for half in self.residual.between(node.start, node.end) {
+                if self.residual.room_back(half) > 0 && mark(&mut reaching, half.to) {
+                    waiting.push(half.to)?;
+                }
+            }
+        }
+        Ok(reaching)
+    }
+}
+
+/// Marks a node; `false` where it was marked before.
+fn mark(marks: &mut [bool], number: u32) -> bool {
+    match marks.get_mut(number as usize) {
+        Some(mark) => {
+            let is_new = !*mark;
+            *mark = true;
+            is_new
+        }
+        None => false,
+    }
+}

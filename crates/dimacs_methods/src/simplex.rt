@@ -1,0 +1,237 @@
+//! Least cost flow by the primal network simplex.
+//!
+//! A spanning tree of the nodes and a root holds the arcs that may carry more than their lower bound and less than their
+//! capacity; every other arc carries one of the two. Potentials make the reduced cost of each tree arc 0: its cost, and
+//! the potential of its tail less that of its head. A pivot takes an arc whose reduced cost says that it should carry
+//! the other bound, moves flow round the cycle that it closes with the tree, and puts it in the place of an arc of the
+//! cycle that came to a bound. When no such arc is left, the flow costs least.
+//!
+//! At first each node hangs on the root by an artificial arc. Those that meet a deficit have a price that is greater
+//! than the cost of any path, so that they are left as soon as there is a path; one that still carries something at the
+//! end shows that no path is left.
+
+mod arcs;
+mod cycle;
+mod mixing;
+mod numbering;
+mod tree;
+
+use crate::number::Number;
+use crate::problem::Problem;
+use crate::simplex::arcs::{AT_CAP, AT_LOW, Arcs, IN_TREE};
+use crate::simplex::cycle::{Cycle, Leaving};
+use crate::simplex::mixing::Mixing;
+use crate::simplex::numbering::number_of;
+use crate::simplex::tree::{Hook, Tree};
+use dimacs_instance::Network;
+use dimacs_lines::Memory;
+use std::alloc::Global;
+
+/// Nodes are numbered again whenever so many have moved for each arc and node.
+const MOVES_PER_NUMBERING: u64 = 32;
+
+/// The least number of arcs that are looked at together.
+const LEAST_BLOCK: u32 = 10;
+
+/// After so many pivots for each node it is asked whether the method lags behind: whether more work than this was done,
+/// and more than one of so many nodes still hangs on the root by an artificial arc.
+const PIVOTS_BEFORE_ASKING: u64 = 2;
+
+const EARLY_WORK: u64 = 67108864;
+
+const ONE_OF: usize = 10;
+
+#[derive(Drop)]
+pub(crate) struct Simplex<V: Number> {
+    tree: Tree<V>,
+    arcs: Arcs<V>,
+    /// The number of arcs.
+    count: u32,
+    /// Where the next search begins, and how many arcs it looks at together.
+    at: u32,
+    block: u32,
+    /// How much may still be done, in arcs and nodes looked at, and how many nodes may move before they are numbered
+    /// again.
+    work: u64,
+    moves: u64,
+}
+
+impl<V: Number> Simplex<V> {
+    /// Each arc carries its lower bound. A deficit is met at a price greater than the cost of any path.
+    pub(crate) fn new<N: Network>(
+        alloc: Global,
+        problem: &Problem<'_, N>,
+    ) -> Result<Simplex<V>, Memory> {
+        let price = V::of_wide(problem.longest_path().wrapping_mul(2));
+        let count = problem.network().arcs();
+        Ok(Simplex {
+            tree: Tree::star(alloc, problem.excess(), price)?,
+            arcs: Arcs::new(alloc, problem)?,
+            count,
+            at: 0,
+            block: count.isqrt().max(LEAST_BLOCK),
+            work: 0,
+            moves: 1,
+        })
+    }
+
+    /// Pivots until no arc should change its state. `false` where that takes more than this much work, or seems to.
+    pub(crate) fn run(&mut self, alloc: Global, work: u64) -> Result<bool, Memory> {
+        let asked = u64::from(self.tree.root()).wrapping_mul(PIVOTS_BEFORE_ASKING);
+        self.work = work;
+        for pivots in 0..u64::MAX {
+            let Some(entering) = self.entering() else {
+                return Ok(true);
+            };
+            if self.work == 0 || pivots == asked && self.lags(work) {
+                return Ok(false);
+            }
+            self.pivot(entering);
+            if self.moves == 0 {
+                self.renumber(alloc)?;
+            }
+        }
+        Ok(false)
+    }
+
+    fn lags(&self, work: u64) -> bool {
+        let done = work.saturating_sub(self.work);
+        done > EARLY_WORK && self.tree.artificial_arcs() > self.tree.nodes.len() / ONE_OF
+    }
+
+    /// An arc that should change its state: the best one of the first block that has any, from after the last one on.
+    fn entering(&mut self) -> Option<u32> {
+        let mut left = self.count;
+        for _ in 0..self.count {
+            if left == 0 {
+                return None;
+            }
+            let start = if self.at >= self.count { 0 } else { self.at };
+            let end = start.saturating_add(self.block.min(left)).min(self.count);
+            let looked_at = end.wrapping_sub(start);
+            left = left.saturating_sub(looked_at);
+            self.at = end;
+            self.work = self.work.saturating_sub(u64::from(looked_at));
+            let best = self.arcs.best(&self.tree.potentials, start, end);
+            if best.is_some() {
+                return best;
+            }
+        }
+        None
+    }
+
+    /// Lets an arc enter.
+    fn pivot(&mut self, entering: u32) {
+        let price = self.arcs.price(entering);
+        let state = self.arcs.state(entering);
+        let room = V::of(self.arcs.room(entering));
+        let cycle = if state == AT_LOW {
+            Cycle::find(&self.tree, price.tail, price.head, room)
+        } else {
+            Cycle::find(&self.tree, price.head, price.tail, room)
+        };
+        self.work = self.work.saturating_sub(cycle.steps);
+        self.tree.augment(&cycle);
+        match cycle.leaving {
+            Leaving::Itself => self.arcs.set_state(entering, state.wrapping_neg()),
+            Leaving::OnFirst(out) => {
+                let hook = Hook {
+                    parent: cycle.second,
+                    arc: entering,
+                    up: room.minus(cycle.amount),
+                    down: cycle.amount,
+                };
+                self.exchange(out, cycle.first, hook);
+            }
+            Leaving::OnSecond(out) => {
+                let hook = Hook {
+                    parent: cycle.first,
+                    arc: entering,
+                    up: cycle.amount,
+                    down: room.minus(cycle.amount),
+                };
+                self.exchange(out, cycle.second, hook);
+            }
+        }
+    }
+
+    /// Takes the arc between `out` and its parent out of the tree, and hangs what was cut off up by `top`.
+    fn exchange(&mut self, out: u32, top: u32, hook: Hook<V>) {
+        let price = self.arcs.price(hook.arc);
+        let reduced = price.reduced(&self.tree.potentials);
+        let raise = if top == price.tail {
+            V::of(0).minus(reduced)
+        } else {
+            reduced
+        };
+        self.leave(out);
+        self.arcs.set_state(hook.arc, IN_TREE);
+        let moved = self.tree.rehang(top, out, hook, raise);
+        self.work = self.work.saturating_sub(moved);
+        self.moves = self.moves.saturating_sub(moved);
+    }
+
+    /// Takes the arc between a node and its parent out of the tree. It is at one of its bounds.
+    fn leave(&mut self, out: u32) {
+        let node = self.tree.node(out);
+        let flow = if self.arcs.price(node.arc).tail == out {
+            node.down
+        } else {
+            node.up
+        };
+        let state = if flow == V::of(0) { AT_LOW } else { AT_CAP };
+        self.arcs.set_state(node.arc, state);
+    }
+
+    fn renumber(&mut self, alloc: Global) -> Result<(), Memory> {
+        let nodes = u64::from(self.tree.root());
+        self.moves = MOVES_PER_NUMBERING.wrapping_mul(nodes.wrapping_add(u64::from(self.count)));
+        let numbers = self.tree.renumber(alloc)?;
+        for price in &mut self.arcs.prices {
+            price.tail = number_of(&numbers, price.tail);
+            price.head = number_of(&numbers, price.head);
+        }
+        Ok(())
+    }
+
+    /// What each arc carries.
+    pub(crate) fn amounts<N: Network>(
+        &mut self,
+        alloc: Global,
+        network: &N,
+    ) -> Result<Vec<i64>, Memory> {
+        self.settle();
+        let mut mixing = Mixing::new(network.arcs());
+        let mut amounts = Vec::with_capacity(alloc, network.arcs() as usize)?;
+        for i in 0..network.arcs() {
+            let above = self.arcs.above_low(mixing.next());
+            amounts.push(network.arc(i).low.wrapping_add(above))?;
+        }
+        Ok(amounts)
+    }
+
+    /// Tells the arcs of the tree what they carry.
+    fn settle(&mut self) {
+        let mut number: u32 = 0;
+        for node in &self.tree.nodes {
+            let flow = if self.arcs.price(node.arc).tail == number {
+                node.down
+            } else {
+                node.up
+            };
+            self.arcs.settle(node.arc, flow.narrow());
+            number = number.wrapping_add(1);
+        }
+    }
+
+    /// The potentials by the first numbers of the nodes.
+    pub(crate) fn potentials(&self, alloc: Global) -> Result<Vec<i128>, Memory> {
+        let mut potentials = vec![in alloc; 0i128; self.tree.names.len()]?;
+        for (name, potential) in self.tree.names.iter().zip(&self.tree.potentials) {
+            if let Some(place) = potentials.get_mut(*name as usize) {
+                *place = potential.wide();
+            }
+        }
+        Ok(potentials)
+    }
+}

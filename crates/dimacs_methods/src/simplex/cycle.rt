@@ -1,0 +1,116 @@
+//! The cycle that an arc closes with the tree.
+
+use crate::number::Number;
+use crate::simplex::tree::Tree;
+
+/// How flow moves round a cycle: from `join` down to `first`, over the arc, and from `second` up to `join`.
+#[derive(Clone, Copy)]
+pub(crate) struct Cycle<V> {
+    pub first: u32,
+    pub second: u32,
+    pub join: u32,
+    pub amount: V,
+    pub leaving: Leaving,
+    /// How many steps it took to find.
+    pub steps: u64,
+}
+
+/// The arc that leaves the tree: that of a node on the way to `first` or from `second`, or the arc itself.
+#[derive(Clone, Copy)]
+pub(crate) enum Leaving {
+    OnFirst(u32),
+    OnSecond(u32),
+    Itself,
+}
+
+/// One way up to the join.
+#[derive(Clone, Copy)]
+struct Climb<V> {
+    at: u32,
+    depth: u32,
+    /// The least room so far, and the node whose arc has it.
+    room: V,
+    narrow: Option<u32>,
+}
+
+impl<V: Number> Cycle<V> {
+    /// The cycle of an arc of this room from `first` to `second`.
+    ///
+    /// Of several arcs that come to a bound the last one on the cycle leaves, seen from the join on in the direction of
+    /// the flow: the first one met on the way up from `first`, the last one on the way up from `second`. That keeps
+    /// room towards the root everywhere in the tree, so that pivots that move nothing don't go round in a circle.
+    pub(crate) fn find(tree: &Tree<V>, first: u32, second: u32, room: V) -> Cycle<V> {
+        let mut down = Climb::start(tree, first, room);
+        let mut up = Climb::start(tree, second, room);
+        let mut steps: u64 = 0;
+        for _ in 0..tree.nodes.len().saturating_mul(2) {
+            if down.at == up.at {
+                break;
+            }
+            steps = steps.wrapping_add(1);
+            if down.depth >= up.depth {
+                down.climb_against(tree);
+            } else {
+                up.climb_along(tree);
+            }
+        }
+        let leaving = narrowest(&down, &up);
+        Cycle {
+            first,
+            second,
+            join: down.at,
+            amount: down.room.min(up.room),
+            leaving,
+            steps,
+        }
+    }
+}
+
+impl<V: Number> Climb<V> {
+    fn start(tree: &Tree<V>, at: u32, room: V) -> Climb<V> {
+        Climb {
+            at,
+            depth: tree.place(at).depth,
+            room,
+            narrow: None,
+        }
+    }
+
+    /// A step up, where flow comes down.
+    #[inline(always)]
+    fn climb_against(&mut self, tree: &Tree<V>) {
+        let node = tree.node(self.at);
+        if node.down < self.room {
+            self.room = node.down;
+            self.narrow = Some(self.at);
+        }
+        self.at = node.parent;
+        self.depth = self.depth.wrapping_sub(1);
+    }
+
+    /// A step up, where flow goes up.
+    #[inline(always)]
+    fn climb_along(&mut self, tree: &Tree<V>) {
+        let node = tree.node(self.at);
+        if node.up <= self.room {
+            self.room = node.up;
+            self.narrow = Some(self.at);
+        }
+        self.at = node.parent;
+        self.depth = self.depth.wrapping_sub(1);
+    }
+}
+
+/// The arc of the least room. Where several have it, those on the way up come before the arc itself, and it before those
+/// on the way down.
+fn narrowest<V: Number>(down: &Climb<V>, up: &Climb<V>) -> Leaving {
+    if let Some(node) = up.narrow
+        && up.room <= down.room
+    {
+        return Leaving::OnSecond(node);
+    }
+    match down.narrow {
+        Some(node) => Leaving::OnFirst(node),
+        None => Leaving::Itself,
+    }
+}

@@ -1,0 +1,36 @@
+//! The order in which arcs are looked at.
+
+/// The positions of arcs, one after another in the order of the text, mixed: the text goes through a table column by
+/// column, and positions row by row. So a block of positions, which is some eight rows, has eight arcs in a row from
+/// each of many parts of the text. The last row may be short.
+#[derive(Clone, Copy)]
+pub(crate) struct Mixing {
+    arcs: u32,
+    columns: u32,
+    /// The column of the next arc, and its position.
+    column: u32,
+    next: u32,
+}
+
+impl Mixing {
+    pub(crate) fn new(arcs: u32) -> Mixing {
+        Mixing {
+            arcs,
+            columns: (arcs.isqrt() / 8).max(10),
+            column: 0,
+            next: 0,
+        }
+    }
+
+    /// The position of the next arc.
+    #[inline(always)]
+    pub(crate) fn next(&mut self) -> u32 {
+        let position = self.next;
+        self.next = position.wrapping_add(self.columns);
+        if self.next >= self.arcs {
+            self.column = self.column.wrapping_add(1);
+            self.next = self.column;
+        }
+        position
+    }
+}

@@ -1,0 +1,272 @@
+//! The spanning tree.
+
+use crate::number::Number;
+use crate::simplex::cycle::Cycle;
+use dimacs_lines::Memory;
+use std::alloc::Global;
+
+/// The position of an artificial arc, which is in no table.
+pub(crate) const ARTIFICIAL: u32 = u32::MAX;
+
+/// A node of the tree, with the arc between it and its parent.
+#[derive(Clone, Copy)]
+pub(crate) struct Node<V> {
+    /// How much more can flow to the parent, and from the parent.
+    pub up: V,
+    pub down: V,
+    pub parent: u32,
+    /// The position of the arc.
+    pub arc: u32,
+    /// The node before this one in preorder.
+    pub before: u32,
+}
+
+/// What is read and changed of every node of a subtree that moves, apart from its potential.
+#[derive(Clone, Copy)]
+pub(crate) struct Place {
+    /// The node after this one in preorder; the root after the last.
+    pub after: u32,
+    pub depth: u32,
+}
+
+/// An arc by which a subtree is hung on a node: its position, and its room towards that node and from it.
+#[derive(Clone, Copy)]
+pub(crate) struct Hook<V> {
+    pub parent: u32,
+    pub arc: u32,
+    pub up: V,
+    pub down: V,
+}
+
+/// A tree over all nodes and a root, which is the last one: it has depth 0, potential 0, and is its own parent.
+#[derive(Drop)]
+pub(crate) struct Tree<V: Number> {
+    pub nodes: Vec<Node<V>>,
+    pub places: Vec<Place>,
+    pub potentials: Vec<V>,
+    /// The first number of each node.
+    pub names: Vec<u32>,
+}
+
+impl<V: Number> Tree<V> {
+    /// Each node hangs on the root by an artificial arc: one that takes its excess at no cost, or one that meets its
+    /// deficit at this price. A node without either has one to the root, so that more can flow to the root from
+    /// everywhere.
+    pub(crate) fn star(alloc: Global, excess: &[i128], price: V) -> Result<Tree<V>, Memory> {
+        let size = excess.len().saturating_add(1);
+        let mut tree = Tree {
+            nodes: Vec::with_capacity(alloc, size)?,
+            places: Vec::with_capacity(alloc, size)?,
+            potentials: Vec::with_capacity(alloc, size)?,
+            names: Vec::with_capacity(alloc, size)?,
+        };
+        let root = u32::try_from(excess.len()).unwrap_or(0);
+        let mut number: u32 = 0;
+        for amount in excess {
+            tree.hang_on_root(root, number, V::of_wide(*amount), price)?;
+            number = number.wrapping_add(1);
+        }
+        tree.push_root(root)?;
+        Ok(tree)
+    }
+
+    fn hang_on_root(&mut self, root: u32, number: u32, excess: V, price: V) -> Result<(), Memory> {
+        let zero = V::of(0);
+        let has_deficit = excess < zero;
+        let flow = if has_deficit {
+            zero.minus(excess)
+        } else {
+            excess
+        };
+        let room = V::greatest().minus(flow);
+        self.nodes.push(Node {
+            up: if has_deficit { flow } else { room },
+            down: if has_deficit { room } else { flow },
+            parent: root,
+            arc: ARTIFICIAL,
+            before: if number == 0 {
+                root
+            } else {
+                number.wrapping_sub(1)
+            },
+        })?;
+        self.places.push(Place {
+            after: number.wrapping_add(1),
+            depth: 1,
+        })?;
+        self.potentials
+            .push(if has_deficit { price } else { zero })?;
+        self.names.push(number)?;
+        Ok(())
+    }
+
+    fn push_root(&mut self, root: u32) -> Result<(), Memory> {
+        self.nodes.push(Node {
+            up: V::of(0),
+            down: V::of(0),
+            parent: root,
+            arc: ARTIFICIAL,
+            before: root.saturating_sub(1),
+        })?;
+        self.places.push(Place { after: 0, depth: 0 })?;
+        self.potentials.push(V::of(0))?;
+        Ok(())
+    }
+
+    /// The root.
+    pub(crate) fn root(&self) -> u32 {
+        u32::try_from(self.names.len()).unwrap_or(0)
+    }
+
+    /// How many nodes hang on the root by an artificial arc.
+    pub(crate) fn artificial_arcs(&self) -> usize {
+        let mut count: usize = 0;
+        for node in &self.nodes {
+            if node.arc == ARTIFICIAL {
+                count = count.wrapping_add(1);
+            }
+        }
+        count
+    }
+
+    #[inline(always)]
+    pub(crate) fn node(&self, node: u32) -> Node<V> {
+        self.nodes.get(node as usize).copied().unwrap_or(Node {
+            up: V::of(0),
+            down: V::of(0),
+            parent: ARTIFICIAL,
+            arc: ARTIFICIAL,
+            before: 0,
+        })
+    }
+
+    #[inline(always)]
+    pub(crate) fn place(&self, node: u32) -> Place {
+        self.places
+            .get(node as usize)
+            .copied()
+            .unwrap_or(Place { after: 0, depth: 0 })
+    }
+
+    /// Moves flow on the tree's part of a cycle.
+    pub(crate) fn augment(&mut self, cycle: &Cycle<V>) {
+        if cycle.amount == V::of(0) {
+            return;
+        }
+        self.move_up(cycle.first, cycle.join, V::of(0).minus(cycle.amount));
+        self.move_up(cycle.second, cycle.join, cycle.amount);
+    }
+
+    fn move_up(&mut self, from: u32, to: u32, amount: V) {
+        let mut at = from;
+        for _ in 0..self.nodes.len() {
+            if at == to {
+                return;
+            }
+            let Some(node) = self.nodes.get_mut(at as usize) else {
+                return;
+            };
+            node.up = node.up.minus(amount);
+            node.down = node.down.plus(amount);
+            at = node.parent;
+        }
+    }
+
+    /// Cuts the subtree of `out` off, makes `top` its root, hangs it up by the hook, and raises its potentials. Gives
+    /// how many nodes moved.
+    ///
+    /// The stem is the path from `top` to `out`. Each of its nodes brings what is left of its subtree after that of
+    /// the node before it, and gives its arc to its old parent.
+    pub(crate) fn rehang(&mut self, top: u32, out: u32, hook: Hook<V>, raise: V) -> u64 {
+        let mut hook = hook;
+        let mut stem = top;
+        let mut last = hook.parent;
+        let mut depth = self.place(hook.parent).depth;
+        let mut moved: u64 = 0;
+        for _ in 0..self.nodes.len() {
+            depth = depth.wrapping_add(1);
+            let old = self.node(stem);
+            let part = self.move_part(stem, last, depth, raise);
+            last = part.last;
+            moved = moved.wrapping_add(part.count);
+            self.hang(stem, hook);
+            if stem == out {
+                break;
+            }
+            hook = Hook {
+                parent: stem,
+                arc: old.arc,
+                up: old.down,
+                down: old.up,
+            };
+            stem = old.parent;
+        }
+        moved
+    }
+
+    fn hang(&mut self, node: u32, hook: Hook<V>) {
+        if let Some(node) = self.nodes.get_mut(node as usize) {
+            node.parent = hook.parent;
+            node.arc = hook.arc;
+            node.up = hook.up;
+            node.down = hook.down;
+        }
+    }
+
+    /// Moves what is left of the subtree of `top` after the node `to` in preorder.
+    fn move_part(&mut self, top: u32, to: u32, depth: u32, raise: V) -> Part {
+        let old = self.place(top).depth;
+        let part = self.shift_part(top, old, depth.wrapping_sub(old), raise);
+        self.link(self.node(top).before, part.after);
+        let after = self.place(to).after;
+        self.link(to, top);
+        self.link(part.last, after);
+        part
+    }
+
+    /// Raises the potentials of the nodes from `top` on, and adds to their depths, until one comes that isn't deeper
+    /// than `top` was.
+    fn shift_part(&mut self, top: u32, old: u32, deeper: u32, raise: V) -> Part {
+        let mut part = Part {
+            last: top,
+            after: top,
+            count: 0,
+        };
+        for _ in 0..self.places.len() {
+            let at = part.after as usize;
+            let Some(place) = self.places.get_mut(at) else {
+                break;
+            };
+            if place.depth <= old && part.count > 0 {
+                break;
+            }
+            place.depth = place.depth.wrapping_add(deeper);
+            part.last = part.after;
+            part.after = place.after;
+            part.count = part.count.wrapping_add(1);
+            if let Some(potential) = self.potentials.get_mut(at) {
+                *potential = potential.plus(raise);
+            }
+        }
+        part
+    }
+
+    #[inline(always)]
+    fn link(&mut self, before: u32, after: u32) {
+        if let Some(place) = self.places.get_mut(before as usize) {
+            place.after = after;
+        }
+        if let Some(node) = self.nodes.get_mut(after as usize) {
+            node.before = before;
+        }
+    }
+}
+
+/// Nodes that follow each other in preorder.
+#[derive(Clone, Copy)]
+struct Part {
+    last: u32,
+    /// The node after the last one.
+    after: u32,
+    count: u64,
+}

@@ -1,0 +1,182 @@
+-- How a run over the files of a plan ends.
+use Rattle.std.proofs.Common.{ℕ, ◌≡◌, ◌≢◌, ◌++◌, ◌∙◌, List, [], ◌∷◌, Option, None, Some, Result, Ok, Err, refl, sym, ap, append_assoc, append-nil, arith, flat_map, inl, inr, map}
+use Rattle.std.proofs.lemmas.Grind.{flat_map-append}
+use Rattle.dimacs_runs.specs.declared.failure.CommandError.{CommandError}
+use Rattle.dimacs_runs.specs.declared.failure.Failure.{Failure}
+use Rattle.dimacs_runs.specs.declared.failure.FileCall.{FileCall}
+use Rattle.dimacs_runs.specs.declared.jobs.JudgeKind.{JudgeKind}
+use Rattle.dimacs_runs.specs.declared.jobs.JudgeKind.TheVariants as judges
+use Rattle.dimacs_runs.specs.declared.jobs.SolveJob.{SolveJob}
+use Rattle.dimacs_runs.specs.declared.jobs.SolveJob.TheVariants as solves
+use Rattle.dimacs_runs.specs.declared.outcome.RunError.{RunError}
+use Rattle.dimacs_runs.specs.declared.outcome.RunError.TheVariants.{Device, Memory}
+use Rattle.dimacs_runs.specs.declared.outcome.Status.{Status}
+use Rattle.dimacs_runs.specs.Commands.{Contents, Plan, RunsFiles, Telling, TellsJudged, TellsSolved, at_first, at_last, closed_empty, seen_by}
+use Rattle.dimacs_runs.specs.Files.{Created, FileEvent, FilesSeen, NotCreated, NotOpened, Opened, Read, ReadFile, Sees, WrittenFile, Wrote, after_events, failures}
+use Rattle.dimacs_runs.specs.Judged.{IsClaim, Judged}
+use Rattle.dimacs_runs.specs.Judgings.{CountsDevices, OneMore}
+use Rattle.dimacs_runs.specs.Outputs.{ReportsAll}
+use Rattle.dimacs_runs.specs.Runs.{Reports}
+use Rattle.dimacs_runs.specs.Solved.{AreQueries, Solved}
+use Rattle.dimacs_runs.specs.inside.Commands.{FailsWith, IsFirstOf, named}
+use Rattle.dimacs_runs.proofs.FileLemmas.{AnyRead, AreClosings, all_after, all_before, sees_then, tells_failure, why_nothing}
+
+opened_none : (names : List (List ℕ)) → flat_map failures (map Opened names) ≡ []
+opened_none [] = refl
+opened_none (name ∷ names) = opened_none names
+
+created_none : (names : List (List ℕ)) → flat_map failures (map Created names) ≡ []
+created_none [] = refl
+created_none (name ∷ names) = created_none names
+
+empty_none : (empty : Option (List ℕ)) (names : List (List ℕ)) → flat_map failures (map (closed_empty empty) names) ≡ []
+empty_none empty [] = refl
+empty_none empty (name ∷ names) = empty_none empty names
+
+-- files were opened and created, and then more was done
+failures_after : (opened created : List (List ℕ)) (more : List FileEvent) → flat_map failures ((map Opened opened ++ map Created created) ++ more) ≡ flat_map failures more
+failures_after opened created more =
+    flat_map-append failures (map Opened opened ++ map Created created) more
+    ∙ rw (flat_map-append failures (map Opened opened) (map Created created), opened_none opened, created_none created) refl
+
+are_closings : (read : List ReadFile) (written : List WrittenFile) → AreClosings (map Read read ++ map Wrote written)
+are_closings [] [] = tt
+are_closings [] (file ∷ written) = (tt, are_closings [] written)
+are_closings (file ∷ read) written = (tt, are_closings read written)
+
+-- nothing was done
+pub sees_nothing : (seen : FilesSeen) → Sees [] seen seen
+sees_nothing seen = record { done = nothing seen.done; faults = refl }
+  where
+    nothing : (log : Option (List FileEvent)) → log ≡ after_events log []
+    nothing None = refl
+    nothing (Some earlier) = sym (ap Some (append-nil earlier))
+
+module _ (plan : Plan) (holds : Contents) (empty : Option (List ℕ)) (tells : Telling) (result : Result Status CommandError) (a : FilesSeen) (output : Option (List ℕ)) (faults : ℕ) where
+  -- a file could not be opened
+  pub stops_opening : (before : List (List ℕ)) (name : List ℕ) (after : List (List ℕ)) (error : CommandError) (b c : FilesSeen) → plan.opened ≡ before ++ name ∷ after → result ≡ Err error
+      → Sees (map Opened before) a b → FailsWith (NotOpened name) b c error → RunsFiles plan holds empty tells result (seen_by a output faults) (seen_by c output faults)
+  stops_opening before name after error b c whole is seen fails = rw is record {
+    events = map Opened before ++ NotOpened name fails.cause ∷ [];
+    seen = sees_then (map Opened before) (NotOpened name fails.cause ∷ []) a b c seen fails.seen;
+    failure = flat_map-append failures (map Opened before) (NotOpened name fails.cause ∷ []) ∙ rw (opened_none before) (append-nil (failures (NotOpened name fails.cause)) ∙ fails.failure);
+    faults = sym (fails.output faults);
+    ends = inl (inl (record { before = before; name = name; after = after; error = fails.cause; whole = whole; happened = refl }), refl, refl);
+  }
+
+  -- a file could not be created, and those before it were closed
+  pub stops_creating : (before : List (List ℕ)) (name : List ℕ) (after : List (List ℕ)) (error : CommandError) (b c d : FilesSeen) → plan.created ≡ before ++ name ∷ after → result ≡ Err error
+      → Sees (map Opened plan.opened ++ map Created before) a b → FailsWith (NotCreated name) b c error → Sees (map (closed_empty empty) before) c d
+      → RunsFiles plan holds empty tells result (seen_by a output faults) (seen_by d output faults)
+  stops_creating before name after error b c d whole is seen fails closed = rw is record {
+    events = map Opened plan.opened ++ map Created before ++ NotCreated name fails.cause ∷ map (closed_empty empty) before;
+    seen = sees_then (map Opened plan.opened ++ map Created before) (NotCreated name fails.cause ∷ map (closed_empty empty) before) a b d seen
+        (sees_then (NotCreated name fails.cause ∷ []) (map (closed_empty empty) before) b c d fails.seen closed);
+    failure = failures_after plan.opened before (NotCreated name fails.cause ∷ map (closed_empty empty) before) ∙ rw (empty_none empty before) (append-nil (failures (NotCreated name fails.cause)) ∙ fails.failure);
+    faults = sym (fails.output faults);
+    ends = inl (inr (record { before = before; name = name; after = after; error = fails.cause; whole = whole; happened = refl }), refl, refl);
+  }
+
+  -- the files were opened, created, used and closed
+  pub uses_files : (read : List ReadFile) (written : List WrittenFile) (b c : FilesSeen) (new : Option (List ℕ)) (counted : ℕ) (ended : Result Status RunError) (failure : Option Failure)
+      → map (λ (file : ReadFile). file.name) read ≡ plan.opened → map (λ (file : WrittenFile). file.name) written ≡ plan.created
+      → Sees (map Opened plan.opened ++ map Created plan.created) a b → Sees (map Read read ++ map Wrote written) b c
+      → result ≡ named ended failure → IsFirstOf failure (flat_map failures (map Read read ++ map Wrote written))
+      → CountsDevices ended (all_before faults counted (map Read read ++ map Wrote written)) (all_after faults counted (map Read read ++ map Wrote written))
+      → ((texts : List (List ℕ)) → map holds plan.opened ≡ map Some texts → tells texts (named ended failure) (at_first plan.created empty output) (at_last written new))
+      → (ended ≡ Err Memory → at_last written new ≡ at_first plan.created empty output)
+      → (AnyRead (map Read read ++ map Wrote written) → at_last written new ≡ at_first plan.created empty output)
+      → RunsFiles plan holds empty tells result (seen_by a output faults) (seen_by c new counted)
+  uses_files read written b c new counted ended failure all_read all_written opened closed is first counts told memory unread =
+      let closings : List FileEvent = map Read read ++ map Wrote written in
+      let fails = tells_failure faults counted closings ended failure (are_closings read written) first counts in
+      rw is record {
+        events = (map Opened plan.opened ++ map Created plan.created) ++ closings;
+        seen = sees_then (map Opened plan.opened ++ map Created plan.created) closings a b c opened closed;
+        failure = failures_after plan.opened plan.created closings ∙ fails.0;
+        faults = fails.1;
+        ends = inr (record {
+          read = read;
+          written = written;
+          all_read = all_read;
+          all_written = all_written;
+          happened = sym (append_assoc (map Opened plan.opened ++ map Created plan.created) (map Read read) (map Wrote written));
+          told = told;
+          nothing_written = why_nothing _ closings ended failure (are_closings read written) first memory unread;
+        });
+      }
+
+-- ---- the texts that files hold
+pub one_text : (x : Option (List ℕ)) (P : List (List ℕ) → Type 0) → ((a : List ℕ) → x ≡ Some a → P (a ∷ [])) → (texts : List (List ℕ)) → x ∷ [] ≡ map Some texts → P texts
+one_text x P each [] is = absurd cc
+one_text x P each (a ∷ []) is = each a cc
+one_text x P each (a ∷ b ∷ more) is = absurd cc
+
+pub two_texts : (x y : Option (List ℕ)) (P : List (List ℕ) → Type 0) → ((a b : List ℕ) → x ≡ Some a → y ≡ Some b → P (a ∷ b ∷ [])) → (texts : List (List ℕ)) → x ∷ y ∷ [] ≡ map Some texts → P texts
+two_texts x y P each [] is = absurd cc
+two_texts x y P each (a ∷ []) is = absurd cc
+two_texts x y P each (a ∷ b ∷ []) is = let first : x ≡ Some a = cc in let second : y ≡ Some b = cc in each a b first second
+two_texts x y P each (a ∷ b ∷ c ∷ more) is = absurd cc
+
+pub three_texts : (x y z : Option (List ℕ)) (P : List (List ℕ) → Type 0) → ((a b c : List ℕ) → x ≡ Some a → y ≡ Some b → z ≡ Some c → P (a ∷ b ∷ c ∷ [])) → (texts : List (List ℕ)) → x ∷ y ∷ z ∷ [] ≡ map Some texts → P texts
+three_texts x y z P each [] is = absurd cc
+three_texts x y z P each (a ∷ []) is = absurd cc
+three_texts x y z P each (a ∷ b ∷ []) is = absurd cc
+three_texts x y z P each (a ∷ b ∷ c ∷ []) is = let first : x ≡ Some a = cc in let second : y ≡ Some b = cc in let third : z ≡ Some c = cc in each a b c first second third
+three_texts x y z P each (a ∷ b ∷ c ∷ d ∷ more) is = absurd cc
+
+-- ---- what is reported of a run whose failure was named
+pub reports_named : (tells : Status → List ℕ → Type 0) (ended : Result Status RunError) (failure : Option Failure) (old new : Option (List ℕ)) → Reports tells ended old new → Reports tells (named ended failure) old new
+reports_named tells (Ok status) failure old new reports = reports
+reports_named tells (Err Memory) failure old new reports = reports
+reports_named tells (Err Device) None old new reports = reports
+reports_named tells (Err Device) (Some it) old new reports = reports
+
+pub reports_all_named : (tells : Status → List (List ℕ) → Type 0) (ended : Result Status RunError) (failure : Option Failure) (old new : List (Option (List ℕ))) → ReportsAll tells ended old new → ReportsAll tells (named ended failure) old new
+reports_all_named tells (Ok status) failure old new reports = reports
+reports_all_named tells (Err Memory) failure old new reports = reports
+reports_all_named tells (Err Device) None old new reports = reports
+reports_all_named tells (Err Device) (Some it) old new reports = reports
+
+-- ---- devices that never fail
+same_without : (p counted : ℕ) (old new : List ℕ) → counted ∷ 0 ∷ new ≡ p ∷ 0 ∷ old → counted ∷ new ≡ p ∷ old
+same_without p counted old new is = let first : counted ≡ p = cc in let rest : new ≡ old = cc in rw (first, rest) refl
+
+one_without : (p counted : ℕ) (old new : List ℕ) → OneMore (p ∷ 0 ∷ old) (counted ∷ 0 ∷ new) → OneMore (p ∷ old) (counted ∷ new)
+one_without p counted old new (inl (more, same)) = let rest : new ≡ old = cc in inl (more, rest)
+one_without p counted old new (inr (same, inl (more, rest))) = absurd (omega (arith, more))
+one_without p counted old new (inr (same, inr (none, more))) = inr (same, more)
+
+pub without_second : (ended : Result Status RunError) (p counted : ℕ) (old new : List ℕ) → CountsDevices ended (p ∷ 0 ∷ old) (counted ∷ 0 ∷ new) → CountsDevices ended (p ∷ old) (counted ∷ new)
+without_second (Ok status) p counted old new counts = same_without p counted old new counts
+without_second (Err Memory) p counted old new counts = same_without p counted old new counts
+without_second (Err Device) p counted old new counts = one_without p counted old new counts
+
+pub without_third : (ended : Result Status RunError) (p q counted again : ℕ) (old new : List ℕ) → CountsDevices ended (p ∷ q ∷ 0 ∷ old) (counted ∷ again ∷ 0 ∷ new) → CountsDevices ended (p ∷ q ∷ old) (counted ∷ again ∷ new)
+without_third (Ok status) p q counted again old new is = let first : counted ≡ p = cc in let rest : again ∷ 0 ∷ new ≡ q ∷ 0 ∷ old = cc in rw (first, same_without q again old new rest) refl
+without_third (Err Memory) p q counted again old new is = let first : counted ≡ p = cc in let rest : again ∷ 0 ∷ new ≡ q ∷ 0 ∷ old = cc in rw (first, same_without q again old new rest) refl
+without_third (Err Device) p q counted again old new (inl (more, same)) = inl (more, same_without q again old new same)
+without_third (Err Device) p q counted again old new (inr (same, more)) = inr (same, one_without q again old new more)
+
+-- ---- what is told by the kind of a run
+pub judged_told : (kind : JudgeKind) (a b c : List ℕ) (result : Result Status CommandError) (old new : Option (List ℕ)) → Reports (Judged kind a b c) result old new → TellsJudged kind (a ∷ b ∷ c ∷ []) result (old ∷ []) (new ∷ [])
+judged_told judges.Max a b c result old new reports = reports
+judged_told judges.Min a b c result old new reports = reports
+judged_told judges.Infeasible a b c result old new reports = reports
+judged_told judges.Paths a b c result old new reports = reports
+
+pub is_claim : (kind : JudgeKind) (coming : Option (List ℕ)) (b : List ℕ) → coming ≡ Some b → IsClaim kind coming b
+is_claim judges.Max coming b is = is
+is_claim judges.Min coming b is = is
+is_claim judges.Infeasible coming b is = tt
+is_claim judges.Paths coming b is = is
+
+pub flow_told : (job : SolveJob) (a b : List ℕ) (result : Result Status CommandError) (old new : List (Option (List ℕ))) → job ≢ solves.Paths → ReportsAll (Solved job a b) result old new → TellsSolved job (a ∷ []) result old new
+flow_told (solves.Max limit) a b result old new flow reports = reports
+flow_told (solves.Min limit) a b result old new flow reports = reports
+flow_told solves.Paths a b result old new flow reports = absurd (flow refl)
+
+pub flow_asks_nothing : (job : SolveJob) (coming : Option (List ℕ)) (b : List ℕ) → job ≢ solves.Paths → AreQueries job coming b
+flow_asks_nothing (solves.Max limit) coming b flow = tt
+flow_asks_nothing (solves.Min limit) coming b flow = tt
+flow_asks_nothing solves.Paths coming b flow = absurd (flow refl)

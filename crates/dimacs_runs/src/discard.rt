@@ -1,0 +1,19 @@
+//! A sink that keeps nothing.
+
+ghost use Rattle.std.specs.Prelude.{None};
+
+use dimacs_lines::{DeviceFault, Sink};
+
+/// Accepts everything, and keeps nothing of it.
+#[derive(Drop)]
+pub(crate) struct Discard;
+
+impl Sink for Discard {
+    ghost accepted = { λ s. None };
+
+    ghost faults = { λ s. 0 };
+
+    fn put(&mut self, bytes: &[u8]) -> Result<usize, DeviceFault> {
+        Ok(bytes.len())
+    }
+}

@@ -1,0 +1,57 @@
+//! Whether a flow is least, asked in two steps: whether it is feasible, and whether it costs least.
+
+ghost use Rattle.std.specs.Prelude.{IfOk};
+ghost use Rattle.dimacs_judge.specs.Feasible.{FeasibleMin};
+ghost use Rattle.dimacs_decide.specs.Bounds.{KeepsBounds};
+ghost use Rattle.dimacs_solve.specs.inside.Descending.{IsReply};
+
+use dimacs_claims::{Cut, Potentials};
+use dimacs_decide::{FeasibilityDecision, MinDecision, decide_feasible, decide_min_from};
+use dimacs_instance::{MinInstance, Network};
+use dimacs_judge::Flow;
+use dimacs_lines::Memory;
+use std::alloc::Global;
+
+/// What is replied about a flow that keeps the bounds.
+#[derive(Drop)]
+pub(crate) enum Reply {
+    /// It is least, by these potentials.
+    Least(Potentials),
+    /// No flow is feasible, by this set.
+    Infeasible(Cut),
+    /// This one is better.
+    Better(Flow),
+}
+
+/// Asks about a flow. Where it is feasible, potentials from which it may be found quickly that it is least are a help.
+pub(crate) fn ask<N: Network>(
+    alloc: Global,
+    instance: &MinInstance<N>,
+    flow: &Flow,
+    potentials: &Potentials,
+) -> Result<Reply, Memory>
+    requires { KeepsBounds instance.now.arcs flow.now }
+    ensures { IfOk result (IsReply instance.now flow.now) }
+{
+    match decide_feasible(alloc, instance, flow)? {
+        FeasibilityDecision::Balanced => ask_cost(alloc, instance, flow, potentials),
+        FeasibilityDecision::Infeasible(set) => Ok(Reply::Infeasible(set)),
+        FeasibilityDecision::Nearer(nearer) => Ok(Reply::Better(nearer)),
+    }
+}
+
+/// Asks about a feasible flow.
+fn ask_cost<N: Network>(
+    alloc: Global,
+    instance: &MinInstance<N>,
+    flow: &Flow,
+    potentials: &Potentials,
+) -> Result<Reply, Memory>
+    requires { FeasibleMin instance.now flow.now }
+    ensures { IfOk result (IsReply instance.now flow.now) }
+{
+    match decide_min_from(alloc, instance, flow, potentials)? {
+        MinDecision::Optimal(slack) => Ok(Reply::Least(slack)),
+        MinDecision::Better(cheaper) => Ok(Reply::Better(cheaper)),
+    }
+}
