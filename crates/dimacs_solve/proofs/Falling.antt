@@ -1,21 +1,20 @@
 -- One better flow more.
-use Rattle.std.proofs.Common.{Bool, true, false, ◌≡◌, ◌⊎◌, inl, inr, ℕ, suc, zero, ◌+◌, ◌<◌, ◌≤◌, ℤ, pos, negsuc, ◌+ℤ◌, ◌-ℤ◌, ◌≤ℤ◌, ◌<ℤ◌, List, [], ◌∷◌, ◌++◌, All, length, get_or, map, refl, sym, ap, subst, ◌∙◌, arith}
+use Rattle.std.proofs.Common.{Bool, true, false, ◌≡◌, inl, inr, ℕ, suc, zero, ◌+◌, ◌<◌, ℤ, pos, ◌≤ℤ◌, List, [], ◌∷◌, ◌++◌, All, length, map, refl, arith}
 use Rattle.std.proofs.lemmas.Int.{ints}
 use Rattle.std.specs.Int.Signed.{lt_z}
 use Rattle.std.specs.Prelude.{if◌then◌else◌}
 use Rattle.std.proofs.lemmas.List.{length-append}
 use Rattle.std.proofs.lemmas.List.Elements.{All-push, All-nil, All-weaker, All-head, All-tail}
-use Rattle.std.specs.List.{AllZip}
 use Rattle.dimacs_records.specs.Ranges.{IsNode}
 use Rattle.dimacs_instance.specs.declared.network.ArcView.{ArcView}
-use Rattle.dimacs_instance.specs.MinFlows.{HasBounds, IsMin, MinValue, positive_part, supply_of}
+use Rattle.dimacs_instance.specs.MinFlows.{HasBounds, IsMin, MinValue, positive_part}
 use Rattle.dimacs_judge.specs.Feasible.{FeasibleMin}
-use Rattle.dimacs_judge.specs.Flows.{cost, net, sum_nodes}
+use Rattle.dimacs_judge.specs.Flows.{sum_nodes}
 use Rattle.dimacs_judge.specs.Optimum.{Least}
-use Rattle.dimacs_judge.specs.Rows.{no_arc, arc_at, amount_at}
+use Rattle.dimacs_judge.specs.Rows.{arc_at, amount_at}
 use Rattle.dimacs_decide.specs.Bounds.{KeepsBounds}
 use Rattle.dimacs_decide.specs.FeasibilityDecision.{surplus_at, total_excess}
-use Rattle.dimacs_solve.specs.Descending.{AreFalling, IsBetter, StartsCheap, TakesMoreSteps, start_amount, start_flow}
+use Rattle.dimacs_solve.specs.Descending.{AreFalling, IsBetter, StartsCheap, TakesMoreSteps, start_flow}
 
 -- ---- excess
 sum_some : (f : ℕ → ℕ) (n : ℕ) → pos 0 ≤ℤ sum_nodes (λ v. pos (f v)) n
