@@ -1,7 +1,7 @@
 //! Whether a flow is of least cost: by potentials or a cycle that were guessed, which are tested, or else by raising
 //! potentials over the steps that it leaves.
 
-ghost use Rattle.std.specs.Prelude.{◌≡◌, ◌≤◌, ◌≤ℤ◌, ◌+◌, ℕ, pos, IfOk, IsTrue};
+ghost use Rattle.std.specs.Prelude.{◌≡◌, ◌≤◌, ◌≤ℤ◌, ◌+◌, ℕ, pos, IfOk, OnOk, IsTrue};
 ghost use Rattle.dimacs_lines.specs.Limits.{most_nodes};
 ghost use Rattle.dimacs_claims.specs.Potentials.{potential_of};
 ghost use Rattle.dimacs_records.specs.Ranges.{IsNode, IsWide};
@@ -44,41 +44,30 @@ pub fn decide_min<N: Network>(
     ensures { IfOk result (DecidesMin instance.now flow.now) }
 {
     match guess_potentials(alloc, instance, flow.amounts())? {
-        Guess::Least(potentials) => decided_by_potentials(alloc, instance, flow, potentials),
+        Guess::Least(potentials) | Guess::GaveUp(potentials) => {
+            decide_min_from(alloc, instance, flow, potentials)
+        }
         Guess::Cycle(cycle) => decided_by_cycle(alloc, instance, flow, &cycle),
-        Guess::GaveUp(potentials) => decide_min_from(alloc, instance, flow, &potentials),
     }
 }
 
-/// Decides it by raising these potentials: where they are slack, in one round. Any potentials will do. Goes over the arcs
-/// in rounds, no more than there are nodes and mostly far fewer. Takes memory by the nodes that have an arc.
+/// Decides it by these potentials: where they are slack, in one pass over the arcs, else by raising them. Any potentials
+/// will do. Goes over the arcs in rounds, no more than there are nodes and mostly far fewer. Takes memory by the nodes that
+/// have an arc.
 pub fn decide_min_from<N: Network>(
     alloc: Global,
     instance: &MinInstance<N>,
     flow: &Flow,
-    start: &Potentials,
+    start: Potentials,
 ) -> Result<MinDecision, Memory>
     requires { FeasibleMin instance.now flow.now }
     ensures { IfOk result (DecidesMin instance.now flow.now) }
 {
-    let labels = started(alloc, instance.network().nodes(), start)?;
-    decided(alloc, instance, flow, labels)
-}
-
-/// Decides it by potentials of which nothing is known.
-fn decided_by_potentials<N: Network>(
-    alloc: Global,
-    instance: &MinInstance<N>,
-    flow: &Flow,
-    potentials: Potentials,
-) -> Result<MinDecision, Memory>
-    requires { FeasibleMin instance.now flow.now }
-    ensures { IfOk result (DecidesMin instance.now flow.now) }
-{
-    if show_least(instance, flow, &potentials) {
-        return Ok(MinDecision::Optimal(potentials));
+    if show_least(instance, flow, &start) {
+        return Ok(MinDecision::Optimal(start));
     }
-    decide_min_from(alloc, instance, flow, &potentials)
+    let labels = started(alloc, instance.network(), &start)?;
+    decided(alloc, instance, flow, labels)
 }
 
 /// Whether potentials show that the flow is least: they are those of the instance's nodes, and slack.
@@ -167,36 +156,58 @@ fn clamped(number: i128) -> i128
     }
 }
 
-/// The least potential of a node, or 0.
-fn least_of(nodes: u32, start: &Potentials) -> i128
-    requires { nodes ≤ most_nodes }
+/// The least potential of a node that has an arc, or 0.
+fn least_of<N: Network>(network: &N, start: &Potentials) -> i128
     ensures { IsWide result }
 {
     let mut least: i128 = 0;
-    for id in 1..nodes + 1 {
-        let value = start.of(id);
-        if value < least {
-            least = value;
-        }
+    for i in 0..network.arcs() {
+        let arc = network.arc(i);
+        least = lesser(least, lesser(start.of(arc.tail), start.of(arc.head)));
     }
     least
 }
 
-/// Heights that differ as these potentials do, where those don't differ by more than 2^96.
-fn started(alloc: Global, nodes: u32, start: &Potentials) -> Result<NodeTable<Label>, Memory>
-    requires { nodes ≤ most_nodes }
+fn lesser(a: i128, b: i128) -> i128
+    requires a { IsWide a }
+    requires b { IsWide b }
+    ensures { IsWide result }
+{
+    if a < b { a } else { b }
+}
+
+/// Heights that differ as these potentials do, where those don't differ by more than 2^96. Nodes without an arc have none.
+fn started<N: Network>(
+    alloc: Global,
+    network: &N,
+    start: &Potentials,
+) -> Result<NodeTable<Label>, Memory>
     ensures { IfOk result (λ labels. AreStarted (value_of labels)) }
 {
-    let least = least_of(nodes, start);
+    let least = least_of(network, start);
     let mut labels = NodeTable::new(alloc, unraised_label());
     labels.set(0, unraised_at(HIGHEST))?;
-    for id in 1..nodes + 1 {
-        let height = clamped(start.of(id) - least);
-        if height > 0 {
-            labels.set(id, unraised_at(height))?;
-        }
+    for i in 0..network.arcs() {
+        let arc = network.arc(i);
+        start_at(&mut labels, arc.tail, clamped(start.of(arc.tail) - least))?;
+        start_at(&mut labels, arc.head, clamped(start.of(arc.head) - least))?;
     }
     Ok(labels)
+}
+
+/// Gives a node the height from which it is raised. Node 0 stays the highest.
+fn start_at(labels: &mut NodeTable<Label>, id: u32, height: i128) -> Result<(), Memory>
+    requires started { AreStarted (value_of labels.old) }
+    requires root { height_of (value_of labels.old) 0 ≡ bound 0 }
+    requires low { pos 0 ≤ℤ height }
+    requires high { height ≤ℤ bound 0 }
+    ensures started { OnOk result (AreStarted (value_of labels.new)) }
+    ensures root { OnOk result (height_of (value_of labels.new) 0 ≡ bound 0) }
+{
+    if id == 0 || height == 0 {
+        return Ok(());
+    }
+    labels.set(id, unraised_at(height))
 }
 
 /// The label of a node that is this high and was not raised.

@@ -47,19 +47,23 @@ fn descend_by_steps<N: Network>(
     ensures { IfOk result (Descends instance.now limit) }
 {
     let mut flow = started(alloc, instance.network())?;
-    let start = Potentials::new(alloc, instance.network().nodes());
     for _step in 0..limit {
-        match ask(alloc, instance, &flow, &start)? {
+        match ask(alloc, instance, &flow, nothing_known(alloc, instance))? {
             Reply::Least(slack) => return Ok(Descent::Bottom(flow, slack)),
             Reply::Infeasible(set) => return Ok(Descent::Nowhere(set)),
             Reply::Better(better) => flow = better,
         }
     }
-    match ask(alloc, instance, &flow, &start)? {
+    match ask(alloc, instance, &flow, nothing_known(alloc, instance))? {
         Reply::Least(slack) => Ok(Descent::Bottom(flow, slack)),
         Reply::Infeasible(set) => Ok(Descent::Nowhere(set)),
         Reply::Better(_better) => Ok(Descent::GaveUp),
     }
+}
+
+/// Potentials to begin with where none are known.
+fn nothing_known<N: Network>(alloc: Global, instance: &MinInstance<N>) -> Potentials {
+    Potentials::new(alloc, instance.network().nodes())
 }
 
 /// The flow to start from.

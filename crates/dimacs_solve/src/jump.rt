@@ -23,7 +23,7 @@ pub(crate) fn jump<N: Network>(
     let made = make_least_flow(alloc, instance)?;
     let flow = flow_of(alloc, instance.network(), &made.amounts)?;
     match bounds_hold(instance.network(), &flow) {
-        Ok(()) => settled(alloc, instance, flow, &made.potentials),
+        Ok(()) => settled(alloc, instance, flow, made.potentials),
         Err(_) => Ok(None),
     }
 }
@@ -33,7 +33,7 @@ fn settled<N: Network>(
     alloc: Global,
     instance: &MinInstance<N>,
     flow: Flow,
-    potentials: &Potentials,
+    potentials: Potentials,
 ) -> Result<Option<Descent>, Memory>
     requires { KeepsBounds instance.now.arcs flow }
     ensures { IfOk result (λ found. IfSome found (λ end. (limit : ℕ) → 0 < limit → Descends instance.now limit end)) }

@@ -28,7 +28,7 @@ pub(crate) fn ask<N: Network>(
     alloc: Global,
     instance: &MinInstance<N>,
     flow: &Flow,
-    potentials: &Potentials,
+    potentials: Potentials,
 ) -> Result<Reply, Memory>
     requires { KeepsBounds instance.now.arcs flow.now }
     ensures { IfOk result (IsReply instance.now flow.now) }
@@ -45,7 +45,7 @@ fn ask_cost<N: Network>(
     alloc: Global,
     instance: &MinInstance<N>,
     flow: &Flow,
-    potentials: &Potentials,
+    potentials: Potentials,
 ) -> Result<Reply, Memory>
     requires { FeasibleMin instance.now flow.now }
     ensures { IfOk result (IsReply instance.now flow.now) }

@@ -9,8 +9,7 @@ min_solution-requires g c = c.requires.least.feasible
 
 pub returns : goal.returns
 returns g c = λ limit kept.
-    let told : IsMinSolutionOf c.args.instance.now c.args.flow.now (claimed c.in-Some.solution) = rw c.in-Some.is at c.in_ok-solution.ensures.some in
-    (
+    let told : IsMinSolutionOf c.args.instance.now c.args.flow.now (claimed c.in-Some.solution) = rw c.in-Some.is at c.in_ok-solution.ensures.some in (
       told.0,
       (c.args.flow.now, record { claim = told.1; nodes_are = c.requires.nodes; slack = c.requires.slack }, c.requires.least),
       λ none. subst (λ (y : List ℤ). Carries c.args.instance.now.arcs c.in-Some.solution.entries.items y) (kept none) told.1.carries,
