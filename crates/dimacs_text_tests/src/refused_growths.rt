@@ -3,13 +3,14 @@
 
 ghost use Rattle.std.specs.Prelude.{◌≡◌, None};
 
-use crate::checks::{holds, same_at};
-use crate::tables::rows;
+use crate::checks::{holds, same, same_at};
 use crate::texts::take_line;
-use dimacs_claims::{LabelsReading, write_labels};
-use dimacs_instance::{MinReading, write_min};
+use dimacs_claims::{
+    CutReading, Entry, LabelsReading, Placed, PotentialsReading, Solution, SolutionReading,
+};
+use dimacs_instance::{GraphReading, LawfulQueries, MaxReading, MinReading, QueriesReading};
 use dimacs_lines::{DeviceFault, Sink};
-use dimacs_records::{Reading, TakeError, TextKind};
+use dimacs_records::{Reading, TakeError, Text, TextKind};
 use std::process::Abort;
 use std::test::Fail;
 
@@ -63,57 +64,149 @@ fn take_at_last<R: Reading>(
     if answer == Err(TakeError::Memory) {
         answer = take_line(reading, kind, number, line);
     }
-    same_at(rt, "line", number, answer, Ok(()));
+    same_at(rt, line, number, answer, Ok(()));
 }
 
-/// Gives a reading these lines, each once more where there was no memory for it.
-fn take_lines<R: Reading>(
-    rt: &impl Abort,
-    reading: &mut R,
-    kind: TextKind,
-    lines: &str,
-    count: usize,
-)
+/// Gives a reading the lines of a text, each once more where there was no memory for it.
+fn take_lines<R: Reading>(rt: &impl Abort, reading: &mut R, kind: TextKind, text: &str)
     requires { R.kind reading.old ≡ kind }
 {
-    for (line, number) in rows(rt, lines, count).zip(1..=u64::MAX) {
+    for (line, number) in text.lines().zip(1..=u64::MAX) {
         take_at_last(rt, reading, kind, number, line);
     }
 }
 
-static SHIPPING: &str = "\
-p min 134217728 8
-n 134217728 -3
-n 1 2
-n 700 1
-a 1 700 0 4 5
-a 700 134217728 0 4 -5
-a 700 1 0 4 0
-a 1 1 1 4 0
-a 134217728 1 0 4 0
-a 1 700 0 4 0
-a 3000 700 0 4 0
-a 1 9000 0 4 0";
+/// The value of a reading that is given the lines of a text; none where there was no memory at its end.
+fn read_lines<R: Reading>(
+    rt: &impl Abort,
+    mut reading: R,
+    kind: TextKind,
+    text: &str,
+) -> Option<R::Value>
+    requires { R.kind reading ≡ kind }
+{
+    take_lines(rt, &mut reading, kind, text);
+    match reading.finish() {
+        Ok(value) => Some(value),
+        Err(error) => {
+            same(rt, text, error, TakeError::Memory);
+            None
+        }
+    }
+}
 
-#[test]
-fn an_instance_comes_whole_after_a_refused_growth(rt: HostRuntime) -> Result<(), Fail> {
-    let mut reading = MinReading::new(rt.alloc());
-    take_lines(&rt, &mut reading, TextKind::Min, SHIPPING, 12);
-    let Ok(instance) = reading.finish() else {
-        return Ok(());
-    };
-    let text =
-        "p min 134217728 8\nn 1 2\nn 700 1\nn 134217728 -3\na 1 700 0 4 5\na 700 134217728 0 4 -5\na 700 1 0 4 0\na 1 1 1 4 0\na 134217728 1 0 4 0\na 1 700 0 4 0\na 3000 700 0 4 0\na 1 9000 0 4 0\n";
-    let mut sink = Comparing::new(text);
-    write_min(&instance, &mut sink)?;
-    holds(&rt, "the text", sink.was_put());
+/// Whether this text is written of a value, where there is one.
+fn is_whole<T: Text>(rt: &impl Abort, value: Option<T>, text: &str) -> Result<(), Fail> {
+    if let Some(value) = value {
+        let mut sink = Comparing::new(text);
+        value.write(&mut sink)?;
+        holds(rt, text, sink.was_put());
+    }
     Ok(())
 }
 
-static BLOCKS: &str = "\
-p dist 134217728 3
-t 134217728 2 9
-d 1 5 134217728
+static MAX: &str = "\
+p max 70000 5
+n 1 s
+n 70000 t
+a 1 700 4
+a 700 70000 4
+a 1 700 5
+a 1 1 0
+a 3000 700 2
+";
+
+static MIN: &str = "\
+p min 70000 8
+n 1 2
+n 700 1
+n 70000 -3
+a 1 700 0 4 5
+a 700 70000 0 4 -5
+a 700 1 0 4 0
+a 1 1 1 4 0
+a 70000 1 0 4 0
+a 1 700 0 4 0
+a 3000 700 0 4 0
+a 1 9000 0 4 0
+";
+
+static GRAPH: &str = "\
+p sp 70000 5
+a 1 700 4
+a 700 70000 -4
+a 1 700 5
+a 1 1 0
+a 3000 700 2
+";
+
+static SOURCES: &str = "\
+p aux sp ss 5
+s 1
+s 70000
+s 1
+s 2
+s 3
+";
+
+static PAIRS: &str = "\
+p aux sp p2p 5
+q 1 2
+q 70000 1
+q 1 2
+q 3 3
+q 2 1
+";
+
+#[test]
+fn instances_and_queries_come_whole_after_a_refused_growth(rt: HostRuntime) -> Result<(), Fail> {
+    let alloc = rt.alloc();
+    let max = read_lines(&rt, MaxReading::new(alloc), TextKind::Max, MAX);
+    is_whole(&rt, max, MAX)?;
+    let min = read_lines(&rt, MinReading::new(alloc), TextKind::Min, MIN);
+    is_whole(&rt, min, MIN)?;
+    let graph = read_lines(&rt, GraphReading::new(alloc), TextKind::Graph, GRAPH);
+    is_whole(&rt, graph, GRAPH)?;
+    for text in [SOURCES, PAIRS] {
+        let reading = QueriesReading::new(alloc);
+        let queries = read_lines(&rt, reading, TextKind::Queries, text);
+        is_whole(&rt, queries.map(LawfulQueries::into_queries), text)?;
+    }
+    Ok(())
+}
+
+static SOLUTION: &str = "\
+s 12
+f 1 2 4
+f 1 2 -4
+f 3 3 0
+f 70000 1 9
+f 1 70000 3
+";
+
+static CUT: &str = "\
+p cut 70000 5
+u 1
+u 2
+u 300
+u 700
+u 70000
+";
+
+static POTENTIALS: &str = "\
+p pot 70000 6
+y 1 4
+y 2 -4
+y 300 1000000000000000000000000000000
+y 301 7
+y 700 -1000000000000000000000000000000
+y 70000 1
+";
+
+static LABELS: &str = "\
+p dist 70000 3
+t 70000 2 9
+d 1 5 70000
 d 700 6 1
 t 1 0
 t 2 7
@@ -123,19 +216,29 @@ d 600 1 2
 d 900 1 2
 d 1200 1 2
 d 1500 1 2
-d 134217728 1 2";
+d 70000 1 2
+";
+
+/// A solution whose entries were put in a list.
+fn solution(placed: Placed<Vec<Entry>>) -> Solution {
+    Solution {
+        value: placed.value,
+        value_line: placed.value_line,
+        entries: placed.place,
+    }
+}
 
 #[test]
-fn labels_come_whole_after_a_refused_growth(rt: HostRuntime) -> Result<(), Fail> {
-    let mut reading = LabelsReading::new(rt.alloc());
-    take_lines(&rt, &mut reading, TextKind::Labels, BLOCKS, 13);
-    let Ok(labels) = reading.finish() else {
-        return Ok(());
-    };
-    let text =
-        "p dist 134217728 3\nt 134217728 2 9\nd 1 5 134217728\nd 700 6 1\nt 1 0\nt 2 7\nd 3 1 2\nd 300 1 2\nd 600 1 2\nd 900 1 2\nd 1200 1 2\nd 1500 1 2\nd 134217728 1 2\n";
-    let mut sink = Comparing::new(text);
-    write_labels(&labels, &mut sink)?;
-    holds(&rt, "the text", sink.was_put());
-    Ok(())
+fn claims_and_certificates_come_whole_after_a_refused_growth(rt: HostRuntime) -> Result<(), Fail> {
+    let alloc = rt.alloc();
+    let reading = SolutionReading::new(Vec::new(alloc));
+    let placed = read_lines(&rt, reading, TextKind::Solution, SOLUTION);
+    is_whole(&rt, placed.map(solution), SOLUTION)?;
+    let cut = read_lines(&rt, CutReading::new(alloc), TextKind::Cut, CUT);
+    is_whole(&rt, cut, CUT)?;
+    let reading = PotentialsReading::new(alloc);
+    let potentials = read_lines(&rt, reading, TextKind::Potentials, POTENTIALS);
+    is_whole(&rt, potentials, POTENTIALS)?;
+    let labels = read_lines(&rt, LabelsReading::new(alloc), TextKind::Labels, LABELS);
+    is_whole(&rt, labels, LABELS)
 }
