@@ -139,4 +139,5 @@ def main():
             file.write(picture.draw(HEADING, columns[20], cut=SIMPLEX))
 
 
-main()
+if __name__ == "__main__":
+    main()
