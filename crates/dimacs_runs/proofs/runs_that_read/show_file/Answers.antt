@@ -1,7 +1,7 @@
-use Rattle.std.proofs.Common.{ℕ, ◌≡◌, ◌∙◌, ◌⊎◌, List, [], ◌∷◌, Option, Err, ap, inl, inr, refl}
+use Rattle.std.proofs.Common.{ℕ, ◌∙◌, List, [], ◌∷◌, Option, Err, ap, inl, inr, refl}
 use Rattle.std.proofs.lemmas.Result.{err_from_is_err_and}
 use Rattle.dimacs_runs.specs.Commands.{TellsOne, reads}
-use Rattle.dimacs_runs.specs.Files.{Read, closed_read}
+use Rattle.dimacs_runs.specs.Files.{closed_read}
 use Rattle.dimacs_runs.specs.Runs.{Shown}
 use Rattle.dimacs_runs.specs.inside.Commands.{named}
 use Rattle.dimacs_runs.proofs.FileLemmas.{one_first}
