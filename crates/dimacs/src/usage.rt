@@ -4,7 +4,7 @@ use clap::Command;
 use std::alloc::{AllocError, Global};
 
 /// The words of each run, and what it does. With two blanks between them they fit 80 columns.
-static RUNS: [(&str, &str); 9] = [
+static RUNS: [(&str, &str); 11] = [
     ("convert KIND FILE", "Prints its canonical form"),
     ("show KIND FILE", "Prints a line about it"),
     ("judge-max INSTANCE SOLUTION CUT", "Is the flow maximum?"),
@@ -14,6 +14,14 @@ static RUNS: [(&str, &str); 9] = [
     ),
     ("judge-infeasible INSTANCE CUT", "Is no flow feasible?"),
     ("judge-paths GRAPH QUERY LABELS", "Are these distances?"),
+    (
+        "certify-max INSTANCE SOLUTION [CERTIFICATE]",
+        "Is the flow maximum?",
+    ),
+    (
+        "certify-min INSTANCE SOLUTION [CERTIFICATE]",
+        "Does the flow cost least?",
+    ),
     (
         "solve-max INSTANCE SOLUTION CUT [--limit N]",
         "Writes a maximum flow",
@@ -27,6 +35,8 @@ static RUNS: [(&str, &str); 9] = [
 
 /// What stands after the words of the runs.
 static NOTES: &str = "\
+A judge is given what shows that a claim is true. A certify run needs no such
+file, and writes one to CERTIFICATE, if it is named, or a better solution there.
 A solve run reads INSTANCE, or GRAPH and QUERY, and writes its other files; the
 other runs write no file. N is how many flows or paths are tried, a number from
 0 to 1000000000, and 1000000 if it isn't told.

@@ -4,3 +4,4 @@ pub mod PlanLemmas
 mod WordLemmas
 pub mod ReportLemmas
 pub mod SolvingLemmas
+pub mod CertifyingLemmas

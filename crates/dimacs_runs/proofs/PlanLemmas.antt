@@ -3,7 +3,6 @@ use Rattle.std.proofs.Common.{ℕ, ◌≡◌, ◌≢◌, ◌++◌, ◌∙◌, Li
 use Rattle.std.proofs.lemmas.Grind.{flat_map-append}
 use Rattle.dimacs_runs.specs.declared.failure.CommandError.{CommandError}
 use Rattle.dimacs_runs.specs.declared.failure.Failure.{Failure}
-use Rattle.dimacs_runs.specs.declared.failure.FileCall.{FileCall}
 use Rattle.dimacs_runs.specs.declared.jobs.JudgeKind.{JudgeKind}
 use Rattle.dimacs_runs.specs.declared.jobs.JudgeKind.TheVariants as judges
 use Rattle.dimacs_runs.specs.declared.jobs.SolveJob.{SolveJob}
@@ -15,7 +14,7 @@ use Rattle.dimacs_runs.specs.Commands.{Contents, Plan, RunsFiles, Telling, Tells
 use Rattle.dimacs_runs.specs.Files.{Created, FileEvent, FilesSeen, NotCreated, NotOpened, Opened, Read, ReadFile, Sees, WrittenFile, Wrote, after_events, failures}
 use Rattle.dimacs_runs.specs.Judged.{IsClaim, Judged}
 use Rattle.dimacs_runs.specs.Judgings.{CountsDevices, OneMore}
-use Rattle.dimacs_runs.specs.Outputs.{ReportsAll}
+use Rattle.dimacs_runs.specs.Outputs.{MayTell, ReportsAll}
 use Rattle.dimacs_runs.specs.Runs.{Reports}
 use Rattle.dimacs_runs.specs.Solved.{AreQueries, Solved}
 use Rattle.dimacs_runs.specs.inside.Commands.{FailsWith, IsFirstOf, named}
@@ -132,11 +131,11 @@ reports_named tells (Err Memory) failure old new reports = reports
 reports_named tells (Err Device) None old new reports = reports
 reports_named tells (Err Device) (Some it) old new reports = reports
 
-pub reports_all_named : (tells : Status → List (List ℕ) → Type 0) (ended : Result Status RunError) (failure : Option Failure) (old new : List (Option (List ℕ))) → ReportsAll tells ended old new → ReportsAll tells (named ended failure) old new
-reports_all_named tells (Ok status) failure old new reports = reports
-reports_all_named tells (Err Memory) failure old new reports = reports
-reports_all_named tells (Err Device) None old new reports = reports
-reports_all_named tells (Err Device) (Some it) old new reports = reports
+pub reports_all_named : (told : Status → List (List ℕ) → Type 0) (ended : Result Status RunError) (failure : Option Failure) (old new : List (Option (List ℕ))) → ReportsAll told ended old new → ReportsAll told (named ended failure) old new
+reports_all_named told (Ok status) failure old new reports = reports
+reports_all_named told (Err Memory) failure old new reports = reports
+reports_all_named told (Err Device) None old new reports = reports
+reports_all_named told (Err Device) (Some it) old new reports = reports
 
 -- ---- devices that never fail
 same_without : (p counted : ℕ) (old new : List ℕ) → counted ∷ 0 ∷ new ≡ p ∷ 0 ∷ old → counted ∷ new ≡ p ∷ old
@@ -171,7 +170,7 @@ is_claim judges.Min coming b is = is
 is_claim judges.Infeasible coming b is = tt
 is_claim judges.Paths coming b is = is
 
-pub flow_told : (job : SolveJob) (a b : List ℕ) (result : Result Status CommandError) (old new : List (Option (List ℕ))) → job ≢ solves.Paths → ReportsAll (Solved job a b) result old new → TellsSolved job (a ∷ []) result old new
+pub flow_told : (job : SolveJob) (a b : List ℕ) (result : Result Status CommandError) (old new : List (Option (List ℕ))) → job ≢ solves.Paths → ReportsAll (MayTell (Solved job a b)) result old new → TellsSolved job (a ∷ []) result old new
 flow_told (solves.Max limit) a b result old new flow reports = reports
 flow_told (solves.Min limit) a b result old new flow reports = reports
 flow_told solves.Paths a b result old new flow reports = absurd (flow refl)

@@ -1,14 +1,15 @@
 -- Words one by one.
-use Rattle.std.proofs.Common.{◌≡◌, ◌≢◌, ◌∙◌, ℕ, ◌∷◌, ◌++◌, [], ◌<◌, ◌≤◌, List, Option, Some, None, IfSome, IfNone, length, map, drop, get_or, refl, sym, ap, arith}
+use Rattle.std.proofs.Common.{◌≡◌, ◌≢◌, ◌∙◌, ℕ, ◌∷◌, ◌++◌, [], ◌<◌, ◌≤◌, List, Option, Some, None, IfSome, IfNone, length, map, drop, get_or, refl, sym, ap, subst, arith}
 use Rattle.std.specs.Prelude.{codes}
 use Rattle.std.proofs.lemmas.List.{length-map}
 use Rattle.std.specs.String.{string_bytes}
+use Rattle.dimacs_runs.specs.declared.jobs.CertifyKind.{CertifyKind}
 use Rattle.dimacs_runs.specs.declared.jobs.Job.{Job}
-use Rattle.dimacs_runs.specs.declared.jobs.Job.TheVariants.{Convert, Show, Judge, Solve}
+use Rattle.dimacs_runs.specs.declared.jobs.Job.TheVariants.{Convert, Show, Judge, Certify, Solve}
 use Rattle.dimacs_runs.specs.declared.jobs.JudgeKind.{JudgeKind}
 use Rattle.dimacs_runs.specs.declared.jobs.SolveJob.{SolveJob}
 use Rattle.dimacs_runs.specs.declared.jobs.SolveJob.TheVariants.{Max, Min, Paths}
-use Rattle.dimacs_runs.specs.Jobs.{AreOptions, Asks, AsksProducer, IsLimit, TellLimit, file_count, judge_word, solve_word}
+use Rattle.dimacs_runs.specs.Jobs.{AreOptions, Asks, AsksProducer, IsLimit, TellLimit, TwoOrThree, certify_word, file_count, judge_word, solve_word}
 
 pub two_words : {A : Type 0} (f : A → List ℕ) (words : List A) (a b : A) (x y : List ℕ) → 2 ≤ length words → length words < 3 → a ≡ get_or words 0 a → b ≡ get_or words 1 b
     → x ≡ f a → y ≡ f b → map f words ≡ x ∷ y ∷ []
@@ -16,6 +17,14 @@ two_words f (p ∷ q ∷ []) a b x y least most first second is_x is_y = sym (rw
 two_words f [] a b x y least most first second is_x is_y = absurd (omega (arith, least))
 two_words f (p ∷ []) a b x y least most first second is_x is_y = absurd (omega (arith, least))
 two_words f (p ∷ q ∷ r ∷ more) a b x y least most first second is_x is_y = absurd (omega (arith, most))
+
+pub three_words : {A : Type 0} (f : A → List ℕ) (words : List A) (a b c : A) (x y z : List ℕ) → 3 ≤ length words → length words < 4 → a ≡ get_or words 0 a → b ≡ get_or words 1 b → c ≡ get_or words 2 c
+    → x ≡ f a → y ≡ f b → z ≡ f c → map f words ≡ x ∷ y ∷ z ∷ []
+three_words f (p ∷ q ∷ r ∷ []) a b c x y z least most first second third is_x is_y is_z = sym (rw (is_x, is_y, is_z, first, second, third) refl)
+three_words f [] a b c x y z least most first second third is_x is_y is_z = absurd (omega (arith, least))
+three_words f (p ∷ []) a b c x y z least most first second third is_x is_y is_z = absurd (omega (arith, least))
+three_words f (p ∷ q ∷ []) a b c x y z least most first second third is_x is_y is_z = absurd (omega (arith, least))
+three_words f (p ∷ q ∷ r ∷ s ∷ more) a b c x y z least most first second third is_x is_y is_z = absurd (omega (arith, most))
 
 -- ---- what stands after the files of a producer
 pub limited : (told : Option ℕ) (words : List (List ℕ)) (number : List ℕ) → words ≡ codes "--limit" ∷ number ∷ [] → IfSome told (IsLimit number) → IfSome told (TellLimit words)
@@ -52,11 +61,12 @@ no_producer f verb (p ∷ []) options least is none job files asks = absurd (ome
 no_producer f verb (p ∷ q ∷ []) options least is none job files asks = absurd (omega (arith, least))
 
 module _ {A : Type 0} (f : A → List ℕ) (words : List A) (first : A) (rest : List A) (verb : List ℕ) (is : words ≡ first ∷ rest) (is_verb : verb ≡ f first) where
-  -- a word that names no run, and words after it that no judge and no producer takes
+  -- a word that names no run, and words after it that no judge, no certifier and no producer takes
   pub nothing_asked : (answer : Option Job) → verb ≢ codes "convert" → verb ≢ codes "show" → IfNone answer ((kind : JudgeKind) → verb ≡ judge_word kind → length rest ≢ file_count kind)
+      → IfNone answer ((kind : CertifyKind) → verb ≡ certify_word kind → ¬ TwoOrThree (length rest))
       → IfNone answer ((job : SolveJob) (files : List (List ℕ)) → ¬ AsksProducer (verb ∷ map f rest) job files) → IfNone answer ((wanted : Job) → ¬ Asks (map f words) wanted)
-  nothing_asked (Some job) convert show judge producer = tt
-  nothing_asked None convert show judge producer = rw (is, ← is_verb) nothing
+  nothing_asked (Some job) convert show judge certifier producer = tt
+  nothing_asked None convert show judge certifier producer = rw (is, ← is_verb) nothing
     where
       nothing : (wanted : Job) → ¬ Asks (verb ∷ map f rest) wanted
       nothing (Convert kind file) asks = convert cc
@@ -65,4 +75,9 @@ module _ {A : Type 0} (f : A → List ℕ) (words : List A) (first : A) (rest : 
           let word : verb ≡ judge_word kind = cc in
           let others : map f rest ≡ map string_bytes files.now = cc in
           judge kind word (sym (length-map rest f) ∙ ap length others ∙ length-map files.now string_bytes ∙ count)
+      nothing (Certify kind files) (same, count) =
+          let word : verb ≡ certify_word kind = cc in
+          let others : map f rest ≡ map string_bytes files.now = cc in
+          let long : length files.now ≡ length rest = sym (length-map files.now string_bytes) ∙ sym (ap length others) ∙ length-map rest f in
+          certifier kind word (subst TwoOrThree long count)
       nothing (Solve job files) asks = producer job (map string_bytes files.now) asks

@@ -9,8 +9,9 @@ use Rattle.dimacs_runs.specs.declared.failure.CommandError.TheVariants.{Device, 
 use Rattle.dimacs_runs.specs.declared.failure.Failure.TheVariants.{File, Output}
 use Rattle.dimacs_runs.specs.declared.failure.FileCall.{FileCall}
 use Rattle.dimacs_runs.specs.declared.failure.FileCall.TheVariants as calls
+use Rattle.dimacs_runs.specs.declared.jobs.CertifyKind.{CertifyKind}
 use Rattle.dimacs_runs.specs.declared.jobs.Job.{Job}
-use Rattle.dimacs_runs.specs.declared.jobs.Job.TheVariants.{Convert, Show, Judge, Solve}
+use Rattle.dimacs_runs.specs.declared.jobs.Job.TheVariants.{Convert, Show, Judge, Certify, Solve}
 use Rattle.dimacs_runs.specs.declared.jobs.JudgeKind.{JudgeKind}
 use Rattle.dimacs_runs.specs.declared.jobs.JudgeKind.TheVariants as judges
 use Rattle.dimacs_runs.specs.declared.jobs.SolveJob.{SolveJob}
@@ -18,11 +19,12 @@ use Rattle.dimacs_runs.specs.declared.jobs.SolveJob.TheVariants as solves
 use Rattle.dimacs_runs.specs.declared.outcome.RunError.{RunError}
 use Rattle.dimacs_runs.specs.declared.outcome.RunError.TheVariants as run_errors
 use Rattle.dimacs_runs.specs.declared.outcome.Status.{Status}
+use Rattle.dimacs_runs.specs.Certified.{Certified}
 use Rattle.dimacs_runs.specs.Files.{Created, FileEvent, FilesSeen, NotCreated, NotOpened, Opened, Read, ReadFile, Sees, WrittenFile, Wrote, closed_written, failures}
 use Rattle.dimacs_runs.specs.Jobs.{Asks}
 use Rattle.dimacs_runs.specs.Judged.{Judged, JudgedInfeasible}
 use Rattle.dimacs_runs.specs.Outcomes.{status_number}
-use Rattle.dimacs_runs.specs.Outputs.{ReportsAll}
+use Rattle.dimacs_runs.specs.Outputs.{MayTell, ReportsAll, TellsAlike}
 use Rattle.dimacs_runs.specs.Runs.{Converted, Reports, Shown}
 use Rattle.dimacs_runs.specs.Solved.{SolvedMax, SolvedMin, SolvedPaths}
 
@@ -61,6 +63,7 @@ abbrev pub plan_of : Job → Plan
 plan_of (Convert kind file) = reads (file.now ∷ [])
 plan_of (Show kind file) = reads (file.now ∷ [])
 plan_of (Judge kind files) = reads (map string_bytes files.now)
+plan_of (Certify kind files) = reads_first 2 (map string_bytes files.now)
 plan_of (Solve job files) = reads_first (read_count job) (map string_bytes files.now)
 
 -- what is told of the texts of the files that are read: by what those that are created and the output had accepted, and what they have then
@@ -77,17 +80,27 @@ TellsJudged judges.Infeasible (instance ∷ set ∷ []) result (old ∷ []) (new
 TellsJudged kind (instance ∷ claim ∷ certificate ∷ []) result (old ∷ []) (new ∷ []) = Reports (Judged kind instance claim certificate) result old new
 TellsJudged kind other result old new = ⊥
 
+-- where no file is created for a certificate, it goes nowhere
+abbrev pub certificate_first : List (Option (List ℕ)) → List (Option (List ℕ))
+certificate_first (output ∷ []) = None ∷ output ∷ []
+certificate_first sinks = sinks
+
+abbrev pub TellsCertified : CertifyKind → Telling
+TellsCertified kind (instance ∷ solution ∷ []) result old new = ReportsAll (TellsAlike (Certified kind instance solution)) result (certificate_first old) (certificate_first new)
+TellsCertified kind other result old new = ⊥
+
 -- nothing is claimed with distances: the claim goes nowhere
 abbrev pub TellsSolved : SolveJob → Telling
-TellsSolved (solves.Max limit) (instance ∷ []) result old new = ReportsAll (SolvedMax limit instance) result old new
-TellsSolved (solves.Min limit) (instance ∷ []) result old new = ReportsAll (SolvedMin limit instance) result old new
-TellsSolved solves.Paths (graph ∷ queries ∷ []) result old new = ReportsAll (SolvedPaths graph queries) result (None ∷ old) (None ∷ new)
+TellsSolved (solves.Max limit) (instance ∷ []) result old new = ReportsAll (MayTell (SolvedMax limit instance)) result old new
+TellsSolved (solves.Min limit) (instance ∷ []) result old new = ReportsAll (MayTell (SolvedMin limit instance)) result old new
+TellsSolved solves.Paths (graph ∷ queries ∷ []) result old new = ReportsAll (MayTell (SolvedPaths graph queries)) result (None ∷ old) (None ∷ new)
 TellsSolved job other result old new = ⊥
 
 abbrev pub tells_of : Job → Telling
 tells_of (Convert kind file) = TellsOne (Converted kind)
 tells_of (Show kind file) = TellsOne (Shown kind)
 tells_of (Judge kind files) = TellsJudged kind
+tells_of (Certify kind files) = TellsCertified kind
 tells_of (Solve job files) = TellsSolved job
 
 -- a file could not be opened: those before it were, and nothing else was done

@@ -4,8 +4,10 @@ use Rattle.std.specs.String.{string_bytes}
 use Rattle.dimacs_lines.specs.Number.{Spells}
 use Rattle.dimacs_records.specs.declared.kinds.TextKind.{TextKind}
 use Rattle.dimacs_records.specs.declared.kinds.TextKind.TheVariants.{Max, Min, Graph, Queries, Solution, Cut, Potentials, Labels}
+use Rattle.dimacs_runs.specs.declared.jobs.CertifyKind.{CertifyKind}
+use Rattle.dimacs_runs.specs.declared.jobs.CertifyKind.TheVariants as certifies
 use Rattle.dimacs_runs.specs.declared.jobs.Job.{Job}
-use Rattle.dimacs_runs.specs.declared.jobs.Job.TheVariants.{Convert, Show, Judge, Solve}
+use Rattle.dimacs_runs.specs.declared.jobs.Job.TheVariants.{Convert, Show, Judge, Certify, Solve}
 use Rattle.dimacs_runs.specs.declared.jobs.JudgeKind.{JudgeKind}
 use Rattle.dimacs_runs.specs.declared.jobs.JudgeKind.TheVariants as judges
 use Rattle.dimacs_runs.specs.declared.jobs.SolveJob.{SolveJob}
@@ -33,6 +35,14 @@ file_count judges.Max = 3
 file_count judges.Min = 3
 file_count judges.Infeasible = 2
 file_count judges.Paths = 3
+
+abbrev pub certify_word : CertifyKind → List ℕ
+certify_word certifies.Max = codes "certify-max"
+certify_word certifies.Min = codes "certify-min"
+
+-- an instance and a claim, and a certificate where one is to be written
+abbrev pub TwoOrThree : ℕ → Type 0
+TwoOrThree count = (2 ≤ count) × (count ≤ 3)
 
 abbrev pub solve_word : SolveJob → List ℕ
 solve_word (solves.Max limit) = codes "solve-max"
@@ -63,4 +73,5 @@ abbrev pub Asks : List (List ℕ) → Job → Type 0
 Asks words (Convert kind file) = words ≡ codes "convert" ∷ kind_word kind ∷ file.now ∷ []
 Asks words (Show kind file) = words ≡ codes "show" ∷ kind_word kind ∷ file.now ∷ []
 Asks words (Judge kind files) = (words ≡ judge_word kind ∷ map string_bytes files.now) × (length files.now ≡ file_count kind)
+Asks words (Certify kind files) = (words ≡ certify_word kind ∷ map string_bytes files.now) × TwoOrThree (length files.now)
 Asks words (Solve job files) = AsksProducer words job (map string_bytes files.now)

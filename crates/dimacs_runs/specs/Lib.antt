@@ -1,3 +1,4 @@
+pub mod Certified
 pub mod Commands
 pub mod Files
 pub mod Jobs

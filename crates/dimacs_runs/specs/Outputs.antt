@@ -23,7 +23,17 @@ AcceptInTurn (text ∷ texts) (held ∷ old) (holds ∷ new) = (AcceptsFront hel
 abbrev pub MayTell : (Status → List (List ℕ) → Type 0) → Status → List (List ℕ) → Type 0
 MayTell tells status out = tells status out × ((refusal : List (List ℕ)) → tells Refused refusal → (status ≡ Refused) × (out ≡ refusal))
 
+-- the report stands last
+abbrev pub report_of : List (List ℕ) → List ℕ
+report_of [] = []
+report_of (report ∷ []) = report
+report_of (text ∷ texts) = report_of texts
+
+-- this may be told; and all that may be told has this status and this report
+abbrev pub TellsAlike : (Status → List (List ℕ) → Type 0) → Status → List (List ℕ) → Type 0
+TellsAlike tells status out = tells status out × ((s : Status) (other : List (List ℕ)) → tells s other → (s ≡ status) × (report_of other ≡ report_of out))
+
 -- all that is told was put; after an error, nothing or a beginning of it
 abbrev pub ReportsAll : {E : Type 0} → (Status → List (List ℕ) → Type 0) → Result Status E → List (Option (List ℕ)) → List (Option (List ℕ)) → Type 0
-ReportsAll tells (Ok status) old new = (out : List (List ℕ)) × MayTell tells status out × AcceptAll out old new
-ReportsAll tells (Err error) old new = (new ≡ old) ⊎ ((status : Status) × (out : List (List ℕ)) × MayTell tells status out × AcceptInTurn out old new)
+ReportsAll told (Ok status) old new = (out : List (List ℕ)) × told status out × AcceptAll out old new
+ReportsAll told (Err error) old new = (new ≡ old) ⊎ ((status : Status) × (out : List (List ℕ)) × told status out × AcceptInTurn out old new)

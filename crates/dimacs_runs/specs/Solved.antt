@@ -39,10 +39,10 @@ use Rattle.dimacs_runs.specs.Verdicts.{failure_line, gave_up_line, infeasible_li
 abbrev pub report_alone : List ℕ → List (List ℕ)
 report_alone line = [] ∷ [] ∷ line ∷ []
 
--- the line of the text's fault alone is told; or the text spells a value, and what follows from it is told
-abbrev pub FaultAloneOr : {V : Type 0} → TextSays V → (V → Status → List (List ℕ) → Type 0) → Status → List (List ℕ) → Type 0
-FaultAloneOr text next status out =
-    ((l : ℕ) × (f : ℕ) × (r : Reason) × text.fault l f r × (status ≡ Refused) × (out ≡ report_alone (refusal_line text.name l f r))) ⊎ ((v : _) × text.spells v × next v status out)
+-- the line of the text's fault is told, alone; or the text spells a value, and what follows from it is told
+abbrev pub FaultAloneOr : {V : Type 0} → (List ℕ → List (List ℕ)) → TextSays V → (V → Status → List (List ℕ) → Type 0) → Status → List (List ℕ) → Type 0
+FaultAloneOr alone text next status out =
+    ((l : ℕ) × (f : ℕ) × (r : Reason) × text.fault l f r × (status ≡ Refused) × (out ≡ alone (refusal_line text.name l f r))) ⊎ ((v : _) × text.spells v × next v status out)
 
 -- a solution, a cut that shows it maximum, and the verdict on them; or that none of so many flows is maximum, as where the limit is 0
 abbrev pub FindsMaximum : MaxValue → ℕ → Status → List (List ℕ) → Type 0
@@ -68,15 +68,15 @@ FindsPaths g q Refused out = (place : Where) × (reason : Reason) × RefusesPath
 FindsPaths g q GaveUp out = ⊥
 
 abbrev pub SolvedMax : ℕ → List ℕ → Status → List (List ℕ) → Type 0
-SolvedMax limit instance = FaultAloneOr (says kinds.Max SpellsMax instance) (λ i. FindsMaximum i limit)
+SolvedMax limit instance = FaultAloneOr report_alone (says kinds.Max SpellsMax instance) (λ i. FindsMaximum i limit)
 
 abbrev pub SolvedMin : ℕ → List ℕ → Status → List (List ℕ) → Type 0
-SolvedMin limit instance = FaultAloneOr (says kinds.Min SpellsMin instance) (λ i. FindsLeast i limit)
+SolvedMin limit instance = FaultAloneOr report_alone (says kinds.Min SpellsMin instance) (λ i. FindsLeast i limit)
 
 abbrev pub SolvedPaths : List ℕ → List ℕ → Status → List (List ℕ) → Type 0
 SolvedPaths graph queries =
-    FaultAloneOr (says kinds.Graph SpellsGraph graph) (λ g.
-    FaultAloneOr (says kinds.Queries SpellsQueries queries) (λ q.
+    FaultAloneOr report_alone (says kinds.Graph SpellsGraph graph) (λ g.
+    FaultAloneOr report_alone (says kinds.Queries SpellsQueries queries) (λ q.
     FindsPaths g q))
 
 -- what is told of an instance, and of queries where paths are asked for

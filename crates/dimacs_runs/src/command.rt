@@ -9,6 +9,7 @@ use crate::failure::{CommandError, Failure};
 use crate::files::Files;
 use crate::jobs::Job;
 use crate::outcome::{RunError, Status, exit_status};
+use crate::runs_that_certify::certify_files;
 use crate::runs_that_read::{convert_file, judge_files, show_file};
 use crate::runs_that_write::solve_files;
 use crate::words::job;
@@ -85,6 +86,7 @@ fn run_job<'a, F: Files, K: Sink>(
         Job::Convert(kind, name) => convert_file(alloc, kind, name, files, output),
         Job::Show(kind, name) => show_file(alloc, kind, name, files, output),
         Job::Judge(kind, names) => judge_files(alloc, kind, names, files, output),
+        Job::Certify(kind, names) => certify_files(alloc, kind, names, files, output),
         Job::Solve(job, names) => solve_files(alloc, job, names, files, output),
     }
 }

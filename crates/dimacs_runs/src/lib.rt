@@ -1,6 +1,7 @@
 //! The runs of the command, over any sources and sinks, and what the command's words mean.
 #![tactic(auto)]
 
+mod certify;
 mod command;
 mod convert;
 mod counted;
@@ -14,6 +15,7 @@ mod judge;
 mod outcome;
 mod produced;
 mod refusal;
+mod runs_that_certify;
 mod runs_that_read;
 mod runs_that_write;
 mod show;
@@ -23,12 +25,13 @@ mod told;
 mod verdict;
 mod words;
 
+pub use certify::run_certify;
 pub use command::{Ending, NO_RUN, run_command};
 pub use convert::run_convert;
 pub use counted::Counted;
 pub use failure::{CommandError, Failure, FileCall};
 pub use files::Files;
-pub use jobs::{Job, JudgeKind, SolveJob};
+pub use jobs::{CertifyKind, Job, JudgeKind, SolveJob};
 pub use judge::run_judge;
 pub use outcome::{RunError, Status, complaint, exit_status};
 pub use show::run_show;

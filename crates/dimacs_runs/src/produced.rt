@@ -1,4 +1,4 @@
-//! What a producer's run tells, and how it is put.
+//! What a run tells that makes a claim or a certificate, and how it is put.
 
 ghost use Rattle.std.specs.Prelude.{◌≡◌, ◌∷◌, [], IfOk};
 ghost use Rattle.dimacs_runs.specs.inside.Produced.{CountsPuts, EndsProducing, IsClaimless, PutTexts, least_produced, made_texts, maximum_produced, reported};
@@ -14,7 +14,7 @@ use dimacs_lines::{DeviceFault, Sink};
 use dimacs_records::Reason;
 use dimacs_solve::{MaxAnswer, MinAnswer, SolveError};
 
-/// A claim and its certificate, as far as they were made.
+/// A claim and what stands beside it, as far as they were made.
 #[derive(Drop)]
 pub(crate) enum Made {
     Nothing,
@@ -22,8 +22,12 @@ pub(crate) enum Made {
     Maximum(Solution, Cut),
     /// A flow of least cost, and potentials that show it.
     Least(Solution, Potentials),
-    /// A set that shows that there is no flow, which is claimed by nothing else.
+    /// A set that shows that there is no flow, or a cut that shows a flow maximum which someone else claimed.
     Set(Cut),
+    /// Potentials that show that a flow costs least which someone else claimed.
+    Slack(Potentials),
+    /// A solution that is better than someone else's, in place of a certificate.
+    Better(Solution),
     /// Labels. What they answer is claimed by nothing else.
     Distances(Labels),
 }
@@ -46,6 +50,8 @@ impl Made {
                 write_potentials(potentials, certificate)
             }
             Made::Set(set) => write_cut(set, certificate),
+            Made::Slack(potentials) => write_potentials(potentials, certificate),
+            Made::Better(solution) => write_solution(solution, certificate),
             Made::Distances(labels) => write_labels(labels, certificate),
         }
     }

@@ -9,7 +9,7 @@ ghost use Rattle.dimacs_instance.specs.QueryTexts.{AreLawful, asked};
 ghost use Rattle.dimacs_runs.specs.declared.jobs.SolveJob.TheVariants as jobs;
 ghost use Rattle.dimacs_runs.specs.declared.outcome.RunError.TheVariants.{Device, Memory};
 ghost use Rattle.dimacs_runs.specs.Judgings.{CountsDevices};
-ghost use Rattle.dimacs_runs.specs.Outputs.{ReportsAll};
+ghost use Rattle.dimacs_runs.specs.Outputs.{MayTell, ReportsAll};
 ghost use Rattle.dimacs_runs.specs.inside.Produced.{IsClaimless, MayProduce};
 ghost use Rattle.dimacs_runs.specs.Solved.{AreQueries, FindsPaths, Solved, SolvedMax, SolvedMin, SolvedPaths, solved_kind};
 
@@ -44,7 +44,7 @@ pub fn run_solve<P: Source, Q: Source, C: Sink, D: Sink, K: Sink>(
     certificate_out: &mut D,
     report: &mut K,
 ) -> Result<Status, RunError>
-    ensures reports { (a b : List ℕ) → P.coming instance.old ≡ Some a → AreQueries job (Q.coming queries.old) b → ReportsAll (Solved job a b) result (C.accepted claim_out.old ∷ D.accepted certificate_out.old ∷ K.accepted report.old ∷ []) (C.accepted claim_out.new ∷ D.accepted certificate_out.new ∷ K.accepted report.new ∷ []) }
+    ensures reports { (a b : List ℕ) → P.coming instance.old ≡ Some a → AreQueries job (Q.coming queries.old) b → ReportsAll (MayTell (Solved job a b)) result (C.accepted claim_out.old ∷ D.accepted certificate_out.old ∷ K.accepted report.old ∷ []) (C.accepted claim_out.new ∷ D.accepted certificate_out.new ∷ K.accepted report.new ∷ []) }
     ensures faults { CountsDevices result (P.faults instance.old ∷ Q.faults queries.old ∷ C.faults claim_out.old ∷ D.faults certificate_out.old ∷ K.faults report.old ∷ []) (P.faults instance.new ∷ Q.faults queries.new ∷ C.faults claim_out.new ∷ D.faults certificate_out.new ∷ K.faults report.new ∷ []) }
     ensures nothing_written { (P.faults instance.new ≢ P.faults instance.old) ⊎ (Q.faults queries.new ≢ Q.faults queries.old) → (C.accepted claim_out.new ≡ C.accepted claim_out.old) × (D.accepted certificate_out.new ≡ D.accepted certificate_out.old) × (K.accepted report.new ≡ K.accepted report.old) }
     ensures memory { result ≡ Err Memory → (C.accepted claim_out.new ≡ C.accepted claim_out.old) × (D.accepted certificate_out.new ≡ D.accepted certificate_out.old) × (K.accepted report.new ≡ K.accepted report.old) }

@@ -5,7 +5,7 @@ ghost use Rattle.dimacs_lines.specs.Lines.{lines};
 ghost use Rattle.dimacs_records.specs.declared.reasons.Reason.{Reason};
 ghost use Rattle.dimacs_records.specs.Faults.{Fault};
 ghost use Rattle.dimacs_records.specs.declared.kinds.TextKind.TheVariants as kinds;
-ghost use Rattle.dimacs_claims.specs.SolutionReading.{IsPlaced};
+ghost use Rattle.dimacs_claims.specs.SolutionReading.{IsPlaced, IsPlacedLawful};
 ghost use Rattle.dimacs_claims.specs.SolutionTexts.{SpellsSolution};
 ghost use Rattle.dimacs_runs.specs.Judgings.{says};
 ghost use Rattle.dimacs_runs.specs.inside.Judgings.{CountsUnread, PlacesOne, ReadsOne, ReadsPlaced, ReadsTwo, ReadsThree, error_told};
@@ -108,13 +108,15 @@ pub(crate) fn read_placed<E: Place, W: Text, P: Source, Q: Source>(
     Ok((placed, certificate))
 }
 
-fn place_solution<E: Place, P: Source>(
+/// Reads a solution into a place.
+pub(crate) fn place_solution<E: Place, P: Source>(
     alloc: Global,
     place: E,
     source: &mut P,
 ) -> Result<Placed<E>, Unread>
     requires empty { E.stands_for place [] }
     ensures reads { (a : List ℕ) → P.coming source.old ≡ Some a → PlacesOne (λ solution placed. IsPlaced placed.value placed.value_line (E.stands_for placed.place) solution) (says kinds.Solution SpellsSolution a) result }
+    ensures lawful { IfOk result (λ placed. IsPlacedLawful placed.value placed.value_line (E.stands_for placed.place)) }
     ensures fixed { IfOk result (λ placed. E.fixed placed.place ≡ E.fixed place) }
     ensures faults { CountsUnread result (P.faults source.old ∷ []) (P.faults source.new ∷ []) }
 {

@@ -14,7 +14,7 @@ use std::process::Abort;
 use std::test::Fail;
 
 /// Texts by the names of their files.
-static HELD: [(&str, &str); 17] = [
+static HELD: [(&str, &str); 19] = [
     ("road", "c x\n  p  sp 2 1\r\n\na 1 2 +007"),
     ("nothing", ""),
     (
@@ -22,6 +22,8 @@ static HELD: [(&str, &str); 17] = [
         "p max 4 5\nn 1 s\nn 4 t\na 1 2 4\na 1 3 2\na 2 3 2\na 2 4 3\na 3 4 5\n",
     ),
     ("flow", "s 6\nf 1 2 4\nf 1 3 2\nf 2 3 1\nf 2 4 3\nf 3 4 3\n"),
+    ("zero", "s 0\n"),
+    ("full-pipe", "c\nf 1 2 3\ns 3\n"),
     ("cut", "p cut 4 1\nu 1\n"),
     (
         "min",
@@ -174,6 +176,16 @@ judge-max max cut flow | < max;< cut;< flow; | x solution 1 1 UnknownLine; | 1
 judge-min min least pot | < min;< least;< pot; | v min 14; | 0
 judge-infeasible unmet set | < unmet;< set; | v infeasible; | 0
 judge-paths cycle pairs labels | < cycle;< pairs;< labels; | v 1 2 5;v 1 4 unreachable; | 0
+certify-max max flow a | < max;< flow;> a;= a;p cut 4 1;u 1; | v max 6; | 0
+certify-max max flow | < max;< flow; | v max 6; | 0
+certify-max pipe zero a | < pipe;< zero;> a;= a;s 3;f 1 2 3; | x solution 1 2 NotMaximum; | 1
+certify-max pipe zero | < pipe;< zero; | x solution 1 2 NotMaximum; | 1
+certify-max pipe full-pipe a | < pipe;< full-pipe;> a;= a;p cut 2 1;u 1; | v max 3; | 0
+certify-max flow max a | < flow;< max;> a;= a; | x instance 1 1 UnknownLine; | 1
+certify-max flow flow a | < flow;< flow;> a;= a; | x instance 1 1 UnknownLine; | 1
+certify-min min least a | < min;< least;> a;= a;p pot 4 3; | v min 14; | 0
+certify-min min least | < min;< least; | v min 14; | 0
+certify-min min zero a | < min;< zero;> a;= a; | x node 1 Balance; | 1
 solve-max pipe a b | < pipe;> a;> b;= a;s 3;f 1 2 3;= b;p cut 2 1;u 1; | v max 3; | 0
 solve-max pipe a b --limit 0 | < pipe;> a;> b;= a;= b; | g limit; | 5
 solve-min supply a b | < supply;> a;> b;= a;s 3;f 1 2 1;= b;p pot 2  | v min 3; | 0
@@ -187,11 +199,19 @@ show max absent |  |  | 3
 judge-max max absent cut | < max; |  | 3
 judge-max absent flow cut |  |  | 3
 judge-infeasible unmet absent | < unmet; |  | 3
+certify-max max absent a | < max; |  | 3
+certify-max absent flow |  |  | 3
+certify-max max flow denied | < max;< flow; |  | 3
+certify-max max broken a | < max;< broken;> a;= a; |  | 3
+certify-max max flow full | < max;< flow;> full;= full; |  | 3
+certify-min min greedy a | < min; |  | 4
 solve-max absent a b |  |  | 3
 solve-max pipe a denied | < pipe;> a; |  | 3
 solve-max pipe full b | < pipe;> full;> b;= full;= b; |  | 3
 solve-paths cycle source denied | < cycle;< source; |  | 3
 judge-max max flow |  |  | 2
+certify-max max |  |  | 2
+certify-max max flow a b |  |  | 2
 --help |  |  | 2
 solve-max pipe a b --limit |  |  | 2";
 
@@ -201,6 +221,10 @@ convert gr absent | absent cannot be opened
 convert gr broken | broken cannot be read
 judge-max max absent cut | absent cannot be opened
 judge-max broken broken broken | broken cannot be read
+certify-max max absent | absent cannot be opened
+certify-max max broken a | broken cannot be read
+certify-max max flow denied | denied cannot be created
+certify-max max flow full | full cannot be written
 solve-max pipe a denied | denied cannot be created
 solve-max pipe full b | full cannot be written
 solve-max pipe a full | full cannot be written
@@ -233,7 +257,7 @@ fn ends(rt: &impl Abort, alloc: Global, line: &str) -> Result<(), Fail> {
 
 #[test]
 fn commands_end_with_their_statuses(rt: HostRuntime) -> Result<(), Fail> {
-    for line in rows(&rt, COMMANDS, 29) {
+    for line in rows(&rt, COMMANDS, 47) {
         ends(&rt, rt.alloc(), line)?;
     }
     Ok(())
@@ -258,7 +282,7 @@ fn tells(rt: &impl Abort, alloc: Global, line: &str) -> Result<(), Fail> {
 
 #[test]
 fn failures_name_their_files(rt: HostRuntime) -> Result<(), Fail> {
-    for line in rows(&rt, FAILURES, 8) {
+    for line in rows(&rt, FAILURES, 12) {
         tells(&rt, rt.alloc(), line)?;
     }
     Ok(())

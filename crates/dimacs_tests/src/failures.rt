@@ -1,15 +1,17 @@
 //! Runs in which one pull or one put fails, each of them in turn. Texts come and go byte by byte.
 
+use crate::certifying::{Claimed, certify_from};
 use crate::checks::{holds, holds_at, same_at};
 use crate::judging::{Texts, judge};
 use crate::solving::{CYCLE, Given, MAX, MIN, Outputs, SOURCE, solve_from};
 use dimacs_lines::{FlakySink, FlakySource};
-use dimacs_runs::{JudgeKind, RunError, SolveJob, Status};
+use dimacs_runs::{CertifyKind, JudgeKind, RunError, SolveJob, Status};
 use std::alloc::Global;
 use std::process::Abort;
 use std::test::Fail;
 
-/// A source or a sink of a run. A producer's queries stand in place of the claim that is read.
+/// A source or a sink of a run. A producer's queries stand in place of the claim that is read; nothing is made as a claim
+/// where one is certified.
 #[derive(Clone, Copy, PartialEq, Eq)]
 enum Device {
     Instance,
@@ -153,23 +155,40 @@ fn each_call_of_a_judge_that_fails_is_told(rt: HostRuntime) -> Result<(), Fail> 
     Ok(())
 }
 
-/// Solves texts.
-fn solve_failing(
+/// A run that makes texts.
+#[derive(Clone, Copy)]
+enum Making<'a> {
+    Solves(Given<'a>),
+    Certifies(Claimed<'a>),
+}
+
+impl<'a> Making<'a> {
+    /// The texts that are read.
+    fn texts(self) -> [&'a str; 2] {
+        match self {
+            Making::Solves(given) => [given.instance, given.queries],
+            Making::Certifies(claimed) => [claimed.instance, claimed.solution],
+        }
+    }
+}
+
+/// Makes texts.
+fn make_failing(
     alloc: Global,
-    given: Given<'_>,
+    making: Making<'_>,
     ones: &[usize],
     failing: Failing<'_>,
     outputs: &mut Outputs<'_>,
 ) -> Result<Status, RunError> {
-    let instance = failing.of(Device::Instance);
-    let queries = failing.of(Device::Claim);
-    solve_from(
-        alloc,
-        given.job,
-        &mut FlakySource::new(given.instance.as_bytes(), ones, instance),
-        &mut FlakySource::new(given.queries.as_bytes(), ones, queries),
-        outputs,
-    )
+    let [first, second] = making.texts();
+    let mut first = FlakySource::new(first.as_bytes(), ones, failing.of(Device::Instance));
+    let mut second = FlakySource::new(second.as_bytes(), ones, failing.of(Device::Claim));
+    match making {
+        Making::Solves(given) => solve_from(alloc, given.job, &mut first, &mut second, outputs),
+        Making::Certifies(claimed) => {
+            certify_from(alloc, claimed.kind, &mut first, &mut second, outputs)
+        }
+    }
 }
 
 /// Sinks of which one fails.
@@ -198,24 +217,24 @@ fn have_fronts(outputs: &Outputs<'_>, whole: &Outputs<'_>, counts: [usize; 3]) -
         && has_front(&outputs.report, &whole.report, report)
 }
 
-/// Fails each call of a device of a producer in turn, until a run meets no failure, which ends as the whole one.
-fn solve_fails_in_turn(
+/// Fails each call of a device of a run in turn, until a run meets no failure, which ends as the whole one.
+fn making_fails_in_turn(
     rt: &impl Abort,
     alloc: Global,
-    given: Given<'_>,
+    making: Making<'_>,
     device: Device,
 ) -> Result<(), Fail> {
-    let name = given.instance;
+    let [name, _] = making.texts();
     let ones = Vec::from_elem(alloc, 1, 1000)?;
     let none = Failing { device, calls: &[] };
     let mut whole = failing_outputs(alloc, &ones, none);
-    let wanted = solve_failing(alloc, given, &ones, none, &mut whole);
+    let wanted = make_failing(alloc, making, &ones, none, &mut whole);
     for call in 1..=1000 {
         let calls = [call];
         let calls = calls.as_slice();
         let failing = Failing { device, calls };
         let mut outputs = failing_outputs(alloc, &ones, failing);
-        let ended = solve_failing(alloc, given, &ones, failing, &mut outputs);
+        let ended = make_failing(alloc, making, &ones, failing, &mut outputs);
         if ended == wanted {
             holds(rt, name, have_fronts(&outputs, &whole, lengths(&whole)));
             return Ok(());
@@ -275,7 +294,50 @@ fn each_call_of_a_producer_that_fails_is_told(rt: HostRuntime) -> Result<(), Fai
             Device::MadeCertificate,
             Device::Report,
         ] {
-            solve_fails_in_turn(&rt, rt.alloc(), *given, device)?;
+            making_fails_in_turn(&rt, rt.alloc(), Making::Solves(*given), device)?;
+        }
+    }
+    Ok(())
+}
+
+static CERTIFIED: [Claimed<'static>; 5] = [
+    Claimed {
+        kind: CertifyKind::Max,
+        instance: MAX,
+        solution: "s 6\nf 1 2 4\nf 1 3 2\nf 2 3 1\nf 2 4 3\nf 3 4 3\n",
+    },
+    Claimed {
+        kind: CertifyKind::Max,
+        instance: MAX,
+        solution: "s 0\n",
+    },
+    Claimed {
+        kind: CertifyKind::Max,
+        instance: MAX,
+        solution: "s 1\n",
+    },
+    Claimed {
+        kind: CertifyKind::Min,
+        instance: MIN,
+        solution: "s 14\nf 1 2 2\nf 1 3 2\nf 2 3 2\nf 3 4 4\n",
+    },
+    Claimed {
+        kind: CertifyKind::Min,
+        instance: MIN,
+        solution: "s 16\nf 1 2 2\nf 1 3 2\nf 2 4 2\nf 3 4 2\n",
+    },
+];
+
+#[test]
+fn each_call_of_a_certifier_that_fails_is_told(rt: HostRuntime) -> Result<(), Fail> {
+    for claimed in &CERTIFIED {
+        for device in [
+            Device::Instance,
+            Device::Claim,
+            Device::MadeCertificate,
+            Device::Report,
+        ] {
+            making_fails_in_turn(&rt, rt.alloc(), Making::Certifies(*claimed), device)?;
         }
     }
     Ok(())

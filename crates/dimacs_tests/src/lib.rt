@@ -6,6 +6,8 @@
 #[cfg(test)]
 mod calls;
 #[cfg(test)]
+mod certifying;
+#[cfg(test)]
 mod checks;
 #[cfg(test)]
 mod commands;

@@ -40,7 +40,7 @@ pub struct Outputs<'a> {
 }
 
 /// Sinks that accept pieces of these sizes.
-fn new_outputs<'a>(alloc: Global, sizes: &'a [usize]) -> Outputs<'a> {
+pub fn new_outputs<'a>(alloc: Global, sizes: &'a [usize]) -> Outputs<'a> {
     Outputs {
         claim: FlakySink::new(alloc, sizes, &[]),
         certificate: FlakySink::new(alloc, sizes, &[]),

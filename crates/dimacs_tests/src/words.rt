@@ -2,7 +2,7 @@
 
 use crate::checks::same;
 use dimacs_records::TextKind;
-use dimacs_runs::{Job, JudgeKind, RunError, SolveJob, Status, exit_status, job};
+use dimacs_runs::{CertifyKind, Job, JudgeKind, RunError, SolveJob, Status, exit_status, job};
 use std::alloc::Global;
 use std::process::Abort;
 use std::test::Fail;
@@ -93,6 +93,25 @@ fn words_ask_for_each_judge(rt: HostRuntime) -> Result<(), Fail> {
     Ok(())
 }
 
+/// Command lines that ask for a certificate.
+static CERTIFIERS: [(&str, CertifyKind); 5] = [
+    ("certify-max instance solution", CertifyKind::Max),
+    ("certify-max instance solution cut", CertifyKind::Max),
+    ("certify-min instance solution", CertifyKind::Min),
+    ("certify-min instance solution pot", CertifyKind::Min),
+    ("certify-min certify-max --help -", CertifyKind::Min),
+];
+
+#[test]
+fn words_ask_for_each_certifier(rt: HostRuntime) -> Result<(), Fail> {
+    for &(line, kind) in &CERTIFIERS {
+        let given = words(rt.alloc(), line)?;
+        let files = given.get(1..).unwrap_or_default();
+        same(&rt, line, job(&given), Some(Job::Certify(kind, files)));
+    }
+    Ok(())
+}
+
 /// Command lines that ask for a producer. The three words after the first are its files.
 static PRODUCERS: [(&str, SolveJob); 14] = [
     ("solve-max instance solution cut", SolveJob::Max(1_000_000)),
@@ -140,7 +159,7 @@ fn words_ask_for_each_producer(rt: HostRuntime) -> Result<(), Fail> {
 }
 
 /// Command lines that ask for nothing.
-static OTHER_WORDS: [&str; 38] = [
+static OTHER_WORDS: [&str; 44] = [
     "",
     "convert",
     "convert gr",
@@ -162,6 +181,12 @@ static OTHER_WORDS: [&str; 38] = [
     "judge-infeasible instance",
     "judge-infeasible instance solution cut",
     "judge instance solution cut",
+    "certify-max",
+    "certify-max instance",
+    "certify-max instance solution cut cut",
+    "certify-min instance solution pot --limit 5",
+    "certify-paths graph query labels",
+    "certify instance solution cut",
     "solve-max",
     "solve-max instance solution",
     "solve-max instance solution cut cut",

@@ -6,19 +6,20 @@ use Rattle.dimacs_runs.specs.declared.failure.Failure.{Failure}
 use Rattle.dimacs_runs.specs.declared.failure.Failure.TheVariants.{File, Output}
 use Rattle.dimacs_runs.specs.declared.failure.FileCall.{FileCall}
 use Rattle.dimacs_runs.specs.declared.jobs.Job.{Job}
-use Rattle.dimacs_runs.specs.declared.jobs.Job.TheVariants.{Convert, Show, Judge, Solve}
+use Rattle.dimacs_runs.specs.declared.jobs.Job.TheVariants.{Convert, Show, Judge, Certify, Solve}
 use Rattle.dimacs_runs.specs.declared.outcome.RunError.{RunError}
 use Rattle.dimacs_runs.specs.declared.outcome.RunError.TheVariants as run_errors
 use Rattle.dimacs_runs.specs.declared.outcome.Status.{Status}
 use Rattle.dimacs_runs.specs.Commands.{failures_told, output_faults}
 use Rattle.dimacs_runs.specs.Files.{FileEvent, FilesSeen, Sees, failures}
-use Rattle.dimacs_runs.specs.Jobs.{file_count}
+use Rattle.dimacs_runs.specs.Jobs.{TwoOrThree, file_count}
 
 -- there are as many files as the run has
 abbrev pub HasFiles : Job → Type 0
 HasFiles (Convert kind file) = Unit {0}
 HasFiles (Show kind file) = Unit {0}
 HasFiles (Judge kind files) = length files.now ≡ file_count kind
+HasFiles (Certify kind files) = TwoOrThree (length files.now)
 HasFiles (Solve job files) = length files.now ≡ 3
 
 -- the end of a run over files one of which failed so, or none

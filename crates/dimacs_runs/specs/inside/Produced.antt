@@ -1,5 +1,5 @@
 -- Inside: what a producer's run puts, in texts and with a status.
-use Rattle.std.specs.Prelude.{ℕ, ◌≡◌, List, [], ◌∷◌, Option, Result, Ok, Err}
+use Rattle.std.specs.Prelude.{ℕ, ◌≡◌, List, [], ◌∷◌, Option, Result, Ok, Err, drop}
 use Rattle.dimacs_lines.specs.declared.device.DeviceFault.{DeviceFault}
 use Rattle.dimacs_claims.specs.Cuts.{canonical_cut}
 use Rattle.dimacs_claims.specs.LabelTexts.{canonical_labels}
@@ -18,12 +18,12 @@ use Rattle.dimacs_runs.specs.declared.outcome.Status.{Status}
 use Rattle.dimacs_runs.specs.declared.outcome.RunError.{RunError}
 use Rattle.dimacs_runs.specs.declared.outcome.RunError.TheVariants.{Device, Memory}
 use Rattle.dimacs_runs.specs.declared.produced.Made.{Made}
-use Rattle.dimacs_runs.specs.declared.produced.Made.TheVariants.{Nothing, Maximum, Least, Set, Distances}
+use Rattle.dimacs_runs.specs.declared.produced.Made.TheVariants.{Nothing, Maximum, Least, Set, Slack, Better, Distances}
 use Rattle.dimacs_runs.specs.declared.produced.Produced.{Produced}
 use Rattle.dimacs_runs.specs.declared.told.Told.{Told}
 use Rattle.dimacs_runs.specs.declared.told.Told.TheVariants as told
 use Rattle.dimacs_runs.specs.Judgings.{OneMore}
-use Rattle.dimacs_runs.specs.Outputs.{AcceptAll, AcceptInTurn, MayTell}
+use Rattle.dimacs_runs.specs.Outputs.{AcceptAll, AcceptInTurn, MayTell, TellsAlike}
 use Rattle.dimacs_runs.specs.inside.Told.{told_lines, told_status}
 
 -- the texts of the claim and of the certificate
@@ -32,6 +32,8 @@ made_texts Nothing = [] ∷ [] ∷ []
 made_texts (Maximum solution cut) = canonical_solution (claimed solution) ∷ canonical_cut cut ∷ []
 made_texts (Least solution potentials) = canonical_solution (claimed solution) ∷ canonical_potentials potentials ∷ []
 made_texts (Set set) = [] ∷ canonical_cut set ∷ []
+made_texts (Slack potentials) = [] ∷ canonical_potentials potentials ∷ []
+made_texts (Better solution) = [] ∷ canonical_solution (claimed solution) ∷ []
 made_texts (Distances labels) = [] ∷ canonical_labels labels ∷ []
 
 -- these texts and the report
@@ -42,12 +44,14 @@ with_report (text ∷ texts) report = text ∷ with_report texts report
 abbrev pub produced_texts : Produced → List (List ℕ)
 produced_texts p = with_report (made_texts p.made) (told_lines p.told)
 
--- nothing is claimed with labels, and with a set
+-- nothing is claimed with what shows something of a claim of someone else's, and with labels
 abbrev pub IsClaimless : Made → Type 0
 IsClaimless Nothing = Unit {0}
 IsClaimless (Maximum solution cut) = ⊥
 IsClaimless (Least solution potentials) = ⊥
 IsClaimless (Set set) = Unit {0}
+IsClaimless (Slack potentials) = Unit {0}
+IsClaimless (Better solution) = Unit {0}
 IsClaimless (Distances labels) = Unit {0}
 
 -- all texts were put, or some of them in turn
@@ -87,6 +91,15 @@ least_produced (Err error) = reported (refused error)
 abbrev pub MayProduce : (Status → List (List ℕ) → Type 0) → Result Produced RunError → Type 0
 MayProduce tells (Ok p) = MayTell tells (told_status p.told) (produced_texts p)
 MayProduce tells (Err error) = Unit {0}
+
+-- the texts after that of the claim
+abbrev pub unclaimed_texts : Produced → List (List ℕ)
+unclaimed_texts p = drop 1 (produced_texts p)
+
+-- what is produced of someone else's claim, where something is, may be told
+abbrev pub MayCertify : (Status → List (List ℕ) → Type 0) → Result Produced RunError → Type 0
+MayCertify tells (Ok p) = TellsAlike tells (told_status p.told) (unclaimed_texts p)
+MayCertify tells (Err error) = Unit {0}
 
 -- how a run ends that was to put this, or had nothing to tell
 abbrev pub EndsProducing : Result Produced RunError → Result Status RunError → List (Option (List ℕ)) → List (Option (List ℕ)) → List ℕ → List ℕ → Type 0

@@ -1,7 +1,8 @@
-use Rattle.std.proofs.Common.{ℕ, ◌∙◌, List, [], ◌∷◌, Option, Err, ap, inl, inr, refl}
+use Rattle.std.proofs.Common.{ℕ, ◌∙◌, List, [], ◌∷◌, Err, ap, inl, inr, refl}
 use Rattle.std.proofs.lemmas.Result.{err_from_is_err_and}
 use Rattle.dimacs_runs.specs.Commands.{TellsSolved, reads_first}
 use Rattle.dimacs_runs.specs.Files.{Created, Opened, closed_read, closed_written}
+use Rattle.dimacs_runs.specs.Outputs.{MayTell}
 use Rattle.dimacs_runs.specs.Solved.{Solved}
 use Rattle.dimacs_runs.specs.inside.Commands.{named}
 use Rattle.dimacs_runs.proofs.FileLemmas.{sees_then, three_first}
@@ -53,7 +54,7 @@ returns g c =
           (without_second ended 0 i _ _ (rw (c.in_ok-instance.ensures.faultless, c.in_ok-claim.ensures.faultless, c.in-Ok.ensures.faultless) at c.run_solve-ended.ensures.faults))
           (one_text _ (λ (texts : List (List ℕ)). TellsSolved c.args.job texts (named ended failure) (g.F.Files.empty ∷ g.F.Files.empty ∷ old ∷ []) (claimed ∷ certified ∷ new ∷ [])) (λ a first.
           flow_told c.args.job a [] (named ended failure) (g.F.Files.empty ∷ g.F.Files.empty ∷ old ∷ []) (claimed ∷ certified ∷ new ∷ []) c.requires
-          (reports_all_named (Solved c.args.job a []) ended failure (g.F.Files.empty ∷ g.F.Files.empty ∷ old ∷ []) (claimed ∷ certified ∷ new ∷ [])
+          (reports_all_named (MayTell (Solved c.args.job a [])) ended failure (g.F.Files.empty ∷ g.F.Files.empty ∷ old ∷ []) (claimed ∷ certified ∷ new ∷ [])
           (rw (c.in_ok-claim.ensures.empty, c.in-Ok.ensures.empty) at (c.run_solve-ended.ensures.reports a [] (c.in_ok-instance.ensures.coming ∙ first) (flow_asks_nothing c.args.job _ [] c.requires))))))
           (λ memory. let same = c.run_solve-ended.ensures.memory memory in rw (same.0, same.1, same.2, c.in_ok-claim.ensures.empty, c.in-Ok.ensures.empty) refl)
           (λ unread. let same = c.run_solve-ended.ensures.nothing_written (inl (elim unread [ inl it ↦ λ is. it (is ∙ c.in_ok-instance.ensures.faultless) | inr never ↦ absurd never ]))

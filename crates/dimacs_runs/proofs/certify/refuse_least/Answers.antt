@@ -1,0 +1,21 @@
+use Rattle.std.proofs.Common.{refl, inl, inr}
+use Rattle.dimacs_claims.specs.SolutionTexts.{claimed}
+use Rattle.dimacs_judge.specs.Entries.{IsMinSolutionOf}
+use Rattle.dimacs_judge.specs.FlowTests.{LeavesCostRange}
+use Rattle.dimacs_runs.proofs.CertifyingLemmas.{cheaper_certifies, unsaid_certifies}
+use Rattle.dimacs_runs.proofs.certify.refuse_least.Goals as goal
+use Rattle.dimacs_runs.proofs.certify.refuse_least.Goals.{in-Some, in-None}
+
+pub returns-clause-certifies : goal.returns-clause-certifies
+returns-clause-certifies g c = λ s x improved line.
+    let i = c.args.instance.now in
+    let y = c.args.flow.now in
+    elim c.match-branch-2.branch [
+      | in-Some w ↦
+          let solution = w.in-Some.solution in
+          let told : IsMinSolutionOf i y (claimed solution) = rw w.in-Some.is at c.in_ok-solution.ensures.some in
+          rw w.made-is (cheaper_certifies i s solution c.at_value.result (rw (c.at_value.ensures, line) refl) (x, y, improved, inl (claimed solution, told, refl)))
+      | in-None w ↦
+          let beyond : LeavesCostRange i.arcs y = rw w.in-None.is at c.in_ok-solution.ensures.none in
+          rw w.made-is (unsaid_certifies i s c.at_value.result (rw (c.at_value.ensures, line) refl) (x, y, improved, inr (beyond, refl)))
+    ]

@@ -1,0 +1,204 @@
+//! Certifying a claimed flow, of which no certificate is given.
+
+ghost use Rattle.std.specs.Prelude.{◌≡◌, ◌≢◌, ◌⊎◌, ◌∷◌, [], ℕ, ℤ, List, Some, Err};
+ghost use Rattle.dimacs_lines.specs.Lines.{lines};
+ghost use Rattle.dimacs_records.specs.declared.kinds.TextKind.TheVariants as kinds;
+ghost use Rattle.dimacs_records.specs.declared.reasons.Reason.{Reason};
+ghost use Rattle.dimacs_records.specs.Faults.{Fault};
+ghost use Rattle.dimacs_claims.specs.SolutionReading.{IsPlaced, IsPlacedLawful};
+ghost use Rattle.dimacs_claims.specs.SolutionTexts.{SolutionValue};
+ghost use Rattle.dimacs_instance.specs.MaxFlows.{IsMax};
+ghost use Rattle.dimacs_judge.specs.Feasible.{FeasibleMax, FeasibleMin};
+ghost use Rattle.dimacs_judge.specs.Places.{ArePlaced};
+ghost use Rattle.dimacs_decide.specs.CertifiedMax.{IsMaxImproved};
+ghost use Rattle.dimacs_decide.specs.CertifiedMin.{IsMinImproved};
+ghost use Rattle.dimacs_runs.specs.declared.outcome.RunError.TheVariants.{Device, Memory};
+ghost use Rattle.dimacs_runs.specs.Certified.{Certified, CertifiedMax, CertifiedMin, CertifiesLeast, CertifiesMaximum, certified_kind};
+ghost use Rattle.dimacs_runs.specs.Judgings.{CountsDevices};
+ghost use Rattle.dimacs_runs.specs.Outputs.{ReportsAll, TellsAlike};
+ghost use Rattle.dimacs_runs.specs.inside.Produced.{MayCertify};
+
+use crate::discard::Discard;
+use crate::jobs::CertifyKind;
+use crate::outcome::{RunError, Status};
+use crate::produced::{Made, Produced, put_produced, report_alone};
+use crate::texts_in_turn::{place_solution, read};
+use crate::told::{Told, answer_told};
+use dimacs_claims::Placed;
+use dimacs_decide::{MaxDecision, MinDecision, certify_max_placed, certify_min_placed};
+use dimacs_instance::{ArcView, CapacityArc, MaxInstance, MinInstance, Network, PlainArcs};
+use dimacs_judge::{Flow, FlowPlaces, Verdict, Where, max_solution, min_solution};
+use dimacs_lines::{Sink, Source};
+use dimacs_records::Reason;
+use dimacs_solve::improve_max;
+use std::alloc::Global;
+
+/// Reads an instance and a claimed flow, in this order, and puts a certificate with which the judge says yes to the
+/// claim, and its verdict. Where the claim is what it says and there is a better flow, it puts a solution with an entry
+/// for every arc that claims such a flow, and the line of a refusal at the claimed value. Else it puts the line of the
+/// first test that fails, of those that the judge makes before it looks at a certificate, or of the first text's fault,
+/// and nothing else. The claim isn't pulled after an instance that has a fault.
+pub fn run_certify<P: Source, Q: Source, C: Sink, K: Sink>(
+    alloc: Global,
+    kind: CertifyKind,
+    instance: &mut P,
+    solution: &mut Q,
+    certificate_out: &mut C,
+    report: &mut K,
+) -> Result<Status, RunError>
+    ensures reports { (a b : List ℕ) → P.coming instance.old ≡ Some a → Q.coming solution.old ≡ Some b
+        → ReportsAll (TellsAlike (Certified kind a b)) result
+        (C.accepted certificate_out.old ∷ K.accepted report.old ∷ []) (C.accepted certificate_out.new ∷ K.accepted report.new ∷ []) }
+    ensures faults { CountsDevices result
+        (P.faults instance.old ∷ Q.faults solution.old ∷ C.faults certificate_out.old ∷ K.faults report.old ∷ [])
+        (P.faults instance.new ∷ Q.faults solution.new ∷ C.faults certificate_out.new ∷ K.faults report.new ∷ []) }
+    ensures nothing_written { (P.faults instance.new ≢ P.faults instance.old) ⊎ (Q.faults solution.new ≢ Q.faults solution.old)
+        → (C.accepted certificate_out.new ≡ C.accepted certificate_out.old) × (K.accepted report.new ≡ K.accepted report.old) }
+    ensures memory { result ≡ Err Memory
+        → (C.accepted certificate_out.new ≡ C.accepted certificate_out.old) × (K.accepted report.new ≡ K.accepted report.old) }
+    ensures stops_at_instance { (a : List ℕ) (l f : ℕ) (r : Reason) → P.coming instance.old ≡ Some a → Fault (certified_kind kind) (lines a) l f r
+        → solution.new ≡ solution.old }
+{
+    let produced = match kind {
+        CertifyKind::Max => certify_maximum(alloc, instance, solution),
+        CertifyKind::Min => certify_least(alloc, instance, solution),
+    };
+    put_produced(produced, &mut Discard, certificate_out, report)
+}
+
+/// What is told of a flow that is claimed to be maximum, and a cut or a better flow.
+fn certify_maximum<P: Source, Q: Source>(
+    alloc: Global,
+    instance: &mut P,
+    solution: &mut Q,
+) -> Result<Produced, RunError>
+    ensures certifies { (a b : List ℕ) → P.coming instance.old ≡ Some a → Q.coming solution.old ≡ Some b → MayCertify (CertifiedMax a b) result }
+    ensures faults { CountsDevices result (P.faults instance.old ∷ Q.faults solution.old ∷ []) (P.faults instance.new ∷ Q.faults solution.new ∷ []) }
+    ensures stops_at_instance { (a : List ℕ) (l f : ℕ) (r : Reason) → P.coming instance.old ≡ Some a → Fault kinds.Max (lines a) l f r
+        → solution.new ≡ solution.old }
+{
+    let instance = match read::<MaxInstance<PlainArcs<CapacityArc>>, P>(alloc, instance) {
+        Ok(instance) => instance,
+        Err(unread) => return report_alone(unread.told()),
+    };
+    let places = FlowPlaces::new(alloc, instance.network())?;
+    match place_solution(alloc, places, solution) {
+        Ok(placed) => answer_maximum(alloc, &instance, &placed),
+        Err(unread) => report_alone(unread.told()),
+    }
+}
+
+/// The same of a flow that is claimed to cost least, and potentials or a better flow.
+fn certify_least<P: Source, Q: Source>(
+    alloc: Global,
+    instance: &mut P,
+    solution: &mut Q,
+) -> Result<Produced, RunError>
+    ensures certifies { (a b : List ℕ) → P.coming instance.old ≡ Some a → Q.coming solution.old ≡ Some b → MayCertify (CertifiedMin a b) result }
+    ensures faults { CountsDevices result (P.faults instance.old ∷ Q.faults solution.old ∷ []) (P.faults instance.new ∷ Q.faults solution.new ∷ []) }
+    ensures stops_at_instance { (a : List ℕ) (l f : ℕ) (r : Reason) → P.coming instance.old ≡ Some a → Fault kinds.Min (lines a) l f r
+        → solution.new ≡ solution.old }
+{
+    let instance = match read::<MinInstance<PlainArcs<ArcView>>, P>(alloc, instance) {
+        Ok(instance) => instance,
+        Err(unread) => return report_alone(unread.told()),
+    };
+    let places = FlowPlaces::new(alloc, instance.network())?;
+    match place_solution(alloc, places, solution) {
+        Ok(placed) => answer_least(alloc, &instance, &placed),
+        Err(unread) => report_alone(unread.told()),
+    }
+}
+
+/// The answer about a flow that is claimed to be maximum.
+fn answer_maximum<N: Network>(
+    alloc: Global,
+    instance: &MaxInstance<N>,
+    placed: &Placed<FlowPlaces<'_, N>>,
+) -> Result<Produced, RunError>
+    requires lawful { IsMax instance.now }
+    requires network { placed.now.place.arcs ≡ instance.now.arcs }
+    requires placed { IsPlacedLawful placed.now.value placed.now.value_line (ArePlaced placed.now.place) }
+    ensures certifies { (s : SolutionValue) → IsPlaced placed.now.value placed.now.value_line (ArePlaced placed.now.place) s
+        → MayCertify (CertifiesMaximum instance.now s) result }
+    ensures no_device { result ≢ Err Device }
+{
+    match certify_max_placed(alloc, instance, placed) {
+        Ok(MaxDecision::Optimal(cut)) => Ok(Produced {
+            made: Made::Set(cut),
+            told: Told::Yes(Verdict::Max(placed.value)),
+        }),
+        Ok(MaxDecision::Better(flow)) => refuse_maximum(alloc, instance, flow, placed.value_line),
+        Err(error) => report_alone(answer_told(Err(error))),
+    }
+}
+
+/// The answer about a flow that is claimed to cost least.
+fn answer_least<N: Network>(
+    alloc: Global,
+    instance: &MinInstance<N>,
+    placed: &Placed<FlowPlaces<'_, N>>,
+) -> Result<Produced, RunError>
+    requires network { placed.now.place.arcs ≡ instance.now.arcs }
+    requires placed { IsPlacedLawful placed.now.value placed.now.value_line (ArePlaced placed.now.place) }
+    ensures certifies { (s : SolutionValue) → IsPlaced placed.now.value placed.now.value_line (ArePlaced placed.now.place) s
+        → MayCertify (CertifiesLeast instance.now s) result }
+    ensures no_device { result ≢ Err Device }
+{
+    match certify_min_placed(alloc, instance, placed) {
+        Ok(MinDecision::Optimal(potentials)) => Ok(Produced {
+            made: Made::Slack(potentials),
+            told: Told::Yes(Verdict::Min(placed.value)),
+        }),
+        Ok(MinDecision::Better(flow)) => refuse_least(alloc, instance, &flow, placed.value_line),
+        Err(error) => report_alone(answer_told(Err(error))),
+    }
+}
+
+/// The refusal of a value for which there is this better flow, with a solution that is no worse.
+fn refuse_maximum<N: Network>(
+    alloc: Global,
+    instance: &MaxInstance<N>,
+    flow: Flow,
+    value_line: u64,
+) -> Result<Produced, RunError>
+    requires lawful { IsMax instance.now }
+    requires feasible { FeasibleMax instance.now flow }
+    ensures certifies { (s : SolutionValue) (x : List ℤ) → IsMaxImproved instance.now s x flow → value_line ≡ s.value_line
+        → MayCertify (CertifiesMaximum instance.now s) result }
+    ensures no_device { result ≢ Err Device }
+{
+    let flow = improve_max(alloc, instance, flow);
+    let solution = max_solution(alloc, instance, &flow)?;
+    Ok(Produced {
+        made: Made::Better(solution),
+        told: Told::No(at_value(value_line), Reason::NotMaximum),
+    })
+}
+
+/// The refusal of a cost for which there is this better flow, with a solution of it, where one can say its cost.
+fn refuse_least<N: Network>(
+    alloc: Global,
+    instance: &MinInstance<N>,
+    flow: &Flow,
+    value_line: u64,
+) -> Result<Produced, RunError>
+    requires { FeasibleMin instance.now flow.now }
+    ensures certifies { (s : SolutionValue) (x : List ℤ) → IsMinImproved instance.now s x flow.now → value_line ≡ s.value_line
+        → MayCertify (CertifiesLeast instance.now s) result }
+    ensures no_device { result ≢ Err Device }
+{
+    let told = Told::No(at_value(value_line), Reason::NotLeast);
+    let made = match min_solution(alloc, instance, flow)? {
+        Some(solution) => Made::Better(solution),
+        None => Made::Nothing,
+    };
+    Ok(Produced { made, told })
+}
+
+/// The field of the claimed value.
+fn at_value(line: u64) -> Where
+    ensures { result ≡ Where.Solution line 2 }
+{
+    Where::Solution { line, field: 2 }
+}

@@ -1,0 +1,210 @@
+//! Claimed flows that are certified. A certificate is judged, and what is put in its place is certified in turn.
+
+use crate::checks::{holds, same};
+use crate::judging::judge;
+use crate::solving::{Outputs, new_outputs};
+use crate::tables::{case, cell, rows};
+use dimacs_lines::{FlakySink, FlakySource};
+use dimacs_runs::{CertifyKind, JudgeKind, RunError, Status, run_certify};
+use std::alloc::Global;
+use std::process::Abort;
+use std::test::Fail;
+
+/// A claim about an instance.
+#[derive(Clone, Copy)]
+pub struct Claimed<'a> {
+    pub kind: CertifyKind,
+    pub instance: &'a str,
+    pub solution: &'a str,
+}
+
+/// Certifies what sources give. Nothing is put as a claim.
+pub fn certify_from(
+    alloc: Global,
+    kind: CertifyKind,
+    instance: &mut FlakySource<'_>,
+    solution: &mut FlakySource<'_>,
+    outputs: &mut Outputs<'_>,
+) -> Result<Status, RunError> {
+    run_certify(
+        alloc,
+        kind,
+        instance,
+        solution,
+        &mut outputs.certificate,
+        &mut outputs.report,
+    )
+}
+
+/// Certifies texts that come and go in pieces of these sizes.
+fn certify(
+    alloc: Global,
+    claimed: Claimed<'_>,
+    sizes: &[usize],
+    outputs: &mut Outputs<'_>,
+) -> Result<Status, RunError> {
+    certify_from(
+        alloc,
+        claimed.kind,
+        &mut FlakySource::new(claimed.instance.as_bytes(), sizes, &[]),
+        &mut FlakySource::new(claimed.solution.as_bytes(), sizes, &[]),
+        outputs,
+    )
+}
+
+/// Whether the judge says yes to a claim with this certificate, in these words.
+fn judged(rt: &impl Abort, alloc: Global, claimed: Claimed<'_>, certificate: &[u8], report: &str) {
+    let kind = match claimed.kind {
+        CertifyKind::Max => JudgeKind::Max,
+        CertifyKind::Min => JudgeKind::Min,
+    };
+    let mut verdict = FlakySink::new(alloc, &[], &[]);
+    let ended = judge(
+        alloc,
+        kind,
+        &mut FlakySource::new(claimed.instance.as_bytes(), &[], &[]),
+        &mut FlakySource::new(claimed.solution.as_bytes(), &[], &[]),
+        &mut FlakySource::new(certificate, &[], &[]),
+        &mut verdict,
+    );
+    same(rt, report, ended, Ok(Status::Done));
+    holds(rt, report, verdict.bytes() == report.as_bytes());
+}
+
+/// The line that refuses a claim whose value stands first.
+fn better(kind: CertifyKind) -> &'static [u8] {
+    match kind {
+        CertifyKind::Max => b"x solution 1 2 NotMaximum\n",
+        CertifyKind::Min => b"x solution 1 2 NotLeast\n",
+    }
+}
+
+/// Whether one better solution after another is claimed, up to one with this verdict.
+fn leads_to(
+    rt: &impl Abort,
+    alloc: Global,
+    claimed: Claimed<'_>,
+    solution: &[u8],
+    verdict: &str,
+) -> Result<(), Fail> {
+    let mut text = String::from_str(alloc, str::from_utf8(solution)?)?;
+    for _step in 0..100u32 {
+        let next = Claimed {
+            solution: text.as_str(),
+            ..claimed
+        };
+        let mut outputs = new_outputs(alloc, &[]);
+        if certify(alloc, next, &[], &mut outputs) == Ok(Status::Done) {
+            holds(rt, verdict, outputs.report.bytes() == verdict.as_bytes());
+            judged(rt, alloc, next, outputs.certificate.bytes(), verdict);
+            return Ok(());
+        }
+        let report = outputs.report.bytes();
+        holds(rt, verdict, report == better(claimed.kind));
+        let written = str::from_utf8(outputs.certificate.bytes())?;
+        text = String::from_str(alloc, written)?;
+    }
+    Err(Fail::from("steps without end"))
+}
+
+/// Claims, each with its name, the word after `certify-`, the instance, the solution, the report, and the verdict of the
+/// judge: on the claim, or on the last where each better solution is claimed in turn; `nothing` where nothing is put
+/// beside the report.
+static CLAIMS: &str = "\
+a maximum flow | max | p max 4 5;n 1 s;n 4 t;a 1 2 4;a 1 3 2;a 2 3 2;a 2 4 3;a 3 4 5; | s 6;f 1 2 4;f 1 3 2;f 2 3 1;f 2 4 3;f 3 4 3; | v max 6; | v max 6;
+no flow at all | max | p max 4 5;n 1 s;n 4 t;a 1 2 4;a 1 3 2;a 2 3 2;a 2 4 3;a 3 4 5; | s 0; | x solution 1 2 NotMaximum; | v max 6;
+one less, and the value in the middle | max | p max 4 5;n 1 s;n 4 t;a 1 2 4;a 1 3 2;a 2 3 2;a 2 4 3;a 3 4 5; | c;f 1 2 3;f 1 3 2;s 5;f 2 4 3;f 3 4 2; | x solution 4 2 NotMaximum; | v max 6;
+another value | max | p max 4 5;n 1 s;n 4 t;a 1 2 4;a 1 3 2;a 2 3 2;a 2 4 3;a 3 4 5; | s 7;f 1 2 4;f 1 3 2;f 2 3 1;f 2 4 3;f 3 4 3; | x solution 1 2 ValueDiffers; | nothing
+an entry too many | max | p max 4 5;n 1 s;n 4 t;a 1 2 4;a 1 3 2;a 2 3 2;a 2 4 3;a 3 4 5; | s 6;f 1 2 4;f 1 3 2;f 2 3 1;f 2 4 3;f 3 4 3;f 3 4 0; | x solution 7 0 ArcTwice; | nothing
+more than fits | max | p max 2 1;n 1 s;n 2 t;a 1 2 1; | s 2;f 1 2 2; | x arc 1 AboveCap; | nothing
+a node that keeps some | max | p max 3 2;n 1 s;n 3 t;a 1 2 2;a 2 3 2; | s 2;f 1 2 2;f 2 3 1; | x node 2 Balance; | nothing
+room on the second of two arcs | max | p max 2 2;n 1 s;n 2 t;a 1 2 1;a 1 2 3; | s 3;f 1 2 1;f 1 2 2; | x solution 1 2 NotMaximum; | v max 4;
+loops that carry some | max | p max 2 3;n 1 s;n 2 t;a 1 1 5;a 1 2 1;a 2 2 5; | s 1;f 1 1 3;f 1 2 1;f 2 2 5; | v max 1; | v max 1;
+no arcs | max | p max 2 0;n 1 s;n 2 t; | s 0; | v max 0; | v max 0;
+source and sink apart | max | p max 4 2;n 1 s;n 4 t;a 1 2 5;a 3 4 5; | s 0; | v max 0; | v max 0;
+a fault in each text | max | p max 4 5; | s; | x instance 2 0 EndMissing; | nothing
+a faulty solution | max | p max 2 1;n 1 s;n 2 t;a 1 2 1; | f 1 2 1; | x solution 2 0 SolutionMissing; | nothing
+an instance of the other kind | max | p min 2 0; | s 0; | x instance 1 2 BadWord; | nothing
+the least flow | min | p min 4 5;n 1 4;n 4 -4;a 1 2 0 4 2;a 1 3 0 2 2;a 2 3 0 2 1;a 2 4 0 3 3;a 3 4 0 5 1; | s 14;f 1 2 2;f 1 3 2;f 2 3 2;f 3 4 4; | v min 14; | v min 14;
+a flow of cost 15 | min | p min 4 5;n 1 4;n 4 -4;a 1 2 0 4 2;a 1 3 0 2 2;a 2 3 0 2 1;a 2 4 0 3 3;a 3 4 0 5 1; | s 15;f 1 2 2;f 1 3 2;f 2 3 1;f 2 4 1;f 3 4 3; | x solution 1 2 NotLeast; | v min 14;
+a flow of cost 16 | min | p min 4 5;n 1 4;n 4 -4;a 1 2 0 4 2;a 1 3 0 2 2;a 2 3 0 2 1;a 2 4 0 3 3;a 3 4 0 5 1; | s 16;f 1 2 2;f 1 3 2;f 2 4 2;f 3 4 2; | x solution 1 2 NotLeast; | v min 14;
+another of cost 16 | min | p min 4 5;n 1 4;n 4 -4;a 1 2 0 4 2;a 1 3 0 2 2;a 2 3 0 2 1;a 2 4 0 3 3;a 3 4 0 5 1; | s 16;f 1 2 3;f 1 3 1;f 2 3 2;f 2 4 1;f 3 4 3; | x solution 1 2 NotLeast; | v min 14;
+a flow of cost 17 | min | p min 4 5;n 1 4;n 4 -4;a 1 2 0 4 2;a 1 3 0 2 2;a 2 3 0 2 1;a 2 4 0 3 3;a 3 4 0 5 1; | f 1 2 3;f 1 3 1;f 2 3 1;f 2 4 2;f 3 4 2;s 17; | x solution 6 2 NotLeast; | v min 14;
+a flow of cost 18 | min | p min 4 5;n 1 4;n 4 -4;a 1 2 0 4 2;a 1 3 0 2 2;a 2 3 0 2 1;a 2 4 0 3 3;a 3 4 0 5 1; | s 18;f 1 2 3;f 1 3 1;f 2 4 3;f 3 4 1; | x solution 1 2 NotLeast; | v min 14;
+another of cost 18 | min | p min 4 5;n 1 4;n 4 -4;a 1 2 0 4 2;a 1 3 0 2 2;a 2 3 0 2 1;a 2 4 0 3 3;a 3 4 0 5 1; | s 18;f 1 2 4;f 2 3 2;f 2 4 2;f 3 4 2; | x solution 1 2 NotLeast; | v min 14;
+a flow of cost 19 | min | p min 4 5;n 1 4;n 4 -4;a 1 2 0 4 2;a 1 3 0 2 2;a 2 3 0 2 1;a 2 4 0 3 3;a 3 4 0 5 1; | s 19;f 1 2 4;f 2 3 1;f 2 4 3;f 3 4 1; | x solution 1 2 NotLeast; | v min 14;
+another cost | min | p min 4 5;n 1 4;n 4 -4;a 1 2 0 4 2;a 1 3 0 2 2;a 2 3 0 2 1;a 2 4 0 3 3;a 3 4 0 5 1; | s 13;f 1 2 2;f 1 3 2;f 2 3 2;f 3 4 4; | x solution 1 2 ValueDiffers; | nothing
+less than the lower bound | min | p min 2 1;a 1 2 1 3 0; | s 0; | x arc 1 BelowLow; | nothing
+all that a lower bound asks for | min | p min 2 2;n 1 2;n 2 -2;a 1 2 1 2 5;a 1 2 0 2 3; | s 8;f 1 2 1;f 1 2 1; | v min 8; | v min 8;
+more than a lower bound asks for | min | p min 2 2;n 1 2;n 2 -2;a 1 2 1 2 5;a 1 2 0 2 3; | s 10;f 1 2 2; | x solution 1 2 NotLeast; | v min 8;
+a loop that gains | min | p min 1 1;a 1 1 0 5 -2; | s -8;f 1 1 4; | x solution 1 2 NotLeast; | v min -10;
+a cycle that costs nothing | min | p min 2 2;a 1 2 0 3 2;a 2 1 0 3 -2; | s 0;f 1 2 1;f 2 1 1; | v min 0; | v min 0;
+no arcs and costs | min | p min 2 0; | s 0; | v min 0; | v min 0;
+the least cost of 64 bits | min | p min 1 1;a 1 1 0 1 -9223372036854775808; | s 0; | x solution 1 2 NotLeast; | v min -9223372036854775808;
+the greatest cost of 64 bits | min | p min 1 1;a 1 1 0 9223372036854775807 9223372036854775807; | s 9223372036854775807;f 1 1 1; | x solution 1 2 NotLeast; | v min 0;
+a better cost that no solution can say | min | p min 1 1;a 1 1 0 9223372036854775807 -9223372036854775808; | s 0; | x solution 1 2 NotLeast; | nothing
+a cost out of range | min | p min 1 1;a 1 1 0 9223372036854775807 -9223372036854775808; | s 0;f 1 1 9223372036854775807; | x arc 1 CostRange; | nothing
+a faulty instance of costs | min | p min 2 1;a 1 2 3 2 0; | s; | x instance 2 5 BoundOrder; | nothing";
+
+/// Two more, with as many nodes as there may be.
+static MANY_NODES: &str = "\
+values | max | p max 134217728 1;n 1 s;n 134217728 t;a 1 134217728 7; | s 7;f 1 134217728 7; | v max 7; | v max 7;
+costs | min | p min 134217728 1;n 1 1;n 134217728 -1;a 1 134217728 0 1 5; | s 5;f 1 134217728 1; | v min 5; | v min 5;";
+
+/// The kind that this word stands for.
+fn certified(rt: &impl Abort, word: &str) -> CertifyKind {
+    if word == "max" {
+        return CertifyKind::Max;
+    }
+    same(rt, "a kind", word, "min");
+    CertifyKind::Min
+}
+
+/// Whether the claim of a line is certified as it says, with what is put in pieces of these sizes.
+fn certifies(rt: &impl Abort, alloc: Global, line: &str, sizes: &[usize]) -> Result<(), Fail> {
+    let case = case(alloc, line)?;
+    let (name, rest) = cell(rt, &case);
+    let (word, rest) = cell(rt, rest);
+    let (instance, rest) = cell(rt, rest);
+    let (solution, rest) = cell(rt, rest);
+    let (report, verdict) = cell(rt, rest);
+    let claimed = Claimed {
+        kind: certified(rt, word),
+        instance,
+        solution,
+    };
+    let mut outputs = new_outputs(alloc, sizes);
+    let ended = certify(alloc, claimed, sizes, &mut outputs);
+    holds(rt, name, outputs.report.bytes() == report.as_bytes());
+    let certificate = outputs.certificate.bytes();
+    if verdict == "nothing" {
+        same(rt, name, ended, Ok(Status::Refused));
+        holds(rt, name, certificate.is_empty());
+    } else if report == verdict {
+        same(rt, name, ended, Ok(Status::Done));
+        judged(rt, alloc, claimed, certificate, verdict);
+    } else {
+        same(rt, name, ended, Ok(Status::Refused));
+        leads_to(rt, alloc, claimed, certificate, verdict)?;
+    }
+    Ok(())
+}
+
+#[test]
+fn claims_are_certified(rt: HostRuntime) -> Result<(), Fail> {
+    let ones = Vec::from_elem(rt.alloc(), 1, 1000)?;
+    for line in rows(&rt, CLAIMS, 34) {
+        certifies(&rt, rt.alloc(), line, &[])?;
+        certifies(&rt, rt.alloc(), line, &ones)?;
+    }
+    Ok(())
+}
+
+/// Takes time by the IDs, a second or so once it is built.
+#[test]
+fn claims_about_many_nodes_are_certified(rt: HostRuntime) -> Result<(), Fail> {
+    for line in rows(&rt, MANY_NODES, 2) {
+        certifies(&rt, rt.alloc(), line, &[])?;
+    }
+    Ok(())
+}
