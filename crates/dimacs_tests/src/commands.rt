@@ -4,6 +4,7 @@ ghost use Rattle.std.specs.Prelude.{◌≡◌, ◌≢◌, ◌+◌, ◌%◌, ◌^
 ghost use Rattle.dimacs_runs.specs.declared.outcome.RunError.TheVariants.{Device};
 
 use crate::checks::{holds, same};
+use crate::conversions::ODD;
 use crate::tables::{case, cell, rows};
 use crate::words::words;
 use dimacs_lines::{DeviceFault, FlakySink, FlakySource, MemorySink, Sink, Source};
@@ -15,7 +16,7 @@ use std::test::Fail;
 
 /// Texts by the names of their files.
 static HELD: [(&str, &str); 19] = [
-    ("road", "c x\n  p  sp 2 1\r\n\na 1 2 +007"),
+    ("road", ODD),
     ("nothing", ""),
     (
         "max",

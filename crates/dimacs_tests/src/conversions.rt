@@ -1,6 +1,7 @@
 //! Texts that are converted: what is put, and how the run ends.
 
 use crate::checks::{holds, holds_at, same, same_at};
+use crate::pieces::{SIZES, pieces};
 use crate::tables::{case, cell, rows};
 use crate::words::{kind, status};
 use dimacs_lines::{FlakySink, FlakySource};
@@ -42,7 +43,7 @@ fn converts(
     holds(rt, name, sink.bytes() == output.as_bytes());
 }
 
-/// Converts a text in one piece, and in pieces of 1, 2 and 7 bytes.
+/// Converts a text in pieces of each size.
 fn converts_in_pieces(
     rt: &impl Abort,
     alloc: Global,
@@ -52,16 +53,14 @@ fn converts_in_pieces(
     status: Status,
     output: &str,
 ) -> Result<(), Fail> {
-    converts(rt, alloc, kind, name, text, &[], status, output);
-    for size in [1, 2, 7] {
-        let sizes = Vec::from_elem(alloc, size, text.len())?;
+    for size in SIZES {
+        let sizes = pieces(alloc, size, text.len())?;
         converts(rt, alloc, kind, name, text, &sizes, status, output);
     }
     Ok(())
 }
 
-/// Converts the text of each case of a table in one piece, and in pieces of 1, 2 and 7 bytes: its name, its kind, the text
-/// and what is put.
+/// Converts the text of each case of a table in pieces of each size: its name, its kind, the text and what is put.
 fn converts_each(
     rt: &impl Abort,
     alloc: Global,
@@ -156,11 +155,12 @@ a value after an entry | solution | f 1 2 3;s 5; | s 5;f 1 2 3;
 the greatest value | solution | s 1000000000000000000000000000000; | s 1000000000000000000000000000000;
 the nodes of a cut by ID | cut | p cut 4 2;u 3;u 1; | p cut 4 2;u 1;u 3;
 a potential of 0 left out | pot | p pot 2 2;y 2 -0;y 1 +05; | p pot 2 1;y 1 5;
-blocks and labels in their order | dist | p dist 4 2;t 4 2;d 2 5 4;d 1 -1 02;t 1 0 | p dist 4 2;t 4 2;d 2 5 4;d 1 -1 2;t 1 0;";
+blocks and labels in their order | dist | p dist 4 2;t 4 2;d 2 5 4;d 1 -1 02;t 1 0 | p dist 4 2;t 4 2;d 2 5 4;d 1 -1 2;t 1 0;
+a radius with a sign and a zero in front | dist | p dist 4 1;t 1 1 +08;d 2 5 1; | p dist 4 1;t 1 1 8;d 2 5 1;";
 
 #[test]
 fn claims_and_certificates_get_their_canonical_text(rt: HostRuntime) -> Result<(), Fail> {
-    converts_each(&rt, rt.alloc(), Status::Done, CLAIMS_AND_CERTIFICATES, 5)
+    converts_each(&rt, rt.alloc(), Status::Done, CLAIMS_AND_CERTIFICATES, 6)
 }
 
 static FAULTY_CLAIMS_AND_CERTIFICATES: &str = "\
@@ -283,17 +283,29 @@ fn a_long_line_is_refused_whatever_stands_in_it(rt: HostRuntime) -> Result<(), F
     Ok(())
 }
 
+/// A graph in an odd form, and in its canonical one.
+pub const ODD: &str = "c x\n  p  sp 2 1\r\n\na 1 2 +007";
+
 const GRAPH: &str = "p sp 2 1\na 1 2 7\n";
+
+/// Converts the odd graph byte by byte, with these pulls and these puts failing.
+fn convert_odd(
+    alloc: Global,
+    ones: &[usize],
+    pulls: &[u64],
+    sink: &mut FlakySink<'_>,
+) -> Result<Status, RunError> {
+    let mut source = FlakySource::new(ODD.as_bytes(), ones, pulls);
+    convert(alloc, TextKind::Graph, &mut source, sink)
+}
 
 #[test]
 fn a_pull_that_fails_puts_nothing(rt: HostRuntime) -> Result<(), Fail> {
-    let ones = Vec::from_elem(rt.alloc(), 1, GRAPH.len())?;
-    // One pull for each byte, and one that finds the end.
-    for pull in 1..=18 {
-        let fails = [pull];
+    let ones = pieces(rt.alloc(), 1, ODD.len())?;
+    // One pull for each byte, one that finds the end of the last line, and one that finds that of the text.
+    for pull in 1..=30 {
         let mut sink = FlakySink::new(rt.alloc(), &[], &[]);
-        let mut source = FlakySource::new(GRAPH.as_bytes(), &ones, &fails);
-        let ended = convert(rt.alloc(), TextKind::Graph, &mut source, &mut sink);
+        let ended = convert_odd(rt.alloc(), &ones, &[pull], &mut sink);
         same_at(&rt, "at pull", pull, ended, Err(RunError::Device));
         holds_at(&rt, "at pull", pull, sink.bytes().is_empty());
     }
@@ -301,24 +313,12 @@ fn a_pull_that_fails_puts_nothing(rt: HostRuntime) -> Result<(), Fail> {
 }
 
 #[test]
-fn a_slow_sink_gets_the_same_bytes(rt: HostRuntime) -> Result<(), Fail> {
-    let ones = Vec::from_elem(rt.alloc(), 1, GRAPH.len())?;
-    let mut sink = FlakySink::new(rt.alloc(), &ones, &[]);
-    let mut source = FlakySource::new(GRAPH.as_bytes(), &[], &[]);
-    let ended = convert(rt.alloc(), TextKind::Graph, &mut source, &mut sink);
-    same(&rt, "how it ended", ended, Ok(Status::Done));
-    holds(&rt, "bytes", sink.bytes() == GRAPH.as_bytes());
-    Ok(())
-}
-
-#[test]
 fn a_put_that_fails_leaves_a_beginning(rt: HostRuntime) -> Result<(), Fail> {
-    let ones = Vec::from_elem(rt.alloc(), 1, GRAPH.len())?;
+    let ones = pieces(rt.alloc(), 1, ODD.len())?;
     for put in 1..=17 {
         let fails = [put];
         let mut sink = FlakySink::new(rt.alloc(), &ones, &fails);
-        let mut source = FlakySource::new(GRAPH.as_bytes(), &[], &[]);
-        let ended = convert(rt.alloc(), TextKind::Graph, &mut source, &mut sink);
+        let ended = convert_odd(rt.alloc(), &ones, &[], &mut sink);
         same_at(&rt, "at put", put, ended, Err(RunError::Device));
         holds_at(
             &rt,
@@ -328,5 +328,16 @@ fn a_put_that_fails_leaves_a_beginning(rt: HostRuntime) -> Result<(), Fail> {
         );
         holds_at(&rt, "at put", put, sink.bytes().len() as u64 == put - 1);
     }
+    Ok(())
+}
+
+#[test]
+fn slow_devices_give_and_get_the_same_bytes(rt: HostRuntime) -> Result<(), Fail> {
+    let ones = pieces(rt.alloc(), 1, ODD.len())?;
+    // The calls after the last ones would fail.
+    let mut sink = FlakySink::new(rt.alloc(), &ones, &[18]);
+    let ended = convert_odd(rt.alloc(), &ones, &[31], &mut sink);
+    same(&rt, "how it ended", ended, Ok(Status::Done));
+    holds(&rt, "bytes", sink.bytes() == GRAPH.as_bytes());
     Ok(())
 }

@@ -1,6 +1,7 @@
 //! What the tests of judges share.
 
 use crate::checks::{holds, same};
+use crate::pieces::{SIZES, pieces};
 use crate::tables::{case, cell, rows};
 use crate::words::status;
 use dimacs_claims::{read_cut, read_labels, read_potentials, read_solution};
@@ -66,7 +67,7 @@ fn judges_pieces(
     holds(rt, name, sink.bytes() == output.as_bytes());
 }
 
-/// Whether texts are judged so, in one piece and in pieces of 1, 2 and 7 bytes.
+/// Whether texts are judged so in pieces of each size.
 pub fn judges(
     rt: &impl Abort,
     alloc: Global,
@@ -75,9 +76,8 @@ pub fn judges(
     status: Status,
     output: &str,
 ) -> Result<(), Fail> {
-    judges_pieces(rt, alloc, name, texts, &[], status, output);
-    for size in [1, 2, 7] {
-        let sizes = Vec::from_elem(alloc, size, 1000)?;
+    for size in SIZES {
+        let sizes = pieces(alloc, size, 1000)?;
         judges_pieces(rt, alloc, name, texts, &sizes, status, output);
     }
     Ok(())

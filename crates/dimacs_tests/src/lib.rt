@@ -22,6 +22,8 @@ mod judging;
 #[cfg(test)]
 mod paths;
 #[cfg(test)]
+mod pieces;
+#[cfg(test)]
 mod radii;
 #[cfg(test)]
 mod shown;

@@ -1,6 +1,7 @@
 //! The lines that tell what a text is.
 
 use crate::checks::{holds, same};
+use crate::pieces::{SIZES, pieces};
 use crate::tables::{case, cell, rows};
 use crate::words::{kind, status};
 use dimacs_lines::{FlakySink, FlakySource};
@@ -54,8 +55,8 @@ labels | dist | p dist 4 1;t 1 1;d 2 5 1; | Done | i dist 4 1;
 a faulty graph | gr | p sp 3 2;a 1 2 5; | Refused | x instance 3 0 TooFew;
 faulty queries | query |  | Refused | x query 1 0 ProblemMissing;";
 
-/// Whether the text of a case is shown as the case says, in one piece and byte by byte: its name, its kind, the text, how the
-/// run ends and the line that is put.
+/// Whether the text of a case is shown as the case says in pieces of each size: its name, its kind, the text, how the run
+/// ends and the line that is put.
 fn shows_case(rt: &impl Abort, alloc: Global, line: &str) -> Result<(), Fail> {
     let case = case(alloc, line)?;
     let (name, rest) = cell(rt, &case);
@@ -63,9 +64,10 @@ fn shows_case(rt: &impl Abort, alloc: Global, line: &str) -> Result<(), Fail> {
     let (text, rest) = cell(rt, rest);
     let (ended, shown) = cell(rt, rest);
     let (kind, status) = (kind(rt, word), status(rt, ended));
-    let ones = Vec::from_elem(alloc, 1, text.len())?;
-    shows(rt, alloc, name, kind, text, &[], status, shown);
-    shows(rt, alloc, name, kind, text, &ones, status, shown);
+    for size in SIZES {
+        let sizes = pieces(alloc, size, text.len())?;
+        shows(rt, alloc, name, kind, text, &sizes, status, shown);
+    }
     Ok(())
 }
 

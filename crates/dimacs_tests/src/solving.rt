@@ -2,6 +2,7 @@
 
 use crate::checks::{holds, holds_at, same};
 use crate::judging::judge;
+use crate::pieces::{SIZES, pieces};
 use crate::tables::{case, cell, rows};
 use crate::words::status;
 use dimacs_lines::{FlakySink, FlakySource};
@@ -83,7 +84,7 @@ fn solve(
     )
 }
 
-/// Whether a run ends so and puts these texts, in one piece and byte by byte.
+/// Whether a run ends so and puts these texts, in pieces of each size.
 fn puts(
     rt: &impl Abort,
     alloc: Global,
@@ -92,11 +93,10 @@ fn puts(
     status: Status,
     texts: [&str; 3],
 ) -> Result<(), Fail> {
-    let ones = Vec::from_elem(alloc, 1, 1000)?;
-    let mut sinks = new_outputs(alloc, &[]);
-    puts_pieces(rt, alloc, name, given, &[], &mut sinks, status, texts);
-    let mut sinks = new_outputs(alloc, &ones);
-    puts_pieces(rt, alloc, name, given, &ones, &mut sinks, status, texts);
+    for size in SIZES {
+        let sizes = pieces(alloc, size, 1000)?;
+        puts_pieces(rt, alloc, name, given, &sizes, status, texts);
+    }
     Ok(())
 }
 
@@ -106,12 +106,13 @@ fn puts_pieces(
     name: &str,
     given: Given<'_>,
     sizes: &[usize],
-    sinks: &mut Outputs<'_>,
     status: Status,
     texts: [&str; 3],
 ) {
     let [claim, certificate, report] = texts;
-    same(rt, name, solve(alloc, given, sizes, sinks), Ok(status));
+    let mut sinks = new_outputs(alloc, sizes);
+    let ended = solve(alloc, given, sizes, &mut sinks);
+    same(rt, name, ended, Ok(status));
     holds(rt, name, sinks.claim.bytes() == claim.as_bytes());
     holds(
         rt,
@@ -218,12 +219,33 @@ fn each_of_two_arcs_between_two_nodes_has_an_entry(rt: HostRuntime) -> Result<()
     puts(&rt, rt.alloc(), "two arcs", given, Status::Done, texts)
 }
 
-/// Whether what is made is judged with this verdict, which is also reported.
-fn is_made(rt: &impl Abort, alloc: Global, kind: JudgeKind, given: Given<'_>, report: &str) {
+/// Whether what is made is judged with this verdict, which is also reported, in pieces of each size.
+fn is_made(
+    rt: &impl Abort,
+    alloc: Global,
+    kind: JudgeKind,
+    given: Given<'_>,
+    report: &str,
+) -> Result<(), Fail> {
+    for size in SIZES {
+        let sizes = pieces(alloc, size, 1000)?;
+        is_made_in_pieces(rt, alloc, kind, given, &sizes, report);
+    }
+    Ok(())
+}
+
+fn is_made_in_pieces(
+    rt: &impl Abort,
+    alloc: Global,
+    kind: JudgeKind,
+    given: Given<'_>,
+    sizes: &[usize],
+    report: &str,
+) {
     let name = given.instance;
-    let mut made = new_outputs(alloc, &[]);
-    let mut verdict = FlakySink::new(alloc, &[], &[]);
-    let ended = solve(alloc, given, &[], &mut made);
+    let mut made = new_outputs(alloc, sizes);
+    let mut verdict = FlakySink::new(alloc, sizes, &[]);
+    let ended = solve(alloc, given, sizes, &mut made);
     same(rt, name, ended, Ok(Status::Done));
     holds(rt, name, made.report.bytes() == report.as_bytes());
     let made_claim = made.claim.bytes();
@@ -237,9 +259,9 @@ fn is_made(rt: &impl Abort, alloc: Global, kind: JudgeKind, given: Given<'_>, re
     let judged = judge(
         alloc,
         kind,
-        &mut FlakySource::new(given.instance.as_bytes(), &[], &[]),
-        &mut FlakySource::new(claim, &[], &[]),
-        &mut FlakySource::new(made.certificate.bytes(), &[], &[]),
+        &mut FlakySource::new(given.instance.as_bytes(), sizes, &[]),
+        &mut FlakySource::new(claim, sizes, &[]),
+        &mut FlakySource::new(made.certificate.bytes(), sizes, &[]),
         &mut verdict,
     );
     same(rt, name, judged, Ok(Status::Done));
@@ -284,8 +306,7 @@ fn makes(rt: &impl Abort, alloc: Global, line: &str) -> Result<(), Fail> {
         instance,
         queries: "",
     };
-    is_made(rt, alloc, judge_named(rt, judge), given, report);
-    Ok(())
+    is_made(rt, alloc, judge_named(rt, judge), given, report)
 }
 
 #[test]
@@ -313,8 +334,7 @@ fn makes_distances(rt: &impl Abort, alloc: Global, line: &str) -> Result<(), Fai
         instance,
         queries,
     };
-    is_made(rt, alloc, JudgeKind::Paths, given, report);
-    Ok(())
+    is_made(rt, alloc, JudgeKind::Paths, given, report)
 }
 
 #[test]
