@@ -1,6 +1,6 @@
-// A maximum flow by Boost and a minimum cut by a search, judged: boost_max INSTANCE SOLUTION CUT
+// A maximum flow by Boost, judged: boost_max INSTANCE SOLUTION CUT
 //
-// Reads INSTANCE, writes SOLUTION and CUT, and runs `dimacs judge-max` on the three; DIMACS names the judge.
+// Reads INSTANCE, writes SOLUTION, and runs `dimacs certify-max` on the two, which writes CUT; DIMACS names the judge.
 //
 //     g++ -O2 -std=c++17 -o boost_max boost_max.cpp
 #include <unistd.h>
@@ -44,25 +44,13 @@ int main(int count, char** words) {
     const long long value = push_relabel_max_flow(graph, source, sink, get(&Arc::capacity, graph),
         get(&Arc::left, graph), get(&Arc::reverse, graph), get(boost::vertex_index, graph));
 
-    std::ofstream solution(words[2]), cut(words[3]);
+    std::ofstream solution(words[2]);
     solution << "s " << value << '\n';
     for (const Edge arc : arcs)
         solution << "f " << arc.m_source << ' ' << arc.m_target << ' ' << graph[arc].capacity - graph[arc].left << '\n';
-
-    std::vector<int> side{source};  // what the source reaches in the residual network
-    std::vector<bool> seen(nodes + 1);
-    seen[source] = true;
-    for (std::size_t k = 0; k < side.size(); ++k)
-        for (auto [arc, end] = out_edges(side[k], graph); arc != end; ++arc)
-            if (graph[*arc].left > 0 && !seen[target(*arc, graph)]) {
-                seen[target(*arc, graph)] = true;
-                side.push_back(target(*arc, graph));
-            }
-    cut << "p cut " << nodes << ' ' << side.size() << '\n';
-    for (const int node : side) cut << "u " << node << '\n';
-    solution.close(), cut.close();
+    solution.close();
 
     const char* judge = std::getenv("DIMACS") ? std::getenv("DIMACS") : "dimacs";
-    execlp(judge, judge, "judge-max", words[1], words[2], words[3], nullptr);
+    execlp(judge, judge, "certify-max", words[1], words[2], words[3], nullptr);
     return std::cerr << "can't run " << judge << '\n', 3;
 }

@@ -155,16 +155,17 @@ try_all() {
     done <<<"$instances"
 }
 
-# A folder of answers, of which one is spoiled and one lacks its cut.
+# A folder of answers, of which one isn't a flow, one isn't maximum and one can't be read.
 try_batch() {
     local folder=$dir/answers/pipes.max right
     [ -d "$folder" ] || return 0
     right=$(find "$folder" -name '*.solution' | wc -l)
-    cp "$examples/pipes.solution" "$folder/lacking.solution"
+    mkdir "$folder/folder.solution"
+    cp "$examples/pipes-careless.solution" "$folder/careless.solution"
     sed 's/^f 1 2 6/f 1 2 5/' "$examples/pipes.solution" >"$folder/wrong.solution"
-    cp "$examples/pipes.cut" "$folder/wrong.cut"
     sh "$here/batch.sh" "$examples/pipes.max" "$folder" >"$dir/batch"
-    for line in "$right yes .*: v max 12" "1 no .*/wrong.solution: x node 2 Balance" "1 ?? .*/lacking.solution: .*"; do
+    for line in "$right yes .*: v max 12" "1 no .*/wrong.solution: x node 2 Balance" \
+        "1 no .*/careless.solution: x solution 2 2 NotMaximum" "1 ?? .*/folder.solution: .*"; do
         [ "$(grep -c -x "${line#* }" "$dir/batch")" = "${line%% *}" ] || fail "batch.sh: $(cat "$dir/batch")"
     done
 }

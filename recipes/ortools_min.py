@@ -1,10 +1,10 @@
 #!/usr/bin/env python3
-"""A flow of least cost and its potentials by OR-Tools, judged: ortools_min.py INSTANCE SOLUTION POTENTIALS
+"""A flow of least cost by OR-Tools, judged: ortools_min.py INSTANCE SOLUTION POTENTIALS
 
 NOT RUN YET: written after the documentation of OR-Tools 9, where no package of it was at hand.
 
-Reads INSTANCE, writes SOLUTION and POTENTIALS, and runs `dimacs judge-min` on the three. The variable DIMACS names the
-judge. An instance without a feasible flow ends it with a message: networkx_infeasible.py shows that there is none.
+Reads INSTANCE, writes SOLUTION, and runs `dimacs certify-min` on the two, which writes POTENTIALS. The variable DIMACS
+names the judge. An instance without a feasible flow ends it with a message: networkx_infeasible.py shows that there is none.
 """
 import os
 import subprocess
@@ -43,34 +43,18 @@ def solve(supply, arcs):
     return [arc[2] + solver.flow(number) for number, arc in enumerate(arcs)]
 
 
-def potentials(nodes, arcs, flows):
-    """Distances in the residual network (Bellman and Ford, all nodes at 0 to begin with), with their sign turned."""
-    residual = [(tail, head, cost) for (tail, head, _, capacity, cost), x in zip(arcs, flows) if x < capacity]
-    residual += [(head, tail, -cost) for (tail, head, low, _, cost), x in zip(arcs, flows) if x > low]
-    distance = dict.fromkeys(nodes, 0)
-    for _ in nodes:
-        before = dict(distance)
-        for tail, head, length in residual:
-            distance[head] = min(distance[head], distance[tail] + length)
-        if distance == before:
-            break
-    return {node: -value for node, value in distance.items()}
-
-
 def write(path, lines):
     with open(path, "w", encoding="ascii") as text:
         text.writelines(f"{line}\n" for line in lines)
 
 
 def main():
-    instance, solution, certificate = sys.argv[1:]
+    instance, solution, potentials = sys.argv[1:]
     supply, arcs = read(instance)
     flows = solve(supply, arcs)
-    prices = potentials(supply, arcs, flows)
     cost = sum(arc[4] * flow for arc, flow in zip(arcs, flows))
     write(solution, [f"s {cost}", *(f"f {arc[0]} {arc[1]} {flow}" for arc, flow in zip(arcs, flows))])
-    write(certificate, [f"p pot {len(supply)} {len(prices)}", *(f"y {node} {y}" for node, y in prices.items())])
-    return subprocess.call([os.environ.get("DIMACS", "dimacs"), "judge-min", instance, solution, certificate])
+    return subprocess.call([os.environ.get("DIMACS", "dimacs"), "certify-min", instance, solution, potentials])
 
 
 if __name__ == "__main__":

@@ -1,15 +1,15 @@
 #!/usr/bin/env python3
-"""A maximum flow by SciPy and a minimum cut by a search, judged: scipy_max.py INSTANCE SOLUTION CUT
+"""A maximum flow by SciPy, judged: scipy_max.py INSTANCE SOLUTION CUT
 
-Reads INSTANCE, writes SOLUTION and CUT, and runs `dimacs judge-max` on the three. The variable DIMACS names the judge.
-SciPy's capacities have 32 bits; a greater one ends it with a message.
+Reads INSTANCE, writes SOLUTION, and runs `dimacs certify-max` on the two, which writes CUT. The variable DIMACS names the
+judge. SciPy's capacities have 32 bits; a greater one ends it with a message.
 """
 import os
 import subprocess
 import sys
 
 from scipy.sparse import csr_matrix
-from scipy.sparse.csgraph import breadth_first_order, maximum_flow
+from scipy.sparse.csgraph import maximum_flow
 
 
 def read(path):
@@ -30,7 +30,7 @@ def read(path):
 
 
 def solve(nodes, source, sink, arcs):
-    """The flow of each arc, and the source's side of a minimum cut. Row and column 0 stay empty."""
+    """The flow of each arc. Row and column 0 stay empty."""
     between = {}
     for tail, head, capacity in arcs:
         between[tail, head] = between.get((tail, head), 0) + capacity
@@ -39,18 +39,14 @@ def solve(nodes, source, sink, arcs):
             sys.exit(f"the capacities between {tail} and {head} don't fit 32 bits")
     tails, heads = zip(*between) if between else ((), ())
     capacities = csr_matrix((list(between.values()), (tails, heads)), shape=(nodes + 1, nodes + 1), dtype="int32")
-    net = maximum_flow(capacities, source, sink).flow
-    residual = (capacities - net).tocsr()
-    residual.eliminate_zeros()
-    side = breadth_first_order(residual, source, return_predecessors=False)
+    flow = maximum_flow(capacities, source, sink).flow.todok()
     # Of two arcs that lead to and fro the matrix has the difference of the flows: less than 0 on one of them.
-    flow = net.todok()
     left = {ends: max(0, int(flow.get(ends, 0))) for ends in between}
     flows = []
     for tail, head, capacity in arcs:
         flows.append(min(capacity, left[tail, head]))
         left[tail, head] -= flows[-1]
-    return flows, side
+    return flows
 
 
 def write(path, lines):
@@ -61,11 +57,10 @@ def write(path, lines):
 def main():
     instance, solution, cut = sys.argv[1:]
     nodes, source, sink, arcs = read(instance)
-    flows, side = solve(nodes, source, sink, arcs)
+    flows = solve(nodes, source, sink, arcs)
     value = sum(flow * ((arc[0] == source) - (arc[1] == source)) for arc, flow in zip(arcs, flows))
     write(solution, [f"s {value}", *(f"f {arc[0]} {arc[1]} {flow}" for arc, flow in zip(arcs, flows))])
-    write(cut, [f"p cut {nodes} {len(side)}", *(f"u {node}" for node in sorted(side))])
-    return subprocess.call([os.environ.get("DIMACS", "dimacs"), "judge-max", instance, solution, cut])
+    return subprocess.call([os.environ.get("DIMACS", "dimacs"), "certify-max", instance, solution, cut])
 
 
 if __name__ == "__main__":

@@ -61,8 +61,9 @@ def wrong_potentials(instance, solution, potentials):
         flow = flows[tail, head].pop(0)
         if tail != head and int(low) < int(capacity):
             node = head if flow == int(capacity) else tail
-            place = next(k for k, record in enumerate(potentials) if record[:2] == ["y", node])
-            yield replaced(potentials, place, 2, "9" * 29), r"x arc \d+ NotTight"
+            others = [record for record in potentials[1:] if record[1] != node]
+            problem = ["p", "pot", potentials[0][2], str(len(others) + 1)]
+            yield [problem, *others, ["y", node, "9" * 29]], r"x arc \d+ NotTight"
             return
 
 
