@@ -43,12 +43,13 @@ SIZES = {
 
 @dataclass
 class Work:
-    """Words of the command, and the files that follow them."""
+    """Words of the command, and the files that follow them; and what the baseline does, where it is something else."""
 
     words: list
     files: list
     arcs: int
     note: str = ""
+    other: list = None
 
     def name(self):
         return " ".join(self.words) + self.note
@@ -151,6 +152,12 @@ def judge_work(kind, generator, arcs, megabytes, note):
     return Work([f"judge-{kind}"], files, declared_arcs(files[0]), note)
 
 
+def certify_work(kind, generator, arcs, megabytes, note):
+    """A claim is judged without its certificate: the baseline judges it with it."""
+    files = flow_files(kind, generator, arcs, megabytes)
+    return Work([f"certify-{kind}"], files[:2], declared_arcs(files[0]), note, [f"judge-{kind}"] + files)
+
+
 def works(megabytes):
     size = SIZES[megabytes]
     yield from road_works(size, megabytes)
@@ -160,6 +167,7 @@ def works(megabytes):
         yield from flow_works("min", size.min_arcs, megabytes)
     if megabytes == 20:
         yield judge_work("max", "mixed", size.max_arcs, megabytes, ", in no order")
+        yield certify_work("max", "mixed", size.max_arcs, megabytes, ", in no order")
         yield judge_work("min", "parallel", size.min_arcs, megabytes, ", one arc twice")
 
 
@@ -254,7 +262,7 @@ def measure_work(work, binary, rounds, short_rows):
     """Prints the rows of a work. Whether `dimacs` prints what the baseline prints, as far as it has the work."""
     commands = {
         "reading alone": ["./baseline", "read"] + work.files,
-        "baseline": ["./baseline"] + work.words + work.files,
+        "baseline": ["./baseline"] + (work.other or work.words + work.files),
     }
     tested = [binary] + work.words + work.files if binary else commands["baseline"]
     expected, got = answer(commands["baseline"]), answer(tested)
