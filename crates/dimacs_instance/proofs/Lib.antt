@@ -8,7 +8,6 @@ mod MaxTextLemmas
 mod MinLemmas
 mod MinSupplies
 mod MinTextLemmas
-mod ParallelLemmas
 mod PigeonLemmas
 mod QueriesLemmas
 mod StarLemmas

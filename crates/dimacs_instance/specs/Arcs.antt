@@ -11,10 +11,6 @@ abbrev pub IsKthBetween : List ArcView → ℕ → ℕ → ℕ → Option ℕ �
 IsKthBetween arcs tail head k None = count_by (joins tail head) arcs ≤ k
 IsKthBetween arcs tail head k (Some i) = (i < length arcs) × IfSome (slice_get arcs i) (λ a. joins tail head a ≡ true) × (count_by (joins tail head) (take i arcs) ≡ k)
 
--- no two arcs have the same ends
-abbrev pub HaveNoParallels : List ArcView → Type 0
-HaveNoParallels arcs = (tail head : ℕ) → count_by (joins tail head) arcs ≤ 1
-
 -- both ends are nodes
 abbrev pub JoinsNodes : ℕ → ArcView → Type 0
 JoinsNodes nodes a = IsNode nodes a.tail × IsNode nodes a.head

@@ -1,115 +1,117 @@
 //! An index of the arcs of a network, by their ends.
 
-ghost use Rattle.std.specs.Prelude.{Some, IfOk, IfSome};
-ghost use Rattle.std.specs.List.Sorted.{IsNonDecreasingBy};
+ghost use Rattle.std.specs.Prelude.{◌≤◌, List, length, IfOk, IsTrue};
+ghost use Rattle.dimacs_instance.specs.declared.network.ArcView.{ArcView};
 ghost use Rattle.dimacs_instance.specs.Arcs.{IsKthBetween};
 ghost use Rattle.dimacs_instance.specs.Star.{HasRoom, Indexes};
-ghost use Rattle.dimacs_instance.specs.inside.StarGroups.{IsHeadPoint};
+ghost use Rattle.dimacs_instance.specs.inside.Star.{IsFirst};
 
 use crate::network::Network;
-use crate::star_order::{FEW, OutArc, have_no_parallels, put_in_order};
+use crate::star_order::{FEW, OutArc, put_in_order};
 use crate::star_starts::TailStarts;
 use dimacs_lines::Memory;
 use std::alloc::Global;
 
 /// A forward star apart from its network: the arcs out of each node stand together, by head. All its room is made at
-/// once, 12 bytes an arc at most, 8 for the order and 4 for the starts. No page of it is written until it is filled, which
-/// takes no more memory.
+/// once, 16 bytes an arc at most, 12 for the order and 4 for the starts. No page of it is written until it is filled,
+/// which takes no more memory.
 #[derive(Drop)]
 pub struct ArcIndex {
     /// All arcs, by tail, then head, then index.
     pub(crate) outs: Vec<OutArc>,
+    /// About where the arcs of each group of tails begin. No answer rests on it.
     pub(crate) starts: TailStarts,
-    /// True only where no two arcs have the same ends.
-    pub(crate) no_parallels: bool,
 }
-
-/// How many arcs `find_near` compares.
-const NEAR: u32 = 8;
 
 impl ArcIndex {
     /// Room for the arcs of a network, with nothing in it.
     pub fn room<N: Network>(alloc: Global, network: &N) -> Result<ArcIndex, Memory>
-        ensures { IfOk result (HasRoom (N.node_count network.now) (N.list network.now)) }
+        ensures { IfOk result (HasRoom (N.list network.now)) }
     {
         Ok(ArcIndex {
             outs: Vec::with_capacity(alloc, network.arcs() as usize)?,
-            starts: TailStarts::room(alloc, network)?,
-            no_parallels: false,
+            starts: TailStarts::room(alloc, network.nodes(), network.arcs())?,
         })
     }
 
     /// Orders the arcs of the network that it has room for.
     #[inline(never)]
     pub fn fill<N: Network>(&mut self, network: &N)
-        requires { HasRoom (N.node_count network.now) (N.list network.now) self.old }
-        ensures { Indexes (N.node_count network.now) (N.list network.now) self.new }
+        requires { HasRoom (N.list network.now) self.old }
+        ensures { Indexes (N.list network.now) self.new }
     {
         put_in_order(network, &mut self.starts, &mut self.outs);
-        self.no_parallels = have_no_parallels(network, &self.outs);
     }
 
-    /// As `Network::find` of the network that it was filled for: where the arcs of the tail begin is looked up, and among
-    /// them the head is searched.
+    /// As `Network::find` of the network that it was filled for.
     #[inline(always)]
-    pub fn find<N: Network>(&self, network: &N, tail: u32, head: u32, k: u32) -> Option<u32>
-        requires { Indexes (N.node_count network.now) (N.list network.now) self.now }
-        ensures { IsKthBetween (N.list network.now) tail head k result }
+    pub fn find(&self, tail: u32, head: u32, k: u32) -> Option<u32>
+        ensures { (arcs : List ArcView) → Indexes arcs self.now → IsKthBetween arcs tail head k result }
     {
-        let places = self.starts.range(network, &self.outs, tail);
-        let leaving = &self.outs[places.from..places.to];
-        let first = first_of_head(leaving, head);
-        let out = leaving.get(first + k as usize)?;
-        if out.head == head {
+        let first = self.first(tail, head);
+        let out = self.outs.get(first + k as usize)?;
+        if out.tail == tail && out.head == head {
             Some(out.index)
         } else {
             None
         }
     }
 
-    /// The arc with these ends, if it is among the next few from `from` on and no two arcs have the same ends. That is
-    /// quick where arcs are looked up in their order. It may be None where `find` gives an arc.
+    /// The first place whose arc doesn't come before all those with these ends. It is guessed first, and the guess is
+    /// tested, so that a mistake in it costs time alone.
     #[inline(always)]
-    pub fn find_near<N: Network>(&self, network: &N, tail: u32, head: u32, from: u32) -> Option<u32>
-        requires { Indexes (N.node_count network.now) (N.list network.now) self.now }
-        ensures { IfSome result (λ arc. IsKthBetween (N.list network.now) tail head 0 (Some arc)) }
+    fn first(&self, tail: u32, head: u32) -> usize
+        ensures inside { result ≤ length self.now.outs.items }
+        ensures first { (arcs : List ArcView) → Indexes arcs self.now → IsFirst self.now.outs.items tail head result }
     {
-        if !self.no_parallels {
-            return None;
+        let guess = self.guess(tail, head);
+        if self.is_first(tail, head, guess) {
+            guess
+        } else {
+            self.outs
+                .partition_point(|out| out.is_before_ends(tail, head))
         }
-        let end = network.arcs().min(from.saturating_add(NEAR));
-        for i in from..end {
-            let arc = network.arc(i);
-            if arc.tail == tail && arc.head == head {
-                return Some(i);
+    }
+
+    /// Whether this is that place.
+    #[inline(always)]
+    fn is_first(&self, tail: u32, head: u32, place: usize) -> bool
+        requires { place ≤ length self.now.outs.items }
+        ensures { (arcs : List ArcView) → Indexes arcs self.now → IsTrue result → IsFirst self.now.outs.items tail head place }
+    {
+        if place > 0 && !self.outs[place - 1].is_before_ends(tail, head) {
+            return false;
+        }
+        if place < self.outs.len() && self.outs[place].is_before_ends(tail, head) {
+            return false;
+        }
+        true
+    }
+
+    /// Where it is if the starts are right.
+    #[inline(always)]
+    fn guess(&self, tail: u32, head: u32) -> usize
+        ensures { result ≤ length self.now.outs.items }
+    {
+        let part = self.starts.part(tail, self.outs.len());
+        let outs = &self.outs[part.from..part.to];
+        part.from
+            + if outs.len() <= FEW {
+                count_before(outs, tail, head)
+            } else {
+                outs.partition_point(|out| out.is_before_ends(tail, head))
             }
-        }
-        None
     }
 }
 
-/// The first place of arcs that rise by head that has this head or a greater one.
+/// How many of these arcs come before those with given ends. For so few that is quicker than to halve them.
 #[inline(always)]
-fn first_of_head(leaving: &[OutArc], head: u32) -> usize
-    requires { IsNonDecreasingBy (λ out. out.head) leaving.now }
-    ensures { IsHeadPoint leaving.now head result }
-{
-    if leaving.len() <= FEW {
-        count_lesser(leaving, head)
-    } else {
-        leaving.partition_point(|out| out.head < head)
-    }
-}
-
-/// The same, by counting the lesser heads.
-#[inline(always)]
-fn count_lesser(leaving: &[OutArc], head: u32) -> usize
-    requires { IsNonDecreasingBy (λ out. out.head) leaving.now }
-    ensures { IsHeadPoint leaving.now head result }
+fn count_before(outs: &[OutArc], tail: u32, head: u32) -> usize
+    ensures { result ≤ length outs.now }
 {
     let mut count = 0;
-    for place in 0..leaving.len() {
-        count += usize::from(leaving[place].head < head);
+    for place in 0..outs.len() {
+        count += usize::from(outs[place].is_before_ends(tail, head));
     }
     count
 }

@@ -10,7 +10,7 @@ use dimacs_lines::Memory;
 use std::alloc::Global;
 use std::marker::Model;
 
-/// Arcs in the order of the text, and beside them their index, which takes 12 bytes an arc at most.
+/// Arcs in the order of the text, and beside them their index, which takes 16 bytes an arc at most.
 #[derive(Drop)]
 pub struct ForwardStar<A: KeptArc> {
     arcs: PlainArcs<A>,
@@ -25,7 +25,7 @@ impl<A: KeptArc> Model for ForwardStar<A> {
 
     ghost view = { λ s. s.arcs };
 
-    ghost invariant = { λ s. Indexes s.arcs.nodes s.arcs.arcs s.index };
+    ghost invariant = { λ s. Indexes s.arcs.arcs s.index };
 }
 
 impl<A: KeptArc> ForwardStar<A> {
@@ -76,6 +76,6 @@ impl<A: KeptArc> Network for ForwardStar<A> {
     }
 
     fn find(&self, tail: u32, head: u32, k: u32) -> Option<u32> {
-        self.index.find(&self.arcs, tail, head, k)
+        self.index.find(tail, head, k)
     }
 }

@@ -53,7 +53,7 @@ abbrev pub ArePlaced : PlacesValue → List Entry → Type 0
 ArePlaced p entries = Hold p entries p.refusal
 
 -- an index of these arcs, if there is one: filled, or with room for them
-abbrev pub IsIndexFor : ℕ → List ArcView → Bool → Option ArcIndex → Type 0
-IsIndexFor nodes arcs filled None = Unit {0}
-IsIndexFor nodes arcs true (Some index) = Indexes nodes arcs index
-IsIndexFor nodes arcs false (Some index) = HasRoom nodes arcs index
+abbrev pub IsIndexFor : List ArcView → Bool → Option ArcIndex → Type 0
+IsIndexFor arcs filled None = Unit {0}
+IsIndexFor arcs true (Some index) = Indexes arcs index
+IsIndexFor arcs false (Some index) = HasRoom arcs index

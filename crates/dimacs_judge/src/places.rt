@@ -35,9 +35,6 @@ pub struct FlowPlaces<'a, N: Network> {
     out_of_order: bool,
     /// An index of the arcs, where the network has none of its own. It is filled once an entry comes out of order.
     index: Option<ArcIndex>,
-    /// Where an entry out of order is first looked for: after the arc of the entry before it, where no two arcs have the
-    /// same ends. No answer depends on it.
-    next: u32,
     /// The first entry that fails. Nothing is counted or put after it.
     refusal: Option<(Where, Reason)>,
 }
@@ -50,7 +47,7 @@ impl<'a, N: Network> Model for FlowPlaces<'a, N> {
 
     ghost view = { λ p. record { arcs = N.list p.network.now; flow = p.flow; counts = p.counts.items; in_order = p.in_order; out_of_order = p.out_of_order; refusal = p.refusal } };
 
-    ghost invariant = { λ p. HaveRoom (record { arcs = N.list p.network.now; flow = p.flow; counts = p.counts.items; in_order = p.in_order; out_of_order = p.out_of_order; refusal = p.refusal }) × IsIndexFor (N.node_count p.network.now) (N.list p.network.now) p.out_of_order p.index };
+    ghost invariant = { λ p. HaveRoom (record { arcs = N.list p.network.now; flow = p.flow; counts = p.counts.items; in_order = p.in_order; out_of_order = p.out_of_order; refusal = p.refusal }) × IsIndexFor (N.list p.network.now) p.out_of_order p.index };
 }
 
 impl<'a, N: Network> FlowPlaces<'a, N> {
@@ -67,7 +64,6 @@ impl<'a, N: Network> FlowPlaces<'a, N> {
             in_order: 0,
             out_of_order: false,
             index: room_for_index(alloc, network)?,
-            next: 0,
             refusal: None,
         })
     }
@@ -137,7 +133,6 @@ impl<'a, N: Network> FlowPlaces<'a, N> {
             if let Some(index) = &mut self.index {
                 index.fill(self.network);
             }
-            self.next = self.in_order;
             self.out_of_order = true;
         }
     }
@@ -162,7 +157,7 @@ impl<'a, N: Network> FlowPlaces<'a, N> {
         ensures refusal { self.new.refusal ≡ None }
         ensures puts { (before : List Entry) → HavePlaced self.old before → PutsEntry self.old.arcs before entry result self.new }
     {
-        let Some(first) = self.first(entry) else {
+        let Some(first) = self.find(entry, 0) else {
             return Err(Reason::UnknownArc);
         };
         let came = self.came(entry, first);
@@ -171,25 +166,7 @@ impl<'a, N: Network> FlowPlaces<'a, N> {
         };
         self.flow.set(arc, entry.flow);
         self.counts[first as usize] = came + 1;
-        self.next = first + 1;
         Ok(())
-    }
-
-    /// The first arc with the ends of this entry. Where the places have an index, the arcs after that of the last entry are
-    /// compared first.
-    #[inline(always)]
-    fn first(&self, entry: Entry) -> Option<u32>
-        requires { self.now.out_of_order ≡ true }
-        ensures { IsKthBetween self.now.arcs entry.tail entry.head 0 result }
-    {
-        let near = match &self.index {
-            Some(index) => index.find_near(self.network, entry.tail, entry.head, self.next),
-            None => None,
-        };
-        match near {
-            Some(arc) => Some(arc),
-            None => self.find(entry, 0),
-        }
     }
 
     /// How many entries came with the ends of this one, whose first arc is at hand.
@@ -244,7 +221,7 @@ impl<'a, N: Network> FlowPlaces<'a, N> {
         ensures { IsKthBetween self.now.arcs entry.tail entry.head k result }
     {
         match &self.index {
-            Some(index) => index.find(self.network, entry.tail, entry.head, k),
+            Some(index) => index.find(entry.tail, entry.head, k),
             None => self.network.find(entry.tail, entry.head, k),
         }
     }
@@ -272,7 +249,7 @@ impl<'a, N: Network> Place for FlowPlaces<'a, N> {
 
 /// Room for an index of the arcs of a network, where it has none of its own.
 fn room_for_index<N: Network>(alloc: Global, network: &N) -> Result<Option<ArcIndex>, Memory>
-    ensures { IfOk result (λ index. IsIndexFor (N.node_count network.now) (N.list network.now) false index) }
+    ensures { IfOk result (λ index. IsIndexFor (N.list network.now) false index) }
 {
     if network.is_indexed() {
         return Ok(None);

@@ -98,48 +98,8 @@ fn find_counts_the_arcs_between_two_nodes(rt: HostRuntime) -> Result<(), Fail> {
     for &(name, tail, head, k, found) in &FOUND {
         same(&rt, name, network.find(tail, head, k), found);
         same(&rt, name, star.find(tail, head, k), found);
-        same(&rt, name, index.find(&network, tail, head, k), found);
+        same(&rt, name, index.find(tail, head, k), found);
     }
-    Ok(())
-}
-
-/// Two nodes, the arc from which on it is looked, and the arc that is found among ten in a row.
-static NEAR: [(&str, u32, u32, u32, Option<u32>); 8] = [
-    ("the first", 1, 2, 0, Some(0)),
-    ("the eighth", 8, 9, 0, Some(7)),
-    ("the ninth", 9, 10, 0, None),
-    ("the last one, from itself on", 10, 11, 9, Some(9)),
-    ("the last one, from the next on", 10, 11, 10, None),
-    ("the last one, from far after it", 10, 11, u32::MAX, None),
-    ("one before", 2, 3, 2, None),
-    ("one back", 2, 1, 0, None),
-];
-
-#[test]
-fn find_near_looks_at_eight_arcs(rt: HostRuntime) -> Result<(), Fail> {
-    let mut row = PlainArcs::new(rt.alloc(), 11);
-    for tail in 1..11 {
-        assert!(&rt; row.arcs() < MAX_ARCS);
-        row.push(WeightArc {
-            tail,
-            head: tail + 1,
-            weight: 0,
-        })?;
-    }
-    let mut index = ArcIndex::room(rt.alloc(), &row)?;
-    index.fill(&row);
-    for &(name, tail, head, from, found) in &NEAR {
-        same(&rt, name, index.find_near(&row, tail, head, from), found);
-    }
-    Ok(())
-}
-
-#[test]
-fn find_near_finds_nothing_where_arcs_have_the_same_ends(rt: HostRuntime) -> Result<(), Fail> {
-    let network = sample(&rt, rt.alloc())?;
-    let mut index = ArcIndex::room(rt.alloc(), &network)?;
-    index.fill(&network);
-    same(&rt, "arc", index.find_near(&network, 2, 1, 0), None);
     Ok(())
 }
 
