@@ -1,22 +1,19 @@
-"""Generates texts, runs the programs on them in turn, and prints a table for each size, and one of all. Called by run.sh:
+"""Generates texts, runs the programs on them in turn, and prints a table for each size, and one of all. Called by
+run.sh:
 
     bench.py DIR SIZES ROUNDS [BINARY]
 
-DIR has the built programs; the texts are kept there. The programs take turns, in an order that changes from round to
-round, at least ROUNDS times, and more often while runs are short. A time is the median of the rounds. A ratio is the
-median of the rounds' own ratios, each of two runs that lie beside each other, and its spread is that of the middle half
-of them: on a machine that others use too, the best times of two programs may lie in different minutes.
+What the words mean, and how it is measured, says measure.py.
 """
 
 import hashlib
 import os
-import re
-import shutil
-import statistics
 import subprocess
 import sys
-import time
 from dataclasses import dataclass
+
+from measure import Asked, head, line, measure_in_turn, spread
+from texts import declared_arcs, generate
 
 NO_SUCH_WORK = 2  # the exit status of a command that doesn't have the work
 
@@ -58,59 +55,7 @@ class Work:
         return sum(os.path.getsize(file) for file in self.files) / 1e6
 
 
-@dataclass
-class Taken:
-    """What a run took."""
-
-    wall: float
-    cpu: float
-    peak_bytes: int
-
-
-class Rounds:
-    """What the runs of a program took, in the order of the rounds."""
-
-    def __init__(self):
-        self.runs = []
-
-    def wall(self):
-        return statistics.median(run.wall for run in self.runs)
-
-    def cpu(self):
-        return statistics.median(run.cpu for run in self.runs)
-
-    def peak_bytes(self):
-        return max(run.peak_bytes for run in self.runs)
-
-    def ratio(self, other):
-        """The median of the rounds' ratios, and where the middle half of them begins and ends."""
-        ratios = sorted(run.cpu / max(beside.cpu, 1e-4) for run, beside in zip(self.runs, other.runs))
-        quarter = len(ratios) // 4
-        return statistics.median(ratios), ratios[quarter], ratios[-1 - quarter]
-
-
 # ---- texts
-
-
-def generate(folder, *commands):
-    """Runs the commands in a new folder, once. A folder that isn't whole is never left under this name."""
-    if os.path.isdir(folder):
-        return
-    part = folder + ".part"
-    shutil.rmtree(part, ignore_errors=True)
-    os.mkdir(part)
-    for command in commands:
-        words = [os.path.abspath(command[0])] + [str(word) for word in command[1:]]
-        subprocess.run(words, cwd=part, check=True, stdout=subprocess.DEVNULL)
-    os.rename(part, folder)
-
-
-def declared_arcs(file):
-    with open(file) as text:
-        for line in text:
-            if line.startswith("p "):
-                return int(line.split()[3])
-    raise ValueError(f"{file} has no problem line")
 
 
 def road_works(size, megabytes):
@@ -174,18 +119,6 @@ def works(megabytes):
 # ---- runs
 
 
-def pinned(command):
-    core = os.environ.get("CORE")
-    return ["taskset", "-c", core] + command if core else command
-
-
-def measure(command):
-    subprocess.run(["./runner", "taken"] + pinned(command), stdout=subprocess.DEVNULL, stderr=subprocess.DEVNULL)
-    with open("taken") as line:
-        wall, cpu, kilobytes = line.read().split()
-    return Taken(float(wall), float(cpu), int(kilobytes) * 1024)
-
-
 def answer(command):
     """Exit status, and a digest of what is printed."""
     digest = hashlib.sha256()
@@ -195,32 +128,13 @@ def answer(command):
     return process.returncode, digest.hexdigest()
 
 
-# Rounds are added, up to so many times as many, while all of them together took no longer than so many seconds each.
-MORE_ROUNDS = 5
-SHORT_ROUND = 2
-
-
-def measure_in_turn(commands, rounds):
-    taken = {name: Rounds() for name in commands}
-    begun = time.monotonic()
-    for turn in range(MORE_ROUNDS * rounds):
-        if turn >= rounds and time.monotonic() - begun > SHORT_ROUND * rounds:
-            break
-        for name in list(commands)[:: -1 if turn % 2 else 1]:
-            taken[name].runs.append(measure(commands[name]))
-    return taken
-
-
-HEAD = """
-### {megabytes} MB
-
-| Work | Program | Wall s | CPU s | ns an arc | MB/s | Peak MB | Bytes an arc | CPU ratio | Its middle half |
-|---|---|---|---|---|---|---|---|---|---|"""
+COLUMNS = (
+    "| Work | Program | Wall s | CPU s | ns an arc | MB/s | Peak MB | Bytes an arc | CPU ratio | Its middle half |"
+)
 
 
 def row(work, program, taken, baseline):
-    ratio, low, high = taken.ratio(baseline)
-    cells = [
+    return line(
         f"{work.name()}, {work.megabytes():.1f} MB, {work.arcs:,} arcs",
         program,
         f"{taken.wall():.4f}",
@@ -229,33 +143,26 @@ def row(work, program, taken, baseline):
         f"{work.megabytes() / taken.cpu():.0f}",
         f"{taken.peak_bytes() / 1e6:.1f}",
         f"{taken.peak_bytes() / work.arcs:.1f}",
-        f"{ratio:.2f}",
-        f"{low:.2f} to {high:.2f}",
-    ]
-    return "| " + " | ".join(cells) + " |"
+        *spread(taken.ratio(baseline)),
+    )
 
 
-SHORT_HEAD = """
-### In short
-
-| Work | MB | Baseline, ns an arc | dimacs, ns an arc | CPU ratio | Its middle half | Peak, bytes an arc |
-|---|---|---|---|---|---|---|"""
+SHORT_COLUMNS = (
+    "| Work | MB | Baseline, ns an arc | dimacs, ns an arc | CPU ratio | Its middle half | Peak, bytes an arc |"
+)
 
 
 def short_row(work, taken):
     """A work in one line, as README.md has it."""
     baseline, dimacs = taken["baseline"], taken["dimacs"]
-    ratio, low, high = dimacs.ratio(baseline)
-    cells = [
+    return line(
         work.name(),
         f"{work.megabytes():.1f}" if work.megabytes() < 100 else f"{work.megabytes():.0f}",
         f"{baseline.cpu() * 1e9 / work.arcs:.1f}",
         f"{dimacs.cpu() * 1e9 / work.arcs:.1f}",
-        f"{ratio:.2f}",
-        f"{low:.2f} to {high:.2f}",
+        *spread(dimacs.ratio(baseline)),
         f"{dimacs.peak_bytes() / work.arcs:.1f}",
-    ]
-    return "| " + " | ".join(cells) + " |"
+    )
 
 
 def measure_work(work, binary, rounds, short_rows):
@@ -281,19 +188,16 @@ def measure_work(work, binary, rounds, short_rows):
 
 
 def main():
-    folder, sizes, rounds = sys.argv[1], [int(size) for size in sys.argv[2].split(",")], int(sys.argv[3])
-    binary = os.path.abspath(sys.argv[4]) if len(sys.argv) > 4 else None
-    only = os.environ.get("ONLY", "")
-    os.chdir(folder)
+    asked = Asked()
     all_agree = True
     short_rows = []
-    for megabytes in sizes:
-        print(HEAD.format(megabytes=megabytes))
+    for megabytes in asked.sizes:
+        print(head(f"{megabytes} MB", COLUMNS))
         for work in works(megabytes):
-            if re.search(only, work.name()):
-                all_agree &= measure_work(work, binary, rounds, short_rows)
+            if asked.wants(work.name()):
+                all_agree &= measure_work(work, asked.binary, asked.rounds, short_rows)
     if short_rows:
-        print("\n".join([SHORT_HEAD] + short_rows))
+        print("\n".join([head("In short", SHORT_COLUMNS)] + short_rows))
     sys.exit(0 if all_agree else 1)
 
 

@@ -2,18 +2,17 @@
 
     peers.py DIR SIZE ROUNDS BINARY
 
-DIR has the built programs, the peers in its folder peers; the texts are kept there. Prints a table, and draws peers.svg
-beside this file. The programs take turns. A time is the median of the rounds, and a quotient that of their own ones.
+What the words mean, and how it is measured, says measure.py; the peers are in the folder peers of DIR. Prints a table,
+and draws peers.svg beside this file.
 """
 
 import os
-import subprocess
 import sys
 
 import bench
 import picture
-
-HERE = os.path.dirname(os.path.abspath(__file__))
+from measure import HERE, Asked, head, line, measure_in_turn, printed
+from texts import declared
 
 # the name of a peer, its package, its command, and the kinds that it reads
 PEERS = [
@@ -29,22 +28,10 @@ READING = "dimacs reads"
 HEADING = "Processor time: dimacs judging all three texts, and it and others reading the instance"
 
 
-def output(command):
-    run = subprocess.run(command, capture_output=True, text=True, check=False)
-    return run.stdout if run.returncode == 0 else None
-
-
-def counts(instance):
-    """What a peer has to print: the nodes and arcs of the problem line."""
-    with open(instance) as text:
-        line = next(line for line in text if line.startswith("p "))
-    return " ".join(line.split()[2:]) + "\n"
-
-
 def has_read(command, instance):
     """Whether the peer is there and finds as many nodes and arcs as there are."""
     try:
-        return output(command) == counts(instance)
+        return printed(command).split() == [str(count) for count in declared(instance)]
     except FileNotFoundError:
         return False
 
@@ -57,13 +44,13 @@ def measure(judge, show, rounds, binary):
         READING: [binary] + show.words + show.files,
     }
     for command in commands.values():
-        if output(command) is None:
+        if not printed(command).startswith(("v", "i")):
             sys.exit(f"no answer: {' '.join(command)}")
     for name, _, command, kinds in PEERS:
         command = command + [kind, instance]
         if kind in kinds and has_read(command, instance):
             commands[name] = command
-    taken = bench.measure_in_turn(commands, rounds)
+    taken = measure_in_turn(commands, rounds)
     return {name: (runs.cpu(), runs.ratio(taken[JUDGING])[0]) for name, runs in taken.items()}
 
 
@@ -74,18 +61,16 @@ def cell(times, name):
     return f"{seconds:.2f} ({quotient:.1f})"
 
 
-def print_table(columns):
-    print("| Program | Package | " + " | ".join(title for title, _ in columns) + " |")
-    print("|---|---" + "|---" * len(columns) + "|")
+def print_table(megabytes, columns):
+    print(head(f"{megabytes} MB", line("Program", "Package", *(title for title, _ in columns))))
     packages = {name: f"`{package}`" for name, package, _, _ in PEERS}
     for name in [JUDGING, READING] + list(packages):
-        cells = [cell(times, name) for _, times in columns]
-        print("| " + " | ".join([name, packages.get(name, ""), *cells]) + " |")
+        print(line(name, packages.get(name, ""), *(cell(times, name) for _, times in columns)))
 
 
 def main():
-    folder, megabytes, rounds, binary = sys.argv[1], int(sys.argv[2]), int(sys.argv[3]), sys.argv[4]
-    os.chdir(folder)
+    asked = Asked()
+    (megabytes,) = asked.sizes
     works = {}
     for work in bench.works(megabytes):
         works.setdefault(" ".join(work.words), work)
@@ -93,8 +78,8 @@ def main():
     for judge, kind in [("judge-max", "max"), ("judge-min", "min"), ("judge-paths", "gr")]:
         show = works[f"show {kind}"]
         title = f"{kind}, {show.megabytes():.1f} MB, {show.arcs:,} arcs"
-        columns.append((title, measure(works[judge], show, rounds, binary)))
-    print_table(columns)
+        columns.append((title, measure(works[judge], show, asked.rounds, asked.binary)))
+    print_table(megabytes, columns)
     with open(f"{HERE}/peers.svg", "w") as file:
         bars = [(title, {name: seconds for name, (seconds, _) in times.items()}) for title, times in columns]
         file.write(picture.draw(HEADING, bars, cut="networkx"))

@@ -1,11 +1,13 @@
 // Runs a program and tells what it took:
 //
-//   runner OUT PROGRAM WORD..
+//   runner OUT LIMIT PROGRAM WORD..
 //
 // OUT gets one line: the seconds that went by, the seconds of processor time, and the peak memory in kilobytes. The
-// exit status is the program's. The kernel counts the memory of the process that starts a program to the program's
+// program is ended after LIMIT seconds of processor time, where that isn't 0. The exit status is the program's, or 128
+// and the number of the signal that ended it. The kernel counts the memory of the process that starts a program to the program's
 // peak; so this is a program of its own, and a small one.
 #include <stdio.h>
+#include <stdlib.h>
 #include <sys/resource.h>
 #include <sys/wait.h>
 #include <time.h>
@@ -14,10 +16,11 @@
 static double seconds(struct timeval t) { return t.tv_sec + t.tv_usec * 1e-6; }
 
 int main(int count, char **words) {
-    if (count < 3) {
-        fprintf(stderr, "runner OUT PROGRAM WORD..\n");
+    if (count < 4) {
+        fprintf(stderr, "runner OUT LIMIT PROGRAM WORD..\n");
         return 2;
     }
+    rlim_t limit = strtoul(words[2], NULL, 10);
     struct timespec start, end;
     clock_gettime(CLOCK_MONOTONIC, &start);
     pid_t child = fork();
@@ -26,8 +29,10 @@ int main(int count, char **words) {
         return 126;
     }
     if (child == 0) {
-        execvp(words[2], words + 2);
-        perror(words[2]);
+        struct rlimit seconds = {limit, limit + 1};  // with both the same, the signal would be SIGKILL
+        if (limit) setrlimit(RLIMIT_CPU, &seconds);
+        execvp(words[3], words + 3);
+        perror(words[3]);
         _exit(127);
     }
     int status;

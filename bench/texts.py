@@ -1,0 +1,83 @@
+"""Generates the texts that are measured. They are kept in the folder where the scripts run, for the next time."""
+
+import os
+import shutil
+import subprocess
+
+# The families of instances, by kind, and the words of the generator that makes one of a size in MB.
+FAMILIES = {
+    "min": {
+        "assign": {1: "least assign 6000 8 10000", 20: "least assign 110000 8 10000"},
+        "dense": {1: "least dense 400 45000 1000 10000 10", 20: "least dense 5000 800000 1000 10000 50"},
+        "goto": {1: "least goto 5000 8 1000 4096", 20: "least goto 90000 8 1000 4096"},
+        "long grid": {1: "least grid 32 400 1000 10000", 20: "least grid 128 1800 1000 10000"},
+        "netgen": {1: "least netgen 8000 48000 400 400 100000", 20: "least netgen 150000 900000 7500 7500 1900000"},
+        "planted": {1: "gen min 4625 37000", 20: "gen min 81250 650000"},
+        "road": {1: "least road 20000 20 5", 20: "least road 350000 60 5"},
+        "square grid": {1: "least grid 113 113 1000 10000", 20: "least grid 480 480 1000 10000"},
+        "torus": {1: "least torus 70 70 1000", 20: "least torus 300 300 1000"},
+        "transport": {1: "least transport 230 230 10000", 20: "least transport 950 950 10000"},
+    },
+}
+
+# Families of least cost in which the flow that carries nothing is least, and in which it is hard to find potentials.
+HARD = {
+    "acyclic": {1: "hard acyclic 5000 40000", 20: "hard acyclic 100000 800000"},
+    "shifted grid": {1: "hard grid 100 100 1000000", 20: "hard grid 450 450 1000000"},
+    "shifted random": {1: "hard random 5000 40000 100000", 20: "hard random 100000 800000 100000"},
+    "path": {1: "hard path 20000", 20: "hard path 400000"},
+}
+
+# The generators that write several texts, and add the endings of their names themselves.
+SEVERAL = ("gen max", "gen min", "hard")
+
+SEED = 1
+
+
+def generate(folder, *commands):
+    """Runs the commands in a new folder, once. A folder that isn't whole is never left under this name."""
+    if os.path.isdir(folder):
+        return
+    part = folder + ".part"
+    shutil.rmtree(part, ignore_errors=True)
+    os.mkdir(part)
+    for command in commands:
+        words = [os.path.abspath(command[0])] + [str(word) for word in command[1:]]
+        subprocess.run(words, cwd=part, check=True, stdout=subprocess.DEVNULL)
+    os.rename(part, folder)
+
+
+def declared(file):
+    """The nodes and arcs of the problem line."""
+    with open(file) as text:
+        for line in text:
+            if line.startswith("p "):
+                return [int(number) for number in line.split()[2:]]
+    raise ValueError(f"{file} has no problem line")
+
+
+def declared_arcs(file):
+    return declared(file)[1]
+
+
+def instance(kind, family, megabytes):
+    """The file of an instance of a family."""
+    words = (HARD.get(family) or FAMILIES[kind][family])[megabytes]
+    folder = f"{kind}-{family.replace(' ', '-')}-{megabytes}"
+    name = "instance" if words.startswith(SEVERAL) else f"instance.{kind}"
+    generate(folder, [*words.split(), SEED, name])
+    return f"{folder}/instance.{kind}"
+
+
+def beside(file, name, *command):
+    """The folder beside an instance in which a command was run."""
+    folder = f"{os.path.dirname(file)}-{name}"
+    generate(folder, command)
+    return folder
+
+
+def solved(binary, file):
+    """The files of a claim that `dimacs` makes of an instance of a flow, and of its certificate."""
+    kind = file.split(".")[-1]
+    folder = beside(file, "solved", binary, f"solve-{kind}", os.path.abspath(file), "solution", "certificate")
+    return f"{folder}/solution", f"{folder}/certificate"
