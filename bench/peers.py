@@ -47,7 +47,7 @@ def measure(judge, show, rounds, binary):
         if not printed(command).startswith(("v", "i")):
             sys.exit(f"no answer: {' '.join(command)}")
     for name, _, command, kinds in PEERS:
-        command = command + [kind, instance]
+        command = command + ["read", kind, instance]
         if kind in kinds and has_read(command, instance):
             commands[name] = command
     taken = measure_in_turn(commands, rounds)

@@ -6,6 +6,14 @@ import subprocess
 
 # The families of instances, by kind, and the words of the generator that makes one of a size in MB.
 FAMILIES = {
+    "max": {
+        "frames": {1: "most frames 14 65 1000", 20: "most frames 30 240 1000"},
+        "grid": {1: "least grid 130 150 1000 1", 20: "least grid 560 620 1000 1"},
+        "image": {1: "most image 110 110 200", 20: "most image 458 458 200"},
+        "layers": {1: "most layers 100 200 10000", 20: "most layers 500 650 10000"},
+        "matching": {1: "most matching 7500 6", 20: "most matching 131000 6"},
+        "planted": {1: "gen max 10000 60000", 20: "gen max 175000 1050000"},
+    },
     "min": {
         "assign": {1: "least assign 6000 8 10000", 20: "least assign 110000 8 10000"},
         "dense": {1: "least dense 400 45000 1000 10000 10", 20: "least dense 5000 800000 1000 10000 50"},
@@ -17,6 +25,13 @@ FAMILIES = {
         "square grid": {1: "least grid 113 113 1000 10000", 20: "least grid 480 480 1000 10000"},
         "torus": {1: "least torus 70 70 1000", 20: "least torus 300 300 1000"},
         "transport": {1: "least transport 230 230 10000", 20: "least transport 950 950 10000"},
+    },
+    "gr": {
+        "long grid": {1: "least grid 32 500 1 10000", 20: "least grid 128 2300 1 10000"},
+        "netgen": {1: "least netgen 9000 54000 1 1 1", 20: "least netgen 170000 1020000 1 1 1"},
+        "road": {1: "gen road 20000 2.44", 20: "gen road 380000 2.44"},
+        "square grid": {1: "least grid 125 125 1 10000", 20: "least grid 540 540 1 10000"},
+        "torus": {1: "least torus 80 80 1", 20: "least torus 340 340 1"},
     },
 }
 
@@ -32,6 +47,11 @@ HARD = {
 SEVERAL = ("gen max", "gen min", "hard")
 
 SEED = 1
+
+SOURCES = {1: 8, 20: 4}  # of a graph, by the size of the texts in MB
+
+# so many units more from one end to another than can be moved
+UNITS = 5_000_000_000
 
 
 def generate(folder, *commands):
@@ -76,8 +96,32 @@ def beside(file, name, *command):
     return folder
 
 
+def infeasible(file):
+    """The file of an infeasible instance that is like another."""
+    folder = beside(file, "infeasible", "least", "infeasible", UNITS, os.path.abspath(file), "instance.min")
+    return f"{folder}/instance.min"
+
+
 def solved(binary, file):
     """The files of a claim that `dimacs` makes of an instance of a flow, and of its certificate."""
     kind = file.split(".")[-1]
     folder = beside(file, "solved", binary, f"solve-{kind}", os.path.abspath(file), "solution", "certificate")
     return f"{folder}/solution", f"{folder}/certificate"
+
+
+def claimed(binary, file):
+    """The file of a claim of an instance: the one that was made with it, or else one that `dimacs` makes."""
+    made = file[: file.rindex(".")] + ".solution"
+    return made if os.path.exists(made) else solved(binary, file)[0]
+
+
+def queries(file, megabytes):
+    """The file of the queries to a graph: for all distances from a few sources."""
+    words = ["sources", declared(file)[0], SOURCES[megabytes], SEED, "sources.query"]
+    return beside(file, "sources", "gen", *words) + "/sources.query"
+
+
+def sources(query):
+    """The nodes from which the queries ask for distances."""
+    with open(query) as text:
+        return [line.split()[1] for line in text if line.startswith("s ")]

@@ -1,7 +1,7 @@
 // Writes instances of minimum cost flow of several families. The same words give the same texts.
 //
 //   least netgen N M SOURCES SINKS SUPPLY SEED OUT      random arcs, and a ring with room for the whole supply
-//   least torus WIDTH HEIGHT SUPPLY SEED OUT            short arcs on a torus and some long ones, one source and one sink
+//   least torus WIDTH HEIGHT SUPPLY SEED OUT            short arcs on a torus and some long ones, one source, one sink
 //   least goto N DEGREE MOST_CAP MOST_COST SEED OUT     layers on a torus, one source and one sink, tight capacities
 //   least road N PAIRS UNITS SEED OUT                   planar, arcs both ways, supplies and demands at random nodes
 //   least transport SOURCES SINKS MOST_COST SEED OUT    an arc from each source to each sink
@@ -9,68 +9,14 @@
 //   least grid WIDTH LENGTH MOST_CAP MOST_COST SEED OUT a grid, from its first column to its last
 //   least dense N M MOST_CAP MOST_COST ENDS SEED OUT    few nodes, many arcs, some of them loops or of negative cost
 //   least infeasible UNITS IN OUT                       the instance IN with so many units more from one end to another
-#include <algorithm>
+//
+// OUT ends in .min, or in .gr for a graph whose weights are the costs.
 #include <cmath>
 #include <cstdio>
 #include <cstdlib>
 #include <fstream>
-#include <numeric>
-#include <string>
-#include <utility>
-#include <vector>
 
-#include "output.h"
-#include "random.h"
-
-using std::string;
-using std::vector;
-
-struct Arc {
-    uint32_t tail, head;
-    int64_t low, cap, cost;
-};
-
-struct Instance {
-    uint32_t nodes;
-    vector<Arc> arcs;
-    vector<int64_t> supplies; // by node, from 1
-
-    explicit Instance(uint32_t nodes) : nodes(nodes), supplies(nodes + 1, 0) {}
-
-    void add(uint32_t tail, uint32_t head, int64_t cap, int64_t cost) { arcs.push_back({tail, head, 0, cap, cost}); }
-
-    void move(uint32_t source, uint32_t sink, int64_t units) {
-        supplies[source] += units;
-        supplies[sink] -= units;
-    }
-
-    // Keeps the first of several arcs with the same ends.
-    void drop_parallel() {
-        vector<uint32_t> order(arcs.size());
-        std::iota(order.begin(), order.end(), 0);
-        auto ends = [&](uint32_t i) { return std::make_pair(arcs[i].tail, arcs[i].head); };
-        std::stable_sort(order.begin(), order.end(), [&](uint32_t a, uint32_t b) { return ends(a) < ends(b); });
-        vector<bool> dropped(arcs.size());
-        for (size_t i = 1; i < order.size(); i++) dropped[order[i]] = ends(order[i]) == ends(order[i - 1]);
-        size_t kept = 0;
-        for (size_t i = 0; i < arcs.size(); i++)
-            if (!dropped[i]) arcs[kept++] = arcs[i];
-        arcs.resize(kept);
-    }
-
-    void write(const string &path) const {
-        Output out(path);
-        out.word("p min").number(nodes).number((int64_t)arcs.size()).end_line();
-        for (uint32_t v = 1; v <= nodes; v++)
-            if (supplies[v] != 0) out.word("n").number(v).number(supplies[v]).end_line();
-        for (const Arc &a : arcs)
-            out.word("a").number(a.tail).number(a.head).number(a.low).number(a.cap).number(a.cost).end_line();
-    }
-};
-
-template <class T> static void shuffle(vector<T> &all, Random &random) {
-    for (size_t left = all.size(); left > 1; left--) std::swap(all[left - 1], all[random.below(left)]);
-}
+#include "instance.h"
 
 static Instance netgen(uint32_t nodes, uint64_t arcs, uint32_t sources, uint32_t sinks, int64_t supply, uint64_t seed) {
     Random random(seed);
