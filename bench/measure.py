@@ -8,6 +8,7 @@ ratio is the median of the rounds' own ratios, each of two runs that lie beside 
 the middle half of them: on a machine that others use too, the best times of two programs may lie in different minutes.
 """
 
+import fcntl
 import math
 import os
 import re
@@ -21,7 +22,7 @@ HERE = os.path.dirname(os.path.abspath(__file__))
 
 
 class Asked:
-    """What the words and the environment ask for. Goes to DIR."""
+    """What the words and the environment ask for. Goes to DIR, where one script at a time may run: they write there."""
 
     def __init__(self):
         self.sizes = [int(size) for size in sys.argv[2].split(",")]
@@ -29,6 +30,11 @@ class Asked:
         self.binary = os.path.abspath(sys.argv[4]) if len(sys.argv) > 4 else None
         self.only = os.environ.get("ONLY", "")
         os.chdir(sys.argv[1])
+        self.lock = open("lock", "w")
+        try:
+            fcntl.flock(self.lock, fcntl.LOCK_EX | fcntl.LOCK_NB)
+        except BlockingIOError:
+            sys.exit(f"another script runs in {sys.argv[1]}")
 
     def wants(self, name):
         return re.search(self.only, name)
