@@ -242,30 +242,47 @@ fn is_made_in_pieces(
     sizes: &[usize],
     report: &str,
 ) {
-    let name = given.instance;
+    let instance = given.instance;
     let mut made = new_outputs(alloc, sizes);
-    let mut verdict = FlakySink::new(alloc, sizes, &[]);
     let ended = solve(alloc, given, sizes, &mut made);
-    same(rt, name, ended, Ok(Status::Done));
-    holds(rt, name, made.report.bytes() == report.as_bytes());
-    let made_claim = made.claim.bytes();
-    let claim = match kind {
-        JudgeKind::Max | JudgeKind::Min => made_claim,
-        JudgeKind::Infeasible | JudgeKind::Paths => {
-            holds(rt, name, made_claim.is_empty());
-            given.queries.as_bytes()
+    same(rt, instance, ended, Ok(Status::Done));
+    holds(rt, instance, made.report.bytes() == report.as_bytes());
+    let claim = made.claim.bytes();
+    let shown = made.certificate.bytes();
+    match kind {
+        JudgeKind::Max | JudgeKind::Min => {
+            is_judged(rt, alloc, kind, instance, claim, shown, sizes, report);
         }
-    };
+        JudgeKind::Infeasible | JudgeKind::Paths => {
+            holds(rt, instance, claim.is_empty());
+            let queries = given.queries.as_bytes();
+            is_judged(rt, alloc, kind, instance, queries, shown, sizes, report);
+        }
+    }
+}
+
+/// Whether a claim that was made, or queries, are judged with this verdict by what was made to show it.
+fn is_judged(
+    rt: &impl Abort,
+    alloc: Global,
+    kind: JudgeKind,
+    instance: &str,
+    claim: &[u8],
+    shown: &[u8],
+    sizes: &[usize],
+    report: &str,
+) {
+    let mut verdict = FlakySink::new(alloc, sizes, &[]);
     let judged = judge(
         alloc,
         kind,
-        &mut FlakySource::new(given.instance.as_bytes(), sizes, &[]),
+        &mut FlakySource::new(instance.as_bytes(), sizes, &[]),
         &mut FlakySource::new(claim, sizes, &[]),
-        &mut FlakySource::new(made.certificate.bytes(), sizes, &[]),
+        &mut FlakySource::new(shown, sizes, &[]),
         &mut verdict,
     );
-    same(rt, name, judged, Ok(Status::Done));
-    holds(rt, name, verdict.bytes() == report.as_bytes());
+    same(rt, instance, judged, Ok(Status::Done));
+    holds(rt, instance, verdict.bytes() == report.as_bytes());
 }
 
 /// Flows and sets that are made. In the seventh case the first choice takes the only partner of the second.
