@@ -1,6 +1,6 @@
 //! The files of the system.
 
-ghost use Rattle.std.specs.Prelude.{◌≡◌, ◌↔◌, ◌∷◌, [], ◌==◌, if◌then◌else◌, not, None, Err};
+ghost use Rattle.std.specs.Prelude.{◌≡◌, ◌↔◌, ◌∷◌, [], ◌==◌, if◌then◌else◌, not, None, Some, Err};
 ghost use Rattle.std.specs.IoError.{error_kind};
 ghost use Rattle.dimacs_lines.specs.Devices.{one_more};
 ghost use Rattle.dimacs_runs.specs.Judgings.{CountsDevices};
@@ -16,7 +16,7 @@ use std::io::ErrorKind;
 pub struct SystemFiles<'a> {
     rt: &'a HostRuntime,
     faults: u64,
-    /// Why a file wasn't opened or created, where one wasn't.
+    /// Why the last call that failed on a file did.
     reason: Option<io::Error>,
 }
 
@@ -29,19 +29,21 @@ impl<'a> SystemFiles<'a> {
         }
     }
 
-    /// Why a file wasn't opened or created, where one wasn't.
+    /// Why the last call that failed on a file did, by the system; none where none failed.
     pub fn reason(&self) -> Option<io::Error> {
         self.reason
     }
 
-    /// Counts a file that is closed after so many faults, and answers whether there were any.
-    fn count(&mut self, faults: u64) -> bool
+    /// Counts a file that is closed after so many faults, the last for this reason, and answers whether there were any.
+    fn count(&mut self, faults: u64, reason: Option<io::Error>) -> bool
         ensures failed { result ≡ not (faults == 0) }
         ensures fault { self.new.faults ≡ (if faults == 0 then self.old.faults else one_more self.old.faults) }
+        ensures reason { self.new.reason ≡ (if faults == 0 then self.old.reason else reason) }
     {
         let failed = faults != 0;
         if failed {
             self.faults = self.faults.wrapping_add(1);
+            self.reason = reason;
         }
         failed
     }
@@ -50,6 +52,7 @@ impl<'a> SystemFiles<'a> {
     fn refuse(&mut self, error: io::Error) -> RunError
         ensures fault { CountsDevices {X = Unit {0}} (Err result) (self.old.faults ∷ []) (self.new.faults ∷ []) }
         ensures memory { result ≡ RunError.Memory ↔ error_kind error ≡ ErrorKind.OutOfMemory }
+        ensures reason { result ≡ RunError.Device → self.new.reason ≡ Some error }
     {
         if error.kind() == ErrorKind::OutOfMemory {
             return RunError::Memory;
@@ -86,10 +89,10 @@ impl<'a> Files for SystemFiles<'a> {
     }
 
     fn close_input(&mut self, _name: &str, file: Counted<FileSource<File>>) -> bool {
-        self.count(file.faults())
+        self.count(file.faults(), file.device().reason())
     }
 
     fn close_output(&mut self, _name: &str, file: Counted<FileSink<File>>) -> bool {
-        self.count(file.faults())
+        self.count(file.faults(), file.device().reason())
     }
 }

@@ -5,7 +5,7 @@ mod files;
 mod usage;
 
 use crate::files::SystemFiles;
-use dimacs_lines::StdoutSink;
+use dimacs_lines::FileSink;
 use dimacs_runs::{Failure, NO_RUN, RunError, complaint, exit_status, run_command};
 use std::io::ErrorKind;
 use std::process::ExitCode;
@@ -22,11 +22,15 @@ fn main(rt: HostRuntime) -> ExitCode {
 /// Runs what the words after the program's name ask for, and answers the exit status.
 fn run(rt: &HostRuntime, words: &[String]) -> u8 {
     let mut files = SystemFiles::new(rt);
-    let mut output = StdoutSink::new(rt);
+    let mut output = FileSink::new(io::writer(rt));
     let ending = run_command(rt.alloc(), words, &mut files, &mut output);
     complain(rt, ending.status);
     if let Some(failure) = ending.failure {
-        tell_failure(rt, failure, files.reason());
+        let reason = match failure {
+            Failure::File(..) => files.reason(),
+            Failure::Output => output.reason(),
+        };
+        tell_failure(rt, failure, reason);
     }
     ending.status
 }

@@ -144,7 +144,8 @@ fn the_system_takes_all_unless_a_device_is_full(rt: HostRuntime) -> Result<(), F
         same(&rt, name, put_all(&mut sink, b"gone"), wanted);
     }
     let line = b"a line on the standard output\n";
-    let put = put_all(&mut StdoutSink::new(&rt), line);
+    let mut output: StdoutSink<'_, HostRuntime> = FileSink::new(io::writer(&rt));
+    let put = put_all(&mut output, line);
     same(&rt, "the standard output", put, Ok(()));
     Ok(())
 }

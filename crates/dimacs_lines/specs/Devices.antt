@@ -1,6 +1,7 @@
 -- What sources still have to give, what sinks have accepted, and how their faults are counted.
-use Rattle.std.specs.Prelude.{ℕ, ◌+◌, ◌%◌, ◌^◌, ◌++◌, ◌≡◌, ◌-◌, ◌==◌, ◌&&◌, nat_lt, Bool, if◌then◌else◌, List, [], ◌∷◌, Option, None, Some, Result, Ok, Err, length, drop, min, max}
+use Rattle.std.specs.Prelude.{ℕ, ◌+◌, ◌%◌, ◌^◌, ◌++◌, ◌≡◌, ◌-◌, ◌==◌, ◌&&◌, nat_lt, Bool, if◌then◌else◌, List, [], ◌∷◌, Option, None, Some, IsSome, Result, Ok, Err, length, drop, min, max}
 use Rattle.std.specs.List.{list_any}
+use Rattle.std.specs.declared.io.Error.{Error}
 
 -- The bytes to come before a piece was given, by those after it. A source that tells nothing goes on telling nothing.
 abbrev pub before_piece : List ℕ → Option (List ℕ) → Option (List ℕ)
@@ -26,10 +27,16 @@ abbrev pub CountsPut : {E : Type 0} → Result ℕ E → List ℕ → ℕ → �
 CountsPut (Ok count) bytes old new = new ≡ (if count == 0 && nat_lt 0 (length bytes) then one_more old else old)
 CountsPut (Err error) bytes old new = new ≡ one_more old
 
--- a device over a file, or over another reader or writer, and its faults
+-- a device over a file, or over another reader or writer: its faults, and why the last call that failed did
 pub record OverFile (F : Type 0) : Type 0 where
   pub file : F
   pub faults : ℕ
+  pub reason : Option Error
+
+-- a call that fails says why, and any other leaves what the last failure said
+abbrev pub TellsReason : {V E : Type 0} → Result V E → Option Error → Option Error → Type 0
+TellsReason (Ok value) old new = new ≡ old
+TellsReason (Err error) old new = IsSome new
 
 -- a device in memory: the bytes that it has to give or has accepted, and its faults
 pub record InMemory : Type 0 where

@@ -5,7 +5,7 @@ use Rattle.dimacs_lines.specs.declared.reader.LinesError.TheVariants.{TooMany, T
 use Rattle.dimacs_lines.specs.declared.reader.Progress.{Progress}
 use Rattle.dimacs_lines.specs.declared.reader.Progress.TheVariants.{Open, Ended, Failed}
 use Rattle.dimacs_lines.specs.Limits.{longest_line, most_lines}
-use Rattle.dimacs_lines.specs.Devices.{one_more}
+use Rattle.dimacs_lines.specs.Devices.{before_piece, one_more}
 use Rattle.dimacs_lines.specs.Lines.{lines}
 
 pub record State : Type 0 where
@@ -16,6 +16,10 @@ pub record State : Type 0 where
   -- the line that was given last
   pub line : List ℕ
   pub progress : Progress
+
+-- the text that is left: what is held, and what the source has to come
+abbrev pub text_left : State → Option (List ℕ) → Option (List ℕ)
+text_left reader coming = before_piece reader.held coming
 
 -- a line within the limits was given, with the next number: the first of the text that was left
 pub record GivesLine (old new : State) (left later : Option (List ℕ)) (number : ℕ) : Type 0 where

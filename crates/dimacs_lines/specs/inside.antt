@@ -2,4 +2,3 @@ pub mod Buffer
 pub mod Decimals
 pub mod Pages
 pub mod Plain
-pub mod Reader

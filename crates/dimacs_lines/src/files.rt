@@ -1,9 +1,9 @@
 //! Files and the standard output. They tell nothing of their bytes, since no contract can say what a file holds. What
 //! the clauses of `pull` and `put` say is of each reader and writer that does tell.
 
-ghost use Rattle.std.specs.Prelude.{◌≡◌, ◌≢◌, ◌≤◌, None, ℕ, length, IfOk};
+ghost use Rattle.std.specs.Prelude.{◌≡◌, ◌≢◌, ◌≤◌, None, length, IfOk};
 ghost use Rattle.std.specs.Io.KnownBytes.{ReadConsumes, WriteAppends};
-ghost use Rattle.dimacs_lines.specs.Devices.{CountsFault, CountsPut};
+ghost use Rattle.dimacs_lines.specs.Devices.{CountsFault, CountsPut, TellsReason};
 
 use crate::device::{DeviceFault, Sink, Source};
 use std::io;
@@ -15,6 +15,8 @@ use std::marker::Model;
 pub struct FileSource<R> {
     reader: R,
     faults: u64,
+    /// Why the last call that failed did.
+    reason: Option<io::Error>,
 }
 
 impl<R> Model for FileSource<R> {
@@ -22,14 +24,25 @@ impl<R> Model for FileSource<R> {
 
     ghost Value = { OverFile R };
 
-    ghost view = { λ s. record { file = s.reader; faults = s.faults } };
+    ghost view = { λ s. record { file = s.reader; faults = s.faults; reason = s.reason } };
 }
 
 impl<R: Read> FileSource<R> {
     pub fn new(reader: R) -> FileSource<R>
-        ensures { result ≡ record { file = reader; faults = 0 } }
+        ensures { result ≡ record { file = reader; faults = 0; reason = None } }
     {
-        FileSource { reader, faults: 0 }
+        FileSource {
+            reader,
+            faults: 0,
+            reason: None,
+        }
+    }
+
+    /// Why the last read that failed did, by the system; none where none failed.
+    pub fn reason(&self) -> Option<io::Error>
+        ensures { result ≡ self.now.reason }
+    {
+        self.reason
     }
 }
 
@@ -42,19 +55,21 @@ impl<R: Read> Source for FileSource<R> {
         ensures room { IfOk result (λ count. count ≤ length into.old) }
         ensures bytes { ReadConsumes (R.remaining self.old.file) (R.remaining self.new.file) result into.new }
         ensures fault { CountsFault result self.old.faults self.new.faults }
+        ensures reason { TellsReason result self.old.reason self.new.reason }
     {
         match read_some(&mut self.reader, into) {
             Ok(count) => Ok(count),
-            Err(fault) => {
+            Err(error) => {
                 self.faults = self.faults.wrapping_add(1);
-                Err(fault)
+                self.reason = Some(error);
+                Err(DeviceFault)
             }
         }
     }
 }
 
 /// Reads once, and again where a signal interrupts.
-fn read_some<R: Read>(reader: &mut R, into: &mut [u8]) -> Result<usize, DeviceFault>
+fn read_some<R: Read>(reader: &mut R, into: &mut [u8]) -> io::Result<usize>
     ensures room { IfOk result (λ count. count ≤ length into.old) }
     ensures bytes { ReadConsumes (R.remaining reader.old) (R.remaining reader.new) result into.new }
 {
@@ -62,10 +77,10 @@ fn read_some<R: Read>(reader: &mut R, into: &mut [u8]) -> Result<usize, DeviceFa
         match reader.read(into) {
             Ok(count) => return Ok(count),
             Err(error) if error.kind() == ErrorKind::Interrupted => {}
-            Err(_) => return Err(DeviceFault),
+            Err(error) => return Err(error),
         }
     }
-    Err(DeviceFault)
+    Err(io::Error::from(ErrorKind::Interrupted))
 }
 
 /// A file that was created, or another writer. Bytes go to it as they are put.
@@ -73,6 +88,8 @@ fn read_some<R: Read>(reader: &mut R, into: &mut [u8]) -> Result<usize, DeviceFa
 pub struct FileSink<W> {
     writer: W,
     faults: u64,
+    /// Why the last call that failed did.
+    reason: Option<io::Error>,
 }
 
 impl<W> Model for FileSink<W> {
@@ -80,14 +97,25 @@ impl<W> Model for FileSink<W> {
 
     ghost Value = { OverFile W };
 
-    ghost view = { λ s. record { file = s.writer; faults = s.faults } };
+    ghost view = { λ s. record { file = s.writer; faults = s.faults; reason = s.reason } };
 }
 
 impl<W: Write> FileSink<W> {
     pub fn new(writer: W) -> FileSink<W>
-        ensures { result ≡ record { file = writer; faults = 0 } }
+        ensures { result ≡ record { file = writer; faults = 0; reason = None } }
     {
-        FileSink { writer, faults: 0 }
+        FileSink {
+            writer,
+            faults: 0,
+            reason: None,
+        }
+    }
+
+    /// Why the last write that failed did, by the system; none where none failed.
+    pub fn reason(&self) -> Option<io::Error>
+        ensures { result ≡ self.now.reason }
+    {
+        self.reason
     }
 }
 
@@ -100,62 +128,35 @@ impl<W: Write> Sink for FileSink<W> {
         ensures room { IfOk result (λ count. count ≤ length bytes.now) }
         ensures bytes { WriteAppends (W.contents self.old.file) (W.contents self.new.file) result bytes.now }
         ensures fault { CountsPut result bytes.now self.old.faults self.new.faults }
+        ensures reason { TellsReason result self.old.reason self.new.reason }
     {
         match write_some(&mut self.writer, bytes) {
             Ok(count) => Ok(count),
-            Err(fault) => {
+            Err(error) => {
                 self.faults = self.faults.wrapping_add(1);
-                Err(fault)
+                self.reason = Some(error);
+                Err(DeviceFault)
             }
         }
     }
 }
 
 /// Writes once, and again where a signal interrupts. To write nothing of some bytes is a fault.
-fn write_some<W: Write>(writer: &mut W, bytes: &[u8]) -> Result<usize, DeviceFault>
+fn write_some<W: Write>(writer: &mut W, bytes: &[u8]) -> io::Result<usize>
     ensures room { IfOk result (λ count. count ≤ length bytes.now) }
     ensures some { IfOk result (λ count. count ≡ 0 → length bytes.now ≡ 0) }
     ensures bytes { WriteAppends (W.contents writer.old) (W.contents writer.new) result bytes.now }
 {
     for _ in 0..u64::MAX {
         match writer.write(bytes) {
-            Ok(0) if !bytes.is_empty() => return Err(DeviceFault),
+            Ok(0) if !bytes.is_empty() => return Err(io::Error::from(ErrorKind::WriteZero)),
             Ok(count) => return Ok(count),
             Err(error) if error.kind() == ErrorKind::Interrupted => {}
-            Err(_) => return Err(DeviceFault),
+            Err(error) => return Err(error),
         }
     }
-    Err(DeviceFault)
+    Err(io::Error::from(ErrorKind::Interrupted))
 }
 
-/// The standard output.
-#[derive(Drop)]
-pub struct StdoutSink<'a, P> {
-    output: FileSink<Printer<'a, P>>,
-}
-
-impl<'a, P> Model for StdoutSink<'a, P> {
-    ghost Value = { ℕ };
-
-    ghost view = { λ s. s.output.faults };
-}
-
-impl<'a, P: Print> StdoutSink<'a, P> {
-    pub fn new(rt: &'a P) -> StdoutSink<'a, P>
-        ensures { result ≡ 0 }
-    {
-        StdoutSink {
-            output: FileSink::new(io::writer(rt)),
-        }
-    }
-}
-
-impl<'a, P: Print> Sink for StdoutSink<'a, P> {
-    ghost accepted = { λ s. None };
-
-    ghost faults = { λ s. s };
-
-    fn put(&mut self, bytes: &[u8]) -> Result<usize, DeviceFault> {
-        self.output.put(bytes)
-    }
-}
+/// The standard output: made by `FileSink::new(io::writer(rt))`.
+pub type StdoutSink<'a, P> = FileSink<Printer<'a, P>>;

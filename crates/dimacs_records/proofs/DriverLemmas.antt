@@ -5,8 +5,7 @@ use Rattle.std.proofs.lemmas.Bool.{true≢false, and_right, le-ltb, lt-ltb}
 use Rattle.std.proofs.lemmas.List.Elements.{All-nil, All-cons}
 use Rattle.std.proofs.lemmas.List.{append-nil, length-append}
 use Rattle.dimacs_lines.specs.Lines.{lines}
-use Rattle.dimacs_lines.specs.Reader.{State, GivesLine, AtEnd, Stops}
-use Rattle.dimacs_lines.specs.inside.Reader.{text_left}
+use Rattle.dimacs_lines.specs.Reader.{State, GivesLine, AtEnd, Stops, text_left}
 use Rattle.dimacs_lines.specs.declared.reader.LinesError.{LinesError}
 use Rattle.dimacs_lines.specs.declared.reader.LinesError.TheVariants as line_errors
 use Rattle.dimacs_lines.specs.Limits.{longest_line, most_lines}

@@ -4,7 +4,7 @@ ghost use Rattle.std.specs.Prelude.{◌≡◌, ◌≢◌, ◌+◌, ◌≤◌, �
 ghost use Rattle.std.specs.Option.{option_len};
 ghost use Rattle.dimacs_lines.specs.Devices.{before_piece};
 ghost use Rattle.dimacs_lines.specs.Lines.{lines, AreWholeLines};
-ghost use Rattle.dimacs_lines.specs.inside.Reader.{text_left};
+ghost use Rattle.dimacs_lines.specs.Reader.{text_left};
 ghost use Rattle.dimacs_lines.specs.declared.reader.Progress.TheVariants.{Open};
 ghost use Rattle.dimacs_lines.specs.Limits.{most_lines};
 ghost use Rattle.dimacs_records.specs.declared.faults.ReadError.TheVariants.{Device};

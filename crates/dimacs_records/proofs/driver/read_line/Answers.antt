@@ -1,6 +1,5 @@
 use Rattle.std.proofs.Common.{◌≡◌, ◌+◌, Ok, Err, subst, arith}
-use Rattle.dimacs_lines.specs.Reader.{GivesLine, AtEnd}
-use Rattle.dimacs_lines.specs.inside.Reader.{text_left}
+use Rattle.dimacs_lines.specs.Reader.{GivesLine, AtEnd, text_left}
 use Rattle.dimacs_records.specs.inside.Driver.{TakesLine}
 use Rattle.dimacs_records.proofs.DriverLemmas.{comes_after, read_end, read_one, stopped}
 use Rattle.dimacs_records.proofs.driver.read_line.Goals as goal

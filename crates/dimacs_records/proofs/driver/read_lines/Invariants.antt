@@ -1,5 +1,5 @@
 use Rattle.std.proofs.Common.{◌≡◌, ◌≤◌, ◌+◌, ◌-◌, List, ℕ}
-use Rattle.dimacs_lines.specs.inside.Reader.{text_left}
+use Rattle.dimacs_lines.specs.Reader.{text_left}
 use Rattle.dimacs_lines.specs.declared.reader.Progress.TheVariants.{Open}
 use Rattle.dimacs_lines.specs.Limits.{most_lines}
 use Rattle.dimacs_records.specs.inside.Driver.{HasTaken, IsReadSoFar}
