@@ -1,5 +1,5 @@
 -- A flow sent round a cycle.
-use Rattle.std.proofs.Common.{◌≡◌, ◌≢◌, inl, inr, ℕ, suc, zero, ◌+◌, ◌-◌, ◌<◌, ◌≤◌, ◌==◌, List, length, set, ℤ, pos, neg_ℤ, ◌+ℤ◌, ◌-ℤ◌, ◌*ℤ◌, ◌≤ℤ◌, ◌<ℤ◌, refl, sym, ap, subst, ◌∙◌, arith, add-one, All}
+use Rattle.std.proofs.Common.{◌≡◌, ◌≢◌, inl, inr, ℕ, suc, zero, ◌+◌, ◌-◌, ◌<◌, ◌==◌, List, length, set, ℤ, pos, neg_ℤ, ◌+ℤ◌, ◌-ℤ◌, ◌*ℤ◌, ◌≤ℤ◌, ◌<ℤ◌, refl, sym, ap, subst, ◌∙◌, arith, add-one, All}
 use Rattle.std.proofs.lemmas.Int.{ints}
 use Rattle.std.proofs.lemmas.Bool.{cases_eq, cases_order}
 use Rattle.std.proofs.lemmas.List.{get_or-set_other, get_or-set_same}
@@ -10,23 +10,24 @@ use Rattle.dimacs_judge.specs.Flows.{net, cost}
 use Rattle.dimacs_judge.specs.Rows.{arc_at, amount_at, no_arc}
 use Rattle.dimacs_judge.proofs.Products.{mul_add, mul_neg, mul_comm, mul_le, mul_zero}
 use Rattle.dimacs_judge.proofs.Passing.{pair_at}
+use Rattle.dimacs_instance.specs.declared.links.Side.{Side}
 use Rattle.dimacs_instance.specs.declared.links.Side.TheVariants.{Tail, Head}
 use Rattle.dimacs_instance.specs.Links.{end_of, other_end}
 use Rattle.dimacs_decide.specs.Bounds.{KeepsBounds}
 use Rattle.dimacs_decide.specs.inside.Heights.{gain_at}
-use Rattle.dimacs_decide.specs.inside.Rooms.{room_at, room_on}
+use Rattle.dimacs_decide.specs.inside.Rooms.{carried_after, room_at, room_on}
 use Rattle.dimacs_decide.specs.inside.Cancelling.{IsCancelling, IsRoomFor}
 use Rattle.dimacs_decide.specs.inside.Cycles.{IsSaving, LeadsFrom, ending_of, gain_after, node_after, residual_at}
-use Rattle.dimacs_decide.proofs.RaiseLemmas.{AllZip-set, net-raise, sum_arcs-set, when-neg}
+use Rattle.dimacs_decide.proofs.RaiseLemmas.{AllZip-set, net-raise, sum_arcs-set, when-neg, within_at}
 use Rattle.dimacs_decide.proofs.HeightLemmas.{arc_bounds}
 use Rattle.dimacs_instance.specs.MinFlows.{HasBounds}
 use Rattle.dimacs_records.specs.Ranges.{IsWhole}
 
 -- ---- the bounds of arcs
-pub cap_most : (arcs : List ArcView) (k : ℕ) → All HasBounds arcs → k < length arcs → (arc_at arcs k).cap ≤ℤ pos 9223372036854775807
+cap_most : (arcs : List ArcView) (k : ℕ) → All HasBounds arcs → k < length arcs → (arc_at arcs k).cap ≤ℤ pos 9223372036854775807
 cap_most arcs k all less = let w : IsWhole (arc_at arcs k).cap = (arc_bounds arcs k all less).2 in omega (arith, ints, w.1)
 
-pub low_least : (arcs : List ArcView) (k : ℕ) → All HasBounds arcs → k < length arcs → pos 0 ≤ℤ (arc_at arcs k).low
+low_least : (arcs : List ArcView) (k : ℕ) → All HasBounds arcs → k < length arcs → pos 0 ≤ℤ (arc_at arcs k).low
 low_least arcs k all less = (arc_bounds arcs k all less).0
 
 -- ---- what costs and balances become
@@ -88,10 +89,10 @@ module _ (arcs : List ArcView) (x : List ℤ) (cycle : List ResidualArc) (saving
     here : ((arc_at arcs k).low ≤ℤ amount_at y k) × (amount_at y k ≤ℤ (arc_at arcs k).cap)
     here = pair_at _ arcs y k no_arc (pos 0) is.within inside
 
-    pub low_here : (arc_at arcs k).low ≤ℤ amount_at y k
+    low_here : (arc_at arcs k).low ≤ℤ amount_at y k
     low_here = here.0
 
-    pub cap_here : amount_at y k ≤ℤ (arc_at arcs k).cap
+    cap_here : amount_at y k ≤ℤ (arc_at arcs k).cap
     cap_here = here.1
 
     -- no residual arc before this one leads to the same node
@@ -108,10 +109,10 @@ module _ (arcs : List ArcView) (x : List ℤ) (cycle : List ResidualArc) (saving
       room_is : amount ≤ℤ ((arc_at arcs k).cap -ℤ amount_at x k)
       room_is = subst (λ side. amount ≤ℤ room_at side (arc_at arcs k) (amount_at x k)) forward (room.each j short)
 
-      pub forward_fits : (amount_at y k +ℤ amount) ≤ℤ (arc_at arcs k).cap
+      forward_fits : (amount_at y k +ℤ amount) ≤ℤ (arc_at arcs k).cap
       forward_fits = omega (arith, ints, is.heads k inside (fresh (arc_at arcs k).head head_is), room_is)
 
-      pub cancel_forward : IsCancelling arcs x (set y k (amount_at y k +ℤ amount)) cycle (j + 1) amount
+      cancel_forward : IsCancelling arcs x (set y k (amount_at y k +ℤ amount)) cycle (j + 1) amount
       cancel_forward = rw (add-one j) (record {
         within = AllZip-set (λ a z. (a.low ≤ℤ z) × (z ≤ℤ a.cap)) arcs y k no_arc _ is.within (omega (arith, ints, low_here, room.some), forward_fits);
         balance = λ u. let n = net-raise arcs y k amount u inside long in let m = rw (head_is, tail_is) at n in omega (arith, ints, is.balance u, m);
@@ -140,10 +141,10 @@ module _ (arcs : List ArcView) (x : List ℤ) (cycle : List ResidualArc) (saving
       back_room : amount ≤ℤ (amount_at x k -ℤ (arc_at arcs k).low)
       back_room = subst (λ side. amount ≤ℤ room_at side (arc_at arcs k) (amount_at x k)) backward (room.each j short)
 
-      pub backward_fits : (arc_at arcs k).low ≤ℤ (amount_at y k -ℤ amount)
+      backward_fits : (arc_at arcs k).low ≤ℤ (amount_at y k -ℤ amount)
       backward_fits = omega (arith, ints, is.tails k inside (fresh (arc_at arcs k).tail back_tail), back_room)
 
-      pub cancel_backward : IsCancelling arcs x (set y k (amount_at y k -ℤ amount)) cycle (j + 1) amount
+      cancel_backward : IsCancelling arcs x (set y k (amount_at y k -ℤ amount)) cycle (j + 1) amount
       cancel_backward = rw (add-one j) (record {
         within = AllZip-set (λ a z. (a.low ≤ℤ z) × (z ≤ℤ a.cap)) arcs y k no_arc _ is.within (backward_fits, omega (arith, ints, cap_here, room.some));
         balance = λ u.
@@ -164,6 +165,19 @@ module _ (arcs : List ArcView) (x : List ℤ) (cycle : List ResidualArc) (saving
         ];
         costs = saved (cost arcs y) _ (cost arcs x) amount (gain_after arcs cycle j) (gain_at r.side (arc_at arcs k)) is.costs (rw backward (let c = cost-set arcs y k (neg_ℤ amount) inside long in omega (arith, ints, c, mul_neg (arc_at arcs k).cost amount)));
       })
+
+    -- the amount sent along this one, from either side
+    from_side : (side : Side) → r.side ≡ side → IsCancelling arcs x (set y k (carried_after side amount (amount_at y k))) cycle (j + 1) amount
+    from_side Tail forward = cancel_forward forward
+    from_side Head backward = cancel_backward backward
+
+    pub cancel_more : IsCancelling arcs x (set y k (carried_after r.side amount (amount_at y k))) cycle (j + 1) amount
+    cancel_more = from_side r.side refl
+
+    pub whole : All HasBounds arcs → IsWhole (carried_after r.side amount (amount_at y k))
+    whole all =
+        let between = within_at arcs y k (carried_after r.side amount (amount_at y k)) cancel_more.within inside long in
+        omega (arith, ints, between, cap_most arcs k all inside, low_least arcs k all inside)
 
 -- all round
 module _ (arcs : List ArcView) (x y : List ℤ) (cycle : List ResidualArc) (amount : ℤ) (saving : IsSaving arcs x cycle) (some : pos 0 <ℤ amount) (is : IsCancelling arcs x y cycle (length cycle) amount) where

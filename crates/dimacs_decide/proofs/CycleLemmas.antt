@@ -8,7 +8,7 @@ use Rattle.dimacs_methods.specs.declared.potentials.claim.ResidualArc.{ResidualA
 use Rattle.dimacs_judge.specs.Rows.{arc_at}
 use Rattle.dimacs_decide.specs.declared.heights.Label.{Label}
 use Rattle.dimacs_decide.specs.inside.Cycles.{IsSaving, IsWalked, LeadsFrom, beginning_of, ending_of, gain_after, gain_of, node_after, residual_at}
-use Rattle.dimacs_decide.specs.inside.Heights.{AreHeights, IsRaised, gain_at, height_of}
+use Rattle.dimacs_decide.specs.inside.Heights.{AreHeights, IsRaised, height_of}
 use Rattle.dimacs_decide.specs.inside.Traces.{IsCycle}
 use Rattle.dimacs_decide.proofs.HeightLemmas.{arc_bounds, gain_least, gain_most}
 use Rattle.dimacs_decide.proofs.TraceLemmas.{below_some}

@@ -1,10 +1,11 @@
 -- A flow raised along a way whose ranks fall from the sink to the source.
-use Rattle.std.proofs.Common.{◌≡◌, ◌≢◌, ℕ, suc, zero, ◌==◌, ◌<◌, ℤ, pos, ◌+ℤ◌, ◌-ℤ◌, ◌≤ℤ◌, ◌<ℤ◌, Bool, true, false, neg_ℤ, List, [], ◌∷◌, length, get_or, set, refl, ap, subst, ◌∙◌, arith}
+use Rattle.std.proofs.Common.{◌≡◌, ◌≢◌, ℕ, suc, zero, ◌==◌, ◌<◌, ℤ, pos, ◌+ℤ◌, ◌-ℤ◌, ◌≤ℤ◌, ◌<ℤ◌, Bool, true, false, neg_ℤ, List, [], ◌∷◌, length, get_or, set, refl, sym, ap, subst, ◌∙◌, arith, w64, SFits}
 use Rattle.std.proofs.lemmas.Int.{ints}
-use Rattle.std.proofs.lemmas.List.{get_or-set_other}
+use Rattle.std.proofs.lemmas.List.{get_or-set_other, get_or-set_same}
 use Rattle.std.proofs.lemmas.Slice.Zip.{AllZip-long}
 use Rattle.std.specs.List.{AllZip}
 use Rattle.dimacs_instance.specs.declared.network.ArcView.{ArcView}
+use Rattle.dimacs_records.specs.Ranges.{IsWhole}
 use Rattle.dimacs_judge.specs.Flows.{sum_arcs, when, net}
 use Rattle.dimacs_judge.specs.Rows.{no_arc, arc_at, amount_at}
 use Rattle.dimacs_judge.proofs.Passing.{pair_at}
@@ -12,7 +13,7 @@ use Rattle.dimacs_instance.specs.declared.links.Side.{Side}
 use Rattle.dimacs_instance.specs.declared.links.Side.TheVariants.{Tail, Head}
 use Rattle.dimacs_decide.specs.declared.search.Visit.{Visit}
 use Rattle.dimacs_instance.specs.Links.{end_of, other_end}
-use Rattle.dimacs_decide.specs.inside.Rooms.{room_at}
+use Rattle.dimacs_decide.specs.inside.Rooms.{carried_after, room_at}
 use Rattle.dimacs_decide.specs.Bounds.{KeepsBounds}
 use Rattle.dimacs_decide.specs.inside.Residual.{IsReachedBy, rank_of, room_of, via_of}
 use Rattle.dimacs_decide.specs.inside.Raising.{Pushed, IsRaising}
@@ -47,6 +48,10 @@ AllZip-set R (x ∷ xs) [] k d z all here = absurd all
 AllZip-set R (x ∷ xs) (y ∷ ys) zero d z all here = (here, all.1)
 AllZip-set R (x ∷ xs) (y ∷ ys) (suc k) d z all here = (all.0, AllZip-set R xs ys k d z all.1 here)
 
+-- the new amount lies within the bounds of its arc
+pub within_at : (arcs : List ArcView) (y : List ℤ) (k : ℕ) (z : ℤ) → KeepsBounds arcs (set y k z) → k < length arcs → k < length y → ((arc_at arcs k).low ≤ℤ z) × (z ≤ℤ (arc_at arcs k).cap)
+within_at arcs y k z within h long = rw (get_or-set_same y k z (pos 0) long) at (pair_at _ arcs (set y k z) k no_arc (pos 0) within h)
+
 -- ---- the amount sent on
 push_none : (arcs : List ArcView) (rank : ℕ → ℕ) (x : List ℤ) (sink : ℕ) (amount : ℤ) → KeepsBounds arcs x → Pushed arcs rank x x sink sink amount
 push_none arcs rank x sink amount within = record {
@@ -55,10 +60,11 @@ push_none arcs rank x sink amount within = record {
   below = λ k h p q. refl;
 }
 
-push_forward : (arcs : List ArcView) (rank : ℕ → ℕ) (x y : List ℤ) (t k : ℕ) (amount : ℤ) → Pushed arcs rank x y t (arc_at arcs k).head amount → k < length arcs
-    → rank (arc_at arcs k).tail < rank (arc_at arcs k).head → pos 0 ≤ℤ amount → (amount_at x k +ℤ amount) ≤ℤ (arc_at arcs k).cap
-    → Pushed arcs rank x (set y k (amount_at y k +ℤ amount)) t (arc_at arcs k).tail amount
-push_forward arcs rank x y t k amount p h falls room some =
+-- along an arc whose end is nearer to the root
+push : (side : Side) (arcs : List ArcView) (rank : ℕ → ℕ) (x y : List ℤ) (t k : ℕ) (amount : ℤ) → Pushed arcs rank x y t (other_end side (arc_at arcs k)) amount → k < length arcs
+    → rank (end_of side (arc_at arcs k)) < rank (other_end side (arc_at arcs k)) → pos 0 ≤ℤ amount → amount ≤ℤ room_at side (arc_at arcs k) (amount_at x k)
+    → Pushed arcs rank x (set y k (carried_after side amount (amount_at y k))) t (end_of side (arc_at arcs k)) amount
+push Tail arcs rank x y t k amount p h falls some room =
     let long : k < length y = omega (arith, h, AllZip-long _ arcs y p.within) in
     let same = p.below k h (omega (arith, falls)) (omega arith) in
     let now = pair_at _ arcs y k no_arc (pos 0) p.within h in
@@ -67,12 +73,7 @@ push_forward arcs rank x y t k amount p h falls room some =
       balance = λ u. omega (arith, ints, p.balance u, net-raise arcs y k amount u h long);
       below = λ j l s t. get_or-set_other y k j _ (pos 0) (λ e. let f : rank (arc_at arcs j).head ≡ rank (arc_at arcs k).head = ap (λ m. rank (arc_at arcs m).head) e in omega (arith, f, t, falls)) ∙ p.below j l (omega (arith, s, falls)) (omega (arith, t, falls));
     }
-
--- against an arc that carries some
-push_backward : (arcs : List ArcView) (rank : ℕ → ℕ) (x y : List ℤ) (t k : ℕ) (amount : ℤ) → Pushed arcs rank x y t (arc_at arcs k).tail amount → k < length arcs
-    → rank (arc_at arcs k).head < rank (arc_at arcs k).tail → pos 0 ≤ℤ amount → ((arc_at arcs k).low +ℤ amount) ≤ℤ amount_at x k
-    → Pushed arcs rank x (set y k (amount_at y k -ℤ amount)) t (arc_at arcs k).head amount
-push_backward arcs rank x y t k amount p h falls room some =
+push Head arcs rank x y t k amount p h falls some room =
     let long : k < length y = omega (arith, h, AllZip-long _ arcs y p.within) in
     let same = p.below k h (omega arith) (omega (arith, falls)) in
     let now = pair_at _ arcs y k no_arc (pos 0) p.within h in
@@ -92,15 +93,6 @@ raising_none arcs x visits to amount reached some room within = record {
 }
 
 -- ---- one step of the way back
--- from which side the arc was left is told by its head
-from_tail : (side : Side) (a : ArcView) (rank : ℕ → ℕ) (v : ℕ) → other_end side a ≡ v → rank (end_of side a) < rank v → a.head ≡ v → side ≡ Tail
-from_tail Tail a rank v to falls e = refl
-from_tail Head a rank v to falls e = absurd (let f = ap rank e in omega (arith, f, falls))
-
-from_head : (side : Side) (a : ArcView) (v : ℕ) → other_end side a ≡ v → a.head ≢ v → side ≡ Head
-from_head Tail a v to ne = absurd (ne to)
-from_head Head a v to ne = refl
-
 module _ (arcs : List ArcView) (x y : List ℤ) (visits : ℕ → Visit) (t at : ℕ) (amount : ℤ)
     (now : IsRaising arcs x y visits t at amount) (by : IsReachedBy arcs x visits at) where
   abbrev k : ℕ
@@ -109,63 +101,31 @@ module _ (arcs : List ArcView) (x y : List ℤ) (visits : ℕ → Visit) (t at :
   pub long : k < length y
   long = omega (arith, by.within, AllZip-long _ arcs y now.pushed.within)
 
-  -- what is known of the arc, by the side from which it was left
-  abbrev Known : Side → Type 0
-  Known side =
-      (other_end side (arc_at arcs k) ≡ at) × (0 < rank_of visits (end_of side (arc_at arcs k))) × (rank_of visits (end_of side (arc_at arcs k)) < rank_of visits at)
-      × (room_of visits at ≤ℤ room_of visits (end_of side (arc_at arcs k))) × (room_of visits at ≤ℤ room_at side (arc_at arcs k) (amount_at x k))
+  -- the arc was not left from the node to which it leads
+  pub apart : end_of by.side (arc_at arcs k) ≢ at
+  apart e = let f = ap (rank_of visits) e in omega (arith, f, by.rank)
 
-  known : Known by.side
-  known = (by.to, by.reached, by.rank, by.before, by.room)
+  pub step : IsRaising arcs x (set y k (carried_after by.side amount (amount_at y k))) visits t (end_of by.side (arc_at arcs k)) amount
+  step = record {
+    reached = by.reached;
+    some = now.some;
+    room = omega (arith, ints, now.room, by.before);
+    pushed = push by.side arcs (rank_of visits) x y t k amount (rw by.to now.pushed) by.within (rw by.to by.rank) (omega (arith, ints, now.some)) (omega (arith, ints, by.room, now.room));
+  }
 
-  forward : (arc_at arcs k).head ≡ at → Known Tail
-  forward e = subst Known (from_tail by.side (arc_at arcs k) (rank_of visits) at by.to by.rank e) known
+  -- the arc, and the side that is told of it
+  module _ (a : ArcView) (is : arc_at arcs k ≡ a) (side : Side) (told : (s : Side) → other_end s a ≡ at → end_of s a ≢ at → side ≡ s) where
+    side_is : side ≡ by.side
+    side_is = told by.side (subst (λ (b : ArcView). other_end by.side b ≡ at) is by.to) (λ e. apart (subst (λ (b : ArcView). end_of by.side b ≡ at) (sym is) e))
 
-  backward : (arc_at arcs k).head ≢ at → Known Head
-  backward ne = subst Known (from_head by.side (arc_at arcs k) at by.to ne) known
+    pub falls : rank_of visits (end_of side a) < rank_of visits at
+    falls = rw (side_is, ← is) by.rank
 
-  pub forward_less : (arc_at arcs k).head ≡ at → rank_of visits (arc_at arcs k).tail < rank_of visits at
-  forward_less e = let (to, reached, falls, before, room) = forward e in falls
+    pub raised : IsRaising arcs x (set y k (carried_after side amount (amount_at y k))) visits t (end_of side a) amount
+    raised = rw (side_is, ← is) step
 
-  pub backward_less : (arc_at arcs k).head ≢ at → rank_of visits (arc_at arcs k).head < rank_of visits at
-  backward_less ne = let (to, reached, falls, before, room) = backward ne in falls
-
-  pub above_low : (arc_at arcs k).low ≤ℤ amount_at y k
-  above_low = (pair_at _ arcs y k no_arc (pos 0) now.pushed.within by.within).0
-
-  pub below_cap : amount_at y k ≤ℤ (arc_at arcs k).cap
-  below_cap = (pair_at _ arcs y k no_arc (pos 0) now.pushed.within by.within).1
-
-  pub forward_room : (arc_at arcs k).head ≡ at → (amount_at y k +ℤ amount) ≤ℤ (arc_at arcs k).cap
-  forward_room e =
-      let (to, reached, falls, before, room) = forward e in
-      let r = ap (rank_of visits) e in
-      let same = now.pushed.below k by.within (omega (arith, falls)) (omega (arith, r)) in
-      omega (arith, ints, room, now.room, now.some, same)
-
-  pub backward_room : (arc_at arcs k).head ≢ at → ((arc_at arcs k).low +ℤ amount) ≤ℤ amount_at y k
-  backward_room ne =
-      let (to, reached, falls, before, room) = backward ne in
-      let r = ap (rank_of visits) to in
-      let same = now.pushed.below k by.within (omega (arith, r)) (omega (arith, falls)) in
-      omega (arith, ints, room, now.room, now.some, same)
-
-  pub step_forward : (arc_at arcs k).head ≡ at → IsRaising arcs x (set y k (amount_at y k +ℤ amount)) visits t (arc_at arcs k).tail amount
-  step_forward e =
-      let (to, reached, falls, before, room) = forward e in
-      record {
-        reached = reached;
-        some = now.some;
-        room = omega (arith, ints, now.room, before);
-        pushed = push_forward arcs (rank_of visits) x y t k amount (rw e now.pushed) by.within (rw e falls) (omega (arith, ints, now.some)) (omega (arith, ints, room, now.room));
-      }
-
-  pub step_backward : (arc_at arcs k).head ≢ at → IsRaising arcs x (set y k (amount_at y k -ℤ amount)) visits t (arc_at arcs k).head amount
-  step_backward ne =
-      let (to, reached, falls, before, room) = backward ne in
-      record {
-        reached = reached;
-        some = now.some;
-        room = omega (arith, ints, now.room, before);
-        pushed = push_backward arcs (rank_of visits) x y t k amount (rw to now.pushed) by.within (rw to falls) (omega (arith, ints, now.some)) (omega (arith, ints, room, now.room));
-      }
+    pub whole : SFits w64 a.low → SFits w64 a.cap → IsWhole (carried_after side amount (amount_at y k))
+    whole low high =
+        let between = within_at arcs y k (carried_after by.side amount (amount_at y k)) step.pushed.within by.within long in
+        let bounds : (a.low ≤ℤ carried_after by.side amount (amount_at y k)) × (carried_after by.side amount (amount_at y k) ≤ℤ a.cap) = rw is at between in
+        rw side_is (omega (arith, ints, low, high, bounds))

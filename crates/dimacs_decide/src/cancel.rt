@@ -7,8 +7,8 @@ ghost use Rattle.dimacs_decide.specs.Bounds.{KeepsBounds};
 ghost use Rattle.dimacs_decide.specs.inside.Cancelling.{IsRoomFor};
 ghost use Rattle.dimacs_decide.specs.inside.Cycles.{IsSaving};
 
-use crate::room::room_from;
-use dimacs_instance::{Network, Side};
+use crate::room::{room_from, send_from};
+use dimacs_instance::Network;
 use dimacs_judge::Flow;
 use dimacs_methods::ResidualArc;
 
@@ -50,10 +50,6 @@ pub(crate) fn cancel<N: Network>(network: &N, cycle: &[ResidualArc], flow: &mut 
     let amount = least_room(network, cycle, flow);
     for j in 0..cycle.len() {
         let residual = cycle[j];
-        let carried = flow.amount(residual.arc);
-        match residual.side {
-            Side::Tail => flow.set(residual.arc, carried + amount),
-            Side::Head => flow.set(residual.arc, carried - amount),
-        }
+        send_from(residual.side, residual.arc, amount, flow);
     }
 }

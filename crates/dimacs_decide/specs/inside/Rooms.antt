@@ -1,5 +1,5 @@
--- Inside: how much more arcs can carry.
-use Rattle.std.specs.Prelude.{ℕ, List, ℤ, ◌-ℤ◌}
+-- Inside: how much more arcs can carry, and what they carry after it was sent.
+use Rattle.std.specs.Prelude.{ℕ, List, ℤ, ◌+ℤ◌, ◌-ℤ◌}
 use Rattle.dimacs_instance.specs.declared.network.ArcView.{ArcView}
 use Rattle.dimacs_instance.specs.declared.links.Side.{Side}
 use Rattle.dimacs_instance.specs.declared.links.Side.TheVariants.{Tail, Head}
@@ -9,6 +9,11 @@ use Rattle.dimacs_judge.specs.Rows.{arc_at, amount_at}
 abbrev pub room_at : Side → ArcView → ℤ → ℤ
 room_at Tail a x = a.cap -ℤ x
 room_at Head a x = x -ℤ a.low
+
+-- what an arc carries after an amount was sent along it from this end
+abbrev pub carried_after : Side → ℤ → ℤ → ℤ
+carried_after Tail amount x = x +ℤ amount
+carried_after Head amount x = x -ℤ amount
 
 -- how much more can be sent along the arc of this index from this end
 abbrev pub room_on : List ArcView → List ℤ → Side → ℕ → ℤ

@@ -1,4 +1,4 @@
-use Rattle.std.proofs.Common.{rules, ◌≡◌, ◌<◌, ◌≤◌, ◌+◌, ◌∙◌, ℕ, ℤ, pos, false, length, arith, add-one, ap, sym, subst, SFits, to_z, ◌+ℤ◌, ◌<ℤ◌}
+use Rattle.std.proofs.Common.{rules, ◌≡◌, ◌<◌, ◌∙◌, ℕ, pos, false, length, arith, add-one, ap, sym, subst, SFits, to_z, ◌+ℤ◌, ◌<ℤ◌}
 use Rattle.std.specs.Int.{w128}
 use Rattle.std.proofs.lemmas.Int.{ints, to_z-of_z}
 use Rattle.std.proofs.lemmas.Bool.{false≢true}
@@ -6,7 +6,7 @@ use Rattle.std.proofs.lemmas.Option.{get_or_from_slice_get}
 use Rattle.dimacs_instance.specs.declared.network.ArcView.{ArcView}
 use Rattle.dimacs_judge.specs.Rows.{arc_at, no_arc}
 use Rattle.dimacs_nodes.specs.Tables.{value_of}
-use Rattle.dimacs_decide.specs.inside.Cycles.{IsWalked, LeadsFrom, ending_of, gain_after, gain_of, node_after, residual_at}
+use Rattle.dimacs_decide.specs.inside.Cycles.{LeadsFrom, ending_of, gain_after, gain_of, node_after, residual_at}
 use Rattle.dimacs_decide.specs.inside.Heights.{gain_at}
 use Rattle.dimacs_decide.proofs.HeightLemmas.{arc_bounds, gain_least, gain_most}
 use Rattle.dimacs_decide.proofs.CycleLemmas.{gain_size, reached_more, walk_more}
