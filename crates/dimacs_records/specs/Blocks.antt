@@ -1,6 +1,7 @@
 -- The blocks of labels among the earlier records of a text.
-use Rattle.std.specs.Prelude.{ℕ, ◌==◌, Bool, false, List, [], ◌∷◌, ◌++◌, Option, Some, None, length, nat_lt, nat_le, ℤ, int_lt}
+use Rattle.std.specs.Prelude.{ℕ, ◌==◌, Bool, List, [], ◌∷◌, ◌++◌, Option, Some, None, length, nat_lt, nat_le, ℤ, int_lt}
 use Rattle.std.specs.List.{fold, list_any}
+use Rattle.dimacs_records.specs.Earlier.{is_so}
 use Rattle.dimacs_records.specs.declared.records.Record.{Record}
 use Rattle.dimacs_records.specs.declared.records.Record.TheVariants.{LabelsBlock, LabelsNode}
 
@@ -27,25 +28,20 @@ block_in rs = fold block_after None rs
 
 -- the block's source, or the ID of one of its `d` lines
 abbrev pub is_labelled : Option Block → ℕ → Bool
-is_labelled None id = false
-is_labelled (Some block) id = list_any (λ other. other == id) (block.source ∷ block.ids)
+is_labelled block id = is_so (λ (b : Block). list_any (λ other. other == id) (b.source ∷ b.ids)) block
 
 -- no fewer `d` lines than the block declares
 abbrev pub is_full_block : Option Block → Bool
-is_full_block None = false
-is_full_block (Some block) = nat_le block.count (length block.ids)
+is_full_block block = is_so (λ (b : Block). nat_le b.count (length b.ids)) block
 
 -- fewer `d` lines than the block declares
 abbrev pub is_short_block : Option Block → Bool
-is_short_block None = false
-is_short_block (Some block) = nat_lt (length block.ids) block.count
+is_short_block block = is_so (λ (b : Block). nat_lt (length b.ids) b.count) block
 
 -- greater than a radius, where there is one
 abbrev pub is_past : Option ℤ → ℤ → Bool
-is_past None dist = false
-is_past (Some radius) dist = int_lt radius dist
+is_past radius dist = is_so (λ (most : ℤ). int_lt most dist) radius
 
 -- greater than the block's RADIUS
 abbrev pub is_past_block : Option Block → ℤ → Bool
-is_past_block None dist = false
-is_past_block (Some block) dist = is_past block.radius dist
+is_past_block block dist = is_so (λ (b : Block). is_past b.radius dist) block

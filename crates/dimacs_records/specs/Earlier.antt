@@ -38,24 +38,22 @@ abbrev pub problem_in : List Record → Option Problem
 problem_in [] = None
 problem_in (r ∷ rs) = or_else (problem_of r) (problem_in rs)
 
-abbrev pub is_above_nodes : Option ℕ → ℕ → Bool
-is_above_nodes None id = false
-is_above_nodes (Some nodes) id = nat_lt nodes id
+-- there is one, and this is so of it
+abbrev pub is_so : {X : Type 0} → (X → Bool) → Option X → Bool
+is_so f None = false
+is_so f (Some x) = f x
 
 -- above NODES
 abbrev pub is_above : Option Problem → ℕ → Bool
-is_above None id = false
-is_above (Some p) id = is_above_nodes p.nodes id
+is_above p id = is_so (λ (q : Problem). is_so (λ (nodes : ℕ). nat_lt nodes id) q.nodes) p
 
 -- not below the declared count
 abbrev pub is_full : Option Problem → ℕ → Bool
-is_full None n = false
-is_full (Some p) n = nat_le p.count n
+is_full p n = is_so (λ (q : Problem). nat_le q.count n) p
 
 -- below the declared count
 abbrev pub is_short : Option Problem → ℕ → Bool
-is_short None n = false
-is_short (Some p) n = nat_lt n p.count
+is_short p n = is_so (λ (q : Problem). nat_lt n q.count) p
 
 -- a line that the problem line counts
 abbrev pub is_counted : Record → Bool

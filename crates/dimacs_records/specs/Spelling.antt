@@ -26,77 +26,50 @@ abbrev pub query_word : QueryKind → List ℕ
 query_word Sources = codes "ss"
 query_word Pairs = codes "p2p"
 
-abbrev pub kind_of : Record → TextKind
-kind_of (MaxProblem nodes arcs) = Max
-kind_of (MaxNode id end) = Max
-kind_of (MaxArc tail head cap) = Max
-kind_of (MinProblem nodes arcs) = Min
-kind_of (MinNode id supply) = Min
-kind_of (MinArc tail head low cap cost) = Min
-kind_of (GraphProblem nodes arcs) = Graph
-kind_of (GraphArc tail head weight) = Graph
-kind_of (QueriesProblem asks count) = Queries
-kind_of (SourceQuery id) = Queries
-kind_of (PairQuery from to) = Queries
-kind_of (SolutionValue value) = Solution
-kind_of (SolutionEntry tail head flow) = Solution
-kind_of (CutProblem nodes count) = Cut
-kind_of (CutNode id) = Cut
-kind_of (PotentialsProblem nodes count) = Potentials
-kind_of (PotentialsNode id value) = Potentials
-kind_of (LabelsProblem nodes blocks) = Labels
-kind_of (LabelsBlock source count radius) = Labels
-kind_of (LabelsNode id dist pred) = Labels
-
-abbrev pub letter_of : Record → List ℕ
-letter_of (MaxProblem nodes arcs) = codes "p"
-letter_of (MaxNode id end) = codes "n"
-letter_of (MaxArc tail head cap) = codes "a"
-letter_of (MinProblem nodes arcs) = codes "p"
-letter_of (MinNode id supply) = codes "n"
-letter_of (MinArc tail head low cap cost) = codes "a"
-letter_of (GraphProblem nodes arcs) = codes "p"
-letter_of (GraphArc tail head weight) = codes "a"
-letter_of (QueriesProblem asks count) = codes "p"
-letter_of (SourceQuery id) = codes "s"
-letter_of (PairQuery from to) = codes "q"
-letter_of (SolutionValue value) = codes "s"
-letter_of (SolutionEntry tail head flow) = codes "f"
-letter_of (CutProblem nodes count) = codes "p"
-letter_of (CutNode id) = codes "u"
-letter_of (PotentialsProblem nodes count) = codes "p"
-letter_of (PotentialsNode id value) = codes "y"
-letter_of (LabelsProblem nodes blocks) = codes "p"
-letter_of (LabelsBlock source count radius) = codes "t"
-letter_of (LabelsNode id dist pred) = codes "d"
-
 -- the RADIUS of a block, which may be left out
 abbrev pub radius_parts : Option ℤ → List Part
 radius_parts None = []
 radius_parts (Some radius) = Amount radius ∷ []
 
--- the fields after the letter
+-- the line that tells a record: its kind of text, its letter, and what the fields after the letter say
+pub record RecordLine : Type 0 where
+  pub kind : TextKind
+  pub letter : List ℕ
+  pub parts : List Part
+
+abbrev pub line : TextKind → List ℕ → List Part → RecordLine
+line kind letter parts = record { kind = kind; letter = letter; parts = parts }
+
+abbrev pub record_line : Record → RecordLine
+record_line (MaxProblem nodes arcs) = line Max (codes "p") (Text (codes "max") ∷ Amount (pos nodes) ∷ Amount (pos arcs) ∷ [])
+record_line (MaxNode id end) = line Max (codes "n") (Amount (pos id) ∷ Text (end_word end) ∷ [])
+record_line (MaxArc tail head cap) = line Max (codes "a") (Amount (pos tail) ∷ Amount (pos head) ∷ Amount cap ∷ [])
+record_line (MinProblem nodes arcs) = line Min (codes "p") (Text (codes "min") ∷ Amount (pos nodes) ∷ Amount (pos arcs) ∷ [])
+record_line (MinNode id supply) = line Min (codes "n") (Amount (pos id) ∷ Amount supply ∷ [])
+record_line (MinArc tail head low cap cost) = line Min (codes "a") (Amount (pos tail) ∷ Amount (pos head) ∷ Amount low ∷ Amount cap ∷ Amount cost ∷ [])
+record_line (GraphProblem nodes arcs) = line Graph (codes "p") (Text (codes "sp") ∷ Amount (pos nodes) ∷ Amount (pos arcs) ∷ [])
+record_line (GraphArc tail head weight) = line Graph (codes "a") (Amount (pos tail) ∷ Amount (pos head) ∷ Amount weight ∷ [])
+record_line (QueriesProblem asks count) = line Queries (codes "p") (Text (codes "aux") ∷ Text (codes "sp") ∷ Text (query_word asks) ∷ Amount (pos count) ∷ [])
+record_line (SourceQuery id) = line Queries (codes "s") (Amount (pos id) ∷ [])
+record_line (PairQuery from to) = line Queries (codes "q") (Amount (pos from) ∷ Amount (pos to) ∷ [])
+record_line (SolutionValue value) = line Solution (codes "s") (Amount value ∷ [])
+record_line (SolutionEntry tail head flow) = line Solution (codes "f") (Amount (pos tail) ∷ Amount (pos head) ∷ Amount flow ∷ [])
+record_line (CutProblem nodes count) = line Cut (codes "p") (Text (codes "cut") ∷ Amount (pos nodes) ∷ Amount (pos count) ∷ [])
+record_line (CutNode id) = line Cut (codes "u") (Amount (pos id) ∷ [])
+record_line (PotentialsProblem nodes count) = line Potentials (codes "p") (Text (codes "pot") ∷ Amount (pos nodes) ∷ Amount (pos count) ∷ [])
+record_line (PotentialsNode id value) = line Potentials (codes "y") (Amount (pos id) ∷ Amount value ∷ [])
+record_line (LabelsProblem nodes blocks) = line Labels (codes "p") (Text (codes "dist") ∷ Amount (pos nodes) ∷ Amount (pos blocks) ∷ [])
+record_line (LabelsBlock source count radius) = line Labels (codes "t") (Amount (pos source) ∷ Amount (pos count) ∷ radius_parts radius)
+record_line (LabelsNode id dist pred) = line Labels (codes "d") (Amount (pos id) ∷ Amount dist ∷ Amount (pos pred) ∷ [])
+
+abbrev pub kind_of : Record → TextKind
+kind_of r = (record_line r).kind
+
+abbrev pub letter_of : Record → List ℕ
+letter_of r = (record_line r).letter
+
 abbrev pub parts_of : Record → List Part
-parts_of (MaxProblem nodes arcs) = Text (codes "max") ∷ Amount (pos nodes) ∷ Amount (pos arcs) ∷ []
-parts_of (MaxNode id end) = Amount (pos id) ∷ Text (end_word end) ∷ []
-parts_of (MaxArc tail head cap) = Amount (pos tail) ∷ Amount (pos head) ∷ Amount cap ∷ []
-parts_of (MinProblem nodes arcs) = Text (codes "min") ∷ Amount (pos nodes) ∷ Amount (pos arcs) ∷ []
-parts_of (MinNode id supply) = Amount (pos id) ∷ Amount supply ∷ []
-parts_of (MinArc tail head low cap cost) = Amount (pos tail) ∷ Amount (pos head) ∷ Amount low ∷ Amount cap ∷ Amount cost ∷ []
-parts_of (GraphProblem nodes arcs) = Text (codes "sp") ∷ Amount (pos nodes) ∷ Amount (pos arcs) ∷ []
-parts_of (GraphArc tail head weight) = Amount (pos tail) ∷ Amount (pos head) ∷ Amount weight ∷ []
-parts_of (QueriesProblem asks count) = Text (codes "aux") ∷ Text (codes "sp") ∷ Text (query_word asks) ∷ Amount (pos count) ∷ []
-parts_of (SourceQuery id) = Amount (pos id) ∷ []
-parts_of (PairQuery from to) = Amount (pos from) ∷ Amount (pos to) ∷ []
-parts_of (SolutionValue value) = Amount value ∷ []
-parts_of (SolutionEntry tail head flow) = Amount (pos tail) ∷ Amount (pos head) ∷ Amount flow ∷ []
-parts_of (CutProblem nodes count) = Text (codes "cut") ∷ Amount (pos nodes) ∷ Amount (pos count) ∷ []
-parts_of (CutNode id) = Amount (pos id) ∷ []
-parts_of (PotentialsProblem nodes count) = Text (codes "pot") ∷ Amount (pos nodes) ∷ Amount (pos count) ∷ []
-parts_of (PotentialsNode id value) = Amount (pos id) ∷ Amount value ∷ []
-parts_of (LabelsProblem nodes blocks) = Text (codes "dist") ∷ Amount (pos nodes) ∷ Amount (pos blocks) ∷ []
-parts_of (LabelsBlock source count radius) = Amount (pos source) ∷ Amount (pos count) ∷ radius_parts radius
-parts_of (LabelsNode id dist pred) = Amount (pos id) ∷ Amount dist ∷ Amount (pos pred) ∷ []
+parts_of r = (record_line r).parts
 
 -- a field of this type says this
 abbrev pub Says : FieldType → List ℕ → Part → Type 0

@@ -165,10 +165,7 @@ judged_told judges.Infeasible a b c result old new reports = reports
 judged_told judges.Paths a b c result old new reports = reports
 
 pub is_claim : (kind : JudgeKind) (coming : Option (List ℕ)) (b : List ℕ) → coming ≡ Some b → IsClaim kind coming b
-is_claim judges.Max coming b is = is
-is_claim judges.Min coming b is = is
-is_claim judges.Infeasible coming b is = tt
-is_claim judges.Paths coming b is = is
+is_claim kind coming b is = λ some. is
 
 pub flow_told : (job : SolveJob) (a b : List ℕ) (result : Result Status CommandError) (old new : List (Option (List ℕ))) → job ≢ solves.Paths → ReportsAll (MayTell (Solved job a b)) result old new → TellsSolved job (a ∷ []) result old new
 flow_told (solves.Max limit) a b result old new flow reports = reports

@@ -69,22 +69,16 @@ CertifiesMaximum i s = CertificateOr (SaysCut i s) (max_line s.value) (max_claim
 abbrev pub CertifiesLeast : MinValue → SolutionValue → Status → List (List ℕ) → Type 0
 CertifiesLeast i s = CertificateOr (SaysPotentials i s) (min_line s.value) (min_claim_rows i s) (SaysCheaper i s) (value_refused s NotLeast)
 
-abbrev pub CertifiedMax : List ℕ → List ℕ → Status → List (List ℕ) → Type 0
-CertifiedMax instance solution =
+-- what is told of an instance and of a claimed flow
+abbrev pub Certified : CertifyKind → List ℕ → List ℕ → Status → List (List ℕ) → Type 0
+Certified Max instance solution =
     FaultAloneOr uncertified (says kinds.Max SpellsMax instance) (λ i.
     FaultAloneOr uncertified (says kinds.Solution SpellsSolution solution) (λ s.
     CertifiesMaximum i s))
-
-abbrev pub CertifiedMin : List ℕ → List ℕ → Status → List (List ℕ) → Type 0
-CertifiedMin instance solution =
+Certified Min instance solution =
     FaultAloneOr uncertified (says kinds.Min SpellsMin instance) (λ i.
     FaultAloneOr uncertified (says kinds.Solution SpellsSolution solution) (λ s.
     CertifiesLeast i s))
-
--- what is told of an instance and of a claimed flow
-abbrev pub Certified : CertifyKind → List ℕ → List ℕ → Status → List (List ℕ) → Type 0
-Certified Max instance solution = CertifiedMax instance solution
-Certified Min instance solution = CertifiedMin instance solution
 
 abbrev pub certified_kind : CertifyKind → TextKind
 certified_kind Max = kinds.Max

@@ -22,11 +22,12 @@ use Rattle.dimacs_runs.specs.declared.outcome.Status.{Status}
 use Rattle.dimacs_runs.specs.Certified.{Certified}
 use Rattle.dimacs_runs.specs.Files.{Created, FileEvent, FilesSeen, NotCreated, NotOpened, Opened, Read, ReadFile, Sees, WrittenFile, Wrote, closed_written, failures}
 use Rattle.dimacs_runs.specs.Jobs.{Asks}
-use Rattle.dimacs_runs.specs.Judged.{Judged, JudgedInfeasible}
+use Rattle.dimacs_runs.specs.Judged.{Judged}
 use Rattle.dimacs_runs.specs.Outcomes.{status_number}
 use Rattle.dimacs_runs.specs.Outputs.{MayTell, ReportsAll, TellsAlike}
-use Rattle.dimacs_runs.specs.Runs.{Converted, Reports, Shown}
-use Rattle.dimacs_runs.specs.Solved.{SolvedMax, SolvedMin, SolvedPaths}
+use Rattle.dimacs_runs.specs.declared.text.TextForm.TheVariants.{Canonical, Summary}
+use Rattle.dimacs_runs.specs.Runs.{Reports, Told}
+use Rattle.dimacs_runs.specs.Solved.{Solved}
 
 -- what files of these names hold, where that is told
 abbrev pub Contents : Type 0
@@ -76,7 +77,7 @@ TellsOne tells other result old new = ⊥
 
 -- nothing is claimed of an instance without a feasible flow
 abbrev pub TellsJudged : JudgeKind → Telling
-TellsJudged judges.Infeasible (instance ∷ set ∷ []) result (old ∷ []) (new ∷ []) = Reports (JudgedInfeasible instance set) result old new
+TellsJudged judges.Infeasible (instance ∷ set ∷ []) result (old ∷ []) (new ∷ []) = Reports (Judged judges.Infeasible instance [] set) result old new
 TellsJudged kind (instance ∷ claim ∷ certificate ∷ []) result (old ∷ []) (new ∷ []) = Reports (Judged kind instance claim certificate) result old new
 TellsJudged kind other result old new = ⊥
 
@@ -91,14 +92,14 @@ TellsCertified kind other result old new = ⊥
 
 -- nothing is claimed with distances: the claim goes nowhere
 abbrev pub TellsSolved : SolveJob → Telling
-TellsSolved (solves.Max limit) (instance ∷ []) result old new = ReportsAll (MayTell (SolvedMax limit instance)) result old new
-TellsSolved (solves.Min limit) (instance ∷ []) result old new = ReportsAll (MayTell (SolvedMin limit instance)) result old new
-TellsSolved solves.Paths (graph ∷ queries ∷ []) result old new = ReportsAll (MayTell (SolvedPaths graph queries)) result (None ∷ old) (None ∷ new)
+TellsSolved (solves.Max limit) (instance ∷ []) result old new = ReportsAll (MayTell (Solved (solves.Max limit) instance [])) result old new
+TellsSolved (solves.Min limit) (instance ∷ []) result old new = ReportsAll (MayTell (Solved (solves.Min limit) instance [])) result old new
+TellsSolved solves.Paths (graph ∷ queries ∷ []) result old new = ReportsAll (MayTell (Solved solves.Paths graph queries)) result (None ∷ old) (None ∷ new)
 TellsSolved job other result old new = ⊥
 
 abbrev pub tells_of : Job → Telling
-tells_of (Convert kind file) = TellsOne (Converted kind)
-tells_of (Show kind file) = TellsOne (Shown kind)
+tells_of (Convert kind file) = TellsOne (Told Canonical kind)
+tells_of (Show kind file) = TellsOne (Told Summary kind)
 tells_of (Judge kind files) = TellsJudged kind
 tells_of (Certify kind files) = TellsCertified kind
 tells_of (Solve job files) = TellsSolved job

@@ -1,5 +1,5 @@
 -- What is told of the bytes of an instance, a claim and a certificate.
-use Rattle.std.specs.Prelude.{ℕ, ◌≡◌, List, Option, None, Some, length, map}
+use Rattle.std.specs.Prelude.{ℕ, ◌≡◌, List, Option, None, Some, IsSome, length, map}
 use Rattle.std.specs.List.{flat_map}
 use Rattle.dimacs_records.specs.declared.kinds.TextKind.{TextKind}
 use Rattle.dimacs_records.specs.declared.kinds.TextKind.TheVariants as kinds
@@ -23,55 +23,32 @@ use Rattle.dimacs_runs.specs.declared.outcome.Status.{Status}
 use Rattle.dimacs_runs.specs.Judgings.{FaultOr, VerdictOr, says}
 use Rattle.dimacs_runs.specs.Verdicts.{max_line, min_line, infeasible_line, sources_line, answer_line}
 
--- a maximum flow and its cut
-abbrev pub JudgedMax : List ℕ → List ℕ → List ℕ → Status → List ℕ → Type 0
-JudgedMax instance solution cut =
-    FaultOr (says kinds.Max SpellsMax instance) (λ i.
-    FaultOr (says kinds.Solution SpellsSolution solution) (λ s.
-    FaultOr (says kinds.Cut SpellsCut cut) (λ c.
-    VerdictOr (ShowsMaximum i s c) (max_rows i s c) (max_line s.value))))
-
--- a flow of least cost and its potentials
-abbrev pub JudgedMin : List ℕ → List ℕ → List ℕ → Status → List ℕ → Type 0
-JudgedMin instance solution potentials =
-    FaultOr (says kinds.Min SpellsMin instance) (λ i.
-    FaultOr (says kinds.Solution SpellsSolution solution) (λ s.
-    FaultOr (says kinds.Potentials SpellsPotentials potentials) (λ p.
-    VerdictOr (ShowsLeast i s p) (min_rows i s p) (min_line s.value))))
-
--- a set of nodes whose supply can't be met
-abbrev pub JudgedInfeasible : List ℕ → List ℕ → Status → List ℕ → Type 0
-JudgedInfeasible instance set =
-    FaultOr (says kinds.Min SpellsMin instance) (λ i.
-    FaultOr (says kinds.Cut SpellsCut set) (λ c.
-    VerdictOr (ShowsNoFlow i c) (infeasible_rows i c) infeasible_line))
-
 -- the number of sources, or the line of each pair
 abbrev pub paths_lines : List BlockValue → QueriesValue → List ℕ
 paths_lines blocks (Sources ids) = sources_line (length ids)
 paths_lines blocks (Pairs pairs) = flat_map answer_line (map (answer_to blocks) pairs)
 
--- queries, and labels that answer them
-abbrev pub JudgedPaths : List ℕ → List ℕ → List ℕ → Status → List ℕ → Type 0
-JudgedPaths graph queries labels =
-    FaultOr (says kinds.Graph SpellsGraph graph) (λ g.
-    FaultOr (says kinds.Queries SpellsQueries queries) (λ q.
-    FaultOr (says kinds.Labels SpellsLabels labels) (λ l.
-    VerdictOr (ShowsDistances g q l) (paths_rows g q l) (paths_lines l.blocks q))))
-
--- the report on three texts; nothing is claimed of an instance without a feasible flow
+-- the report on three texts: a flow with its cut or with potentials, or queries with labels; and on a set of nodes whose supply can't be met, where nothing is claimed
 abbrev pub Judged : JudgeKind → List ℕ → List ℕ → List ℕ → Status → List ℕ → Type 0
-Judged Max instance claim certificate = JudgedMax instance claim certificate
-Judged Min instance claim certificate = JudgedMin instance claim certificate
-Judged Infeasible instance claim certificate = JudgedInfeasible instance certificate
-Judged Paths instance claim certificate = JudgedPaths instance claim certificate
-
--- the bytes of the claim, where there is one
-abbrev pub IsClaim : JudgeKind → Option (List ℕ) → List ℕ → Type 0
-IsClaim Max coming bytes = coming ≡ Some bytes
-IsClaim Min coming bytes = coming ≡ Some bytes
-IsClaim Infeasible coming bytes = Unit {0}
-IsClaim Paths coming bytes = coming ≡ Some bytes
+Judged Max instance claim certificate =
+    FaultOr (says kinds.Max SpellsMax instance) (λ i.
+    FaultOr (says kinds.Solution SpellsSolution claim) (λ s.
+    FaultOr (says kinds.Cut SpellsCut certificate) (λ c.
+    VerdictOr (ShowsMaximum i s c) (max_rows i s c) (max_line s.value))))
+Judged Min instance claim certificate =
+    FaultOr (says kinds.Min SpellsMin instance) (λ i.
+    FaultOr (says kinds.Solution SpellsSolution claim) (λ s.
+    FaultOr (says kinds.Potentials SpellsPotentials certificate) (λ p.
+    VerdictOr (ShowsLeast i s p) (min_rows i s p) (min_line s.value))))
+Judged Infeasible instance claim certificate =
+    FaultOr (says kinds.Min SpellsMin instance) (λ i.
+    FaultOr (says kinds.Cut SpellsCut certificate) (λ c.
+    VerdictOr (ShowsNoFlow i c) (infeasible_rows i c) infeasible_line))
+Judged Paths instance claim certificate =
+    FaultOr (says kinds.Graph SpellsGraph instance) (λ g.
+    FaultOr (says kinds.Queries SpellsQueries claim) (λ q.
+    FaultOr (says kinds.Labels SpellsLabels certificate) (λ l.
+    VerdictOr (ShowsDistances g q l) (paths_rows g q l) (paths_lines l.blocks q))))
 
 abbrev pub instance_kind : JudgeKind → TextKind
 instance_kind Max = kinds.Max
@@ -84,3 +61,7 @@ claim_kind Max = Some kinds.Solution
 claim_kind Min = Some kinds.Solution
 claim_kind Infeasible = None
 claim_kind Paths = Some kinds.Queries
+
+-- the bytes of the claim, where there is one
+abbrev pub IsClaim : JudgeKind → Option (List ℕ) → List ℕ → Type 0
+IsClaim kind coming bytes = IsSome (claim_kind kind) → coming ≡ Some bytes

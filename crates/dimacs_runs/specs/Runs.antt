@@ -17,46 +17,40 @@ use Rattle.dimacs_instance.specs.MinTexts.{SpellsMin, canonical_min, shown_min}
 use Rattle.dimacs_instance.specs.QueryTexts.{SpellsQueries, canonical_queries, shown_queries}
 use Rattle.dimacs_runs.specs.declared.outcome.Status.{Status}
 use Rattle.dimacs_runs.specs.declared.outcome.Status.TheVariants.{Done, Refused, GaveUp}
+use Rattle.dimacs_runs.specs.declared.text.TextForm.{TextForm}
+use Rattle.dimacs_runs.specs.declared.text.TextForm.TheVariants.{Canonical, Summary}
 use Rattle.dimacs_runs.specs.Refusals.{refusal_line}
 
 -- the text in the words of a refusal
 abbrev pub text_word : TextKind → List ℕ
-text_word Max = codes "instance"
-text_word Min = codes "instance"
-text_word Graph = codes "instance"
 text_word Queries = codes "query"
 text_word Solution = codes "solution"
 text_word Cut = codes "certificate"
 text_word Potentials = codes "certificate"
 text_word Labels = codes "certificate"
+text_word instance = codes "instance"
 
 -- of a text that spells a value, that value in other words; of any other, the line of its fault
-abbrev pub TellsText : {V : Type 0} → (V → Type 0) → (V → List ℕ) → (ℕ → ℕ → Reason → Type 0) → List ℕ → Status → List ℕ → Type 0
-TellsText spells told fault text Done out = (v : _) × spells v × (out ≡ told v)
-TellsText spells told fault text Refused out = (l : ℕ) × (f : ℕ) × (r : Reason) × fault l f r × (out ≡ refusal_line text l f r)
-TellsText spells told fault text GaveUp out = ⊥
+abbrev pub TellsText : {V : Type 0} → TextKind → (List ℕ → V → Type 0) → (V → List ℕ) → List ℕ → Status → List ℕ → Type 0
+TellsText kind spells told bytes Done out = (v : _) × spells bytes v × (out ≡ told v)
+TellsText kind spells told bytes Refused out = (l : ℕ) × (f : ℕ) × (r : Reason) × Fault kind (lines bytes) l f r × (out ≡ refusal_line (text_word kind) l f r)
+TellsText kind spells told bytes GaveUp out = ⊥
 
--- the canonical text, or the line of the fault
-abbrev pub Converted : TextKind → List ℕ → Status → List ℕ → Type 0
-Converted Max bytes = TellsText (SpellsMax bytes) canonical_max (Fault Max (lines bytes)) (text_word Max)
-Converted Min bytes = TellsText (SpellsMin bytes) canonical_min (Fault Min (lines bytes)) (text_word Min)
-Converted Graph bytes = TellsText (SpellsGraph bytes) canonical_graph (Fault Graph (lines bytes)) (text_word Graph)
-Converted Queries bytes = TellsText (SpellsQueries bytes) canonical_queries (Fault Queries (lines bytes)) (text_word Queries)
-Converted Solution bytes = TellsText (SpellsSolution bytes) canonical_solution (Fault Solution (lines bytes)) (text_word Solution)
-Converted Cut bytes = TellsText (SpellsCut bytes) canonical_cut (Fault Cut (lines bytes)) (text_word Cut)
-Converted Potentials bytes = TellsText (SpellsPotentials bytes) canonical_potentials (Fault Potentials (lines bytes)) (text_word Potentials)
-Converted Labels bytes = TellsText (SpellsLabels bytes) canonical_labels (Fault Labels (lines bytes)) (text_word Labels)
+-- what is told of a value in a form: its canonical text, or the line about it
+abbrev pub in_form : {V : Type 0} → TextForm → (V → List ℕ) → (V → List ℕ) → V → List ℕ
+in_form Canonical canonical shown = canonical
+in_form Summary canonical shown = shown
 
--- the line about it, or the line of the fault
-abbrev pub Shown : TextKind → List ℕ → Status → List ℕ → Type 0
-Shown Max bytes = TellsText (SpellsMax bytes) shown_max (Fault Max (lines bytes)) (text_word Max)
-Shown Min bytes = TellsText (SpellsMin bytes) shown_min (Fault Min (lines bytes)) (text_word Min)
-Shown Graph bytes = TellsText (SpellsGraph bytes) shown_graph (Fault Graph (lines bytes)) (text_word Graph)
-Shown Queries bytes = TellsText (SpellsQueries bytes) shown_queries (Fault Queries (lines bytes)) (text_word Queries)
-Shown Solution bytes = TellsText (SpellsSolution bytes) shown_solution (Fault Solution (lines bytes)) (text_word Solution)
-Shown Cut bytes = TellsText (SpellsCut bytes) shown_cut (Fault Cut (lines bytes)) (text_word Cut)
-Shown Potentials bytes = TellsText (SpellsPotentials bytes) shown_potentials (Fault Potentials (lines bytes)) (text_word Potentials)
-Shown Labels bytes = TellsText (SpellsLabels bytes) shown_labels (Fault Labels (lines bytes)) (text_word Labels)
+-- what is told of a text in a form, or the line of its fault
+abbrev pub Told : TextForm → TextKind → List ℕ → Status → List ℕ → Type 0
+Told form Max = TellsText Max SpellsMax (in_form form canonical_max shown_max)
+Told form Min = TellsText Min SpellsMin (in_form form canonical_min shown_min)
+Told form Graph = TellsText Graph SpellsGraph (in_form form canonical_graph shown_graph)
+Told form Queries = TellsText Queries SpellsQueries (in_form form canonical_queries shown_queries)
+Told form Solution = TellsText Solution SpellsSolution (in_form form canonical_solution shown_solution)
+Told form Cut = TellsText Cut SpellsCut (in_form form canonical_cut shown_cut)
+Told form Potentials = TellsText Potentials SpellsPotentials (in_form form canonical_potentials shown_potentials)
+Told form Labels = TellsText Labels SpellsLabels (in_form form canonical_labels shown_labels)
 
 -- this is told, and nothing else
 abbrev pub TellsAlone : (Status → List ℕ → Type 0) → Status → List ℕ → Type 0

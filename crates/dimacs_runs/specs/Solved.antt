@@ -67,29 +67,19 @@ FindsPaths g q Done out = (l : LabelsValue) × SolvesPaths g q (Ok l) × (out �
 FindsPaths g q Refused out = (place : Where) × (reason : Reason) × RefusesPaths g q place reason × (out ≡ report_alone (failure_line place reason))
 FindsPaths g q GaveUp out = ⊥
 
-abbrev pub SolvedMax : ℕ → List ℕ → Status → List (List ℕ) → Type 0
-SolvedMax limit instance = FaultAloneOr report_alone (says kinds.Max SpellsMax instance) (λ i. FindsMaximum i limit)
-
-abbrev pub SolvedMin : ℕ → List ℕ → Status → List (List ℕ) → Type 0
-SolvedMin limit instance = FaultAloneOr report_alone (says kinds.Min SpellsMin instance) (λ i. FindsLeast i limit)
-
-abbrev pub SolvedPaths : List ℕ → List ℕ → Status → List (List ℕ) → Type 0
-SolvedPaths graph queries =
-    FaultAloneOr report_alone (says kinds.Graph SpellsGraph graph) (λ g.
+-- what is told of an instance, and of queries where paths are asked for
+abbrev pub Solved : SolveJob → List ℕ → List ℕ → Status → List (List ℕ) → Type 0
+Solved (Max limit) instance queries = FaultAloneOr report_alone (says kinds.Max SpellsMax instance) (λ i. FindsMaximum i limit)
+Solved (Min limit) instance queries = FaultAloneOr report_alone (says kinds.Min SpellsMin instance) (λ i. FindsLeast i limit)
+Solved Paths instance queries =
+    FaultAloneOr report_alone (says kinds.Graph SpellsGraph instance) (λ g.
     FaultAloneOr report_alone (says kinds.Queries SpellsQueries queries) (λ q.
     FindsPaths g q))
 
--- what is told of an instance, and of queries where paths are asked for
-abbrev pub Solved : SolveJob → List ℕ → List ℕ → Status → List (List ℕ) → Type 0
-Solved (Max limit) instance queries = SolvedMax limit instance
-Solved (Min limit) instance queries = SolvedMin limit instance
-Solved Paths instance queries = SolvedPaths instance queries
-
 -- the bytes of the queries, where there are any
 abbrev pub AreQueries : SolveJob → Option (List ℕ) → List ℕ → Type 0
-AreQueries (Max limit) coming bytes = Unit {0}
-AreQueries (Min limit) coming bytes = Unit {0}
 AreQueries Paths coming bytes = coming ≡ Some bytes
+AreQueries job coming bytes = Unit {0}
 
 abbrev pub solved_kind : SolveJob → TextKind
 solved_kind (Max limit) = kinds.Max

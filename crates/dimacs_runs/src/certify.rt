@@ -13,7 +13,8 @@ ghost use Rattle.dimacs_judge.specs.Places.{ArePlaced};
 ghost use Rattle.dimacs_decide.specs.CertifiedMax.{IsMaxImproved};
 ghost use Rattle.dimacs_decide.specs.CertifiedMin.{IsMinImproved};
 ghost use Rattle.dimacs_runs.specs.declared.outcome.RunError.TheVariants.{Device, Memory};
-ghost use Rattle.dimacs_runs.specs.Certified.{Certified, CertifiedMax, CertifiedMin, CertifiesLeast, CertifiesMaximum, certified_kind};
+ghost use Rattle.dimacs_runs.specs.declared.jobs.CertifyKind.TheVariants as certifies;
+ghost use Rattle.dimacs_runs.specs.Certified.{Certified, CertifiesLeast, CertifiesMaximum, certified_kind};
 ghost use Rattle.dimacs_runs.specs.Judgings.{CountsDevices};
 ghost use Rattle.dimacs_runs.specs.Outputs.{ReportsAll, TellsAlike};
 ghost use Rattle.dimacs_runs.specs.inside.Produced.{MayCertify};
@@ -72,7 +73,7 @@ fn certify_maximum<P: Source, Q: Source>(
     instance: &mut P,
     solution: &mut Q,
 ) -> Result<Produced, RunError>
-    ensures certifies { (a b : List ℕ) → P.coming instance.old ≡ Some a → Q.coming solution.old ≡ Some b → MayCertify (CertifiedMax a b) result }
+    ensures certifies { (a b : List ℕ) → P.coming instance.old ≡ Some a → Q.coming solution.old ≡ Some b → MayCertify (Certified certifies.Max a b) result }
     ensures faults { CountsDevices result (P.faults instance.old ∷ Q.faults solution.old ∷ []) (P.faults instance.new ∷ Q.faults solution.new ∷ []) }
     ensures stops_at_instance { (a : List ℕ) (l f : ℕ) (r : Reason) → P.coming instance.old ≡ Some a → Fault kinds.Max (lines a) l f r
         → solution.new ≡ solution.old }
@@ -94,7 +95,7 @@ fn certify_least<P: Source, Q: Source>(
     instance: &mut P,
     solution: &mut Q,
 ) -> Result<Produced, RunError>
-    ensures certifies { (a b : List ℕ) → P.coming instance.old ≡ Some a → Q.coming solution.old ≡ Some b → MayCertify (CertifiedMin a b) result }
+    ensures certifies { (a b : List ℕ) → P.coming instance.old ≡ Some a → Q.coming solution.old ≡ Some b → MayCertify (Certified certifies.Min a b) result }
     ensures faults { CountsDevices result (P.faults instance.old ∷ Q.faults solution.old ∷ []) (P.faults instance.new ∷ Q.faults solution.new ∷ []) }
     ensures stops_at_instance { (a : List ℕ) (l f : ℕ) (r : Reason) → P.coming instance.old ≡ Some a → Fault kinds.Min (lines a) l f r
         → solution.new ≡ solution.old }

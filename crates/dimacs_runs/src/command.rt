@@ -10,8 +10,9 @@ use crate::files::Files;
 use crate::jobs::Job;
 use crate::outcome::{RunError, Status, exit_status};
 use crate::runs_that_certify::certify_files;
-use crate::runs_that_read::{convert_file, judge_files, show_file};
+use crate::runs_that_read::{judge_files, tell_file};
 use crate::runs_that_write::solve_files;
+use crate::text::TextForm;
 use crate::words::job;
 use dimacs_lines::Sink;
 use std::alloc::Global;
@@ -83,8 +84,10 @@ fn run_job<'a, F: Files, K: Sink>(
         (seen_by (F.seen files.new) (K.accepted output.new) (K.faults output.new)) }
 {
     match job {
-        Job::Convert(kind, name) => convert_file(alloc, kind, name, files, output),
-        Job::Show(kind, name) => show_file(alloc, kind, name, files, output),
+        Job::Convert(kind, name) => {
+            tell_file(alloc, TextForm::Canonical, kind, name, files, output)
+        }
+        Job::Show(kind, name) => tell_file(alloc, TextForm::Summary, kind, name, files, output),
         Job::Judge(kind, names) => judge_files(alloc, kind, names, files, output),
         Job::Certify(kind, names) => certify_files(alloc, kind, names, files, output),
         Job::Solve(job, names) => solve_files(alloc, job, names, files, output),

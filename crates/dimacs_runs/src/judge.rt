@@ -8,7 +8,7 @@ ghost use Rattle.dimacs_records.specs.declared.reasons.Reason.{Reason};
 ghost use Rattle.dimacs_records.specs.Faults.{Fault};
 ghost use Rattle.dimacs_runs.specs.declared.jobs.JudgeKind.TheVariants as judges;
 ghost use Rattle.dimacs_runs.specs.declared.outcome.RunError.TheVariants.{Memory};
-ghost use Rattle.dimacs_runs.specs.Judged.{IsClaim, Judged, JudgedInfeasible, JudgedMax, JudgedMin, JudgedPaths, claim_kind, instance_kind};
+ghost use Rattle.dimacs_runs.specs.Judged.{IsClaim, Judged, claim_kind, instance_kind};
 ghost use Rattle.dimacs_runs.specs.Judgings.{CountsDevices};
 ghost use Rattle.dimacs_runs.specs.Runs.{Reports};
 ghost use Rattle.dimacs_runs.specs.inside.Told.{ToldAlone};
@@ -62,7 +62,7 @@ fn tell_max<P: Source, Q: Source, R: Source>(
     claim: &mut Q,
     certificate: &mut R,
 ) -> Result<Told, RunError>
-    ensures told { (a b c : List ℕ) → P.coming instance.old ≡ Some a → Q.coming claim.old ≡ Some b → R.coming certificate.old ≡ Some c → ToldAlone (JudgedMax a b c) result }
+    ensures told { (a b c : List ℕ) → P.coming instance.old ≡ Some a → Q.coming claim.old ≡ Some b → R.coming certificate.old ≡ Some c → ToldAlone (Judged judges.Max a b c) result }
     ensures faults { CountsDevices result (P.faults instance.old ∷ Q.faults claim.old ∷ R.faults certificate.old ∷ []) (P.faults instance.new ∷ Q.faults claim.new ∷ R.faults certificate.new ∷ []) }
     ensures stops_at_instance { (a : List ℕ) (l f : ℕ) (r : Reason) → P.coming instance.old ≡ Some a → Fault kinds.Max (lines a) l f r → (claim.new ≡ claim.old) × (certificate.new ≡ certificate.old) }
     ensures stops_at_claim { (b : List ℕ) (l f : ℕ) (r : Reason) → Q.coming claim.old ≡ Some b → Fault kinds.Solution (lines b) l f r → certificate.new ≡ certificate.old }
@@ -85,7 +85,7 @@ fn tell_min<P: Source, Q: Source, R: Source>(
     claim: &mut Q,
     certificate: &mut R,
 ) -> Result<Told, RunError>
-    ensures told { (a b c : List ℕ) → P.coming instance.old ≡ Some a → Q.coming claim.old ≡ Some b → R.coming certificate.old ≡ Some c → ToldAlone (JudgedMin a b c) result }
+    ensures told { (a b c : List ℕ) → P.coming instance.old ≡ Some a → Q.coming claim.old ≡ Some b → R.coming certificate.old ≡ Some c → ToldAlone (Judged judges.Min a b c) result }
     ensures faults { CountsDevices result (P.faults instance.old ∷ Q.faults claim.old ∷ R.faults certificate.old ∷ []) (P.faults instance.new ∷ Q.faults claim.new ∷ R.faults certificate.new ∷ []) }
     ensures stops_at_instance { (a : List ℕ) (l f : ℕ) (r : Reason) → P.coming instance.old ≡ Some a → Fault kinds.Min (lines a) l f r → (claim.new ≡ claim.old) × (certificate.new ≡ certificate.old) }
     ensures stops_at_claim { (b : List ℕ) (l f : ℕ) (r : Reason) → Q.coming claim.old ≡ Some b → Fault kinds.Solution (lines b) l f r → certificate.new ≡ certificate.old }
@@ -112,7 +112,7 @@ fn tell_infeasible<P: Source, R: Source>(
     instance: &mut P,
     certificate: &mut R,
 ) -> Result<Told, RunError>
-    ensures told { (a c : List ℕ) → P.coming instance.old ≡ Some a → R.coming certificate.old ≡ Some c → ToldAlone (JudgedInfeasible a c) result }
+    ensures told { (a c : List ℕ) → P.coming instance.old ≡ Some a → R.coming certificate.old ≡ Some c → ToldAlone (Judged judges.Infeasible a [] c) result }
     ensures faults { CountsDevices result (P.faults instance.old ∷ R.faults certificate.old ∷ []) (P.faults instance.new ∷ R.faults certificate.new ∷ []) }
     ensures stops_at_instance { (a : List ℕ) (l f : ℕ) (r : Reason) → P.coming instance.old ≡ Some a → Fault kinds.Min (lines a) l f r → certificate.new ≡ certificate.old }
 {
@@ -129,7 +129,7 @@ fn tell_paths<P: Source, Q: Source, R: Source>(
     queries: &mut Q,
     labels: &mut R,
 ) -> Result<Told, RunError>
-    ensures told { (a b c : List ℕ) → P.coming graph.old ≡ Some a → Q.coming queries.old ≡ Some b → R.coming labels.old ≡ Some c → ToldAlone (JudgedPaths a b c) result }
+    ensures told { (a b c : List ℕ) → P.coming graph.old ≡ Some a → Q.coming queries.old ≡ Some b → R.coming labels.old ≡ Some c → ToldAlone (Judged judges.Paths a b c) result }
     ensures faults { CountsDevices result (P.faults graph.old ∷ Q.faults queries.old ∷ R.faults labels.old ∷ []) (P.faults graph.new ∷ Q.faults queries.new ∷ R.faults labels.new ∷ []) }
     ensures stops_at_instance { (a : List ℕ) (l f : ℕ) (r : Reason) → P.coming graph.old ≡ Some a → Fault kinds.Graph (lines a) l f r → (queries.new ≡ queries.old) × (labels.new ≡ labels.old) }
     ensures stops_at_claim { (b : List ℕ) (l f : ℕ) (r : Reason) → Q.coming queries.old ≡ Some b → Fault kinds.Queries (lines b) l f r → labels.new ≡ labels.old }

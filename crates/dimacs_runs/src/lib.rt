@@ -3,7 +3,6 @@
 
 mod certify;
 mod command;
-mod convert;
 mod counted;
 mod discard;
 mod ending;
@@ -18,8 +17,8 @@ mod refusal;
 mod runs_that_certify;
 mod runs_that_read;
 mod runs_that_write;
-mod show;
 mod solve;
+mod text;
 mod texts_in_turn;
 mod told;
 mod verdict;
@@ -27,13 +26,12 @@ mod words;
 
 pub use certify::run_certify;
 pub use command::{Ending, NO_RUN, run_command};
-pub use convert::run_convert;
 pub use counted::Counted;
 pub use failure::{CommandError, Failure, FileCall};
 pub use files::Files;
 pub use jobs::{CertifyKind, Job, JudgeKind, SolveJob};
 pub use judge::run_judge;
 pub use outcome::{RunError, Status, complaint, exit_status};
-pub use show::run_show;
 pub use solve::run_solve;
+pub use text::{run_convert, run_show};
 pub use words::job;

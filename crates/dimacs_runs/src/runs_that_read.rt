@@ -5,52 +5,34 @@ ghost use Rattle.std.specs.String.{string_bytes};
 ghost use Rattle.dimacs_runs.specs.declared.jobs.JudgeKind.TheVariants as judges;
 ghost use Rattle.dimacs_runs.specs.Commands.{RunsFiles, TellsJudged, TellsOne, reads, seen_by};
 ghost use Rattle.dimacs_runs.specs.Jobs.{file_count};
-ghost use Rattle.dimacs_runs.specs.Runs.{Converted, Shown};
+ghost use Rattle.dimacs_runs.specs.Runs.{Told};
 
-use crate::convert::run_convert;
 use crate::failure::{CommandError, name_failure};
 use crate::files::Files;
 use crate::in_use::{close_read, open};
 use crate::jobs::JudgeKind;
 use crate::judge::run_judge;
 use crate::outcome::Status;
-use crate::show::run_show;
+use crate::text::{TextForm, run_text};
 use dimacs_lines::{MemorySource, Sink};
 use dimacs_records::TextKind;
 use std::alloc::Global;
 
-/// Converts the text in the file of this name.
-pub(crate) fn convert_file<'a, F: Files, K: Sink>(
+/// Tells the text in the file of this name in this form.
+pub(crate) fn tell_file<'a, F: Files, K: Sink>(
     alloc: Global,
+    form: TextForm,
     kind: TextKind,
     name: &'a str,
     files: &mut F,
     output: &mut K,
 ) -> Result<Status, CommandError<'a>>
-    ensures runs { RunsFiles (reads (name.now ∷ [])) (F.holds files.old) F.empty (TellsOne (Converted kind)) result
+    ensures runs { RunsFiles (reads (name.now ∷ [])) (F.holds files.old) F.empty (TellsOne (Told form kind)) result
         (seen_by (F.seen files.old) (K.accepted output.old) (K.faults output.old))
         (seen_by (F.seen files.new) (K.accepted output.new) (K.faults output.new)) }
 {
     let mut text = open(files, name)?;
-    let ended = run_convert(alloc, kind, &mut text.device, output);
-    let failure = close_read(files, text);
-    name_failure(ended, failure)
-}
-
-/// Shows what the text in the file of this name is.
-pub(crate) fn show_file<'a, F: Files, K: Sink>(
-    alloc: Global,
-    kind: TextKind,
-    name: &'a str,
-    files: &mut F,
-    output: &mut K,
-) -> Result<Status, CommandError<'a>>
-    ensures runs { RunsFiles (reads (name.now ∷ [])) (F.holds files.old) F.empty (TellsOne (Shown kind)) result
-        (seen_by (F.seen files.old) (K.accepted output.old) (K.faults output.old))
-        (seen_by (F.seen files.new) (K.accepted output.new) (K.faults output.new)) }
-{
-    let mut text = open(files, name)?;
-    let ended = run_show(alloc, kind, &mut text.device, output);
+    let ended = run_text(alloc, form, kind, &mut text.device, output);
     let failure = close_read(files, text);
     name_failure(ended, failure)
 }

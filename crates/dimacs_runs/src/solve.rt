@@ -11,7 +11,7 @@ ghost use Rattle.dimacs_runs.specs.declared.outcome.RunError.TheVariants.{Device
 ghost use Rattle.dimacs_runs.specs.Judgings.{CountsDevices};
 ghost use Rattle.dimacs_runs.specs.Outputs.{MayTell, ReportsAll};
 ghost use Rattle.dimacs_runs.specs.inside.Produced.{IsClaimless, MayProduce};
-ghost use Rattle.dimacs_runs.specs.Solved.{AreQueries, FindsPaths, Solved, SolvedMax, SolvedMin, SolvedPaths, solved_kind};
+ghost use Rattle.dimacs_runs.specs.Solved.{AreQueries, FindsPaths, Solved, solved_kind};
 
 use crate::jobs::SolveJob;
 use crate::outcome::{RunError, Status};
@@ -66,7 +66,7 @@ fn produce_maximum<P: Source>(
     limit: u64,
     instance: &mut P,
 ) -> Result<Produced, RunError>
-    ensures produces { (a : List ℕ) → P.coming instance.old ≡ Some a → MayProduce (SolvedMax limit a) result }
+    ensures produces { (a : List ℕ) → P.coming instance.old ≡ Some a → MayProduce (Solved (jobs.Max limit) a []) result }
     ensures faults { CountsDevices result (P.faults instance.old ∷ []) (P.faults instance.new ∷ []) }
 {
     match read::<MaxInstance<PlainArcs<CapacityArc>>, P>(alloc, instance) {
@@ -81,7 +81,7 @@ fn produce_least<P: Source>(
     limit: u64,
     instance: &mut P,
 ) -> Result<Produced, RunError>
-    ensures produces { (a : List ℕ) → P.coming instance.old ≡ Some a → MayProduce (SolvedMin limit a) result }
+    ensures produces { (a : List ℕ) → P.coming instance.old ≡ Some a → MayProduce (Solved (jobs.Min limit) a []) result }
     ensures faults { CountsDevices result (P.faults instance.old ∷ []) (P.faults instance.new ∷ []) }
 {
     match read::<MinInstance<PlainArcs<ArcView>>, P>(alloc, instance) {
@@ -96,7 +96,7 @@ fn produce_labels<P: Source, Q: Source>(
     graph: &mut P,
     queries: &mut Q,
 ) -> Result<Produced, RunError>
-    ensures produces { (a b : List ℕ) → P.coming graph.old ≡ Some a → Q.coming queries.old ≡ Some b → MayProduce (SolvedPaths a b) result }
+    ensures produces { (a b : List ℕ) → P.coming graph.old ≡ Some a → Q.coming queries.old ≡ Some b → MayProduce (Solved jobs.Paths a b) result }
     ensures faults { CountsDevices result (P.faults graph.old ∷ Q.faults queries.old ∷ []) (P.faults graph.new ∷ Q.faults queries.new ∷ []) }
     ensures stops_at_graph { (a : List ℕ) (l f : ℕ) (r : Reason) → P.coming graph.old ≡ Some a → Fault kinds.Graph (lines a) l f r → queries.new ≡ queries.old }
     ensures unclaimed { IfOk result (λ produced. IsClaimless produced.made) }

@@ -3,7 +3,7 @@ use Rattle.std.proofs.lemmas.Result.{err_from_is_err_and}
 use Rattle.dimacs_runs.specs.declared.jobs.JudgeKind.TheVariants as judges
 use Rattle.dimacs_runs.specs.Commands.{Contents, TellsJudged, reads}
 use Rattle.dimacs_runs.specs.Files.{Opened, closed_read}
-use Rattle.dimacs_runs.specs.Judged.{JudgedInfeasible}
+use Rattle.dimacs_runs.specs.Judged.{Judged}
 use Rattle.dimacs_runs.specs.inside.Commands.{named}
 use Rattle.dimacs_runs.proofs.FileLemmas.{sees_then, two_first}
 use Rattle.dimacs_runs.proofs.PlanLemmas.{reports_named, sees_nothing, stops_opening, two_texts, uses_files, without_second}
@@ -39,8 +39,8 @@ returns g c =
           (rw c.or-failure.ensures (two_first c.close_read.result c.close_read-2.result at_instance at_set c.close_read.ensures.failure c.close_read-2.ensures.failure))
           (without_second ended 0 i _ _ (rw (c.in_ok-instance.ensures.faultless, c.in_ok-set.ensures.faultless) at c.run_judge-ended.ensures.faults))
           (two_texts _ _ (λ (texts : List (List ℕ)). TellsJudged judges.Infeasible texts (named ended failure) (old ∷ []) (new ∷ [])) (λ a d first second.
-          reports_named (JudgedInfeasible a d) ended failure old new (c.run_judge-ended.ensures.reports a [] d
-          (c.in_ok-instance.ensures.coming ∙ first) tt
+          reports_named (Judged judges.Infeasible a [] d) ended failure old new (c.run_judge-ended.ensures.reports a [] d
+          (c.in_ok-instance.ensures.coming ∙ first) (λ none. absurd none)
           (c.in_ok-set.ensures.coming ∙ ap (λ (h : Contents). h c.args.set.now) c.in_ok-instance.ensures.holds ∙ second))))
           (λ memory. ap (λ (x : Option (List ℕ)). x ∷ []) (c.run_judge-ended.ensures.memory memory))
           (λ unread. ap (λ (x : Option (List ℕ)). x ∷ []) (c.run_judge-ended.ensures.nothing_written (elim unread [

@@ -4,7 +4,7 @@ use Rattle.dimacs_runs.specs.declared.jobs.SolveJob.TheVariants as solves
 use Rattle.dimacs_runs.specs.Commands.{Contents, TellsSolved, reads_first}
 use Rattle.dimacs_runs.specs.Files.{Created, Opened, closed_read, closed_written}
 use Rattle.dimacs_runs.specs.Outputs.{MayTell}
-use Rattle.dimacs_runs.specs.Solved.{SolvedPaths}
+use Rattle.dimacs_runs.specs.Solved.{Solved}
 use Rattle.dimacs_runs.specs.inside.Commands.{named}
 use Rattle.dimacs_runs.proofs.FileLemmas.{sees_then, three_first}
 use Rattle.dimacs_runs.proofs.PlanLemmas.{reports_all_named, sees_nothing, stops_creating, stops_opening, two_texts, uses_files, without_third}
@@ -52,7 +52,7 @@ returns g c =
           (rw (c.or-failure.ensures, c.or.ensures) (three_first c.close_read.result c.close_read-2.result c.close_written.result at_graph at_queries at_labels c.close_read.ensures.failure c.close_read-2.ensures.failure c.close_written.ensures.failure))
           (without_third ended 0 0 i j _ _ (rw (c.in_ok-graph.ensures.faultless, c.in_ok-queries.ensures.faultless, c.in_ok-labels.ensures.faultless) at c.run_solve-ended.ensures.faults))
           (two_texts _ _ (λ (texts : List (List ℕ)). TellsSolved solves.Paths texts (named ended failure) (g.F.Files.empty ∷ old ∷ []) (written ∷ new ∷ [])) (λ a b first second.
-          reports_all_named (MayTell (SolvedPaths a b)) ended failure (None ∷ g.F.Files.empty ∷ old ∷ []) (None ∷ written ∷ new ∷ []) (rw c.in_ok-labels.ensures.empty at (c.run_solve-ended.ensures.reports a b
+          reports_all_named (MayTell (Solved solves.Paths a b)) ended failure (None ∷ g.F.Files.empty ∷ old ∷ []) (None ∷ written ∷ new ∷ []) (rw c.in_ok-labels.ensures.empty at (c.run_solve-ended.ensures.reports a b
           (c.in_ok-graph.ensures.coming ∙ first)
           (c.in_ok-queries.ensures.coming ∙ ap (λ (h : Contents). h c.args.queries.now) c.in_ok-graph.ensures.holds ∙ second)))))
           (λ memory. let same = c.run_solve-ended.ensures.memory memory in rw (same.1, same.2, c.in_ok-labels.ensures.empty) refl)

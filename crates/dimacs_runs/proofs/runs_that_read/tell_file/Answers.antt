@@ -2,11 +2,11 @@ use Rattle.std.proofs.Common.{ℕ, ◌∙◌, List, [], ◌∷◌, Option, Err, 
 use Rattle.std.proofs.lemmas.Result.{err_from_is_err_and}
 use Rattle.dimacs_runs.specs.Commands.{TellsOne, reads}
 use Rattle.dimacs_runs.specs.Files.{closed_read}
-use Rattle.dimacs_runs.specs.Runs.{Converted}
+use Rattle.dimacs_runs.specs.Runs.{Told}
 use Rattle.dimacs_runs.specs.inside.Commands.{named}
 use Rattle.dimacs_runs.proofs.FileLemmas.{one_first}
 use Rattle.dimacs_runs.proofs.PlanLemmas.{one_text, reports_named, sees_nothing, stops_opening, uses_files}
-use Rattle.dimacs_runs.proofs.runs_that_read.convert_file.Goals as goal
+use Rattle.dimacs_runs.proofs.runs_that_read.tell_file.Goals as goal
 
 pub returns-in_err-text : goal.returns-in_err-text
 returns-in_err-text g c =
@@ -15,21 +15,21 @@ returns-in_err-text g c =
 
 pub returns : goal.returns
 returns g c =
-    let ended = c.run_convert-ended.result in
+    let ended = c.run_text-ended.result in
     let failure = c.close_read-failure.result in
     let old = g.K.Sink.accepted c.args.output.now in
-    let new = g.K.Sink.accepted c.run_convert-ended.new.sink in
-    let faults = g.F.Input.Source.faults c.run_convert-ended.new.text in
+    let new = g.K.Sink.accepted c.run_text-ended.new.sink in
+    let faults = g.F.Input.Source.faults c.run_text-ended.new.text in
     let faultless = c.in_ok-text.ensures.faultless in
     record {
       runs = uses_files (reads (c.args.name.now ∷ [])) _ _ _ c.name_failure.result _ _ _ (record { name = c.in_ok-text.text.name.now; faults = faults } ∷ []) [] _ _ _ _ ended failure
           (ap (λ (n : List ℕ). n ∷ []) c.in_ok-text.ensures.named) refl c.in_ok-text.ensures.opened c.close_read-failure.ensures.seen c.name_failure.ensures
           (one_first failure (closed_read c.in_ok-text.text.name.now faults) c.close_read-failure.ensures.failure)
-          (rw faultless at c.run_convert-ended.ensures.faults)
-          (one_text _ (λ (texts : List (List ℕ)). TellsOne (Converted c.args.kind) texts (named ended failure) (old ∷ []) (new ∷ [])) (λ bytes is. reports_named (Converted c.args.kind bytes) ended failure old new (c.run_convert-ended.ensures.reports bytes (c.in_ok-text.ensures.coming ∙ is))))
-          (λ memory. ap (λ (x : Option (List ℕ)). x ∷ []) (c.run_convert-ended.ensures.memory memory))
+          (rw faultless at c.run_text-ended.ensures.faults)
+          (one_text _ (λ (texts : List (List ℕ)). TellsOne (Told c.args.form c.args.kind) texts (named ended failure) (old ∷ []) (new ∷ [])) (λ bytes is. reports_named (Told c.args.form c.args.kind bytes) ended failure old new (c.run_text-ended.ensures.reports bytes (c.in_ok-text.ensures.coming ∙ is))))
+          (λ memory. ap (λ (x : Option (List ℕ)). x ∷ []) (c.run_text-ended.ensures.memory memory))
           (λ unread. elim unread [
-            | inl other ↦ ap (λ (x : Option (List ℕ)). x ∷ []) (c.run_convert-ended.ensures.nothing_written (λ same. other (same ∙ faultless)))
+            | inl other ↦ ap (λ (x : Option (List ℕ)). x ∷ []) (c.run_text-ended.ensures.nothing_written (λ same. other (same ∙ faultless)))
             | inr never ↦ absurd never
           ]);
     }

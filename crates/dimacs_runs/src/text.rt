@@ -1,0 +1,111 @@
+//! What is told of one text: its canonical form, or a line about it.
+
+ghost use Rattle.std.specs.Prelude.{◌≡◌, ◌≢◌, ◌∷◌, [], ℕ, List, Some, Err};
+ghost use Rattle.dimacs_lines.specs.Devices.{CountsFault};
+ghost use Rattle.dimacs_lines.specs.Puts.{Puts};
+ghost use Rattle.dimacs_runs.specs.declared.outcome.RunError.TheVariants.{Memory};
+ghost use Rattle.dimacs_runs.specs.declared.text.TextForm.TheVariants.{Canonical, Summary};
+ghost use Rattle.dimacs_runs.specs.Judgings.{CountsDevices};
+ghost use Rattle.dimacs_runs.specs.Runs.{Reports, TellsText, Told, in_form};
+
+use crate::ending::{done, refuse};
+use crate::outcome::{RunError, Status};
+use crate::refusal::text_name;
+use dimacs_claims::{Cut, Labels, Potentials, Solution};
+use dimacs_instance::{
+    ArcView, CapacityArc, Graph, MaxInstance, MinInstance, PlainArcs, Queries, WeightArc,
+};
+use dimacs_lines::{DeviceFault, Sink, Source};
+use dimacs_records::{Text, TextKind};
+use std::alloc::Global;
+
+/// The form in which a text is told.
+#[derive(Clone, Copy, Debug, PartialEq, Eq)]
+pub enum TextForm {
+    /// Its canonical text.
+    Canonical,
+    /// One line about it.
+    Summary,
+}
+
+/// Puts the canonical text of a text of this kind, or one line that says why it is refused.
+pub fn run_convert<S: Source, K: Sink>(
+    alloc: Global,
+    kind: TextKind,
+    text: &mut S,
+    sink: &mut K,
+) -> Result<Status, RunError>
+    ensures reports { (bytes : List ℕ) → S.coming text.old ≡ Some bytes → Reports (Told Canonical kind bytes) result (K.accepted sink.old) (K.accepted sink.new) }
+    ensures faults { CountsDevices result (S.faults text.old ∷ K.faults sink.old ∷ []) (S.faults text.new ∷ K.faults sink.new ∷ []) }
+    ensures nothing_written { S.faults text.new ≢ S.faults text.old → K.accepted sink.new ≡ K.accepted sink.old }
+    ensures memory { result ≡ Err Memory → K.accepted sink.new ≡ K.accepted sink.old }
+{
+    run_text(alloc, TextForm::Canonical, kind, text, sink)
+}
+
+/// Puts one line about a text of this kind, or one line that says why it is refused.
+pub fn run_show<S: Source, K: Sink>(
+    alloc: Global,
+    kind: TextKind,
+    text: &mut S,
+    sink: &mut K,
+) -> Result<Status, RunError>
+    ensures reports { (bytes : List ℕ) → S.coming text.old ≡ Some bytes → Reports (Told Summary kind bytes) result (K.accepted sink.old) (K.accepted sink.new) }
+    ensures faults { CountsDevices result (S.faults text.old ∷ K.faults sink.old ∷ []) (S.faults text.new ∷ K.faults sink.new ∷ []) }
+    ensures nothing_written { S.faults text.new ≢ S.faults text.old → K.accepted sink.new ≡ K.accepted sink.old }
+    ensures memory { result ≡ Err Memory → K.accepted sink.new ≡ K.accepted sink.old }
+{
+    run_text(alloc, TextForm::Summary, kind, text, sink)
+}
+
+/// Puts a text of this kind in this form, or one line that says why it is refused.
+pub(crate) fn run_text<S: Source, K: Sink>(
+    alloc: Global,
+    form: TextForm,
+    kind: TextKind,
+    text: &mut S,
+    sink: &mut K,
+) -> Result<Status, RunError>
+    ensures reports { (bytes : List ℕ) → S.coming text.old ≡ Some bytes → Reports (Told form kind bytes) result (K.accepted sink.old) (K.accepted sink.new) }
+    ensures faults { CountsDevices result (S.faults text.old ∷ K.faults sink.old ∷ []) (S.faults text.new ∷ K.faults sink.new ∷ []) }
+    ensures nothing_written { S.faults text.new ≢ S.faults text.old → K.accepted sink.new ≡ K.accepted sink.old }
+    ensures memory { result ≡ Err Memory → K.accepted sink.new ≡ K.accepted sink.old }
+{
+    match kind {
+        TextKind::Max => tell::<MaxInstance<PlainArcs<CapacityArc>>, S, K>(alloc, form, text, sink),
+        TextKind::Min => tell::<MinInstance<PlainArcs<ArcView>>, S, K>(alloc, form, text, sink),
+        TextKind::Graph => tell::<Graph<PlainArcs<WeightArc>>, S, K>(alloc, form, text, sink),
+        TextKind::Queries => tell::<Queries, S, K>(alloc, form, text, sink),
+        TextKind::Solution => tell::<Solution, S, K>(alloc, form, text, sink),
+        TextKind::Cut => tell::<Cut, S, K>(alloc, form, text, sink),
+        TextKind::Potentials => tell::<Potentials, S, K>(alloc, form, text, sink),
+        TextKind::Labels => tell::<Labels, S, K>(alloc, form, text, sink),
+    }
+}
+
+fn tell<T: Text, S: Source, K: Sink>(
+    alloc: Global,
+    form: TextForm,
+    text: &mut S,
+    sink: &mut K,
+) -> Result<Status, RunError>
+    ensures reports { (bytes : List ℕ) → S.coming text.old ≡ Some bytes → Reports (TellsText T.kind T.spells (in_form form T.canonical T.shown) bytes) result (K.accepted sink.old) (K.accepted sink.new) }
+    ensures faults { CountsDevices result (S.faults text.old ∷ K.faults sink.old ∷ []) (S.faults text.new ∷ K.faults sink.new ∷ []) }
+    ensures nothing_written { S.faults text.new ≢ S.faults text.old → K.accepted sink.new ≡ K.accepted sink.old }
+    ensures memory { result ≡ Err Memory → K.accepted sink.new ≡ K.accepted sink.old }
+{
+    match T::read(alloc, text) {
+        Ok(value) => done(put(&value, form, sink)),
+        Err(error) => refuse(error, text_name(T::kind()), sink),
+    }
+}
+
+fn put<T: Text, K: Sink>(value: &T, form: TextForm, sink: &mut K) -> Result<(), DeviceFault>
+    ensures puts { Puts result (K.accepted sink.old) (in_form form T.canonical T.shown (T.said value.now)) (K.accepted sink.new) }
+    ensures fault { CountsFault result (K.faults sink.old) (K.faults sink.new) }
+{
+    match form {
+        TextForm::Canonical => value.write(sink),
+        TextForm::Summary => value.show(sink),
+    }
+}
