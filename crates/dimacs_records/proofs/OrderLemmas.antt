@@ -1,10 +1,10 @@
 -- The first fault, by what is told of the earlier records.
-use Rattle.std.proofs.Common.{◌≡◌, ◌++◌, ◌∷◌, [], List, Bool, Option, Some, None, Ok, Err, refl, ap₂, ◌∙◌}
+use Rattle.std.proofs.Common.{◌≡◌, ◌++◌, ◌∷◌, [], List, Bool, false, true, Option, Some, None, Ok, Err, refl, ap₂, ◌∙◌}
 use Rattle.std.specs.Prelude.{◌&&◌, ◌||◌, not, is_none, is_some, if◌then◌else◌}
 use Rattle.dimacs_records.specs.declared.kinds.TextKind.{TextKind}
 use Rattle.dimacs_records.specs.declared.order.Earlier.{Earlier}
 use Rattle.dimacs_records.specs.declared.records.Record.{Record}
-use Rattle.dimacs_records.specs.declared.records.Record.TheVariants.{LabelsNode}
+use Rattle.dimacs_records.specs.declared.records.Record.TheVariants.{CutProblem, GraphProblem, LabelsNode, LabelsProblem, MaxProblem, MinProblem, PotentialsProblem, QueriesProblem}
 use Rattle.dimacs_records.specs.declared.reasons.Reason.{Reason}
 use Rattle.dimacs_records.specs.declared.reasons.Reason.TheVariants.{ProblemMissing, ProblemTwice, RecordOrder, NodeRange, NodeTwice, EndTwice, EndMissing, BoundOrder, TooMany, TooFew, SolutionMissing, SolutionTwice, PredUnknown, PastRadius}
 use Rattle.dimacs_records.specs.declared.faults.LineFault.{LineFault}
@@ -85,3 +85,20 @@ refused_record e before r error t refuses = (refuses before t, refl)
 
 pub taken_record : (e : Earlier) (before after : List Record) (r : Record) → IsToldOf e before r → Passes e r → after ≡ before ++ r ∷ [] → TakesRecord before r (Ok tt) after
 taken_record e before after r t p same = (allowed_told e before r p t, same)
+
+-- the first record of a text that begins with a problem line
+pub first_missing : (r : Record) → is_problem r ≡ false → needs_problem (kind_of r) ≡ true → IsFirstCondition [] r (record { field = 0; reason = ProblemMissing })
+first_missing r other needs = is_first_condition [] r (record { field = 0; reason = ProblemMissing }) (rw (needs, other) refl)
+
+pub first_allowed : (r : Record) → is_problem r ≡ true → IsAllowed [] r
+first_allowed (MaxProblem n m) h = is_allowed [] (MaxProblem n m) refl
+first_allowed (MinProblem n m) h = is_allowed [] (MinProblem n m) refl
+first_allowed (GraphProblem n m) h = is_allowed [] (GraphProblem n m) refl
+first_allowed (QueriesProblem asks k) h = is_allowed [] (QueriesProblem asks k) refl
+first_allowed (CutProblem n k) h = is_allowed [] (CutProblem n k) refl
+first_allowed (PotentialsProblem n k) h = is_allowed [] (PotentialsProblem n k) refl
+first_allowed (LabelsProblem n k) h = is_allowed [] (LabelsProblem n k) refl
+first_allowed r h = absurd (cc)
+
+pub none_at_end : (kind : TextKind) → needs_problem kind ≡ true → FirstAtEnd kind [] ProblemMissing
+none_at_end kind needs = is_first_at_end kind [] ProblemMissing (rw needs refl)

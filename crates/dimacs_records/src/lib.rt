@@ -6,6 +6,7 @@
 #![tactic(auto)]
 
 mod canonical;
+mod counted;
 mod driver;
 mod faults;
 mod field_reader;
@@ -21,6 +22,7 @@ mod records;
 mod text;
 
 pub use canonical::{put_record, write_record};
+pub use counted::{Begun, CountedReading};
 pub use driver::read_text;
 pub use faults::{At, LineFault, ReadError, TakeError};
 pub use field_reader::{MAX_COUNT, MAX_NODES};

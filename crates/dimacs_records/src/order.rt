@@ -259,7 +259,7 @@ fn wants_problem(said: Record) -> bool
 
 /// A problem line.
 #[inline(always)]
-fn declares(said: Record) -> bool
+pub(crate) fn declares(said: Record) -> bool
     ensures { result ≡ is_problem said }
 {
     match said {

@@ -1,0 +1,16 @@
+use Rattle.std.proofs.Common.{◌≡◌, ◌∙◌, ap, true, [], sym}
+use Rattle.std.proofs.lemmas.Result.{err_from_is_err_and}
+use Rattle.dimacs_records.specs.Conditions.{needs_problem}
+use Rattle.dimacs_records.specs.Readings.{records_of}
+use Rattle.dimacs_records.specs.Spelling.{kind_of}
+use Rattle.dimacs_records.proofs.counted.CountedReadingReading.take.Goals as goal
+
+pub returns-in_err-test_first-in-None-clause-refused : goal.returns-in_err-test_first-in-None-clause-refused
+returns-in_err-test_first-in-None-clause-refused g c =
+    let p = err_from_is_err_and c.from_residual-in_err-test_first-in-None.result c.from_residual-in_err-test_first-in-None.ensures.1 in
+    let needs : needs_problem (kind_of c.args.said) ≡ true = ap needs_problem c.requires.of_kind.spelled.for_kind ∙ g.met.B.Begun.has_problem in
+    rw (p.1, p.2) (λ rs h. let none : records_of rs ≡ [] = rw c.in-None.is at h in rw none (c.in_err-test_first-in-None.ensures.refused needs))
+
+pub returns-in_ok-test_first-in-None-clause-allowed : goal.returns-in_ok-test_first-in-None-clause-allowed
+returns-in_ok-test_first-in-None-clause-allowed g c = λ rs h.
+    let none : records_of rs ≡ [] = rw c.in-None.is at h in rw none c.in_ok-test_first-in-None.ensures.allowed

@@ -1,0 +1,136 @@
+//! Texts that begin with a problem line: one reading for all of their kinds.
+
+ghost use Rattle.std.specs.Prelude.{◌≡◌, ◌++◌, ◌∷◌, [], List, None, IfErr, IfOk, OnOk, OnErr, true};
+ghost use Rattle.dimacs_records.specs.declared.kinds.TextKind.{TextKind};
+ghost use Rattle.dimacs_records.specs.declared.order.Earlier.{Earlier};
+ghost use Rattle.dimacs_records.specs.declared.records.Record.{Record};
+ghost use Rattle.dimacs_records.specs.Conditions.{needs_problem};
+ghost use Rattle.dimacs_records.specs.Earlier.{is_problem};
+ghost use Rattle.dimacs_records.specs.Readings.{LineRecord, IsAllowed, IsOfKind, RefusesRecord, records_of};
+ghost use Rattle.dimacs_records.specs.Spelling.{kind_of};
+ghost use Rattle.dimacs_records.specs.Takings.{StandsFor};
+ghost use Rattle.dimacs_records.specs.Tests.{IsToldOf, Passes, PassesEnd, TellsEnd};
+
+use crate::faults::TakeError;
+use crate::kinds::TextKind;
+use crate::order::{Earlier, declares, test_end, test_record};
+use crate::reading::Reading;
+use crate::reasons::Reason;
+use crate::records::Record;
+use dimacs_lines::Memory;
+use std::alloc::Global;
+
+/// What a text says from its problem line on, as far as it was read.
+pub trait Begun: Drop {
+    type Value;
+
+    ghost kind: { TextKind };
+
+    /// These records may have been taken.
+    ghost begun_by: { Self → List Record → Type 0 };
+
+    /// What they say of one more.
+    ghost told: { Self → Record → Earlier };
+
+    /// What they say of the end.
+    ghost told_end: { Self → Earlier };
+
+    /// The value that the records of a text give.
+    ghost gives: { List LineRecord → Self.Value → Type 0 };
+
+    fn kind() -> TextKind
+        ensures { result ≡ kind };
+
+    /// What a problem line begins.
+    fn begin(alloc: Global, problem: Record) -> Self
+        requires of_kind { IsOfKind kind problem }
+        requires declares { is_problem problem ≡ true }
+        ensures { begun_by result (problem ∷ []) };
+
+    /// What the records that were taken say of one more.
+    fn before(&self, said: Record) -> Earlier
+        requires { IsOfKind kind said }
+        ensures told { result ≡ told self.now said }
+        ensures so { (rs : List Record) → begun_by self.now rs → IsToldOf result rs said };
+
+    /// Keeps a record that no test refuses.
+    fn keep(&mut self, said: Record) -> Result<(), Memory>
+        requires of_kind { IsOfKind kind said }
+        requires passes { Passes (told self.old said) said }
+        ensures kept { OnOk result ((rs : List Record) → begun_by self.old rs → begun_by self.new (rs ++ said ∷ [])) }
+        ensures unchanged { OnErr result (self.new ≡ self.old) };
+
+    /// What the records that were taken say of the end.
+    fn before_end(&self) -> Earlier
+        ensures told { result ≡ told_end self.now }
+        ensures so { (rs : List Record) → begun_by self.now rs → TellsEnd kind result rs };
+
+    /// The value of all records, which no test refuses.
+    fn value(self) -> Result<Self::Value, Memory>
+        requires { PassesEnd kind (told_end self) }
+        ensures { IfOk result (λ value. (rs : List LineRecord) → begun_by self (records_of rs) → gives rs value) };
+
+    /// Texts of the kind begin with a problem line.
+    ghost has_problem: { needs_problem kind ≡ true };
+}
+
+/// Makes a value of the records of a text that begins with a problem line.
+#[derive(Drop)]
+pub struct CountedReading<B: Begun> {
+    alloc: Global,
+    begun: Option<B>,
+}
+
+impl<B: Begun> CountedReading<B> {
+    pub fn new(alloc: Global) -> CountedReading<B>
+        ensures { result.begun ≡ None }
+    {
+        CountedReading { alloc, begun: None }
+    }
+}
+
+impl<B: Begun> Reading for CountedReading<B> {
+    type Value = B::Value;
+
+    ghost kind = { λ reading. B.kind };
+
+    ghost stands_for = { λ reading rs. StandsFor B.begun_by reading.begun (records_of rs) };
+
+    ghost gives = { λ rs value. B.gives rs value };
+
+    #[inline(always)]
+    fn take(&mut self, _line: u64, said: Record) -> Result<(), TakeError> {
+        match &mut self.begun {
+            Some(begun) => {
+                test_record(begun.before(said), said)?;
+                begun.keep(said)?;
+            }
+            None => {
+                test_first(said)?;
+                self.begun = Some(B::begin(self.alloc, said));
+            }
+        }
+        Ok(())
+    }
+
+    fn finish(self) -> Result<B::Value, TakeError> {
+        let Some(begun) = self.begun else {
+            return Err(TakeError::refused(0, Reason::ProblemMissing));
+        };
+        test_end(B::kind(), begun.before_end())?;
+        Ok(begun.value()?)
+    }
+}
+
+/// Tests the first record of a text that begins with a problem line.
+fn test_first(said: Record) -> Result<(), TakeError>
+    ensures problem { OnOk result (is_problem said ≡ true) }
+    ensures allowed { OnOk result (IsAllowed [] said) }
+    ensures refused { IfErr result (λ error. needs_problem (kind_of said) ≡ true → RefusesRecord [] said error) }
+{
+    if declares(said) {
+        Ok(())
+    } else {
+        Err(TakeError::refused(0, Reason::ProblemMissing))
+    }
+}
