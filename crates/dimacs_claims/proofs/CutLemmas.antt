@@ -19,7 +19,8 @@ use Rattle.dimacs_records.specs.declared.records.Record.TheVariants.{CutProblem,
 use Rattle.dimacs_records.specs.Earlier.{names, counted_in, is_short}
 use Rattle.dimacs_records.specs.Canonical.{CanBeSpelled}
 use Rattle.dimacs_records.specs.Forms.{form, Word, Nodes, Count, Id}
-use Rattle.dimacs_records.specs.Readings.{LineRecord, records_of, IsAllowed, IsComplete}
+use Rattle.dimacs_records.specs.Readings.{LineRecord, records_of, IsAllowed, IsComplete, IsOfKind}
+use Rattle.dimacs_records.proofs.FitLaws.{fits_of}
 use Rattle.dimacs_records.specs.inside.Texts.{AreFaultless}
 use Rattle.dimacs_records.proofs.CanonicalLaws.{canonical_spelled, numbered_all}
 use Rattle.dimacs_records.proofs.ConditionLemmas.{is_allowed, is_complete, allowed_at}
@@ -28,8 +29,8 @@ use Rattle.dimacs_claims.specs.Cuts.{CutValue, IsCut, AreNamed, GivesCut, Spells
 use Rattle.dimacs_records.specs.Ranges.{IsNode}
 use Rattle.dimacs_records.specs.Tests.{Counts, Passes, PassesEnd, IsToldOf, TellsEnd}
 use Rattle.dimacs_claims.specs.CutReading.{CutBegun, IsCutBegunBy}
-use Rattle.dimacs_claims.specs.inside.CutReading.{earlier_lines, is_named}
-use Rattle.dimacs_records.specs.Takings.{StandsFor}
+use Rattle.dimacs_claims.specs.inside.CutReading.{after_lines, before}
+use Rattle.dimacs_records.specs.Spelling.{kind_of}
 use Rattle.dimacs_claims.proofs.NodeLists.{passing, passing_once, passing_few, none_passing, All-passing, passing_below, passing_listed, passing_more}
 use Rattle.dimacs_records.proofs.CountLemmas.{once_before, once_more}
 
@@ -89,39 +90,41 @@ law_with_node c id law node = record { nodes_few = law.nodes_few; within = λ ot
     by_test other false apart e = law.within other (sym (ap (λ b. b || contains c.ids other) apart) ∙ e)
 
 -- what is told of the records is so
-counts : (o : Option CutBegun) (rs : List Record) → StandsFor IsCutBegunBy o rs → Counts (earlier_lines o).problem (earlier_lines o).counted rs
-counts None rs h = rw h (record { problem_is = refl; counted_is = refl })
-counts (Some b) rs h = rw h.records (record { problem_is = refl; counted_is = counted h.named ∙ sym h.count })
+counts : (b : CutBegun) (rs : List Record) → IsCutBegunBy b rs → Counts (after_lines b).problem (after_lines b).counted rs
+counts b rs h = rw h.records (record { problem_is = refl; counted_is = counted h.named ∙ sym h.count })
 
-named_told : (o : Option CutBegun) (rs : List Record) (id : ℕ) → StandsFor IsCutBegunBy o rs → list_any (names id) rs ≡ is_named o id
-named_told None rs id h = rw h refl
-named_told (Some b) rs id h = rw h.records (any_names id h.named ∙ sym (contains_named b.cut.ids h.named id h.ids))
+named_told : (b : CutBegun) (rs : List Record) (id : ℕ) → IsCutBegunBy b rs → list_any (names id) rs ≡ contains b.cut.ids id
+named_told b rs id h = rw h.records (any_names id h.named ∙ sym (contains_named b.cut.ids h.named id h.ids))
 
-pub problem_tells : (o : Option CutBegun) (n k : ℕ) (rs : List Record) → StandsFor IsCutBegunBy o rs → IsToldOf (earlier_lines o) rs (CutProblem n k)
-problem_tells o n k rs h = record { counts = counts o rs h; misplaced = refl; named = refl; end_named = refl; lacks_end = refl; block_full = refl; block_short = refl; valued = refl; pred_unknown = refl; past_radius = refl }
+pub tells : (b : CutBegun) (r : Record) → kind_of r ≡ kinds.Cut → (rs : List Record) → IsCutBegunBy b rs → IsToldOf (before b r) rs r
+tells b (CutProblem n k) of_kind rs h = record { counts = counts b rs h; misplaced = refl; named = refl; end_named = refl; lacks_end = refl; block_full = refl; block_short = refl; valued = refl; pred_unknown = refl; past_radius = refl }
+tells b (CutNode id) of_kind rs h = record { counts = counts b rs h; misplaced = refl; named = named_told b rs id h; end_named = refl; lacks_end = refl; block_full = refl; block_short = refl; valued = refl; pred_unknown = refl; past_radius = refl }
+tells b r of_kind rs h = absurd (cc)
 
-pub node_tells : (o : Option CutBegun) (id : ℕ) (rs : List Record) → StandsFor IsCutBegunBy o rs → IsToldOf (record (earlier_lines o) { named = is_named o id }) rs (CutNode id)
-node_tells o id rs h = record { counts = counts o rs h; misplaced = refl; named = named_told o rs id h; end_named = refl; lacks_end = refl; block_full = refl; block_short = refl; valued = refl; pred_unknown = refl; past_radius = refl }
+pub end_tells : (b : CutBegun) (rs : List Record) → IsCutBegunBy b rs → TellsEnd kinds.Cut (after_lines b) rs
+end_tells b rs h = record { counts = counts b rs h; lacks_end = refl; unfinished = ap₂ is_short (counts b rs h).problem_is (counts b rs h).counted_is; valued = refl }
 
-pub end_tells : (o : Option CutBegun) (rs : List Record) → StandsFor IsCutBegunBy o rs → TellsEnd kinds.Cut (earlier_lines o) rs
-end_tells o rs h = record { counts = counts o rs h; lacks_end = refl; unfinished = ap₂ is_short (counts o rs h).problem_is (counts o rs h).counted_is; valued = refl }
+-- what a spelled line has
+pub spelled_problem : (n k : ℕ) → IsOfKind kinds.Cut (CutProblem n k) → n ≤ most_nodes
+spelled_problem n k h = let fits = fits_of kinds.Cut (CutProblem n k) (Word (codes "cut") ∷ Nodes ∷ Count ∷ []) h refl in omega (arith, ints, fits.1.0.1)
+
+pub spelled_node : (id : ℕ) → IsOfKind kinds.Cut (CutNode id) → 1 ≤ id
+spelled_node id h = let fits = fits_of kinds.Cut (CutNode id) (Id ∷ []) h refl in omega (arith, ints, fits.0.0)
 
 -- a problem line begins a set
-pub begins : (o : Option CutBegun) (n k : ℕ) → n ≤ most_nodes → Passes (earlier_lines o) (CutProblem n k) → (rs : List Record) → StandsFor IsCutBegunBy o rs
-    → IsCutBegunBy (record { declared = k; cut = empty_cut n }) (rs ++ CutProblem n k ∷ [])
-begins None n k few p rs h = record {
+pub begins : (n k : ℕ) → n ≤ most_nodes → IsCutBegunBy (record { declared = k; cut = empty_cut n }) (CutProblem n k ∷ [])
+begins n k few = record {
   named = [];
   are_named = record { within = All-nil (IsNode n); once = λ id. omega arith };
   ids = refl;
   count = no_nodes n;
   no_more = omega arith;
   is_cut = empty_law n few;
-  records = ap (λ rs. rs ++ CutProblem n k ∷ []) h;
+  records = refl;
 }
-begins (Some b) n k few p rs h = absurd (cc (p.one_problem))
 
 -- a node that passes the tests is one more
-more : (b : CutBegun) (id : ℕ) → 1 ≤ id → Passes (record (earlier_lines (Some b)) { named = is_named (Some b) id }) (CutNode id) → (rs : List Record) → IsCutBegunBy b rs
+pub more : (b : CutBegun) (id : ℕ) → 1 ≤ id → Passes (before b (CutNode id)) (CutNode id) → (rs : List Record) → IsCutBegunBy b rs
     → IsCutBegunBy (record b { cut = with_node b.cut id }) (rs ++ CutNode id ∷ [])
 more b id least p rs h =
     let node : IsNode b.cut.nodes id = (least, grind (arith, nat_tests, p.second_within)) in
@@ -137,15 +140,9 @@ more b id least p rs h =
       records = ap (λ rs. rs ++ CutNode id ∷ []) h.records ∙ ap (λ rs. CutProblem b.cut.nodes b.declared ∷ rs) (sym (map-append CutNode h.named (id ∷ [])));
     }
 
-pub adds : (o : Option CutBegun) (b : CutBegun) (id : ℕ) → o ≡ Some b → 1 ≤ id → Passes (record (earlier_lines o) { named = is_named o id }) (CutNode id) → (rs : List Record) → StandsFor IsCutBegunBy o rs
-    → IsCutBegunBy (record b { cut = with_node b.cut id }) (rs ++ CutNode id ∷ [])
-adds o b id is least p rs h = more b id least (rw is at p) rs (rw is at h)
-
 -- what was begun and is whole gives its set
-pub gives_cut : (o : Option CutBegun) (b : CutBegun) → o ≡ Some b → PassesEnd kinds.Cut (earlier_lines o) → (rs : List LineRecord) → StandsFor IsCutBegunBy o (records_of rs) → GivesCut rs b.cut
-gives_cut o b is passes rs stands =
-    let p : PassesEnd kinds.Cut (earlier_lines (Some b)) = rw is at passes in
-    let h : IsCutBegunBy b (records_of rs) = rw is at stands in
+pub gives_cut : (b : CutBegun) → PassesEnd kinds.Cut (after_lines b) → (rs : List LineRecord) → IsCutBegunBy b (records_of rs) → GivesCut rs b.cut
+gives_cut b p rs h =
     let full : b.declared ≡ length h.named = grind (arith, nat_tests, p.finished, h.count, h.no_more) in
     record { named = h.named; are_named = h.are_named; ids = h.ids; records = h.records ∙ ap (λ k. cut_records b.cut.nodes k h.named) full; is_cut = h.is_cut }
 

@@ -18,7 +18,7 @@ use Rattle.dimacs_records.specs.declared.records.Record.TheVariants.{PotentialsP
 use Rattle.dimacs_records.specs.Earlier.{names, counted_in, is_short}
 use Rattle.dimacs_records.specs.Canonical.{CanBeSpelled}
 use Rattle.dimacs_records.specs.Forms.{form, Word, Nodes, Count, Id, Wide}
-use Rattle.dimacs_records.specs.Readings.{LineRecord, records_of, IsAllowed, IsComplete}
+use Rattle.dimacs_records.specs.Readings.{LineRecord, records_of, IsAllowed, IsComplete, IsOfKind}
 use Rattle.dimacs_records.specs.inside.Texts.{AreFaultless}
 use Rattle.dimacs_records.proofs.CanonicalLaws.{canonical_spelled, numbered_all}
 use Rattle.dimacs_records.proofs.ConditionLemmas.{is_allowed, is_complete, allowed_at}
@@ -28,9 +28,10 @@ use Rattle.dimacs_records.specs.Ranges.{IsNode, IsWide}
 use Rattle.dimacs_claims.specs.Potentials.{PotentialsValue, ArePotentials, GivesPotentials, SpellsPotentials, canonical_potentials, node_line, nonzero_ids, potential_of, potentials_records, with_values, zero_potentials}
 use Rattle.dimacs_records.specs.NodeValues.{NameNodes, has_value, is_nonzero, is_of, without_zeros}
 use Rattle.dimacs_claims.specs.PotentialsReading.{PotentialsBegun, ArePotentialsBegunBy, potentials_begun}
-use Rattle.dimacs_claims.specs.inside.PotentialsReading.{has_line, earlier_lines, is_named}
+use Rattle.dimacs_claims.specs.inside.PotentialsReading.{after_lines, before, has_line}
 use Rattle.dimacs_records.specs.Tests.{Counts, Passes, PassesEnd, IsToldOf, TellsEnd}
-use Rattle.dimacs_records.specs.Takings.{StandsFor}
+use Rattle.dimacs_records.specs.Spelling.{kind_of}
+use Rattle.dimacs_records.proofs.FitLaws.{fits_of}
 use Rattle.dimacs_claims.proofs.NodeLists.{All-passing, count_map, passing, passing_below, passing_few, passing_listed, passing_once}
 use Rattle.dimacs_records.proofs.CountLemmas.{once_before, same_test}
 use Rattle.dimacs_records.proofs.NameLemmas.{has-from_entries, map_more, named_more, not_zero, without_zeros-named}
@@ -63,53 +64,51 @@ allows_problem : (n k : ℕ) → IsAllowed [] (PotentialsProblem n k)
 allows_problem n k = is_allowed [] (PotentialsProblem n k) refl
 
 -- what is told of the records is so
-counts : (o : Option PotentialsBegun) (rs : List Record) → StandsFor ArePotentialsBegunBy o rs → Counts (earlier_lines o).problem (earlier_lines o).counted rs
-counts None rs h = rw h (record { problem_is = refl; counted_is = refl })
-counts (Some b) rs h = rw h.records (record { problem_is = refl; counted_is = counted h.named ∙ sym h.count })
+counts : (b : PotentialsBegun) (rs : List Record) → ArePotentialsBegunBy b rs → Counts (after_lines b).problem (after_lines b).counted rs
+counts b rs h = rw h.records (record { problem_is = refl; counted_is = counted h.named ∙ sym h.count })
 
 has_named : (b : PotentialsBegun) (id : ℕ) {rs : List Record} (h : ArePotentialsBegunBy b rs) → has_line b id ≡ list_any (is_of id) h.named
 has_named b id h = ap (λ m. is_some (get m id)) h.values ∙ has-from_entries h.named id
 
-named_told : (o : Option PotentialsBegun) (rs : List Record) (id : ℕ) → StandsFor ArePotentialsBegunBy o rs → list_any (names id) rs ≡ is_named o id
-named_told None rs id h = rw h refl
-named_told (Some b) rs id h = rw h.records (any_names id h.named ∙ sym (has_named b id h))
+named_told : (b : PotentialsBegun) (rs : List Record) (id : ℕ) → ArePotentialsBegunBy b rs → list_any (names id) rs ≡ has_line b id
+named_told b rs id h = rw h.records (any_names id h.named ∙ sym (has_named b id h))
 
-pub problem_tells : (o : Option PotentialsBegun) (n k : ℕ) (rs : List Record) → StandsFor ArePotentialsBegunBy o rs → IsToldOf (earlier_lines o) rs (PotentialsProblem n k)
-problem_tells o n k rs h = record { counts = counts o rs h; misplaced = refl; named = refl; end_named = refl; lacks_end = refl; block_full = refl; block_short = refl; valued = refl; pred_unknown = refl; past_radius = refl }
+pub tells : (b : PotentialsBegun) (r : Record) → kind_of r ≡ kinds.Potentials → (rs : List Record) → ArePotentialsBegunBy b rs → IsToldOf (before b r) rs r
+tells b (PotentialsProblem n k) of_kind rs h = record { counts = counts b rs h; misplaced = refl; named = refl; end_named = refl; lacks_end = refl; block_full = refl; block_short = refl; valued = refl; pred_unknown = refl; past_radius = refl }
+tells b (PotentialsNode id v) of_kind rs h = record { counts = counts b rs h; misplaced = refl; named = named_told b rs id h; end_named = refl; lacks_end = refl; block_full = refl; block_short = refl; valued = refl; pred_unknown = refl; past_radius = refl }
+tells b r of_kind rs h = absurd (cc)
 
-pub node_tells : (o : Option PotentialsBegun) (id : ℕ) (v : ℤ) (rs : List Record) → StandsFor ArePotentialsBegunBy o rs → IsToldOf (record (earlier_lines o) { named = is_named o id }) rs (PotentialsNode id v)
-node_tells o id v rs h = record { counts = counts o rs h; misplaced = refl; named = named_told o rs id h; end_named = refl; lacks_end = refl; block_full = refl; block_short = refl; valued = refl; pred_unknown = refl; past_radius = refl }
+pub end_tells : (b : PotentialsBegun) (rs : List Record) → ArePotentialsBegunBy b rs → TellsEnd kinds.Potentials (after_lines b) rs
+end_tells b rs h = record { counts = counts b rs h; lacks_end = refl; unfinished = ap₂ is_short (counts b rs h).problem_is (counts b rs h).counted_is; valued = refl }
 
-pub end_tells : (o : Option PotentialsBegun) (rs : List Record) → StandsFor ArePotentialsBegunBy o rs → TellsEnd kinds.Potentials (earlier_lines o) rs
-end_tells o rs h = record { counts = counts o rs h; lacks_end = refl; unfinished = ap₂ is_short (counts o rs h).problem_is (counts o rs h).counted_is; valued = refl }
+-- what a spelled line has
+pub spelled_problem : (n k : ℕ) → IsOfKind kinds.Potentials (PotentialsProblem n k) → n ≤ most_nodes
+spelled_problem n k h = let fits = fits_of kinds.Potentials (PotentialsProblem n k) (Word (codes "pot") ∷ Nodes ∷ Count ∷ []) h refl in omega (arith, ints, fits.1.0.1)
+
+pub spelled_node : (id : ℕ) (v : ℤ) → IsOfKind kinds.Potentials (PotentialsNode id v) → (1 ≤ id) × IsWide v
+spelled_node id v h = let fits = fits_of kinds.Potentials (PotentialsNode id v) (Id ∷ Wide ∷ []) h refl in (omega (arith, ints, fits.0.0), fits.1.0)
 
 -- a problem line begins potentials
-pub begins : (o : Option PotentialsBegun) (n k : ℕ) → Passes (earlier_lines o) (PotentialsProblem n k) → (rs : List Record) → StandsFor ArePotentialsBegunBy o rs
-    → ArePotentialsBegunBy (record { nodes = n; declared = k; taken = 0; values = empty }) (rs ++ PotentialsProblem n k ∷ [])
-begins None n k p rs h = record {
+pub begins : (n k : ℕ) → ArePotentialsBegunBy (record { nodes = n; declared = k; taken = 0; values = empty }) (PotentialsProblem n k ∷ [])
+begins n k = record {
   named = [];
   name_nodes = record { within = All-nil (λ (m : ℕ × ℤ). IsNode n m.0); once = λ id. omega arith };
   values = refl;
   count = refl;
   no_more = omega arith;
-  records = ap (λ rs. rs ++ PotentialsProblem n k ∷ []) h;
+  records = refl;
 }
-begins (Some b) n k p rs h = absurd (cc (p.one_problem))
 
 -- a node that passes the tests is one more
-module _ (o : Option PotentialsBegun) (b : PotentialsBegun) (id : ℕ) (v : ℤ) (is : o ≡ Some b) (least : 1 ≤ id) (passes : Passes (record (earlier_lines o) { named = is_named o id }) (PotentialsNode id v)) where
-  told : Passes (record (earlier_lines (Some b)) { named = is_named (Some b) id }) (PotentialsNode id v)
-  told = rw is at passes
-
+module _ (b : PotentialsBegun) (id : ℕ) (v : ℤ) (least : 1 ≤ id) (told : Passes (before b (PotentialsNode id v)) (PotentialsNode id v)) where
   pub node : IsNode b.nodes id
   node = (least, grind (arith, nat_tests, told.second_within))
 
   pub room : b.taken < b.declared
   room = grind (arith, nat_tests, told.room)
 
-  pub adds : (rs : List Record) → StandsFor ArePotentialsBegunBy o rs → ArePotentialsBegunBy (record b { taken = b.taken + 1; values = insert b.values id v }) (rs ++ PotentialsNode id v ∷ [])
-  adds rs stands =
-      let h : ArePotentialsBegunBy b rs = rw is at stands in
+  pub adds : (rs : List Record) → ArePotentialsBegunBy b rs → ArePotentialsBegunBy (record b { taken = b.taken + 1; values = insert b.values id v }) (rs ++ PotentialsNode id v ∷ [])
+  adds rs h =
       let new : list_any (is_of id) h.named ≡ false = sym (has_named b id h) ∙ told.new_node in
       record {
         named = h.named ++ (id, v) ∷ [];
@@ -121,11 +120,9 @@ module _ (o : Option PotentialsBegun) (b : PotentialsBegun) (id : ℕ) (v : ℤ)
       }
 
 -- potentials that were begun and are whole are given
-pub gives_potentials : (o : Option PotentialsBegun) (b : PotentialsBegun) → o ≡ Some b → ArePotentials (potentials_begun b) → PassesEnd kinds.Potentials (earlier_lines o) → (rs : List LineRecord) → StandsFor ArePotentialsBegunBy o (records_of rs)
+pub gives_potentials : (b : PotentialsBegun) → ArePotentials (potentials_begun b) → PassesEnd kinds.Potentials (after_lines b) → (rs : List LineRecord) → ArePotentialsBegunBy b (records_of rs)
     → GivesPotentials rs (potentials_begun b)
-gives_potentials o b is law passes rs stands =
-    let p : PassesEnd kinds.Potentials (earlier_lines (Some b)) = rw is at passes in
-    let h : ArePotentialsBegunBy b (records_of rs) = rw is at stands in
+gives_potentials b law p rs h =
     let full : b.declared ≡ length h.named = grind (arith, nat_tests, p.finished, h.count, h.no_more) in
     record { named = h.named; name_nodes = h.name_nodes; values = ap without_zeros h.values ∙ without_zeros-named h.named b.nodes h.name_nodes; records = h.records ∙ ap (λ k. potentials_records b.nodes k h.named) full; are_potentials = law }
 

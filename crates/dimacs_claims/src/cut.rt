@@ -1,6 +1,6 @@
 //! Sets of nodes: the source's side of a cut, or a set whose supply can't be met.
 
-ghost use Rattle.std.specs.Prelude.{◌≡◌, ◌≤◌, ◌++◌, ◌∷◌, [], ℕ, List, Option, None, Some, OnOk, OnErr, length, map};
+ghost use Rattle.std.specs.Prelude.{◌≡◌, ◌≤◌, ◌++◌, ◌∷◌, [], ℕ, List, Some, OnOk, OnErr, length, map, refl};
 ghost use Rattle.std.specs.List.{filter};
 ghost use Rattle.std.specs.FinSet as set;
 ghost use Rattle.dimacs_lines.specs.Limits.{most_nodes};
@@ -9,23 +9,20 @@ ghost use Rattle.dimacs_lines.specs.Lines.{lines};
 ghost use Rattle.dimacs_lines.specs.Pages.{Appends, CountsOn};
 ghost use Rattle.dimacs_lines.specs.Puts.{Puts};
 ghost use Rattle.dimacs_records.specs.declared.kinds.TextKind.TheVariants as kinds;
-ghost use Rattle.dimacs_records.specs.declared.records.Record.TheVariants.{CutProblem, CutNode};
+ghost use Rattle.dimacs_records.specs.declared.records.Record.TheVariants.{CutNode};
 ghost use Rattle.dimacs_records.specs.Canonical.{canonical_text};
 ghost use Rattle.dimacs_records.specs.Faults.{Fault};
-ghost use Rattle.dimacs_records.specs.Readings.{CountsRead, records_of};
+ghost use Rattle.dimacs_records.specs.Readings.{CountsRead};
 ghost use Rattle.dimacs_records.specs.Texts.{Reads};
-ghost use Rattle.dimacs_records.specs.Takings.{StandsFor};
-ghost use Rattle.dimacs_records.specs.inside.Takings.{Takes};
 ghost use Rattle.dimacs_claims.specs.Cuts.{CutValue, IsCut, GivesCut, SpellsCut, canonical_cut, empty_cut, ids_in, with_node};
 ghost use Rattle.dimacs_records.specs.Ranges.{IsNode};
 ghost use Rattle.dimacs_claims.specs.CutReading.{IsCutBegunBy};
-ghost use Rattle.dimacs_claims.specs.inside.CutReading.{earlier_lines, is_named};
+ghost use Rattle.dimacs_claims.specs.inside.CutReading.{after_lines, before};
 
 use dimacs_lines::{DeviceFault, Memory, Page, Sink, Source};
 use dimacs_nodes::NodeSet;
 use dimacs_records::{
-    Declared, Earlier, ReadError, Reading, Record, TakeError, TextKind, read_text, test_end,
-    test_record, write_record,
+    Begun, CountedReading, Declared, Earlier, ReadError, Record, TextKind, read_text, write_record,
 };
 use std::alloc::Global;
 use std::marker::Model;
@@ -105,27 +102,11 @@ impl Cut {
 }
 
 /// Makes a set of nodes of the records of a text.
-#[derive(Drop)]
-pub struct CutReading {
-    alloc: Global,
-    begun: Option<BegunCut>,
-}
-
-impl Model for CutReading {
-    ghost use Rattle.std.specs.Prelude.{Option};
-    ghost use Rattle.std.specs.Coded.{coded_option};
-    ghost use Rattle.dimacs_claims.specs.CutReading.{CutBegun, begun_code};
-
-    ghost Value = { Option CutBegun };
-
-    ghost coded = { coded_option begun_code };
-
-    ghost view = { λ reading. reading.begun };
-}
+pub type CutReading = CountedReading<BegunCut>;
 
 /// The nodes that came after the problem line.
 #[derive(Drop)]
-pub(crate) struct BegunCut {
+pub struct BegunCut {
     declared: u32,
     cut: Cut,
 }
@@ -140,95 +121,74 @@ impl Model for BegunCut {
     ghost view = { λ b. record { declared = b.declared; cut = b.cut } };
 }
 
-impl CutReading {
-    pub fn new(alloc: Global) -> CutReading
-        ensures { result ≡ None }
-    {
-        CutReading { alloc, begun: None }
-    }
-
-    /// What the earlier records say of one that names no node.
+impl BegunCut {
+    /// After the problem line and the nodes so far.
     #[inline(always)]
-    fn earlier(&self) -> Earlier
-        ensures { result ≡ earlier_lines self.now }
+    fn lines(&self) -> Earlier
+        ensures { result ≡ after_lines self.now }
     {
-        match &self.begun {
-            Some(begun) => {
-                let nodes = Some(begun.cut.nodes());
-                let count = begun.declared;
-                Earlier::of(Some(Declared { nodes, count }), begun.cut.len())
-            }
-            None => Earlier::of(None, 0),
-        }
-    }
-
-    /// Whether a line named this node.
-    #[inline(always)]
-    fn names(&self, id: u32) -> bool
-        ensures { result ≡ is_named self.now id }
-    {
-        match &self.begun {
-            Some(begun) => begun.cut.contains(id),
-            None => false,
-        }
-    }
-
-    fn start(&mut self, nodes: u32, count: u32) -> Result<(), TakeError>
-        requires { nodes ≤ most_nodes }
-        ensures { Takes IsCutBegunBy self.old (CutProblem nodes count) result self.new }
-    {
-        test_record(self.earlier(), Record::CutProblem { nodes, count })?;
-        self.begun = Some(BegunCut {
-            declared: count,
-            cut: Cut::new(self.alloc, nodes),
-        });
-        Ok(())
-    }
-
-    #[inline(always)]
-    fn add(&mut self, id: u32) -> Result<(), TakeError>
-        requires { 1 ≤ id }
-        ensures { Takes IsCutBegunBy self.old (CutNode id) result self.new }
-    {
-        let named = self.names(id);
-        let earlier = Earlier {
-            named,
-            ..self.earlier()
-        };
-        test_record(earlier, Record::CutNode { id })?;
-        let Some(begun) = &mut self.begun else {
-            unreachable!()
-        };
-        begun.cut.add(id)?;
-        Ok(())
+        let nodes = Some(self.cut.nodes());
+        let count = self.declared;
+        Earlier::of(Some(Declared { nodes, count }), self.cut.len())
     }
 }
 
-impl Reading for CutReading {
+impl Begun for BegunCut {
     type Value = Cut;
 
-    ghost kind = { λ reading. kinds.Cut };
+    ghost kind = { kinds.Cut };
 
-    ghost stands_for = { λ reading rs. StandsFor IsCutBegunBy reading (records_of rs) };
+    ghost begun_by = { λ begun rs. IsCutBegunBy begun rs };
+
+    ghost told = { λ begun r. before begun r };
+
+    ghost told_end = { λ begun. after_lines begun };
 
     ghost gives = { λ rs c. GivesCut rs c };
 
-    #[inline(always)]
-    fn take(&mut self, _line: u64, said: Record) -> Result<(), TakeError> {
-        match said {
-            Record::CutProblem { nodes, count } => self.start(nodes, count),
-            Record::CutNode { id } => self.add(id),
+    fn kind() -> TextKind {
+        TextKind::Cut
+    }
+
+    fn begin(alloc: Global, problem: Record) -> BegunCut {
+        match problem {
+            Record::CutProblem { nodes, count } => BegunCut {
+                declared: count,
+                cut: Cut::new(alloc, nodes),
+            },
             _ => unreachable!(),
         }
     }
 
-    fn finish(self) -> Result<Cut, TakeError> {
-        test_end(TextKind::Cut, self.earlier())?;
-        let Some(begun) = self.begun else {
-            unreachable!()
-        };
-        Ok(begun.cut)
+    #[inline(always)]
+    fn before(&self, said: Record) -> Earlier {
+        match said {
+            Record::CutNode { id } => Earlier {
+                named: self.cut.contains(id),
+                ..self.lines()
+            },
+            Record::CutProblem { .. } => self.lines(),
+            _ => unreachable!(),
+        }
     }
+
+    #[inline(always)]
+    fn keep(&mut self, said: Record) -> Result<(), Memory> {
+        match said {
+            Record::CutNode { id } => self.cut.add(id),
+            _ => unreachable!(),
+        }
+    }
+
+    fn before_end(&self) -> Earlier {
+        self.lines()
+    }
+
+    fn value(self) -> Result<Cut, Memory> {
+        Ok(self.cut)
+    }
+
+    ghost has_problem = { refl };
 }
 
 /// Reads the text of a set of nodes.

@@ -1,6 +1,6 @@
 //! Potentials of nodes.
 
-ghost use Rattle.std.specs.Prelude.{◌≡◌, ◌≤◌, ◌<◌, ◌++◌, ◌∷◌, [], ℕ, List, Option, None, Some, OnOk, OnErr, length, map};
+ghost use Rattle.std.specs.Prelude.{◌≡◌, ◌≤◌, ◌++◌, ◌∷◌, [], ℕ, List, Some, OnOk, OnErr, length, map, refl};
 ghost use Rattle.std.specs.List.{filter};
 ghost use Rattle.dimacs_lines.specs.Limits.{most_nodes};
 ghost use Rattle.dimacs_lines.specs.Devices.{CountsFault};
@@ -8,24 +8,21 @@ ghost use Rattle.dimacs_lines.specs.Lines.{lines};
 ghost use Rattle.dimacs_lines.specs.Pages.{Appends, CountsOn};
 ghost use Rattle.dimacs_lines.specs.Puts.{Puts};
 ghost use Rattle.dimacs_records.specs.declared.kinds.TextKind.TheVariants as kinds;
-ghost use Rattle.dimacs_records.specs.declared.records.Record.TheVariants.{PotentialsProblem, PotentialsNode};
+ghost use Rattle.dimacs_records.specs.declared.records.Record.TheVariants.{PotentialsProblem};
 ghost use Rattle.dimacs_records.specs.Canonical.{canonical_text};
 ghost use Rattle.dimacs_records.specs.Faults.{Fault};
-ghost use Rattle.dimacs_records.specs.Readings.{CountsRead, records_of};
+ghost use Rattle.dimacs_records.specs.Readings.{CountsRead};
 ghost use Rattle.dimacs_records.specs.Texts.{Reads};
-ghost use Rattle.dimacs_records.specs.Takings.{StandsFor};
-ghost use Rattle.dimacs_records.specs.inside.Takings.{Takes};
 ghost use Rattle.dimacs_records.specs.Ranges.{IsNode, IsWide};
 ghost use Rattle.dimacs_claims.specs.Potentials.{PotentialsValue, ArePotentials, GivesPotentials, SpellsPotentials, canonical_potentials, node_line, nonzero_ids, potential_of, with_potential, with_values, zero_potentials};
 ghost use Rattle.dimacs_records.specs.NodeValues.{is_nonzero};
 ghost use Rattle.dimacs_claims.specs.PotentialsReading.{ArePotentialsBegunBy};
-ghost use Rattle.dimacs_claims.specs.inside.PotentialsReading.{earlier_lines, is_named};
+ghost use Rattle.dimacs_claims.specs.inside.PotentialsReading.{after_lines, before};
 
 use dimacs_lines::{DeviceFault, Memory, Page, Sink, Source};
 use dimacs_nodes::WideMap;
 use dimacs_records::{
-    Declared, Earlier, ReadError, Reading, Record, TakeError, TextKind, read_text, test_end,
-    test_record, write_record,
+    Begun, CountedReading, Declared, Earlier, ReadError, Record, TextKind, read_text, write_record,
 };
 use std::alloc::Global;
 use std::marker::Model;
@@ -106,27 +103,11 @@ impl Potentials {
 }
 
 /// Makes potentials of the records of a text.
-#[derive(Drop)]
-pub struct PotentialsReading {
-    alloc: Global,
-    begun: Option<BegunPotentials>,
-}
-
-impl Model for PotentialsReading {
-    ghost use Rattle.std.specs.Prelude.{Option};
-    ghost use Rattle.std.specs.Coded.{coded_option};
-    ghost use Rattle.dimacs_claims.specs.PotentialsReading.{PotentialsBegun, begun_code};
-
-    ghost Value = { Option PotentialsBegun };
-
-    ghost coded = { coded_option begun_code };
-
-    ghost view = { λ reading. reading.begun };
-}
+pub type PotentialsReading = CountedReading<BegunPotentials>;
 
 /// The potentials that came after the problem line.
 #[derive(Drop)]
-pub(crate) struct BegunPotentials {
+pub struct BegunPotentials {
     nodes: u32,
     declared: u32,
     /// The number of lines that came.
@@ -148,102 +129,83 @@ impl Model for BegunPotentials {
     ghost invariant = { λ b. ArePotentials (potentials_begun (record { nodes = b.nodes; declared = b.declared; taken = b.taken; values = b.values })) };
 }
 
-impl PotentialsReading {
-    pub fn new(alloc: Global) -> PotentialsReading
-        ensures { result ≡ None }
-    {
-        PotentialsReading { alloc, begun: None }
-    }
-
-    /// What the earlier records say of one that names no node.
+impl BegunPotentials {
+    /// After the problem line and the lines so far.
     #[inline(always)]
-    fn earlier(&self) -> Earlier
-        ensures { result ≡ earlier_lines self.now }
+    fn lines(&self) -> Earlier
+        ensures { result ≡ after_lines self.now }
     {
-        match &self.begun {
-            Some(begun) => {
-                let nodes = Some(begun.nodes);
-                let count = begun.declared;
-                Earlier::of(Some(Declared { nodes, count }), begun.taken)
-            }
-            None => Earlier::of(None, 0),
-        }
-    }
-
-    /// Whether a line named this node.
-    #[inline(always)]
-    fn names(&self, id: u32) -> bool
-        ensures { result ≡ is_named self.now id }
-    {
-        match &self.begun {
-            Some(begun) => begun.values.get(id).is_some(),
-            None => false,
-        }
-    }
-
-    fn start(&mut self, nodes: u32, count: u32) -> Result<(), TakeError>
-        requires { nodes ≤ most_nodes }
-        ensures { Takes ArePotentialsBegunBy self.old (PotentialsProblem nodes count) result self.new }
-    {
-        test_record(self.earlier(), Record::PotentialsProblem { nodes, count })?;
-        self.begun = Some(BegunPotentials {
-            nodes,
-            declared: count,
-            taken: 0,
-            values: WideMap::new(self.alloc),
-        });
-        Ok(())
-    }
-
-    #[inline(always)]
-    fn add(&mut self, id: u32, value: i128) -> Result<(), TakeError>
-        requires least { 1 ≤ id }
-        requires wide { IsWide value }
-        ensures { Takes ArePotentialsBegunBy self.old (PotentialsNode id value) result self.new }
-    {
-        let named = self.names(id);
-        let earlier = Earlier {
-            named,
-            ..self.earlier()
-        };
-        test_record(earlier, Record::PotentialsNode { id, value })?;
-        let Some(begun) = &mut self.begun else {
-            unreachable!()
-        };
-        begun.values.set(id, value)?;
-        begun.taken += 1;
-        Ok(())
+        let nodes = Some(self.nodes);
+        let count = self.declared;
+        Earlier::of(Some(Declared { nodes, count }), self.taken)
     }
 }
 
-impl Reading for PotentialsReading {
+impl Begun for BegunPotentials {
     type Value = Potentials;
 
-    ghost kind = { λ reading. kinds.Potentials };
+    ghost kind = { kinds.Potentials };
 
-    ghost stands_for = { λ reading rs. StandsFor ArePotentialsBegunBy reading (records_of rs) };
+    ghost begun_by = { λ begun rs. ArePotentialsBegunBy begun rs };
+
+    ghost told = { λ begun r. before begun r };
+
+    ghost told_end = { λ begun. after_lines begun };
 
     ghost gives = { λ rs p. GivesPotentials rs p };
 
-    #[inline(always)]
-    fn take(&mut self, _line: u64, said: Record) -> Result<(), TakeError> {
-        match said {
-            Record::PotentialsProblem { nodes, count } => self.start(nodes, count),
-            Record::PotentialsNode { id, value } => self.add(id, value),
+    fn kind() -> TextKind {
+        TextKind::Potentials
+    }
+
+    fn begin(alloc: Global, problem: Record) -> BegunPotentials {
+        match problem {
+            Record::PotentialsProblem { nodes, count } => BegunPotentials {
+                nodes,
+                declared: count,
+                taken: 0,
+                values: WideMap::new(alloc),
+            },
             _ => unreachable!(),
         }
     }
 
-    fn finish(self) -> Result<Potentials, TakeError> {
-        test_end(TextKind::Potentials, self.earlier())?;
-        let Some(begun) = self.begun else {
-            unreachable!()
-        };
+    #[inline(always)]
+    fn before(&self, said: Record) -> Earlier {
+        match said {
+            Record::PotentialsNode { id, .. } => Earlier {
+                named: self.values.get(id).is_some(),
+                ..self.lines()
+            },
+            Record::PotentialsProblem { .. } => self.lines(),
+            _ => unreachable!(),
+        }
+    }
+
+    #[inline(always)]
+    fn keep(&mut self, said: Record) -> Result<(), Memory> {
+        match said {
+            Record::PotentialsNode { id, value } => {
+                self.values.set(id, value)?;
+                self.taken += 1;
+                Ok(())
+            }
+            _ => unreachable!(),
+        }
+    }
+
+    fn before_end(&self) -> Earlier {
+        self.lines()
+    }
+
+    fn value(self) -> Result<Potentials, Memory> {
         Ok(Potentials {
-            nodes: begun.nodes,
-            values: begun.values,
+            nodes: self.nodes,
+            values: self.values,
         })
     }
+
+    ghost has_problem = { refl };
 }
 
 /// Reads a text of potentials.

@@ -1,20 +1,20 @@
--- Inside: how far potentials have been read, and how such values are stored.
-use Rattle.std.specs.Prelude.{ℕ, Bool, Option, Some, is_some}
+-- Inside: how far potentials have been read.
+use Rattle.std.specs.Prelude.{ℕ, Bool, Some, is_some}
 use Rattle.std.specs.FinMap.{get}
-use Rattle.dimacs_records.specs.declared.order.Declared.{Declared}
 use Rattle.dimacs_records.specs.declared.order.Earlier.{Earlier}
-use Rattle.dimacs_records.specs.inside.Tests.{earlier_begun, is_named_begun}
+use Rattle.dimacs_records.specs.declared.records.Record.{Record}
+use Rattle.dimacs_records.specs.declared.records.Record.TheVariants.{PotentialsNode}
+use Rattle.dimacs_records.specs.Tests.{earlier_of}
 use Rattle.dimacs_claims.specs.PotentialsReading.{PotentialsBegun}
 
 abbrev pub has_line : PotentialsBegun → ℕ → Bool
 has_line begun id = is_some (get begun.values id)
 
-abbrev pub declared_by : PotentialsBegun → Declared
-declared_by begun = record { nodes = Some begun.nodes; count = begun.declared }
+-- after the problem line and the lines so far
+abbrev pub after_lines : PotentialsBegun → Earlier
+after_lines begun = earlier_of (Some (record { nodes = Some begun.nodes; count = begun.declared })) begun.taken
 
--- what the records taken say of one that names no node
-abbrev pub earlier_lines : Option PotentialsBegun → Earlier
-earlier_lines = earlier_begun declared_by (λ (begun : PotentialsBegun). begun.taken)
-
-abbrev pub is_named : Option PotentialsBegun → ℕ → Bool
-is_named = is_named_begun has_line
+-- what the records taken say of one more
+abbrev pub before : PotentialsBegun → Record → Earlier
+before begun (PotentialsNode id value) = record (after_lines begun) { named = has_line begun id }
+before begun r = after_lines begun

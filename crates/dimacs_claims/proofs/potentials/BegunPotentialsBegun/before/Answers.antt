@@ -1,0 +1,12 @@
+use Rattle.std.proofs.Common.{refl}
+use Rattle.dimacs_records.specs.declared.records.Record.TheVariants.{PotentialsNode, PotentialsProblem}
+use Rattle.dimacs_claims.proofs.PotentialsLemmas.{tells}
+use Rattle.dimacs_claims.proofs.potentials.BegunPotentialsBegun.before.Goals as goal
+
+pub returns-in-PotentialsNode-clause-so : goal.returns-in-PotentialsNode-clause-so
+returns-in-PotentialsNode-clause-so c = λ rs h.
+    rw (c.lines.ensures, c.is_some.ensures, c.get.ensures, c.in-PotentialsNode.is, ← c.self.view_is)
+    (tells _ (PotentialsNode c.in-PotentialsNode.id c.in-PotentialsNode.value) refl rs (rw (← c.self.view_is) at h))
+
+pub returns-in-PotentialsProblem-clause-so : goal.returns-in-PotentialsProblem-clause-so
+returns-in-PotentialsProblem-clause-so c = λ rs h. rw (c.lines-in-PotentialsProblem.ensures, c.in-PotentialsProblem.is) (tells _ (PotentialsProblem c.in-PotentialsProblem.nodes c.in-PotentialsProblem.count) refl rs h)
