@@ -1,23 +1,28 @@
 //! Texts that begin with a problem line: one reading for all of their kinds.
 
-ghost use Rattle.std.specs.Prelude.{◌≡◌, ◌++◌, ◌∷◌, [], List, None, IfErr, IfOk, OnOk, OnErr, true};
+ghost use Rattle.std.specs.Prelude.{◌≡◌, ◌++◌, ◌∷◌, [], ℕ, List, None, Some, IfErr, IfOk, OnOk, OnErr, true};
+ghost use Rattle.dimacs_lines.specs.Lines.{lines};
 ghost use Rattle.dimacs_records.specs.declared.kinds.TextKind.{TextKind};
 ghost use Rattle.dimacs_records.specs.declared.order.Earlier.{Earlier};
 ghost use Rattle.dimacs_records.specs.declared.records.Record.{Record};
 ghost use Rattle.dimacs_records.specs.Conditions.{needs_problem};
 ghost use Rattle.dimacs_records.specs.Earlier.{is_problem};
-ghost use Rattle.dimacs_records.specs.Readings.{LineRecord, IsAllowed, IsOfKind, RefusesRecord, records_of};
+ghost use Rattle.dimacs_records.specs.Faults.{Fault};
+ghost use Rattle.dimacs_records.specs.Readings.{CountsRead, LineRecord, IsAllowed, IsOfKind, RefusesRecord, records_of};
 ghost use Rattle.dimacs_records.specs.Spelling.{kind_of};
 ghost use Rattle.dimacs_records.specs.Takings.{StandsFor};
 ghost use Rattle.dimacs_records.specs.Tests.{IsToldOf, Passes, PassesEnd, TellsEnd};
+ghost use Rattle.dimacs_records.specs.Texts.{Reads, SpellsValue};
+ghost use Rattle.dimacs_records.specs.inside.Texts.{AreFaultless};
 
-use crate::faults::TakeError;
+use crate::driver::read_text;
+use crate::faults::{ReadError, TakeError};
 use crate::kinds::TextKind;
 use crate::order::{Earlier, declares, test_end, test_record};
 use crate::reading::Reading;
 use crate::reasons::Reason;
 use crate::records::Record;
-use dimacs_lines::Memory;
+use dimacs_lines::{Memory, Source};
 use std::alloc::Global;
 
 /// What a text says from its problem line on, as far as it was read.
@@ -66,12 +71,18 @@ pub trait Begun: Drop {
         ensures so { (rs : List Record) → begun_by self.now rs → TellsEnd kind result rs };
 
     /// The value of all records, which no test refuses.
-    fn value(self) -> Result<Self::Value, Memory>
+    fn value(self, alloc: Global) -> Result<Self::Value, Memory>
         requires { PassesEnd kind (told_end self) }
         ensures { IfOk result (λ value. (rs : List LineRecord) → begun_by self (records_of rs) → gives rs value) };
 
     /// Texts of the kind begin with a problem line.
     ghost has_problem: { needs_problem kind ≡ true };
+
+    /// Records that give a value are refused for nothing.
+    ghost faultless: { (rs : List LineRecord) (value : Self.Value) → gives rs value → AreFaultless kind (records_of rs) };
+
+    /// Records give one value.
+    ghost one: { (rs : List LineRecord) (value other : Self.Value) → gives rs value → gives rs other → value ≡ other };
 }
 
 /// Makes a value of the records of a text that begins with a problem line.
@@ -114,12 +125,24 @@ impl<B: Begun> Reading for CountedReading<B> {
     }
 
     fn finish(self) -> Result<B::Value, TakeError> {
+        let alloc = self.alloc;
         let Some(begun) = self.begun else {
             return Err(TakeError::refused(0, Reason::ProblemMissing));
         };
         test_end(B::kind(), begun.before_end())?;
-        Ok(begun.value()?)
+        Ok(begun.value(alloc)?)
     }
+}
+
+/// Reads a text of the kind.
+pub fn read_counted<B: Begun, S: Source>(
+    alloc: Global,
+    source: &mut S,
+) -> Result<B::Value, ReadError>
+    ensures reads { (text : List ℕ) → S.coming source.old ≡ Some text → Reads (SpellsValue B.kind B.gives (lines text)) (Fault B.kind (lines text)) result }
+    ensures device { CountsRead result (S.faults source.old) (S.faults source.new) }
+{
+    read_text(alloc, B::kind(), CountedReading::<B>::new(alloc), source)
 }
 
 /// Tests the first record of a text that begins with a problem line.

@@ -22,7 +22,7 @@ mod records;
 mod text;
 
 pub use canonical::{put_record, write_record};
-pub use counted::{Begun, CountedReading};
+pub use counted::{Begun, CountedReading, read_counted};
 pub use driver::read_text;
 pub use faults::{At, LineFault, ReadError, TakeError};
 pub use field_reader::{MAX_COUNT, MAX_NODES};
