@@ -22,7 +22,7 @@ ghost use Rattle.dimacs_claims.specs.inside.CutReading.{after_lines, before};
 use dimacs_lines::{DeviceFault, Memory, Page, Sink, Source};
 use dimacs_nodes::NodeSet;
 use dimacs_records::{
-    Begun, CountedReading, Declared, Earlier, ReadError, Record, TextKind, read_text, write_record,
+    Begun, CountedReading, Declared, Earlier, ReadError, Record, TextKind, read_counted, write_record,
 };
 use std::alloc::Global;
 use std::marker::Model;
@@ -121,18 +121,6 @@ impl Model for BegunCut {
     ghost view = { λ b. record { declared = b.declared; cut = b.cut } };
 }
 
-impl BegunCut {
-    /// After the problem line and the nodes so far.
-    #[inline(always)]
-    fn lines(&self) -> Earlier
-        ensures { result ≡ after_lines self.now }
-    {
-        let nodes = Some(self.cut.nodes());
-        let count = self.declared;
-        Earlier::of(Some(Declared { nodes, count }), self.cut.len())
-    }
-}
-
 impl Begun for BegunCut {
     type Value = Cut;
 
@@ -165,9 +153,9 @@ impl Begun for BegunCut {
         match said {
             Record::CutNode { id } => Earlier {
                 named: self.cut.contains(id),
-                ..self.lines()
+                ..self.before_end()
             },
-            Record::CutProblem { .. } => self.lines(),
+            Record::CutProblem { .. } => self.before_end(),
             _ => unreachable!(),
         }
     }
@@ -180,11 +168,14 @@ impl Begun for BegunCut {
         }
     }
 
+    #[inline(always)]
     fn before_end(&self) -> Earlier {
-        self.lines()
+        let nodes = Some(self.cut.nodes());
+        let count = self.declared;
+        Earlier::of(Some(Declared { nodes, count }), self.cut.len())
     }
 
-    fn value(self) -> Result<Cut, Memory> {
+    fn value(self, _alloc: Global) -> Result<Cut, Memory> {
         Ok(self.cut)
     }
 
@@ -196,7 +187,7 @@ pub fn read_cut<S: Source>(alloc: Global, source: &mut S) -> Result<Cut, ReadErr
     ensures reads { (text : List ℕ) → S.coming source.old ≡ Some text → Reads (SpellsCut text) (Fault kinds.Cut (lines text)) result }
     ensures device { CountsRead result (S.faults source.old) (S.faults source.new) }
 {
-    read_text(alloc, TextKind::Cut, CutReading::new(alloc), source)
+    read_counted::<BegunCut, S>(alloc, source)
 }
 
 /// Writes the canonical text of a set of nodes.

@@ -22,7 +22,7 @@ ghost use Rattle.dimacs_claims.specs.inside.PotentialsReading.{after_lines, befo
 use dimacs_lines::{DeviceFault, Memory, Page, Sink, Source};
 use dimacs_nodes::WideMap;
 use dimacs_records::{
-    Begun, CountedReading, Declared, Earlier, ReadError, Record, TextKind, read_text, write_record,
+    Begun, CountedReading, Declared, Earlier, ReadError, Record, TextKind, read_counted, write_record,
 };
 use std::alloc::Global;
 use std::marker::Model;
@@ -129,18 +129,6 @@ impl Model for BegunPotentials {
     ghost invariant = { λ b. ArePotentials (potentials_begun (record { nodes = b.nodes; declared = b.declared; taken = b.taken; values = b.values })) };
 }
 
-impl BegunPotentials {
-    /// After the problem line and the lines so far.
-    #[inline(always)]
-    fn lines(&self) -> Earlier
-        ensures { result ≡ after_lines self.now }
-    {
-        let nodes = Some(self.nodes);
-        let count = self.declared;
-        Earlier::of(Some(Declared { nodes, count }), self.taken)
-    }
-}
-
 impl Begun for BegunPotentials {
     type Value = Potentials;
 
@@ -175,9 +163,9 @@ impl Begun for BegunPotentials {
         match said {
             Record::PotentialsNode { id, .. } => Earlier {
                 named: self.values.get(id).is_some(),
-                ..self.lines()
+                ..self.before_end()
             },
-            Record::PotentialsProblem { .. } => self.lines(),
+            Record::PotentialsProblem { .. } => self.before_end(),
             _ => unreachable!(),
         }
     }
@@ -194,11 +182,14 @@ impl Begun for BegunPotentials {
         }
     }
 
+    #[inline(always)]
     fn before_end(&self) -> Earlier {
-        self.lines()
+        let nodes = Some(self.nodes);
+        let count = self.declared;
+        Earlier::of(Some(Declared { nodes, count }), self.taken)
     }
 
-    fn value(self) -> Result<Potentials, Memory> {
+    fn value(self, _alloc: Global) -> Result<Potentials, Memory> {
         Ok(Potentials {
             nodes: self.nodes,
             values: self.values,
@@ -213,12 +204,7 @@ pub fn read_potentials<S: Source>(alloc: Global, source: &mut S) -> Result<Poten
     ensures reads { (text : List ℕ) → S.coming source.old ≡ Some text → Reads (SpellsPotentials text) (Fault kinds.Potentials (lines text)) result }
     ensures device { CountsRead result (S.faults source.old) (S.faults source.new) }
 {
-    read_text(
-        alloc,
-        TextKind::Potentials,
-        PotentialsReading::new(alloc),
-        source,
-    )
+    read_counted::<BegunPotentials, S>(alloc, source)
 }
 
 /// Writes the canonical text of potentials.

@@ -1,0 +1,8 @@
+use Rattle.dimacs_claims.proofs.CutLemmas.{cut_faultless, one_cut}
+use Rattle.dimacs_claims.proofs.cut.BegunCutBegun.kind.Goals as goal
+
+pub returns-clause-faultless : goal.returns-clause-faultless
+returns-clause-faultless c = cut_faultless
+
+pub returns-clause-one : goal.returns-clause-one
+returns-clause-one c = one_cut

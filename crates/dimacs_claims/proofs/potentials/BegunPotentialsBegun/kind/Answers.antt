@@ -1,0 +1,8 @@
+use Rattle.dimacs_claims.proofs.PotentialsLemmas.{potentials_faultless, one_potentials}
+use Rattle.dimacs_claims.proofs.potentials.BegunPotentialsBegun.kind.Goals as goal
+
+pub returns-clause-faultless : goal.returns-clause-faultless
+returns-clause-faultless c = potentials_faultless
+
+pub returns-clause-one : goal.returns-clause-one
+returns-clause-one c = one_potentials
