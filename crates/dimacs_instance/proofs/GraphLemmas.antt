@@ -12,9 +12,9 @@ use Rattle.dimacs_lines.specs.Limits.{most_nodes}
 use Rattle.dimacs_records.specs.declared.kinds.TextKind.TheVariants.{Graph}
 use Rattle.dimacs_records.specs.declared.records.Record.{Record}
 use Rattle.dimacs_records.specs.declared.records.Record.TheVariants.{GraphProblem, GraphArc}
-use Rattle.dimacs_records.specs.Earlier.{counted_in, is_full, is_short}
-use Rattle.dimacs_records.specs.declared.order.Declared.{Declared}
-use Rattle.dimacs_records.specs.Tests.{Counts, problem_told}
+use Rattle.dimacs_records.specs.Earlier.{counted_in, is_short}
+use Rattle.dimacs_records.specs.Spelling.{kind_of}
+use Rattle.dimacs_records.specs.Tests.{Counts, IsToldOf, PassesEnd, TellsEnd}
 use Rattle.dimacs_records.specs.Readings.{IsAllowed, IsComplete}
 use Rattle.dimacs_records.proofs.ConditionLemmas.{is_allowed, is_complete}
 use Rattle.dimacs_instance.specs.declared.network.ArcView.{ArcView}
@@ -27,8 +27,8 @@ use Rattle.dimacs_records.proofs.SplitLemmas.{image_at, All-at}
 use Rattle.dimacs_records.proofs.CanonicalLaws.{canonical_spelled, numbered_all}
 use Rattle.dimacs_instance.specs.Arcs.{JoinsNodes, NetworkValue}
 use Rattle.dimacs_instance.specs.Graph.{IsGraph, HasWeightAlone, GivesGraph, SpellsGraph, canonical_graph, graph_records, graph_arc}
-use Rattle.dimacs_instance.specs.GraphReading.{GraphBegun, IsGraphBegun, graph_begun_records, graph_records_so_far}
-use Rattle.dimacs_instance.specs.inside.GraphReading.{arcs_by, declared_by}
+use Rattle.dimacs_instance.specs.GraphReading.{GraphBegun, IsGraphBegun, graph_begun_records}
+use Rattle.dimacs_instance.specs.inside.GraphReading.{after_lines}
 use Rattle.dimacs_instance.proofs.ArcLemmas.{take_next}
 
 counted_in-arcs : (arcs : List ArcView) → counted_in (map graph_arc arcs) ≡ length arcs
@@ -54,26 +54,24 @@ pub first_problem : (n m : ℕ) → IsAllowed [] (GraphProblem n m)
 first_problem n m = is_allowed [] (GraphProblem n m) refl
 
 -- what is told of the records is so
-pub counts : (begun : Option GraphBegun) → Counts (declared_by begun) (arcs_by begun) (graph_records_so_far begun)
-counts None = record { problem_is = refl; counted_is = refl }
-counts (Some b) = record { problem_is = refl; counted_is = counted_in-arcs b.arcs }
+counts : (b : GraphBegun) → Counts (after_lines b).problem (after_lines b).counted (graph_begun_records b)
+counts b = record { problem_is = refl; counted_is = counted_in-arcs b.arcs }
 
--- what is told of the records that were begun
-module _ (b : GraphBegun) (p : Option Declared) (k : ℕ) (now : List Record) (is : now ≡ graph_begun_records b) (so : Counts p k now) where
-  -- an arc finds room where not all came that are declared
-  pub room_told : is_full (problem_told p) k ≡ false → length b.arcs < b.declared
-  room_told some =
-      let few = rw (is, counted_in-arcs b.arcs) at (ap₂ is_full so.problem_is so.counted_is ∙ some) in
-      grind (arith, nat_tests, few)
+pub tells : (b : GraphBegun) (r : Record) → kind_of r ≡ Graph → IsToldOf (after_lines b) (graph_begun_records b) r
+tells b (GraphProblem n m) of_kind = record { counts = counts b; misplaced = refl; named = refl; end_named = refl; lacks_end = refl; block_full = refl; block_short = refl; valued = refl; pred_unknown = refl; past_radius = refl }
+tells b (GraphArc t h w) of_kind = record { counts = counts b; misplaced = refl; named = refl; end_named = refl; lacks_end = refl; block_full = refl; block_short = refl; valued = refl; pred_unknown = refl; past_radius = refl }
+tells b r of_kind = absurd (cc)
 
-  -- what was begun and is whole gives its graph
-  pub gives_graph : is_short (problem_told p) k ≡ false → IsGraphBegun b → (rs : List LineRecord) → records_of rs ≡ now → GivesGraph rs (record { nodes = b.nodes; arcs = b.arcs })
-  gives_graph whole law rs same =
-      let all = rw (is, counted_in-arcs b.arcs) at (ap₂ is_short so.problem_is so.counted_is ∙ whole) in
-      let full : b.declared ≡ length b.arcs = grind (arith, nat_tests, all, law.no_more) in (
-        same ∙ is ∙ ap (λ n. GraphProblem b.nodes n ∷ map graph_arc b.arcs) full,
-        record { nodes_few = law.nodes_few; arcs_few = omega (arith, law.no_more, law.arcs_few); joined = law.joined; weights = law.weights },
-      )
+pub end_tells : (b : GraphBegun) → TellsEnd Graph (after_lines b) (graph_begun_records b)
+end_tells b = record { counts = counts b; lacks_end = refl; unfinished = ap₂ is_short (counts b).problem_is (counts b).counted_is; valued = refl }
+
+-- what was begun and is whole gives its graph
+pub gives_graph : (b : GraphBegun) → IsGraphBegun b → PassesEnd Graph (after_lines b) → (rs : List LineRecord) → records_of rs ≡ graph_begun_records b → GivesGraph rs (record { nodes = b.nodes; arcs = b.arcs })
+gives_graph b law p rs same =
+    let full : b.declared ≡ length b.arcs = grind (arith, nat_tests, p.finished, law.no_more) in (
+      same ∙ ap (λ n. GraphProblem b.nodes n ∷ map graph_arc b.arcs) full,
+      record { nodes_few = law.nodes_few; arcs_few = omega (arith, law.no_more, law.arcs_few); joined = law.joined; weights = law.weights },
+    )
 
 arc_allowed : (nodes declared : ℕ) (arcs : List ArcView) (a : ArcView) (before : List Record) (r : Record) → before ≡ GraphProblem nodes declared ∷ map graph_arc arcs → r ≡ graph_arc a
     → JoinsNodes nodes a → length arcs < declared → IsAllowed before r

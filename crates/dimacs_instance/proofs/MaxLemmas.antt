@@ -15,17 +15,16 @@ use Rattle.dimacs_records.specs.declared.records.Record.TheVariants.{MaxProblem,
 use Rattle.dimacs_records.specs.Earlier.{counted_in, is_counted, is_short, names, is_end_node, is_flow_arc, is_max_node}
 use Rattle.dimacs_records.specs.Conditions.{lacks_end}
 use Rattle.dimacs_records.specs.Readings.{IsAllowed, IsComplete}
-use Rattle.dimacs_records.specs.Takings.{StandsFor}
 use Rattle.dimacs_records.specs.Tests.{Counts, IsToldOf, TellsEnd}
 use Rattle.dimacs_records.proofs.ConditionLemmas.{is_allowed, is_complete}
-use Rattle.dimacs_records.proofs.TakingLemmas.{stands}
+use Rattle.dimacs_records.specs.Spelling.{kind_of}
 use Rattle.dimacs_instance.specs.declared.network.ArcView.{ArcView}
 use Rattle.dimacs_instance.specs.declared.max.EndLine.{EndLine}
 use Rattle.dimacs_instance.specs.declared.max.EndLines.{EndLines}
 use Rattle.dimacs_instance.specs.declared.max.EndLines.TheVariants.{Neither, One, Both}
 use Rattle.dimacs_instance.specs.MaxTexts.{max_arc}
-use Rattle.dimacs_instance.specs.MaxReading.{MaxBegun, IsMaxBegunBy, end_records, max_begun_records, max_node}
-use Rattle.dimacs_instance.specs.inside.MaxReading.{earlier_ends, earlier_lines, earlier_names, ends_by}
+use Rattle.dimacs_instance.specs.MaxReading.{MaxBegun, end_records, max_begun_records, max_node}
+use Rattle.dimacs_instance.specs.inside.MaxReading.{after_lines, before, before_end}
 
 none_of_arcs : (test : Record → Bool) → ((a : ArcView) → test (max_arc a) ≡ false) → (arcs : List ArcView) → list_any test (map max_arc arcs) ≡ false
 none_of_arcs test none [] = refl
@@ -114,27 +113,14 @@ pub first_problem : (n m : ℕ) → IsAllowed [] (MaxProblem n m)
 first_problem n m = is_allowed [] (MaxProblem n m) refl
 
 -- what is told of the records is so
-counts : (o : Option MaxBegun) (rs : List Record) → StandsFor IsMaxBegunBy o rs → Counts (earlier_lines o).problem (earlier_lines o).counted rs
-counts None rs h = rw h (record { problem_is = refl; counted_is = refl })
-counts (Some b) rs h = rw h (record { problem_is = refl; counted_is = counted b.nodes b.declared b.ends b.arcs })
+counts : (b : MaxBegun) → Counts (after_lines b).problem (after_lines b).counted (max_begun_records b)
+counts b = record { problem_is = refl; counted_is = counted b.nodes b.declared b.ends b.arcs }
 
-pub problem_tells : (o : Option MaxBegun) (n m : ℕ) (rs : List Record) → StandsFor IsMaxBegunBy o rs → IsToldOf (earlier_lines o) rs (MaxProblem n m)
-problem_tells o n m rs h = record { counts = counts o rs h; misplaced = refl; named = refl; end_named = refl; lacks_end = refl; block_full = refl; block_short = refl; valued = refl; pred_unknown = refl; past_radius = refl }
+pub tells : (b : MaxBegun) (r : Record) → kind_of r ≡ Max → IsToldOf (before b r) (max_begun_records b) r
+tells b (MaxProblem n m) of_kind = record { counts = counts b; misplaced = refl; named = refl; end_named = refl; lacks_end = refl; block_full = refl; block_short = refl; valued = refl; pred_unknown = refl; past_radius = refl }
+tells b (MaxNode id end) of_kind = record { counts = counts b; misplaced = any_flow_arc b.nodes b.declared b.ends b.arcs; named = named b.nodes b.declared b.ends b.arcs id; end_named = ended b.nodes b.declared b.ends b.arcs end; lacks_end = refl; block_full = refl; block_short = refl; valued = refl; pred_unknown = refl; past_radius = refl }
+tells b (MaxArc t h cap) of_kind = record { counts = counts b; misplaced = refl; named = refl; end_named = refl; lacks_end = lacking b.nodes b.declared b.ends b.arcs; block_full = refl; block_short = refl; valued = refl; pred_unknown = refl; past_radius = refl }
+tells b r of_kind = absurd (cc)
 
-pub node_tells : (o : Option MaxBegun) (id : ℕ) (end : End) (rs : List Record) → StandsFor IsMaxBegunBy o rs → IsToldOf (earlier_names o id end) rs (MaxNode id end)
-node_tells None id end rs h = rw h (record { counts = counts None [] refl; misplaced = refl; named = refl; end_named = refl; lacks_end = refl; block_full = refl; block_short = refl; valued = refl; pred_unknown = refl; past_radius = refl })
-node_tells (Some b) id end rs h = rw h (record { counts = counts (Some b) (max_begun_records b) refl; misplaced = any_flow_arc b.nodes b.declared b.ends b.arcs; named = named b.nodes b.declared b.ends b.arcs id; end_named = ended b.nodes b.declared b.ends b.arcs end; lacks_end = refl; block_full = refl; block_short = refl; valued = refl; pred_unknown = refl; past_radius = refl })
-
-lacks_told : (o : Option MaxBegun) (rs : List Record) → StandsFor IsMaxBegunBy o rs → lacks_end rs ≡ lacks_end (end_records (ends_by o))
-lacks_told None rs h = rw h refl
-lacks_told (Some b) rs h = rw h (lacking b.nodes b.declared b.ends b.arcs)
-
-pub arc_tells : (o : Option MaxBegun) (t h : ℕ) (cap : ℤ) (rs : List Record) → StandsFor IsMaxBegunBy o rs → IsToldOf (earlier_ends o) rs (MaxArc t h cap)
-arc_tells o t h cap rs so = record { counts = counts o rs so; misplaced = refl; named = refl; end_named = refl; lacks_end = lacks_told o rs so; block_full = refl; block_short = refl; valued = refl; pred_unknown = refl; past_radius = refl }
-
-pub end_tells : (o : Option MaxBegun) (rs : List Record) → StandsFor IsMaxBegunBy o rs → TellsEnd Max (earlier_ends o) rs
-end_tells o rs h = record { counts = counts o rs h; lacks_end = lacks_told o rs h; unfinished = ap₂ is_short (counts o rs h).problem_is (counts o rs h).counted_is; valued = refl }
-
--- another record goes on with an instance
-pub goes_on : (o : Option MaxBegun) (b new : MaxBegun) (r : Record) → o ≡ Some b → max_begun_records new ≡ max_begun_records b ++ r ∷ [] → (rs : List Record) → StandsFor IsMaxBegunBy o rs → IsMaxBegunBy new (rs ++ r ∷ [])
-goes_on o b new r is more rs h = ap (λ rs. rs ++ r ∷ []) (stands IsMaxBegunBy o b rs is h) ∙ sym more
+pub end_tells : (b : MaxBegun) → TellsEnd Max (before_end b) (max_begun_records b)
+end_tells b = record { counts = counts b; lacks_end = lacking b.nodes b.declared b.ends b.arcs; unfinished = ap₂ is_short (counts b).problem_is (counts b).counted_is; valued = refl }

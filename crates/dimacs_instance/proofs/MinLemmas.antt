@@ -13,20 +13,20 @@ use Rattle.dimacs_lines.specs.Limits.{most_count, most_nodes}
 use Rattle.dimacs_nodes.proofs.Entries.{All-empty, All-entries, All-get, All-insert}
 use Rattle.dimacs_records.specs.declared.kinds.TextKind.TheVariants.{Min}
 use Rattle.dimacs_records.specs.declared.records.Record.{Record}
-use Rattle.dimacs_records.specs.declared.records.Record.TheVariants.{MinProblem, MinNode}
+use Rattle.dimacs_records.specs.declared.records.Record.TheVariants.{MinArc, MinProblem, MinNode}
 use Rattle.dimacs_records.specs.Earlier.{is_flow_arc, is_short, names, counted_in}
 use Rattle.dimacs_records.specs.Readings.{LineRecord, IsAllowed, IsComplete, records_of}
 use Rattle.dimacs_records.specs.Tests.{Counts, Passes, PassesEnd, IsToldOf, TellsEnd}
 use Rattle.dimacs_records.proofs.ConditionLemmas.{is_allowed, is_complete}
 use Rattle.dimacs_instance.specs.declared.network.ArcView.{ArcView}
-use Rattle.dimacs_instance.specs.Arcs.{JoinsNodes}
+use Rattle.dimacs_instance.specs.Arcs.{JoinsNodes, NetworkValue}
 use Rattle.dimacs_records.specs.Ranges.{IsNode, IsWhole}
 use Rattle.dimacs_instance.specs.MinFlows.{IsMin, IsSupply, HasBounds}
 use Rattle.dimacs_instance.specs.MinTexts.{GivesMin, min_node, min_arc, min_records}
 use Rattle.dimacs_records.specs.NodeValues.{is_of, without_zeros}
 use Rattle.dimacs_instance.specs.MinReading.{MinBegun, IsMinBegun, IsMinBegunBy, IsNamed}
-use Rattle.dimacs_instance.specs.inside.MinReading.{has_line, earlier_lines, earlier_names, is_named, with_arc}
-use Rattle.dimacs_records.specs.Takings.{StandsFor}
+use Rattle.dimacs_instance.specs.inside.MinReading.{after_lines, before, has_line}
+use Rattle.dimacs_records.specs.Spelling.{kind_of}
 use Rattle.dimacs_records.proofs.NameLemmas.{get_nonzero, has-from_entries, map_more, named_more, without_zeros-named}
 
 -- the lines of arcs, and the node lines before them
@@ -73,43 +73,35 @@ pub allows_problem : (n m : ℕ) → IsAllowed [] (MinProblem n m)
 allows_problem n m = is_allowed [] (MinProblem n m) refl
 
 -- what is told of the records is so
-counts : (o : Option MinBegun) (rs : List Record) → StandsFor IsMinBegunBy o rs → Counts (earlier_lines o).problem (earlier_lines o).counted rs
-counts None rs h = rw h (record { problem_is = refl; counted_is = refl })
-counts (Some b) rs h = rw h.records (record { problem_is = refl; counted_is = counted h.named b.arcs })
-
-arcs_told : (o : Option MinBegun) (rs : List Record) → StandsFor IsMinBegunBy o rs → list_any is_flow_arc rs ≡ nat_lt 0 (earlier_lines o).counted
-arcs_told None rs h = rw h refl
-arcs_told (Some b) rs h = rw h.records (any_flow_arc h.named b.arcs)
+counts : (b : MinBegun) (rs : List Record) → IsMinBegunBy b rs → Counts (after_lines b).problem (after_lines b).counted rs
+counts b rs h = rw h.records (record { problem_is = refl; counted_is = counted h.named b.arcs })
 
 has_named : (b : MinBegun) (id : ℕ) {rs : List Record} (h : IsMinBegunBy b rs) → has_line b id ≡ list_any (is_of id) h.named
 has_named b id h = ap (λ m. is_some (get m id)) h.supplies ∙ has-from_entries h.named id
 
-named_told : (o : Option MinBegun) (rs : List Record) (id : ℕ) → StandsFor IsMinBegunBy o rs → list_any (names id) rs ≡ is_named o id
-named_told None rs id h = rw h refl
-named_told (Some b) rs id h = rw h.records (any_names id h.named b.arcs ∙ sym (has_named b id h))
+arcs_told : (b : MinBegun) (rs : List Record) → IsMinBegunBy b rs → list_any is_flow_arc rs ≡ nat_lt 0 (length b.arcs)
+arcs_told b rs h = rw h.records (any_flow_arc h.named b.arcs)
 
-pub problem_tells : (o : Option MinBegun) (n m : ℕ) (rs : List Record) → StandsFor IsMinBegunBy o rs → IsToldOf (earlier_lines o) rs (MinProblem n m)
-problem_tells o n m rs h = record { counts = counts o rs h; misplaced = refl; named = refl; end_named = refl; lacks_end = refl; block_full = refl; block_short = refl; valued = refl; pred_unknown = refl; past_radius = refl }
+named_told : (b : MinBegun) (rs : List Record) (id : ℕ) → IsMinBegunBy b rs → list_any (names id) rs ≡ has_line b id
+named_told b rs id h = rw h.records (any_names id h.named b.arcs ∙ sym (has_named b id h))
 
-pub node_tells : (o : Option MinBegun) (id : ℕ) (s : ℤ) (rs : List Record) → StandsFor IsMinBegunBy o rs → IsToldOf (earlier_names o id) rs (MinNode id s)
-node_tells o id s rs h = record { counts = counts o rs h; misplaced = arcs_told o rs h; named = named_told o rs id h; end_named = refl; lacks_end = refl; block_full = refl; block_short = refl; valued = refl; pred_unknown = refl; past_radius = refl }
+pub tells : (b : MinBegun) (r : Record) → kind_of r ≡ Min → (rs : List Record) → IsMinBegunBy b rs → IsToldOf (before b r) rs r
+tells b (MinProblem n m) of_kind rs h = record { counts = counts b rs h; misplaced = refl; named = refl; end_named = refl; lacks_end = refl; block_full = refl; block_short = refl; valued = refl; pred_unknown = refl; past_radius = refl }
+tells b (MinNode id s) of_kind rs h = record { counts = counts b rs h; misplaced = arcs_told b rs h; named = named_told b rs id h; end_named = refl; lacks_end = refl; block_full = refl; block_short = refl; valued = refl; pred_unknown = refl; past_radius = refl }
+tells b (MinArc tail head low cap cost) of_kind rs h = record { counts = counts b rs h; misplaced = refl; named = refl; end_named = refl; lacks_end = refl; block_full = refl; block_short = refl; valued = refl; pred_unknown = refl; past_radius = refl }
+tells b r of_kind rs h = absurd (cc)
 
-pub arc_tells : (o : Option MinBegun) (a : ArcView) (rs : List Record) → StandsFor IsMinBegunBy o rs → IsToldOf (earlier_lines o) rs (min_arc a)
-arc_tells o a rs h = record { counts = counts o rs h; misplaced = refl; named = refl; end_named = refl; lacks_end = refl; block_full = refl; block_short = refl; valued = refl; pred_unknown = refl; past_radius = refl }
-
-pub end_tells : (o : Option MinBegun) (rs : List Record) → StandsFor IsMinBegunBy o rs → TellsEnd Min (earlier_lines o) rs
-end_tells o rs h = record { counts = counts o rs h; lacks_end = refl; unfinished = ap₂ is_short (counts o rs h).problem_is (counts o rs h).counted_is; valued = refl }
+pub end_tells : (b : MinBegun) (rs : List Record) → IsMinBegunBy b rs → TellsEnd Min (after_lines b) rs
+end_tells b rs h = record { counts = counts b rs h; lacks_end = refl; unfinished = ap₂ is_short (counts b rs h).problem_is (counts b rs h).counted_is; valued = refl }
 
 -- a problem line begins an instance
-pub begins : (o : Option MinBegun) (n m : ℕ) → Passes (earlier_lines o) (MinProblem n m) → (rs : List Record) → StandsFor IsMinBegunBy o rs
-    → IsMinBegunBy (record { nodes = n; declared = m; supplies = empty; arcs = [] }) (rs ++ MinProblem n m ∷ [])
-begins None n m p rs h = record {
+pub begins : (n m : ℕ) → IsMinBegunBy (record { nodes = n; declared = m; supplies = empty; arcs = [] }) (MinProblem n m ∷ [])
+begins n m = record {
   named = [];
   name_nodes = record { within = All-nil (λ (s : ℕ × ℤ). IsNode n s.0); once = λ id. omega arith };
   supplies = refl;
-  records = ap (λ rs. rs ++ MinProblem n m ∷ []) h;
+  records = refl;
 }
-begins (Some b) n m p rs h = absurd (cc (p.one_problem))
 
 records_more : (nodes declared id : ℕ) (s : ℤ) (rs : List Record) (named : List (ℕ × ℤ)) (arcs : List ArcView) → rs ≡ min_records nodes declared named arcs → arcs ≡ []
     → rs ++ MinNode id s ∷ [] ≡ min_records nodes declared (named ++ (id, s) ∷ []) arcs
@@ -121,18 +113,14 @@ records_more nodes declared id s rs named arcs is none =
     ∙ ap (λ (arcs : List ArcView). min_records nodes declared (named ++ (id, s) ∷ []) arcs) (sym none)
 
 -- a node that passes the tests is one more
-module _ (o : Option MinBegun) (b : MinBegun) (id : ℕ) (s : ℤ) (is : o ≡ Some b) (least : 1 ≤ id) (passes : Passes (earlier_names o id) (MinNode id s)) where
-  node_told : Passes (earlier_names (Some b) id) (MinNode id s)
-  node_told = rw is at passes
-
+module _ (b : MinBegun) (id : ℕ) (s : ℤ) (least : 1 ≤ id) (passes : Passes (before b (MinNode id s)) (MinNode id s)) where
   pub node : IsNode b.nodes id
-  node = (least, grind (arith, nat_tests, node_told.second_within))
+  node = (least, grind (arith, nat_tests, passes.second_within))
 
-  pub names_one : (rs : List Record) → StandsFor IsMinBegunBy o rs → IsMinBegunBy (record b { supplies = insert b.supplies id s }) (rs ++ MinNode id s ∷ [])
-  names_one rs stands =
-      let h : IsMinBegunBy b rs = rw is at stands in
-      let new : list_any (is_of id) h.named ≡ false = sym (has_named b id h) ∙ node_told.new_node in
-      let no_arcs : b.arcs ≡ [] = nil_from_length b.arcs (grind (arith, nat_tests, node_told.placed)) in
+  pub names_one : (rs : List Record) → IsMinBegunBy b rs → IsMinBegunBy (record b { supplies = insert b.supplies id s }) (rs ++ MinNode id s ∷ [])
+  names_one rs h =
+      let new : list_any (is_of id) h.named ≡ false = sym (has_named b id h) ∙ passes.new_node in
+      let no_arcs : b.arcs ≡ [] = nil_from_length b.arcs (grind (arith, nat_tests, passes.placed)) in
       record {
         named = h.named ++ (id, s) ∷ [];
         name_nodes = named_more h.named id s new b.nodes h.name_nodes node;
@@ -140,34 +128,33 @@ module _ (o : Option MinBegun) (b : MinBegun) (id : ℕ) (s : ℤ) (is : o ≡ S
         records = records_more b.nodes b.declared id s rs h.named b.arcs h.records no_arcs;
       }
 
+-- with one arc more
+abbrev pub with_arc : MinBegun → ArcView → MinBegun
+with_arc begun arc = record begun { arcs = begun.arcs ++ arc ∷ [] }
+
 not_below : (x y : ℤ) → int_lt x y ≡ false → y ≤ℤ x
 not_below x y test = grind (arith, ints)
 
 -- an arc that passes the tests joins nodes, has bounds and finds room
-module _ (o : Option MinBegun) (b : MinBegun) (a : ArcView) (is : o ≡ Some b) (passes : Passes (earlier_lines o) (min_arc a)) where
-  told : Passes (earlier_lines (Some b)) (min_arc a)
-  told = rw is at passes
-
+module _ (b : MinBegun) (a : ArcView) (passes : Passes (after_lines b) (min_arc a)) where
   pub arc_joins : 1 ≤ a.tail → 1 ≤ a.head → JoinsNodes b.nodes a
-  arc_joins tail head = ((tail, grind (arith, nat_tests, told.second_within)), (head, grind (arith, nat_tests, told.third_within)))
+  arc_joins tail head = ((tail, grind (arith, nat_tests, passes.second_within)), (head, grind (arith, nat_tests, passes.third_within)))
 
   pub arc_bounds : IsWhole a.cap → IsWhole a.cost → HasBounds a
-  arc_bounds cap cost = (not_below a.low (pos 0) told.low, not_below a.cap a.low told.cap, cap, cost)
+  arc_bounds cap cost = (not_below a.low (pos 0) passes.low, not_below a.cap a.low passes.cap, cap, cost)
 
   pub arc_room : length b.arcs < b.declared
-  arc_room = grind (arith, nat_tests, told.room)
+  arc_room = grind (arith, nat_tests, passes.room)
 
-  pub adds_one : (rs : List Record) → StandsFor IsMinBegunBy o rs → IsMinBegunBy (with_arc b a) (rs ++ min_arc a ∷ [])
-  adds_one rs stands =
-      let h : IsMinBegunBy b rs = rw is at stands in
-      record {
-        named = h.named;
-        name_nodes = h.name_nodes;
-        supplies = h.supplies;
-        records = ap (λ rs. rs ++ min_arc a ∷ []) h.records
-            ∙ ap (λ rs. MinProblem b.nodes b.declared ∷ rs) (append_assoc (map min_node h.named) (map min_arc b.arcs) (min_arc a ∷ []))
-            ∙ ap (λ arcs. MinProblem b.nodes b.declared ∷ map min_node h.named ++ arcs) (sym (map-append min_arc b.arcs (a ∷ [])));
-      }
+  pub adds_one : (rs : List Record) → IsMinBegunBy b rs → IsMinBegunBy (with_arc b a) (rs ++ min_arc a ∷ [])
+  adds_one rs h = record {
+    named = h.named;
+    name_nodes = h.name_nodes;
+    supplies = h.supplies;
+    records = ap (λ rs. rs ++ min_arc a ∷ []) h.records
+        ∙ ap (λ rs. MinProblem b.nodes b.declared ∷ rs) (append_assoc (map min_node h.named) (map min_arc b.arcs) (min_arc a ∷ []))
+        ∙ ap (λ arcs. MinProblem b.nodes b.declared ∷ map min_node h.named ++ arcs) (sym (map-append min_arc b.arcs (a ∷ [])));
+  }
 
 -- what was begun, without the supplies that are 0
 module _ (b : MinBegun) (law : IsMinBegun b) where
@@ -191,11 +178,9 @@ module _ (b : MinBegun) (law : IsMinBegun b) where
   }
 
 -- what was begun and is whole gives its instance
-pub gives_min : (o : Option MinBegun) (b : MinBegun) → o ≡ Some b → IsMinBegun b → PassesEnd Min (earlier_lines o) → (rs : List LineRecord) → StandsFor IsMinBegunBy o (records_of rs)
+pub gives_min : (b : MinBegun) → IsMinBegun b → PassesEnd Min (after_lines b) → (rs : List LineRecord) → IsMinBegunBy b (records_of rs)
     → GivesMin rs (record { nodes = b.nodes; supplies = without_zeros b.supplies; arcs = b.arcs })
-gives_min o b is law passes rs stands =
-    let p : PassesEnd Min (earlier_lines (Some b)) = rw is at passes in
-    let h : IsMinBegunBy b (records_of rs) = rw is at stands in
+gives_min b law p rs h =
     let full : b.declared ≡ length b.arcs = grind (arith, nat_tests, p.finished, law.no_more) in
     record {
       named = h.named;
@@ -226,7 +211,7 @@ law_with_supply b id s law is_node whole = record {
   bounds = law.bounds;
 }
 
-pub law_with_arc : (b : MinBegun) (a : ArcView) → IsMinBegun b → JoinsNodes b.nodes a → HasBounds a → length b.arcs < b.declared → IsMinBegun (with_arc b a)
+law_with_arc : (b : MinBegun) (a : ArcView) → IsMinBegun b → JoinsNodes b.nodes a → HasBounds a → length b.arcs < b.declared → IsMinBegun (with_arc b a)
 law_with_arc b a law joined bounds room = record {
   nodes_few = law.nodes_few;
   arcs_few = law.arcs_few;
@@ -235,6 +220,12 @@ law_with_arc b a law joined bounds room = record {
   joined = All-push (JoinsNodes b.nodes) b.arcs a law.joined joined;
   bounds = All-push HasBounds b.arcs a law.bounds bounds;
 }
+
+-- where an arc was pushed, or not
+pub law_after_push : {E : Type 0} (b : MinBegun) (a : ArcView) (now : NetworkValue) (r : Result Unit E) → OnOk r (now ≡ record { nodes = b.nodes; arcs = b.arcs ++ a ∷ [] }) → OnErr r (now ≡ record { nodes = b.nodes; arcs = b.arcs })
+    → IsMinBegun b → JoinsNodes b.nodes a → HasBounds a → length b.arcs < b.declared → IsMinBegun (record b { nodes = now.nodes; arcs = now.arcs })
+law_after_push b a now (Ok done) pushed same law joined bounds room = subst (λ (n : NetworkValue). IsMinBegun (record b { nodes = n.nodes; arcs = n.arcs })) (sym pushed) (law_with_arc b a law joined bounds room)
+law_after_push b a now (Err e) pushed same law joined bounds room = subst (λ (n : NetworkValue). IsMinBegun (record b { nodes = n.nodes; arcs = n.arcs })) (sym same) law
 
 -- where a value was set, or not
 pub law_after_set : {E : Type 0} (b : MinBegun) (id : ℕ) (s : ℤ) (supplies : FinMap nat_cmp ℤ) (r : Result Unit E) → OnOk r (supplies ≡ insert b.supplies id s) → OnErr r (supplies ≡ b.supplies)

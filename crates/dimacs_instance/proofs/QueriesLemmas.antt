@@ -2,7 +2,6 @@
 use Rattle.std.proofs.Common.{◌≡◌, ℕ, suc, ◌<◌, ◌≤◌, ◌∷◌, ◌++◌, [], List, Bool, true, false, Option, Some, None, length, map, take, ◌+◌, refl, ap, ap₂, sym, ◌∙◌, arith, inl, inr, ◌⊎◌}
 use Rattle.std.specs.Prelude.{codes, nat_lt, nat_le, slice_get}
 use Rattle.std.specs.List.{All, list_any}
-use Rattle.std.specs.Option.{option_eq}
 use Rattle.std.proofs.lemmas.Int.{ints}
 use Rattle.std.proofs.lemmas.List.{length-append, length-map, take_more}
 use Rattle.std.proofs.lemmas.List.Elements.{All-cons, All-map, All-weaker}
@@ -10,25 +9,24 @@ use Rattle.std.proofs.lemmas.Option.{slice_get_within, get_or_from_slice_get}
 use Rattle.std.proofs.lemmas.Bool.Decides.{nat_tests}
 use Rattle.dimacs_lines.specs.Limits.{most_count}
 use Rattle.dimacs_records.specs.declared.kinds.TextKind.TheVariants as kinds
-use Rattle.dimacs_records.specs.declared.order.Declared.{Declared}
 use Rattle.dimacs_records.specs.declared.records.QueryKind.{QueryKind}
 use Rattle.dimacs_records.specs.declared.records.QueryKind.TheVariants as asks
 use Rattle.dimacs_records.specs.declared.records.Record.{Record}
 use Rattle.dimacs_records.specs.declared.records.Record.TheVariants.{QueriesProblem, SourceQuery, PairQuery}
-use Rattle.dimacs_records.specs.Earlier.{asks_for, counted_in, is_counted, is_full, is_short}
+use Rattle.dimacs_records.specs.Earlier.{asks_for, counted_in, is_counted, is_short}
 use Rattle.dimacs_records.specs.Forms.{form, Word, Either, Count, Id}
 use Rattle.dimacs_records.specs.Canonical.{CanBeSpelled}
 use Rattle.dimacs_records.specs.Ranges.{IsId}
 use Rattle.dimacs_records.specs.Readings.{LineRecord, IsAllowed, IsComplete, records_of}
-use Rattle.dimacs_records.specs.Spelling.{query_word}
-use Rattle.dimacs_records.specs.Tests.{Counts, problem_told}
+use Rattle.dimacs_records.specs.Spelling.{kind_of, query_word}
+use Rattle.dimacs_records.specs.Tests.{Counts, IsToldOf, PassesEnd, TellsEnd}
 use Rattle.dimacs_records.specs.inside.Texts.{AreFaultless}
 use Rattle.dimacs_records.proofs.CanonicalLaws.{canonical_spelled, numbered_all}
 use Rattle.dimacs_records.proofs.ConditionLemmas.{is_allowed, is_complete, allowed_at}
 use Rattle.dimacs_records.proofs.SplitLemmas.{image_at}
 use Rattle.dimacs_instance.specs.QueryTexts.{QueriesValue, Sources, Pairs, AreIds, AreLawful, GivesQueries, HaveIds, SpellsQueries, canonical_queries, kind_asked, pair_query, query_lines, query_records}
-use Rattle.dimacs_instance.specs.QueriesReading.{QueriesBegun, AreQueriesBegun, query_records_so_far}
-use Rattle.dimacs_instance.specs.inside.QueriesReading.{are_asked, declared_by, queries_by}
+use Rattle.dimacs_instance.specs.QueriesReading.{QueriesBegun, AreQueriesBegun, queries_begun_records}
+use Rattle.dimacs_instance.specs.inside.QueriesReading.{after_lines, are_others, before}
 
 all_counted : {X : Type 0} (say : X → Record) → ((x : X) → is_counted (say x) ≡ true) → (xs : List X) → counted_in (map say xs) ≡ length (map say xs)
 all_counted say each [] = refl
@@ -47,11 +45,6 @@ no_problem_in_pairs : (pairs : List (ℕ × ℕ)) → list_any (asks_for asks.So
 no_problem_in_pairs [] = refl
 no_problem_in_pairs (pair ∷ pairs) = no_problem_in_pairs pairs
 
--- what is told of the records is so
-pub counts : (begun : Option QueriesBegun) → Counts (declared_by begun) (queries_by begun) (query_records_so_far begun)
-counts None = record { problem_is = refl; counted_is = refl }
-counts (Some b) = record { problem_is = refl; counted_is = counted_in-query_lines b.queries }
-
 -- after the problem line and these queries
 module _ (n : ℕ) (queries : QueriesValue) where
   abbrev earlier : List Record
@@ -65,30 +58,35 @@ module _ (n : ℕ) (queries : QueriesValue) where
       let counted : nat_lt (counted_in (query_lines queries)) n ≡ false = rw (counted_in-query_lines queries) (grind (arith, nat_tests, full)) in
       is_complete kinds.Queries earlier (rw counted refl)
 
-  module _ (p : Option Declared) (k : ℕ) (now : List Record) (is : now ≡ earlier) (so : Counts p k now) where
-    -- a query finds room where not all came that are declared
-    pub room_told : is_full (problem_told p) k ≡ false → length (query_lines queries) < n
-    room_told some =
-        let few = rw (is, counted_in-query_lines queries) at (ap₂ is_full so.problem_is so.counted_is ∙ some) in
-        grind (arith, nat_tests, few)
+-- what is told of the records is so
+counts : (b : QueriesBegun) → Counts (after_lines b).problem (after_lines b).counted (queries_begun_records b)
+counts b = record { problem_is = refl; counted_is = counted_in-query_lines b.queries }
 
-    -- what was begun and is whole gives its queries
-    pub gives_queries : is_short (problem_told p) k ≡ false → AreQueriesBegun (record { declared = n; queries = queries }) → (rs : List LineRecord) → records_of rs ≡ now → GivesQueries rs queries
-    gives_queries whole law rs same =
-        let all = rw (is, counted_in-query_lines queries) at (ap₂ is_short so.problem_is so.counted_is ∙ whole) in
-        let full : n ≡ length (query_lines queries) = grind (arith, nat_tests, all, law.no_more) in (
-          same ∙ is ∙ ap (λ count. QueriesProblem (kind_asked queries) count ∷ query_lines queries) full,
-          record { few = omega (arith, law.no_more, law.few); ids = law.ids },
-        )
+-- the problem line alone says which queries are asked
+source_told : (id n : ℕ) (queries : QueriesValue) → list_any (asks_for asks.Pairs) (earlier n queries) ≡ are_others (SourceQuery id) queries
+source_told id n (Sources ids) = no_problem_in_sources ids
+source_told id n (Pairs pairs) = refl
 
--- the problem line alone says which queries are asked, by any test that tells the kinds apart
-pub kind_told : (eq : QueryKind → QueryKind → Bool) → eq asks.Sources asks.Sources ≡ true → eq asks.Sources asks.Pairs ≡ false → eq asks.Pairs asks.Sources ≡ false → eq asks.Pairs asks.Pairs ≡ true
-    → (others : Option QueryKind) (n : ℕ) (queries : QueriesValue) → option_eq eq others (Some (kind_asked queries)) ≡ are_asked others (earlier n queries)
-kind_told eq ss sp ps pp None n queries = refl
-kind_told eq ss sp ps pp (Some asks.Sources) n (Sources ids) = ss
-kind_told eq ss sp ps pp (Some asks.Sources) n (Pairs pairs) = sp ∙ sym (no_problem_in_pairs pairs)
-kind_told eq ss sp ps pp (Some asks.Pairs) n (Sources ids) = ps ∙ sym (no_problem_in_sources ids)
-kind_told eq ss sp ps pp (Some asks.Pairs) n (Pairs pairs) = pp
+pair_told : (from to n : ℕ) (queries : QueriesValue) → list_any (asks_for asks.Sources) (earlier n queries) ≡ are_others (PairQuery from to) queries
+pair_told from to n (Sources ids) = refl
+pair_told from to n (Pairs pairs) = no_problem_in_pairs pairs
+
+pub tells : (b : QueriesBegun) (r : Record) → kind_of r ≡ kinds.Queries → IsToldOf (before b r) (queries_begun_records b) r
+tells b (QueriesProblem kind n) of_kind = record { counts = counts b; misplaced = refl; named = refl; end_named = refl; lacks_end = refl; block_full = refl; block_short = refl; valued = refl; pred_unknown = refl; past_radius = refl }
+tells b (SourceQuery id) of_kind = record { counts = counts b; misplaced = source_told id b.declared b.queries; named = refl; end_named = refl; lacks_end = refl; block_full = refl; block_short = refl; valued = refl; pred_unknown = refl; past_radius = refl }
+tells b (PairQuery from to) of_kind = record { counts = counts b; misplaced = pair_told from to b.declared b.queries; named = refl; end_named = refl; lacks_end = refl; block_full = refl; block_short = refl; valued = refl; pred_unknown = refl; past_radius = refl }
+tells b r of_kind = absurd (cc)
+
+pub end_tells : (b : QueriesBegun) → TellsEnd kinds.Queries (after_lines b) (queries_begun_records b)
+end_tells b = record { counts = counts b; lacks_end = refl; unfinished = ap₂ is_short (counts b).problem_is (counts b).counted_is; valued = refl }
+
+-- what was begun and is whole gives its queries
+pub gives_queries : (b : QueriesBegun) → AreQueriesBegun b → PassesEnd kinds.Queries (after_lines b) → (rs : List LineRecord) → records_of rs ≡ queries_begun_records b → GivesQueries rs b.queries
+gives_queries b law p rs same =
+    let full : b.declared ≡ length (query_lines b.queries) = grind (arith, nat_tests, p.finished, law.no_more) in (
+      same ∙ ap (λ count. QueriesProblem (kind_asked b.queries) count ∷ query_lines b.queries) full,
+      record { few = omega (arith, law.no_more, law.few); ids = law.ids },
+    )
 
 -- the records of queries are refused for nothing
 source_allowed : (n : ℕ) (ids : List ℕ) (id : ℕ) → length (map SourceQuery ids) < n → IsAllowed (earlier n (Sources ids)) (SourceQuery id)

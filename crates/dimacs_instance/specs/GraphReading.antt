@@ -1,5 +1,5 @@
 -- How far a graph has been read.
-use Rattle.std.specs.Prelude.{ℕ, ◌≤◌, List, [], ◌∷◌, map, length, Option, None, Some}
+use Rattle.std.specs.Prelude.{ℕ, ◌≤◌, List, ◌∷◌, map, length}
 use Rattle.std.specs.List.{All}
 use Rattle.dimacs_lines.specs.Limits.{most_count, most_nodes}
 use Rattle.dimacs_records.specs.declared.records.Record.{Record}
@@ -25,7 +25,3 @@ pub record IsGraphBegun (begun : GraphBegun) : Type 0 where
 -- the records that were taken
 abbrev pub graph_begun_records : GraphBegun → List Record
 graph_begun_records begun = GraphProblem begun.nodes begun.declared ∷ map graph_arc begun.arcs
-
-abbrev pub graph_records_so_far : Option GraphBegun → List Record
-graph_records_so_far None = []
-graph_records_so_far (Some begun) = graph_begun_records begun

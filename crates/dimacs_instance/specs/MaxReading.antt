@@ -52,7 +52,3 @@ pub record IsMaxBegun (begun : MaxBegun) : Type 0 where
 
 abbrev pub max_begun_records : MaxBegun → List Record
 max_begun_records begun = MaxProblem begun.nodes begun.declared ∷ (end_records begun.ends ++ map max_arc begun.arcs)
-
--- these records may have been taken
-abbrev pub IsMaxBegunBy : MaxBegun → List Record → Type 0
-IsMaxBegunBy begun rs = rs ≡ max_begun_records begun

@@ -1,5 +1,5 @@
 -- How far queries have been read.
-use Rattle.std.specs.Prelude.{ℕ, ◌≤◌, List, [], ◌∷◌, length, Option, None, Some}
+use Rattle.std.specs.Prelude.{ℕ, ◌≤◌, List, ◌∷◌, length}
 use Rattle.dimacs_lines.specs.Limits.{most_count}
 use Rattle.dimacs_records.specs.declared.records.Record.{Record}
 use Rattle.dimacs_records.specs.declared.records.Record.TheVariants.{QueriesProblem}
@@ -19,7 +19,3 @@ pub record AreQueriesBegun (begun : QueriesBegun) : Type 0 where
 -- the records that were taken
 abbrev pub queries_begun_records : QueriesBegun → List Record
 queries_begun_records begun = QueriesProblem (kind_asked begun.queries) begun.declared ∷ query_lines begun.queries
-
-abbrev pub query_records_so_far : Option QueriesBegun → List Record
-query_records_so_far None = []
-query_records_so_far (Some begun) = queries_begun_records begun

@@ -1,32 +1,28 @@
 //! Graphs for shortest paths.
 
-ghost use Rattle.std.specs.Prelude.{◌≡◌, ◌≤◌, ◌<◌, ◌++◌, ◌∷◌, [], ℕ, List, Option, length, IfOk, OnOk, OnErr, Some};
-ghost use Rattle.dimacs_lines.specs.Limits.{most_count, most_nodes};
+ghost use Rattle.std.specs.Prelude.{◌≡◌, ℕ, List, IfOk, Some, refl};
 ghost use Rattle.dimacs_lines.specs.Devices.{CountsFault};
 ghost use Rattle.dimacs_lines.specs.Puts.{Puts};
 ghost use Rattle.dimacs_records.specs.declared.kinds.TextKind.TheVariants as kinds;
-ghost use Rattle.dimacs_records.specs.declared.records.Record.TheVariants.{GraphProblem, GraphArc};
-ghost use Rattle.dimacs_records.specs.Readings.{CountsRead, records_of};
-ghost use Rattle.dimacs_records.specs.inside.Readings.{TakesRecord};
+ghost use Rattle.dimacs_records.specs.Readings.{CountsRead};
 ghost use Rattle.dimacs_records.specs.Faults.{Fault};
-ghost use Rattle.dimacs_records.specs.Ranges.{IsNode};
-ghost use Rattle.dimacs_records.specs.Tests.{Counts, earlier_of};
 ghost use Rattle.dimacs_records.specs.Texts.{Reads};
 ghost use Rattle.dimacs_lines.specs.Lines.{lines};
 ghost use Rattle.dimacs_instance.specs.Graph.{IsGraph, GivesGraph, SpellsGraph, canonical_graph, graph_arc};
 ghost use Rattle.dimacs_instance.specs.Arcs.{NetworkValue};
 ghost use Rattle.dimacs_instance.specs.GraphReading.{graph_begun_records};
+ghost use Rattle.dimacs_instance.specs.inside.GraphReading.{after_lines};
 
 use crate::network::{ArcView, Network};
+use crate::of_arcs::OfWeightArcs;
 use crate::plain::{KeptArc, PlainArcs, WeightArc};
 use crate::star::ForwardStar;
 use dimacs_lines::{DeviceFault, Memory, Page, Sink, Source};
 use dimacs_records::{
-    Declared, Earlier, ReadError, Reading, Record, TakeError, TextKind, read_text, test_end,
-    test_record, write_record,
+    Begun, CountedReading, Declared, Earlier, ReadError, Record, TextKind, read_counted, write_record,
 };
 use std::alloc::Global;
-use std::marker::Model;
+use std::marker::{Model, PhantomData};
 
 /// A graph for shortest paths: each arc's `cost` is its weight.
 #[derive(Drop)]
@@ -60,10 +56,9 @@ impl<A: KeptArc> Graph<PlainArcs<A>> {
     pub fn indexed(self, alloc: Global) -> Result<Graph<ForwardStar<A>>, Memory>
         ensures { IfOk result (λ indexed. indexed ≡ self) }
     {
-        match ForwardStar::build(alloc, self.network) {
-            Ok(network) => Ok(Graph { network }),
-            Err((_, memory)) => Err(memory),
-        }
+        Ok(Graph {
+            network: ForwardStar::of(alloc, self.network)?,
+        })
     }
 }
 
@@ -78,131 +73,96 @@ impl<A: KeptArc> Graph<ForwardStar<A>> {
     }
 }
 
+/// Makes a graph of the records of a text.
+pub type GraphReading = CountedReading<BegunGraph<ForwardStar<WeightArc>>>;
+
 /// Makes a graph of the records of a text, without an index of its arcs.
-#[derive(Drop)]
-pub struct PlainGraphReading {
-    alloc: Global,
-    begun: Option<BegunGraph>,
-}
-
-impl Model for PlainGraphReading {
-    ghost use Rattle.std.specs.Prelude.{List};
-    ghost use Rattle.dimacs_records.specs.declared.records.Record.{Record};
-    ghost use Rattle.dimacs_instance.specs.GraphReading.{graph_records_so_far};
-
-    ghost Value = { List Record };
-
-    ghost view = { λ reading. graph_records_so_far reading.begun };
-}
+pub type PlainGraphReading = CountedReading<BegunGraph<PlainArcs<WeightArc>>>;
 
 /// The arcs that came after the problem line.
 #[derive(Drop)]
-pub(crate) struct BegunGraph {
+pub struct BegunGraph<N: OfWeightArcs> {
     declared: u32,
-    network: PlainArcs<WeightArc>,
+    arcs: PlainArcs<WeightArc>,
+    of: PhantomData<N>,
 }
 
-impl Model for BegunGraph {
+impl<N: OfWeightArcs> Model for BegunGraph<N> {
     ghost use Rattle.dimacs_instance.specs.GraphReading.{GraphBegun, IsGraphBegun};
 
     ghost Value = { GraphBegun };
 
-    ghost view = { λ b. record { nodes = b.network.nodes; declared = b.declared; arcs = b.network.arcs } };
+    ghost view = { λ b. record { nodes = b.arcs.nodes; declared = b.declared; arcs = b.arcs.arcs } };
 
-    ghost invariant = { λ b. IsGraphBegun (record { nodes = b.network.nodes; declared = b.declared; arcs = b.network.arcs }) };
+    ghost invariant = { λ b. IsGraphBegun (record { nodes = b.arcs.nodes; declared = b.declared; arcs = b.arcs.arcs }) };
 }
 
-impl BegunGraph {
-    #[inline(always)]
-    fn add(&mut self, arc: WeightArc) -> Result<(), Memory>
-        requires tail { IsNode self.old.nodes arc.tail }
-        requires head { IsNode self.old.nodes arc.head }
-        requires room { length self.old.arcs < self.old.declared }
-        ensures added { OnOk result (graph_begun_records self.new ≡ graph_begun_records self.old ++ GraphArc arc.tail arc.head arc.weight ∷ []) }
-        ensures unchanged { OnErr result (self.new ≡ self.old) }
-    {
-        self.network.push(arc)
-    }
-}
+impl<N: OfWeightArcs> Begun for BegunGraph<N> {
+    type Value = Graph<N>;
 
-impl PlainGraphReading {
-    pub fn new(alloc: Global) -> PlainGraphReading
-        ensures { result ≡ [] }
-    {
-        PlainGraphReading { alloc, begun: None }
-    }
+    ghost kind = { kinds.Graph };
 
-    /// What the earlier records say of one more.
-    #[inline(always)]
-    fn earlier(&self) -> Earlier
-        ensures counts { Counts result.problem result.counted self.now }
-        ensures others { result ≡ earlier_of result.problem result.counted }
-    {
-        match &self.begun {
-            Some(begun) => {
-                let nodes = Some(begun.network.nodes());
-                let count = begun.declared;
-                Earlier::of(Some(Declared { nodes, count }), begun.network.arcs())
-            }
-            None => Earlier::of(None, 0),
-        }
-    }
+    ghost begun_by = { λ begun rs. rs ≡ graph_begun_records begun };
 
-    fn start(&mut self, nodes: u32, arcs: u32) -> Result<(), TakeError>
-        requires nodes { nodes ≤ most_nodes }
-        requires arcs { arcs ≤ most_count }
-        ensures { TakesRecord self.old (GraphProblem nodes arcs) result self.new }
-    {
-        test_record(self.earlier(), Record::GraphProblem { nodes, arcs })?;
-        self.begun = Some(BegunGraph {
-            declared: arcs,
-            network: PlainArcs::new(self.alloc, nodes),
-        });
-        Ok(())
-    }
+    ghost told = { λ begun r. after_lines begun };
 
-    #[inline(always)]
-    fn add(&mut self, arc: WeightArc) -> Result<(), TakeError>
-        requires tail { 1 ≤ arc.tail }
-        requires head { 1 ≤ arc.head }
-        ensures { TakesRecord self.old (GraphArc arc.tail arc.head arc.weight) result self.new }
-    {
-        test_record(self.earlier(), arc_record(arc.view()))?;
-        let Some(begun) = &mut self.begun else {
-            unreachable!()
-        };
-        begun.add(arc)?;
-        Ok(())
-    }
-}
-
-impl Reading for PlainGraphReading {
-    type Value = Graph<PlainArcs<WeightArc>>;
-
-    ghost kind = { λ reading. kinds.Graph };
-
-    ghost stands_for = { λ reading rs. records_of rs ≡ reading };
+    ghost told_end = { λ begun. after_lines begun };
 
     ghost gives = { λ rs g. GivesGraph rs g };
 
-    #[inline(always)]
-    fn take(&mut self, _line: u64, said: Record) -> Result<(), TakeError> {
-        match said {
-            Record::GraphProblem { nodes, arcs } => self.start(nodes, arcs),
-            Record::GraphArc { tail, head, weight } => self.add(WeightArc { tail, head, weight }),
-            _ => unreachable!(),
+    fn kind() -> TextKind {
+        TextKind::Graph
+    }
+
+    fn begin(alloc: Global, problem: Record) -> BegunGraph<N> {
+        let Record::GraphProblem { nodes, arcs } = problem else {
+            unreachable!()
+        };
+        BegunGraph {
+            declared: arcs,
+            arcs: PlainArcs::new(alloc, nodes),
+            of: PhantomData,
         }
     }
 
-    fn finish(self) -> Result<Graph<PlainArcs<WeightArc>>, TakeError> {
-        test_end(TextKind::Graph, self.earlier())?;
-        let Some(begun) = self.begun else {
+    #[inline(always)]
+    fn before(&self, _said: Record) -> Earlier {
+        self.before_end()
+    }
+
+    #[inline(always)]
+    fn keep(&mut self, said: Record) -> Result<(), Memory> {
+        let Record::GraphArc { tail, head, weight } = said else {
             unreachable!()
         };
+        self.arcs.push(WeightArc { tail, head, weight })
+    }
+
+    #[inline(always)]
+    fn before_end(&self) -> Earlier {
+        let nodes = Some(self.arcs.nodes());
+        let count = self.declared;
+        Earlier::of(Some(Declared { nodes, count }), self.arcs.arcs())
+    }
+
+    fn value(self, alloc: Global) -> Result<Graph<N>, Memory> {
         Ok(Graph {
-            network: begun.network,
+            network: N::of_arcs(alloc, self.arcs)?,
         })
     }
+
+    ghost has_problem = { refl };
+}
+
+/// Reads a graph text.
+pub fn read_graph<S: Source>(
+    alloc: Global,
+    source: &mut S,
+) -> Result<Graph<ForwardStar<WeightArc>>, ReadError>
+    ensures reads { (text : List ℕ) → S.coming source.old ≡ Some text → Reads (SpellsGraph text) (Fault kinds.Graph (lines text)) result }
+    ensures device { CountsRead result (S.faults source.old) (S.faults source.new) }
+{
+    read_counted::<BegunGraph<ForwardStar<WeightArc>>, S>(alloc, source)
 }
 
 /// Reads a graph text, and builds no index of its arcs.
@@ -213,12 +173,7 @@ pub fn read_plain_graph<S: Source>(
     ensures reads { (text : List ℕ) → S.coming source.old ≡ Some text → Reads (SpellsGraph text) (Fault kinds.Graph (lines text)) result }
     ensures device { CountsRead result (S.faults source.old) (S.faults source.new) }
 {
-    read_text(
-        alloc,
-        TextKind::Graph,
-        PlainGraphReading::new(alloc),
-        source,
-    )
+    read_counted::<BegunGraph<PlainArcs<WeightArc>>, S>(alloc, source)
 }
 
 /// Writes the canonical text of a graph.

@@ -7,11 +7,11 @@
 mod arc_index;
 mod gather;
 mod graph;
-mod indexed;
 mod links;
 mod max;
 mod min;
 mod network;
+mod of_arcs;
 mod plain;
 mod queries;
 mod star;
@@ -20,11 +20,16 @@ mod star_starts;
 mod texts;
 
 pub use arc_index::ArcIndex;
-pub use graph::{Graph, PlainGraphReading, read_plain_graph, write_graph};
-pub use indexed::{GraphReading, MaxReading, MinReading, read_graph, read_max, read_min};
+pub use graph::{
+    Graph, GraphReading, PlainGraphReading, read_graph, read_plain_graph, write_graph,
+};
 pub use links::{Links, Side};
-pub use max::{MaxInstance, PlainMaxReading, read_plain_max, write_max};
-pub use min::{MinInstance, PlainMinReading, SupplySums, read_plain_min, write_min};
+pub use max::{
+    MaxInstance, MaxReading, PlainMaxReading, read_max, read_plain_max, write_max,
+};
+pub use min::{
+    MinInstance, MinReading, PlainMinReading, SupplySums, read_min, read_plain_min, write_min,
+};
 pub use network::{ArcView, Network};
 pub use plain::{ArcEnds, BoundsAndCost, CapacityArc, KeptArc, MAX_ARCS, PlainArcs, WeightArc};
 pub use queries::{LawfulQueries, Queries, QueriesReading, read_queries, write_queries};

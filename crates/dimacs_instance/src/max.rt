@@ -1,36 +1,32 @@
 //! Maximum flow instances.
 
-ghost use Rattle.std.specs.Prelude.{◌≡◌, ◌≤◌, ◌<◌, ◌≤ℤ◌, ◌++◌, ◌∷◌, [], ℕ, List, Option, None, Some, IfOk, OnOk, OnErr, false, length, pos};
+ghost use Rattle.std.specs.Prelude.{◌≡◌, ◌++◌, ◌∷◌, [], ℕ, List, Some, IfOk, false, refl};
 ghost use Rattle.std.specs.List.{list_any};
-ghost use Rattle.dimacs_lines.specs.Limits.{most_count, most_nodes};
 ghost use Rattle.dimacs_lines.specs.Devices.{CountsFault};
 ghost use Rattle.dimacs_lines.specs.Lines.{lines};
 ghost use Rattle.dimacs_lines.specs.Puts.{Puts};
 ghost use Rattle.dimacs_records.specs.declared.kinds.TextKind.TheVariants as kinds;
-ghost use Rattle.dimacs_records.specs.declared.records.Record.TheVariants.{MaxProblem, MaxNode, MaxArc};
 ghost use Rattle.dimacs_records.specs.Earlier.{names, is_end_node};
 ghost use Rattle.dimacs_records.specs.Conditions.{lacks_end};
-ghost use Rattle.dimacs_records.specs.Ranges.{IsNode};
-ghost use Rattle.dimacs_records.specs.Readings.{CountsRead, records_of};
-ghost use Rattle.dimacs_records.specs.Takings.{StandsFor};
-ghost use Rattle.dimacs_records.specs.inside.Takings.{Takes};
+ghost use Rattle.dimacs_records.specs.Readings.{CountsRead};
 ghost use Rattle.dimacs_records.specs.Faults.{Fault};
 ghost use Rattle.dimacs_records.specs.Texts.{Reads};
 ghost use Rattle.dimacs_instance.specs.MaxFlows.{MaxValue, IsMax};
 ghost use Rattle.dimacs_instance.specs.MaxTexts.{GivesMax, SpellsMax, canonical_max, max_arc, nodes_by_id};
-ghost use Rattle.dimacs_instance.specs.MaxReading.{EndsAreApart, IsMaxBegunBy, end_records, max_begun_records, max_node};
-ghost use Rattle.dimacs_instance.specs.inside.MaxReading.{earlier_lines, ends_by};
+ghost use Rattle.dimacs_instance.specs.MaxReading.{EndsAreApart, end_records, max_begun_records, max_node};
+ghost use Rattle.dimacs_instance.specs.inside.MaxReading.{after_lines, before, before_end};
 
 use crate::network::{ArcView, Network};
+use crate::of_arcs::OfCapacityArcs;
 use crate::plain::{CapacityArc, KeptArc, PlainArcs};
 use crate::star::ForwardStar;
 use dimacs_lines::{DeviceFault, Memory, Page, Sink, Source};
 use dimacs_records::{
-    Declared, Earlier, End, ReadError, Reading, Record, TakeError, TextKind, read_text, test_end,
-    test_record, write_record,
+    Begun, CountedReading, Declared, Earlier, End, ReadError, Record, TextKind, read_counted,
+    write_record,
 };
 use std::alloc::Global;
-use std::marker::Model;
+use std::marker::{Model, PhantomData};
 
 /// A maximum flow instance: flow is to go from the source to the sink. Each arc's `cap` is its capacity.
 #[derive(Drop)]
@@ -77,14 +73,11 @@ impl<A: KeptArc> MaxInstance<PlainArcs<A>> {
     pub fn indexed(self, alloc: Global) -> Result<MaxInstance<ForwardStar<A>>, Memory>
         ensures { IfOk result (λ indexed. indexed ≡ self) }
     {
-        match ForwardStar::build(alloc, self.network) {
-            Ok(network) => Ok(MaxInstance {
-                source: self.source,
-                sink: self.sink,
-                network,
-            }),
-            Err((_, memory)) => Err(memory),
-        }
+        Ok(MaxInstance {
+            source: self.source,
+            sink: self.sink,
+            network: ForwardStar::of(alloc, self.network)?,
+        })
     }
 }
 
@@ -101,21 +94,11 @@ impl<A: KeptArc> MaxInstance<ForwardStar<A>> {
     }
 }
 
+/// Makes a maximum flow instance of the records of a text.
+pub type MaxReading = CountedReading<BegunMax<ForwardStar<CapacityArc>>>;
+
 /// Makes a maximum flow instance of the records of a text, without an index of its arcs.
-#[derive(Drop)]
-pub struct PlainMaxReading {
-    alloc: Global,
-    begun: Option<BegunMax>,
-}
-
-impl Model for PlainMaxReading {
-    ghost use Rattle.std.specs.Prelude.{Option};
-    ghost use Rattle.dimacs_instance.specs.MaxReading.{MaxBegun};
-
-    ghost Value = { Option MaxBegun };
-
-    ghost view = { λ reading. reading.begun };
-}
+pub type PlainMaxReading = CountedReading<BegunMax<PlainArcs<CapacityArc>>>;
 
 /// A node line.
 #[derive(Clone, Copy)]
@@ -182,166 +165,104 @@ impl EndLines {
 
 /// What came after the problem line: at most two node lines, and then arcs.
 #[derive(Drop)]
-pub(crate) struct BegunMax {
+pub struct BegunMax<N: OfCapacityArcs> {
     declared: u32,
     ends: EndLines,
-    network: PlainArcs<CapacityArc>,
+    arcs: PlainArcs<CapacityArc>,
+    of: PhantomData<N>,
 }
 
-impl Model for BegunMax {
+impl<N: OfCapacityArcs> Model for BegunMax<N> {
     ghost use Rattle.dimacs_instance.specs.MaxReading.{MaxBegun, IsMaxBegun};
 
     ghost Value = { MaxBegun };
 
-    ghost view = { λ b. record { nodes = b.network.nodes; declared = b.declared; ends = b.ends; arcs = b.network.arcs } };
+    ghost view = { λ b. record { nodes = b.arcs.nodes; declared = b.declared; ends = b.ends; arcs = b.arcs.arcs } };
 
-    ghost invariant = { λ b. IsMaxBegun (record { nodes = b.network.nodes; declared = b.declared; ends = b.ends; arcs = b.network.arcs }) };
+    ghost invariant = { λ b. IsMaxBegun (record { nodes = b.arcs.nodes; declared = b.declared; ends = b.ends; arcs = b.arcs.arcs }) };
 }
 
-impl BegunMax {
-    fn keep_node(&mut self, line: EndLine)
-        requires node { IsNode self.old.nodes line.node }
-        requires no_arcs { self.old.arcs ≡ [] }
-        requires other_node { list_any (names line.node) (end_records self.old.ends) ≡ false }
-        requires other_end { list_any (is_end_node line.end) (end_records self.old.ends) ≡ false }
-        ensures { max_begun_records self.new ≡ max_begun_records self.old ++ max_node line ∷ [] }
-    {
-        self.ends = self.ends.and(line);
-    }
-
+impl<N: OfCapacityArcs> BegunMax<N> {
+    /// What is told of a record that asks for no end.
     #[inline(always)]
-    fn keep_arc(&mut self, arc: CapacityArc) -> Result<(), Memory>
-        requires tail { IsNode self.old.nodes arc.tail }
-        requires head { IsNode self.old.nodes arc.head }
-        requires capacity { pos 0 ≤ℤ arc.cap }
-        requires room { length self.old.arcs < self.old.declared }
-        ensures kept { OnOk result (max_begun_records self.new ≡ max_begun_records self.old ++ MaxArc arc.tail arc.head arc.cap ∷ []) }
-        ensures unchanged { OnErr result (self.new ≡ self.old) }
+    fn lines(&self) -> Earlier
+        ensures { result ≡ after_lines self.now }
     {
-        self.network.push(arc)
+        let nodes = Some(self.arcs.nodes());
+        let count = self.declared;
+        Earlier::of(Some(Declared { nodes, count }), self.arcs.arcs())
     }
 }
 
-impl PlainMaxReading {
-    pub fn new(alloc: Global) -> PlainMaxReading
-        ensures { result ≡ None }
-    {
-        PlainMaxReading { alloc, begun: None }
-    }
+impl<N: OfCapacityArcs> Begun for BegunMax<N> {
+    type Value = MaxInstance<N>;
 
-    /// What the earlier records say of one that asks for no end.
-    #[inline(always)]
-    fn earlier(&self) -> Earlier
-        ensures { result ≡ earlier_lines self.now }
-    {
-        match &self.begun {
-            Some(begun) => {
-                let nodes = Some(begun.network.nodes());
-                let count = begun.declared;
-                Earlier::of(Some(Declared { nodes, count }), begun.network.arcs())
-            }
-            None => Earlier::of(None, 0),
-        }
-    }
+    ghost kind = { kinds.Max };
 
-    /// The node lines that came.
-    #[inline(always)]
-    fn ends(&self) -> EndLines
-        ensures { result ≡ ends_by self.now }
-    {
-        match &self.begun {
-            Some(begun) => begun.ends,
-            None => EndLines::Neither,
-        }
-    }
+    ghost begun_by = { λ begun rs. rs ≡ max_begun_records begun };
 
-    fn start(&mut self, nodes: u32, arcs: u32) -> Result<(), TakeError>
-        requires nodes { nodes ≤ most_nodes }
-        requires arcs { arcs ≤ most_count }
-        ensures { Takes IsMaxBegunBy self.old (MaxProblem nodes arcs) result self.new }
-    {
-        test_record(self.earlier(), Record::MaxProblem { nodes, arcs })?;
-        self.begun = Some(BegunMax {
-            declared: arcs,
-            ends: EndLines::Neither,
-            network: PlainArcs::new(self.alloc, nodes),
-        });
-        Ok(())
-    }
+    ghost told = { λ begun r. before begun r };
 
-    fn add_node(&mut self, node: u32, end: End) -> Result<(), TakeError>
-        requires { 1 ≤ node }
-        ensures { Takes IsMaxBegunBy self.old (MaxNode node end) result self.new }
-    {
-        let ends = self.ends();
-        let named = ends.names(node);
-        let end_named = ends.has(end);
-        let earlier = self.earlier();
-        let misplaced = earlier.counted > 0;
-        let earlier = Earlier {
-            misplaced,
-            named,
-            end_named,
-            ..earlier
-        };
-        test_record(earlier, Record::MaxNode { id: node, end })?;
-        let Some(begun) = &mut self.begun else {
-            unreachable!()
-        };
-        begun.keep_node(EndLine { node, end });
-        Ok(())
-    }
-
-    #[inline(always)]
-    fn add_arc(&mut self, arc: CapacityArc) -> Result<(), TakeError>
-        requires tail { 1 ≤ arc.tail }
-        requires head { 1 ≤ arc.head }
-        ensures { Takes IsMaxBegunBy self.old (MaxArc arc.tail arc.head arc.cap) result self.new }
-    {
-        let lacks_end = self.ends().lack_one();
-        let earlier = Earlier {
-            lacks_end,
-            ..self.earlier()
-        };
-        test_record(earlier, arc_record(arc.view()))?;
-        let Some(begun) = &mut self.begun else {
-            unreachable!()
-        };
-        begun.keep_arc(arc)?;
-        Ok(())
-    }
-}
-
-impl Reading for PlainMaxReading {
-    type Value = MaxInstance<PlainArcs<CapacityArc>>;
-
-    ghost kind = { λ reading. kinds.Max };
-
-    ghost stands_for = { λ reading rs. StandsFor IsMaxBegunBy reading (records_of rs) };
+    ghost told_end = { λ begun. before_end begun };
 
     ghost gives = { λ rs m. GivesMax rs m };
 
+    fn kind() -> TextKind {
+        TextKind::Max
+    }
+
+    fn begin(alloc: Global, problem: Record) -> BegunMax<N> {
+        let Record::MaxProblem { nodes, arcs } = problem else {
+            unreachable!()
+        };
+        BegunMax {
+            declared: arcs,
+            ends: EndLines::Neither,
+            arcs: PlainArcs::new(alloc, nodes),
+            of: PhantomData,
+        }
+    }
+
     #[inline(always)]
-    fn take(&mut self, _line: u64, said: Record) -> Result<(), TakeError> {
+    fn before(&self, said: Record) -> Earlier {
         match said {
-            Record::MaxProblem { nodes, arcs } => self.start(nodes, arcs),
-            Record::MaxNode { id, end } => self.add_node(id, end),
-            Record::MaxArc { tail, head, cap } => self.add_arc(CapacityArc { tail, head, cap }),
+            Record::MaxArc { .. } => self.before_end(),
+            Record::MaxNode { id, end } => Earlier {
+                misplaced: self.arcs.arcs() > 0,
+                named: self.ends.names(id),
+                end_named: self.ends.has(end),
+                ..self.lines()
+            },
+            Record::MaxProblem { .. } => self.lines(),
             _ => unreachable!(),
         }
     }
 
-    fn finish(self) -> Result<MaxInstance<PlainArcs<CapacityArc>>, TakeError> {
-        let lacks_end = self.ends().lack_one();
-        let earlier = Earlier {
-            lacks_end,
-            ..self.earlier()
-        };
-        test_end(TextKind::Max, earlier)?;
-        let Some(begun) = self.begun else {
-            unreachable!()
-        };
-        let EndLines::Both(first, second) = begun.ends else {
+    #[inline(always)]
+    fn keep(&mut self, said: Record) -> Result<(), Memory> {
+        match said {
+            Record::MaxArc { tail, head, cap } => {
+                self.arcs.push(CapacityArc { tail, head, cap })?;
+                Ok(())
+            }
+            Record::MaxNode { id, end } => {
+                self.ends = self.ends.and(EndLine { node: id, end });
+                Ok(())
+            }
+            _ => unreachable!(),
+        }
+    }
+
+    #[inline(always)]
+    fn before_end(&self) -> Earlier {
+        Earlier {
+            lacks_end: self.ends.lack_one(),
+            ..self.lines()
+        }
+    }
+
+    fn value(self, alloc: Global) -> Result<MaxInstance<N>, Memory> {
+        let EndLines::Both(first, second) = self.ends else {
             unreachable!()
         };
         let (source, sink) = match first.end {
@@ -351,9 +272,22 @@ impl Reading for PlainMaxReading {
         Ok(MaxInstance {
             source,
             sink,
-            network: begun.network,
+            network: N::of_arcs(alloc, self.arcs)?,
         })
     }
+
+    ghost has_problem = { refl };
+}
+
+/// Reads a text of maximum flow.
+pub fn read_max<S: Source>(
+    alloc: Global,
+    source: &mut S,
+) -> Result<MaxInstance<ForwardStar<CapacityArc>>, ReadError>
+    ensures reads { (text : List ℕ) → S.coming source.old ≡ Some text → Reads (SpellsMax text) (Fault kinds.Max (lines text)) result }
+    ensures device { CountsRead result (S.faults source.old) (S.faults source.new) }
+{
+    read_counted::<BegunMax<ForwardStar<CapacityArc>>, S>(alloc, source)
 }
 
 /// Reads a text of maximum flow, and builds no index of its arcs.
@@ -364,7 +298,7 @@ pub fn read_plain_max<S: Source>(
     ensures reads { (text : List ℕ) → S.coming source.old ≡ Some text → Reads (SpellsMax text) (Fault kinds.Max (lines text)) result }
     ensures device { CountsRead result (S.faults source.old) (S.faults source.new) }
 {
-    read_text(alloc, TextKind::Max, PlainMaxReading::new(alloc), source)
+    read_counted::<BegunMax<PlainArcs<CapacityArc>>, S>(alloc, source)
 }
 
 /// Writes the canonical text of a maximum flow instance.

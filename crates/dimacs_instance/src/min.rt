@@ -1,39 +1,35 @@
 //! Minimum cost flow instances.
 
-ghost use Rattle.std.specs.Prelude.{◌≡◌, ◌≤◌, ◌<◌, ◌≤ℤ◌, ◌<ℤ◌, ◌+ℤ◌, ◌^◌, ◌++◌, ◌∷◌, [], ℕ, List, Option, length, map, Some, None, pos, OnOk, OnErr, IfOk};
+ghost use Rattle.std.specs.Prelude.{◌≡◌, ◌≤ℤ◌, ◌<ℤ◌, ◌+ℤ◌, ◌^◌, ◌∷◌, [], ℕ, List, map, Some, pos, IfOk, refl};
 ghost use Rattle.std.specs.List.{filter};
 ghost use Rattle.std.specs.FinMap.{entries};
-ghost use Rattle.dimacs_lines.specs.Limits.{most_count, most_nodes};
 ghost use Rattle.dimacs_lines.specs.Devices.{CountsFault};
 ghost use Rattle.dimacs_lines.specs.Lines.{lines};
 ghost use Rattle.dimacs_lines.specs.Pages.{Appends, CountsOn};
 ghost use Rattle.dimacs_lines.specs.Puts.{Puts};
 ghost use Rattle.dimacs_records.specs.declared.kinds.TextKind.TheVariants as kinds;
-ghost use Rattle.dimacs_records.specs.declared.records.Record.TheVariants.{MinProblem, MinNode};
+ghost use Rattle.dimacs_records.specs.declared.records.Record.TheVariants.{MinNode};
 ghost use Rattle.dimacs_records.specs.Canonical.{canonical_text};
-ghost use Rattle.dimacs_records.specs.Readings.{CountsRead, records_of};
+ghost use Rattle.dimacs_records.specs.Readings.{CountsRead};
 ghost use Rattle.dimacs_records.specs.Faults.{Fault};
 ghost use Rattle.dimacs_records.specs.Texts.{Reads};
-ghost use Rattle.dimacs_instance.specs.MinFlows.{HasBounds, MinValue, IsMin, supply_of, positive_part, negative_part, supplied, demanded};
+ghost use Rattle.dimacs_instance.specs.MinFlows.{MinValue, IsMin, supply_of, positive_part, negative_part, supplied, demanded};
 ghost use Rattle.dimacs_instance.specs.MinTexts.{GivesMin, SpellsMin, canonical_min, min_node, min_arc};
 ghost use Rattle.dimacs_records.specs.NodeValues.{has_value};
-ghost use Rattle.dimacs_instance.specs.Arcs.{JoinsNodes};
 ghost use Rattle.dimacs_instance.specs.MinReading.{IsMinBegunBy};
-ghost use Rattle.dimacs_instance.specs.inside.MinReading.{earlier_lines, is_named, with_arc};
-ghost use Rattle.dimacs_records.specs.Takings.{StandsFor};
-ghost use Rattle.dimacs_records.specs.inside.Takings.{Takes};
+ghost use Rattle.dimacs_instance.specs.inside.MinReading.{after_lines, before};
 
 use crate::network::{ArcView, Network};
+use crate::of_arcs::OfCostArcs;
 use crate::plain::{KeptArc, PlainArcs};
 use crate::star::ForwardStar;
 use dimacs_lines::{DeviceFault, Memory, Page, Sink, Source};
 use dimacs_nodes::NodeMap;
 use dimacs_records::{
-    Declared, Earlier, ReadError, Reading, Record, TakeError, TextKind, read_text, test_end,
-    test_record, write_record,
+    Begun, CountedReading, Declared, Earlier, ReadError, Record, TextKind, read_counted, write_record,
 };
 use std::alloc::Global;
-use std::marker::Model;
+use std::marker::{Model, PhantomData};
 
 /// A minimum cost flow instance: a node with a positive supply puts flow into the network, one with a negative supply
 /// takes it out.
@@ -127,13 +123,10 @@ impl<A: KeptArc> MinInstance<PlainArcs<A>> {
     pub fn indexed(self, alloc: Global) -> Result<MinInstance<ForwardStar<A>>, Memory>
         ensures { IfOk result (λ indexed. indexed ≡ self) }
     {
-        match ForwardStar::build(alloc, self.network) {
-            Ok(network) => Ok(MinInstance {
-                supplies: self.supplies,
-                network,
-            }),
-            Err((_, memory)) => Err(memory),
-        }
+        Ok(MinInstance {
+            supplies: self.supplies,
+            network: ForwardStar::of(alloc, self.network)?,
+        })
     }
 }
 
@@ -149,36 +142,23 @@ impl<A: KeptArc> MinInstance<ForwardStar<A>> {
     }
 }
 
+/// Makes a minimum cost flow instance of the records of a text.
+pub type MinReading = CountedReading<BegunMin<ForwardStar<ArcView>>>;
+
 /// Makes a minimum cost flow instance of the records of a text, without an index of its arcs.
-#[derive(Drop)]
-pub struct PlainMinReading {
-    alloc: Global,
-    begun: Option<BegunMin>,
-}
-
-impl Model for PlainMinReading {
-    ghost use Rattle.std.specs.Prelude.{Option};
-    ghost use Rattle.std.specs.Coded.{coded_option};
-    ghost use Rattle.dimacs_instance.specs.MinReading.{MinBegun};
-    ghost use Rattle.dimacs_instance.specs.MinCodes.{begun_code};
-
-    ghost Value = { Option MinBegun };
-
-    ghost coded = { coded_option begun_code };
-
-    ghost view = { λ reading. reading.begun };
-}
+pub type PlainMinReading = CountedReading<BegunMin<PlainArcs<ArcView>>>;
 
 /// What came after the problem line: node lines, and then arcs.
 #[derive(Drop)]
-pub(crate) struct BegunMin {
+pub struct BegunMin<N: OfCostArcs> {
     declared: u32,
     /// Those of the nodes that were named, also with 0.
     supplies: NodeMap<i64>,
-    network: PlainArcs<ArcView>,
+    arcs: PlainArcs<ArcView>,
+    of: PhantomData<N>,
 }
 
-impl Model for BegunMin {
+impl<N: OfCostArcs> Model for BegunMin<N> {
     ghost use Rattle.dimacs_instance.specs.MinReading.{MinBegun, IsMinBegun};
     ghost use Rattle.dimacs_instance.specs.MinCodes.{begun_code};
 
@@ -186,146 +166,106 @@ impl Model for BegunMin {
 
     ghost coded = { begun_code };
 
-    ghost view = { λ b. record { nodes = b.network.nodes; declared = b.declared; supplies = b.supplies; arcs = b.network.arcs } };
+    ghost view = { λ b. record { nodes = b.arcs.nodes; declared = b.declared; supplies = b.supplies; arcs = b.arcs.arcs } };
 
-    ghost invariant = { λ b. IsMinBegun (record { nodes = b.network.nodes; declared = b.declared; supplies = b.supplies; arcs = b.network.arcs }) };
+    ghost invariant = { λ b. IsMinBegun (record { nodes = b.arcs.nodes; declared = b.declared; supplies = b.supplies; arcs = b.arcs.arcs }) };
 }
 
-impl BegunMin {
-    #[inline(always)]
-    fn keep_arc(&mut self, arc: ArcView) -> Result<(), Memory>
-        requires joined { JoinsNodes self.old.nodes arc }
-        requires bounds { HasBounds arc }
-        requires room { length self.old.arcs < self.old.declared }
-        ensures kept { OnOk result (self.new ≡ with_arc self.old arc) }
-        ensures unchanged { OnErr result (self.new ≡ self.old) }
-    {
-        self.network.push(arc)
-    }
-}
+impl<N: OfCostArcs> Begun for BegunMin<N> {
+    type Value = MinInstance<N>;
 
-impl PlainMinReading {
-    pub fn new(alloc: Global) -> PlainMinReading
-        ensures { result ≡ None }
-    {
-        PlainMinReading { alloc, begun: None }
-    }
+    ghost kind = { kinds.Min };
 
-    /// What the earlier records say of one that names no node.
-    #[inline(always)]
-    fn earlier(&self) -> Earlier
-        ensures { result ≡ earlier_lines self.now }
-    {
-        match &self.begun {
-            Some(begun) => {
-                let nodes = Some(begun.network.nodes());
-                let count = begun.declared;
-                Earlier::of(Some(Declared { nodes, count }), begun.network.arcs())
-            }
-            None => Earlier::of(None, 0),
-        }
-    }
+    ghost begun_by = { λ begun rs. IsMinBegunBy begun rs };
 
-    /// Whether a node line named this node.
-    fn names(&self, id: u32) -> bool
-        ensures { result ≡ is_named self.now id }
-    {
-        match &self.begun {
-            Some(begun) => begun.supplies.get(id).is_some(),
-            None => false,
-        }
-    }
+    ghost told = { λ begun r. before begun r };
 
-    fn start(&mut self, nodes: u32, arcs: u32) -> Result<(), TakeError>
-        requires nodes { nodes ≤ most_nodes }
-        requires arcs { arcs ≤ most_count }
-        ensures { Takes IsMinBegunBy self.old (MinProblem nodes arcs) result self.new }
-    {
-        test_record(self.earlier(), Record::MinProblem { nodes, arcs })?;
-        self.begun = Some(BegunMin {
-            declared: arcs,
-            supplies: NodeMap::new(self.alloc),
-            network: PlainArcs::new(self.alloc, nodes),
-        });
-        Ok(())
-    }
-
-    fn name(&mut self, id: u32, supply: i64) -> Result<(), TakeError>
-        requires { 1 ≤ id }
-        ensures { Takes IsMinBegunBy self.old (MinNode id supply) result self.new }
-    {
-        let named = self.names(id);
-        let earlier = self.earlier();
-        let misplaced = earlier.counted > 0;
-        let earlier = Earlier {
-            misplaced,
-            named,
-            ..earlier
-        };
-        test_record(earlier, Record::MinNode { id, supply })?;
-        let Some(begun) = &mut self.begun else {
-            unreachable!()
-        };
-        begun.supplies.set(id, supply)?;
-        Ok(())
-    }
-
-    #[inline(always)]
-    fn add(&mut self, arc: ArcView) -> Result<(), TakeError>
-        requires tail { 1 ≤ arc.tail }
-        requires head { 1 ≤ arc.head }
-        ensures { Takes IsMinBegunBy self.old (min_arc arc) result self.new }
-    {
-        test_record(self.earlier(), arc_record(arc))?;
-        let Some(begun) = &mut self.begun else {
-            unreachable!()
-        };
-        begun.keep_arc(arc)?;
-        Ok(())
-    }
-}
-
-impl Reading for PlainMinReading {
-    type Value = MinInstance<PlainArcs<ArcView>>;
-
-    ghost kind = { λ reading. kinds.Min };
-
-    ghost stands_for = { λ reading rs. StandsFor IsMinBegunBy reading (records_of rs) };
+    ghost told_end = { λ begun. after_lines begun };
 
     ghost gives = { λ rs m. GivesMin rs m };
 
+    fn kind() -> TextKind {
+        TextKind::Min
+    }
+
+    fn begin(alloc: Global, problem: Record) -> BegunMin<N> {
+        let Record::MinProblem { nodes, arcs } = problem else {
+            unreachable!()
+        };
+        BegunMin {
+            declared: arcs,
+            supplies: NodeMap::new(alloc),
+            arcs: PlainArcs::new(alloc, nodes),
+            of: PhantomData,
+        }
+    }
+
     #[inline(always)]
-    fn take(&mut self, _line: u64, said: Record) -> Result<(), TakeError> {
+    fn before(&self, said: Record) -> Earlier {
         match said {
-            Record::MinProblem { nodes, arcs } => self.start(nodes, arcs),
-            Record::MinNode { id, supply } => self.name(id, supply),
+            Record::MinArc { .. } | Record::MinProblem { .. } => self.before_end(),
+            Record::MinNode { id, .. } => Earlier {
+                misplaced: self.arcs.arcs() > 0,
+                named: self.supplies.get(id).is_some(),
+                ..self.before_end()
+            },
+            _ => unreachable!(),
+        }
+    }
+
+    #[inline(always)]
+    fn keep(&mut self, said: Record) -> Result<(), Memory> {
+        match said {
             Record::MinArc {
                 tail,
                 head,
                 low,
                 cap,
                 cost,
-            } => self.add(ArcView {
-                tail,
-                head,
-                low,
-                cap,
-                cost,
-            }),
+            } => {
+                self.arcs.push(ArcView {
+                    tail,
+                    head,
+                    low,
+                    cap,
+                    cost,
+                })?;
+                Ok(())
+            }
+            Record::MinNode { id, supply } => {
+                self.supplies.set(id, supply)?;
+                Ok(())
+            }
             _ => unreachable!(),
         }
     }
 
-    fn finish(self) -> Result<MinInstance<PlainArcs<ArcView>>, TakeError> {
-        test_end(TextKind::Min, self.earlier())?;
-        let Some(begun) = self.begun else {
-            unreachable!()
-        };
+    #[inline(always)]
+    fn before_end(&self) -> Earlier {
+        let nodes = Some(self.arcs.nodes());
+        let count = self.declared;
+        Earlier::of(Some(Declared { nodes, count }), self.arcs.arcs())
+    }
+
+    fn value(self, alloc: Global) -> Result<MinInstance<N>, Memory> {
         Ok(MinInstance {
-            supplies: begun.supplies,
-            network: begun.network,
+            supplies: self.supplies,
+            network: N::of_arcs(alloc, self.arcs)?,
         })
     }
+
+    ghost has_problem = { refl };
+}
+
+/// Reads the text of a minimum cost flow instance.
+pub fn read_min<S: Source>(
+    alloc: Global,
+    source: &mut S,
+) -> Result<MinInstance<ForwardStar<ArcView>>, ReadError>
+    ensures reads { (text : List ℕ) → S.coming source.old ≡ Some text → Reads (SpellsMin text) (Fault kinds.Min (lines text)) result }
+    ensures device { CountsRead result (S.faults source.old) (S.faults source.new) }
+{
+    read_counted::<BegunMin<ForwardStar<ArcView>>, S>(alloc, source)
 }
 
 /// Reads the text of a minimum cost flow instance, and builds no index of its arcs.
@@ -336,7 +276,7 @@ pub fn read_plain_min<S: Source>(
     ensures reads { (text : List ℕ) → S.coming source.old ≡ Some text → Reads (SpellsMin text) (Fault kinds.Min (lines text)) result }
     ensures device { CountsRead result (S.faults source.old) (S.faults source.new) }
 {
-    read_text(alloc, TextKind::Min, PlainMinReading::new(alloc), source)
+    read_counted::<BegunMin<PlainArcs<ArcView>>, S>(alloc, source)
 }
 
 /// Writes the canonical text of a minimum cost flow instance.

@@ -1,28 +1,25 @@
 //! Queries for shortest paths.
 
-ghost use Rattle.std.specs.Prelude.{◌≡◌, ◌≤◌, ◌<◌, [], ℕ, List, Option, Some, IfOk, length, slice_get};
+ghost use Rattle.std.specs.Prelude.{◌≡◌, ◌<◌, ℕ, List, Option, Some, IfOk, length, refl, slice_get};
 ghost use Rattle.std.specs.Result.{result_map_both};
-ghost use Rattle.dimacs_lines.specs.Limits.{most_count};
 ghost use Rattle.dimacs_lines.specs.Devices.{CountsFault};
 ghost use Rattle.dimacs_lines.specs.Lines.{lines};
 ghost use Rattle.dimacs_lines.specs.Pages.{Appends, CountsOn};
 ghost use Rattle.dimacs_lines.specs.Puts.{Puts};
 ghost use Rattle.dimacs_records.specs.declared.kinds.TextKind.TheVariants as kinds;
-ghost use Rattle.dimacs_records.specs.declared.records.Record.TheVariants.{QueriesProblem, SourceQuery, PairQuery};
+ghost use Rattle.dimacs_records.specs.declared.records.Record.TheVariants.{QueriesProblem};
 ghost use Rattle.dimacs_records.specs.Canonical.{canonical_line};
 ghost use Rattle.dimacs_records.specs.Faults.{Fault};
-ghost use Rattle.dimacs_records.specs.Ranges.{IsId};
-ghost use Rattle.dimacs_records.specs.Readings.{CountsRead, records_of};
-ghost use Rattle.dimacs_records.specs.inside.Readings.{TakesRecord};
-ghost use Rattle.dimacs_records.specs.Tests.{Counts, earlier_of};
+ghost use Rattle.dimacs_records.specs.Readings.{CountsRead};
 ghost use Rattle.dimacs_records.specs.Texts.{Reads};
 ghost use Rattle.dimacs_instance.specs.QueryTexts.{QueriesValue, AreLawful, GivesQueries, SpellsQueries, asked, canonical_queries, kind_asked, query_lines};
-ghost use Rattle.dimacs_instance.specs.inside.QueriesReading.{are_asked};
+ghost use Rattle.dimacs_instance.specs.QueriesReading.{queries_begun_records};
+ghost use Rattle.dimacs_instance.specs.inside.QueriesReading.{after_lines, are_others, before};
 
-use dimacs_lines::{DeviceFault, Page, Sink, Source};
+use dimacs_lines::{DeviceFault, Memory, Page, Sink, Source};
 use dimacs_records::{
-    Declared, Earlier, Part, QueryKind, ReadError, Reading, Record, TakeError, TextKind, read_text,
-    test_end, test_record, write_line, write_record,
+    Begun, CountedReading, Declared, Earlier, Part, QueryKind, ReadError, Record, TextKind,
+    read_counted, write_line, write_record,
 };
 use std::alloc::Global;
 use std::marker::Model;
@@ -52,6 +49,18 @@ impl Queries {
         match self {
             Queries::Sources(ids) => ids.len(),
             Queries::Pairs(pairs) => pairs.len(),
+        }
+    }
+
+    /// The record is a query that isn't of this kind.
+    #[inline(always)]
+    fn are_others(&self, said: Record) -> bool
+        ensures { result ≡ are_others said (asked self.now) }
+    {
+        match said {
+            Record::SourceQuery { .. } => matches!(self, Queries::Pairs(_)),
+            Record::PairQuery { .. } => matches!(self, Queries::Sources(_)),
+            _ => false,
         }
     }
 
@@ -97,25 +106,11 @@ impl LawfulQueries {
 }
 
 /// Makes queries of the records of a text.
-#[derive(Drop)]
-pub struct QueriesReading {
-    alloc: Global,
-    begun: Option<BegunQueries>,
-}
-
-impl Model for QueriesReading {
-    ghost use Rattle.std.specs.Prelude.{List};
-    ghost use Rattle.dimacs_records.specs.declared.records.Record.{Record};
-    ghost use Rattle.dimacs_instance.specs.QueriesReading.{query_records_so_far};
-
-    ghost Value = { List Record };
-
-    ghost view = { λ reading. query_records_so_far reading.begun };
-}
+pub type QueriesReading = CountedReading<BegunQueries>;
 
 /// The queries that came after the problem line.
 #[derive(Drop)]
-pub(crate) struct BegunQueries {
+pub struct BegunQueries {
     declared: u32,
     queries: Queries,
 }
@@ -131,112 +126,78 @@ impl Model for BegunQueries {
     ghost invariant = { λ b. AreQueriesBegun (record { declared = b.declared; queries = asked b.queries }) };
 }
 
-impl QueriesReading {
-    pub fn new(alloc: Global) -> QueriesReading
-        ensures { result ≡ [] }
-    {
-        QueriesReading { alloc, begun: None }
-    }
-
-    /// What the earlier records say of one more, which is misplaced among these other queries.
-    #[inline(always)]
-    fn earlier(&self, others: Option<QueryKind>) -> Earlier
-        ensures counts { Counts result.problem result.counted self.now }
-        ensures told { result ≡ record (earlier_of result.problem result.counted) { misplaced = are_asked others self.now } }
-    {
-        let Some(begun) = &self.begun else {
-            return Earlier::of(None, 0);
-        };
-        let problem = Declared {
-            nodes: None,
-            count: begun.declared,
-        };
-        Earlier {
-            misplaced: others == Some(begun.queries.kind()),
-            ..Earlier::of(Some(problem), begun.queries.len() as u32)
-        }
-    }
-
-    fn start(&mut self, asks: QueryKind, count: u32) -> Result<(), TakeError>
-        requires { count ≤ most_count }
-        ensures { TakesRecord self.old (QueriesProblem asks count) result self.new }
-    {
-        test_record(self.earlier(None), Record::QueriesProblem { asks, count })?;
-        let queries = match asks {
-            QueryKind::Sources => Queries::Sources(Vec::new(self.alloc)),
-            QueryKind::Pairs => Queries::Pairs(Vec::new(self.alloc)),
-        };
-        self.begun = Some(BegunQueries {
-            declared: count,
-            queries,
-        });
-        Ok(())
-    }
-
-    #[inline(always)]
-    fn add_source(&mut self, id: u32) -> Result<(), TakeError>
-        requires { IsId id }
-        ensures { TakesRecord self.old (SourceQuery id) result self.new }
-    {
-        let earlier = self.earlier(Some(QueryKind::Pairs));
-        test_record(earlier, Record::SourceQuery { id })?;
-        let Some(begun) = &mut self.begun else {
-            unreachable!()
-        };
-        let Queries::Sources(ids) = &mut begun.queries else {
-            unreachable!()
-        };
-        ids.push(id)?;
-        Ok(())
-    }
-
-    #[inline(always)]
-    fn add_pair(&mut self, from: u32, to: u32) -> Result<(), TakeError>
-        requires from { IsId from }
-        requires to { IsId to }
-        ensures { TakesRecord self.old (PairQuery from to) result self.new }
-    {
-        let earlier = self.earlier(Some(QueryKind::Sources));
-        test_record(earlier, Record::PairQuery { from, to })?;
-        let Some(begun) = &mut self.begun else {
-            unreachable!()
-        };
-        let Queries::Pairs(pairs) = &mut begun.queries else {
-            unreachable!()
-        };
-        pairs.push((from, to))?;
-        Ok(())
-    }
-}
-
-impl Reading for QueriesReading {
+impl Begun for BegunQueries {
     type Value = LawfulQueries;
 
-    ghost kind = { λ reading. kinds.Queries };
+    ghost kind = { kinds.Queries };
 
-    ghost stands_for = { λ reading rs. records_of rs ≡ reading };
+    ghost begun_by = { λ begun rs. rs ≡ queries_begun_records begun };
+
+    ghost told = { λ begun r. before begun r };
+
+    ghost told_end = { λ begun. after_lines begun };
 
     ghost gives = { λ rs queries. GivesQueries rs queries };
 
-    #[inline(always)]
-    fn take(&mut self, _line: u64, said: Record) -> Result<(), TakeError> {
-        match said {
-            Record::QueriesProblem { asks, count } => self.start(asks, count),
-            Record::SourceQuery { id } => self.add_source(id),
-            Record::PairQuery { from, to } => self.add_pair(from, to),
-            _ => unreachable!(),
+    fn kind() -> TextKind {
+        TextKind::Queries
+    }
+
+    fn begin(alloc: Global, problem: Record) -> BegunQueries {
+        let Record::QueriesProblem { asks, count } = problem else {
+            unreachable!()
+        };
+        let queries = match asks {
+            QueryKind::Sources => Queries::Sources(Vec::new(alloc)),
+            QueryKind::Pairs => Queries::Pairs(Vec::new(alloc)),
+        };
+        BegunQueries {
+            declared: count,
+            queries,
         }
     }
 
-    fn finish(self) -> Result<LawfulQueries, TakeError> {
-        test_end(TextKind::Queries, self.earlier(None))?;
-        let Some(begun) = self.begun else {
-            unreachable!()
-        };
+    #[inline(always)]
+    fn before(&self, said: Record) -> Earlier {
+        Earlier {
+            misplaced: self.queries.are_others(said),
+            ..self.before_end()
+        }
+    }
+
+    #[inline(always)]
+    fn keep(&mut self, said: Record) -> Result<(), Memory> {
+        match said {
+            Record::SourceQuery { id } => {
+                let Queries::Sources(ids) = &mut self.queries else {
+                    unreachable!()
+                };
+                ids.push(id)?;
+            }
+            Record::PairQuery { from, to } => {
+                let Queries::Pairs(pairs) = &mut self.queries else {
+                    unreachable!()
+                };
+                pairs.push((from, to))?;
+            }
+            _ => unreachable!(),
+        }
+        Ok(())
+    }
+
+    #[inline(always)]
+    fn before_end(&self) -> Earlier {
+        let count = self.declared;
+        Earlier::of(Some(Declared { nodes: None, count }), self.queries.len() as u32)
+    }
+
+    fn value(self, _alloc: Global) -> Result<LawfulQueries, Memory> {
         Ok(LawfulQueries {
-            queries: begun.queries,
+            queries: self.queries,
         })
     }
+
+    ghost has_problem = { refl };
 }
 
 /// Reads a text of queries.
@@ -245,7 +206,7 @@ pub fn read_queries<S: Source>(alloc: Global, source: &mut S) -> Result<Queries,
     ensures lawful { IfOk result (λ queries. AreLawful (asked queries)) }
     ensures device { CountsRead result (S.faults source.old) (S.faults source.new) }
 {
-    match read_text(alloc, TextKind::Queries, QueriesReading::new(alloc), source) {
+    match read_counted::<BegunQueries, S>(alloc, source) {
         Ok(lawful) => Ok(lawful.into_queries()),
         Err(error) => Err(error),
     }

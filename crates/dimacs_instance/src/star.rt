@@ -44,6 +44,16 @@ impl<A: KeptArc> ForwardStar<A> {
         Ok(ForwardStar { arcs, index })
     }
 
+    /// Orders the arcs, which are dropped where there is no memory for that.
+    pub(crate) fn of(alloc: Global, arcs: PlainArcs<A>) -> Result<ForwardStar<A>, Memory>
+        ensures { IfOk result (λ star. star ≡ arcs) }
+    {
+        match ForwardStar::build(alloc, arcs) {
+            Ok(star) => Ok(star),
+            Err((_, memory)) => Err(memory),
+        }
+    }
+
     /// The arcs without the index. Takes no memory.
     pub fn into_plain(self) -> PlainArcs<A>
         ensures { result ≡ self }

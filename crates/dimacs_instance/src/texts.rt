@@ -14,19 +14,17 @@ ghost use Rattle.dimacs_instance.specs.MinFlows.{MinValue};
 ghost use Rattle.dimacs_instance.specs.MinTexts.{SpellsMin, canonical_min, shown_min};
 ghost use Rattle.dimacs_instance.specs.QueryTexts.{AreLawful, QueriesValue, SpellsQueries, asked, canonical_queries, shown_queries};
 
-use crate::graph::{Graph, read_plain_graph, write_graph};
-use crate::indexed::{read_graph, read_max, read_min};
-use crate::max::{MaxInstance, read_plain_max, write_max};
-use crate::min::{MinInstance, read_plain_min, write_min};
-use crate::network::{ArcView, Network};
-use crate::plain::{CapacityArc, PlainArcs, WeightArc};
+use crate::graph::{BegunGraph, Graph, write_graph};
+use crate::max::{BegunMax, MaxInstance, write_max};
+use crate::min::{BegunMin, MinInstance, write_min};
+use crate::network::Network;
+use crate::of_arcs::{OfCapacityArcs, OfCostArcs, OfWeightArcs};
 use crate::queries::{Queries, read_queries, write_queries};
-use crate::star::ForwardStar;
 use dimacs_lines::{DeviceFault, Sink, Source};
-use dimacs_records::{Part, ReadError, Text, TextKind, put_line};
+use dimacs_records::{Part, ReadError, Text, TextKind, put_line, read_counted};
 use std::alloc::Global;
 
-impl Text for MaxInstance<PlainArcs<CapacityArc>> {
+impl<N: OfCapacityArcs> Text for MaxInstance<N> {
     ghost kind = { kinds.Max };
 
     ghost Said = { MaxValue };
@@ -46,7 +44,7 @@ impl Text for MaxInstance<PlainArcs<CapacityArc>> {
     }
 
     fn read<S: Source>(alloc: Global, source: &mut S) -> Result<Self, ReadError> {
-        read_plain_max(alloc, source)
+        read_counted::<BegunMax<N>, S>(alloc, source)
     }
 
     fn write<K: Sink>(&self, sink: &mut K) -> Result<(), DeviceFault> {
@@ -58,39 +56,7 @@ impl Text for MaxInstance<PlainArcs<CapacityArc>> {
     }
 }
 
-impl Text for MaxInstance<ForwardStar<CapacityArc>> {
-    ghost kind = { kinds.Max };
-
-    ghost Said = { MaxValue };
-
-    ghost said = { λ m. m };
-
-    ghost spells = { λ text m. SpellsMax text m };
-
-    ghost lawful = { λ v. Unit {0} };
-
-    ghost canonical = { λ m. canonical_max m };
-
-    ghost shown = { λ m. shown_max m };
-
-    fn kind() -> TextKind {
-        TextKind::Max
-    }
-
-    fn read<S: Source>(alloc: Global, source: &mut S) -> Result<Self, ReadError> {
-        read_max(alloc, source)
-    }
-
-    fn write<K: Sink>(&self, sink: &mut K) -> Result<(), DeviceFault> {
-        write_max(self, sink)
-    }
-
-    fn show<K: Sink>(&self, sink: &mut K) -> Result<(), DeviceFault> {
-        show_max(self, sink)
-    }
-}
-
-impl Text for MinInstance<PlainArcs<ArcView>> {
+impl<N: OfCostArcs> Text for MinInstance<N> {
     ghost kind = { kinds.Min };
 
     ghost Said = { MinValue };
@@ -110,7 +76,7 @@ impl Text for MinInstance<PlainArcs<ArcView>> {
     }
 
     fn read<S: Source>(alloc: Global, source: &mut S) -> Result<Self, ReadError> {
-        read_plain_min(alloc, source)
+        read_counted::<BegunMin<N>, S>(alloc, source)
     }
 
     fn write<K: Sink>(&self, sink: &mut K) -> Result<(), DeviceFault> {
@@ -122,39 +88,7 @@ impl Text for MinInstance<PlainArcs<ArcView>> {
     }
 }
 
-impl Text for MinInstance<ForwardStar<ArcView>> {
-    ghost kind = { kinds.Min };
-
-    ghost Said = { MinValue };
-
-    ghost said = { λ m. m };
-
-    ghost spells = { λ text m. SpellsMin text m };
-
-    ghost lawful = { λ v. Unit {0} };
-
-    ghost canonical = { λ m. canonical_min m };
-
-    ghost shown = { λ m. shown_min m };
-
-    fn kind() -> TextKind {
-        TextKind::Min
-    }
-
-    fn read<S: Source>(alloc: Global, source: &mut S) -> Result<Self, ReadError> {
-        read_min(alloc, source)
-    }
-
-    fn write<K: Sink>(&self, sink: &mut K) -> Result<(), DeviceFault> {
-        write_min(self, sink)
-    }
-
-    fn show<K: Sink>(&self, sink: &mut K) -> Result<(), DeviceFault> {
-        show_min(self, sink)
-    }
-}
-
-impl Text for Graph<PlainArcs<WeightArc>> {
+impl<N: OfWeightArcs> Text for Graph<N> {
     ghost kind = { kinds.Graph };
 
     ghost Said = { NetworkValue };
@@ -174,39 +108,7 @@ impl Text for Graph<PlainArcs<WeightArc>> {
     }
 
     fn read<S: Source>(alloc: Global, source: &mut S) -> Result<Self, ReadError> {
-        read_plain_graph(alloc, source)
-    }
-
-    fn write<K: Sink>(&self, sink: &mut K) -> Result<(), DeviceFault> {
-        write_graph(self, sink)
-    }
-
-    fn show<K: Sink>(&self, sink: &mut K) -> Result<(), DeviceFault> {
-        show_graph(self, sink)
-    }
-}
-
-impl Text for Graph<ForwardStar<WeightArc>> {
-    ghost kind = { kinds.Graph };
-
-    ghost Said = { NetworkValue };
-
-    ghost said = { λ g. g };
-
-    ghost spells = { λ text g. SpellsGraph text g };
-
-    ghost lawful = { λ v. Unit {0} };
-
-    ghost canonical = { λ g. canonical_graph g };
-
-    ghost shown = { λ g. shown_graph g };
-
-    fn kind() -> TextKind {
-        TextKind::Graph
-    }
-
-    fn read<S: Source>(alloc: Global, source: &mut S) -> Result<Self, ReadError> {
-        read_graph(alloc, source)
+        read_counted::<BegunGraph<N>, S>(alloc, source)
     }
 
     fn write<K: Sink>(&self, sink: &mut K) -> Result<(), DeviceFault> {

@@ -1,29 +1,20 @@
 -- Inside: how far a minimum cost flow instance has been read.
-use Rattle.std.specs.Prelude.{ℕ, Bool, [], ◌∷◌, ◌++◌, Option, Some, is_some, length, nat_lt}
+use Rattle.std.specs.Prelude.{ℕ, Bool, Some, is_some, length, nat_lt}
 use Rattle.std.specs.FinMap.{get}
-use Rattle.dimacs_records.specs.declared.order.Declared.{Declared}
 use Rattle.dimacs_records.specs.declared.order.Earlier.{Earlier}
-use Rattle.dimacs_records.specs.inside.Tests.{earlier_begun, is_named_begun}
-use Rattle.dimacs_instance.specs.declared.network.ArcView.{ArcView}
+use Rattle.dimacs_records.specs.declared.records.Record.{Record}
+use Rattle.dimacs_records.specs.declared.records.Record.TheVariants.{MinNode}
+use Rattle.dimacs_records.specs.Tests.{earlier_of}
 use Rattle.dimacs_instance.specs.MinReading.{MinBegun}
-
--- with one arc more
-abbrev pub with_arc : MinBegun → ArcView → MinBegun
-with_arc begun arc = record begun { arcs = begun.arcs ++ arc ∷ [] }
 
 abbrev pub has_line : MinBegun → ℕ → Bool
 has_line begun id = is_some (get begun.supplies id)
 
-abbrev pub declared_by : MinBegun → Declared
-declared_by begun = record { nodes = Some begun.nodes; count = begun.declared }
+-- after the problem line, the node lines and the arcs so far
+abbrev pub after_lines : MinBegun → Earlier
+after_lines begun = earlier_of (Some (record { nodes = Some begun.nodes; count = begun.declared })) (length begun.arcs)
 
--- what the records taken say of one that names no node
-abbrev pub earlier_lines : Option MinBegun → Earlier
-earlier_lines = earlier_begun declared_by (λ (begun : MinBegun). length begun.arcs)
-
-abbrev pub is_named : Option MinBegun → ℕ → Bool
-is_named = is_named_begun has_line
-
--- what they say of a node line
-abbrev pub earlier_names : Option MinBegun → ℕ → Earlier
-earlier_names begun id = record (earlier_lines begun) { misplaced = nat_lt 0 (earlier_lines begun).counted; named = is_named begun id }
+-- what the records taken say of one more
+abbrev pub before : MinBegun → Record → Earlier
+before begun (MinNode id supply) = record (after_lines begun) { misplaced = nat_lt 0 (length begun.arcs); named = has_line begun id }
+before begun r = after_lines begun

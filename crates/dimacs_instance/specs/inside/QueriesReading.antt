@@ -1,22 +1,22 @@
 -- Inside: how far queries have been read.
-use Rattle.std.specs.Prelude.{ℕ, Bool, false, List, length, Option, None, Some}
-use Rattle.std.specs.List.{list_any}
-use Rattle.dimacs_records.specs.declared.order.Declared.{Declared}
-use Rattle.dimacs_records.specs.declared.records.QueryKind.{QueryKind}
+use Rattle.std.specs.Prelude.{Bool, false, true, length, None, Some}
+use Rattle.dimacs_records.specs.declared.order.Earlier.{Earlier}
 use Rattle.dimacs_records.specs.declared.records.Record.{Record}
-use Rattle.dimacs_records.specs.Earlier.{asks_for}
-use Rattle.dimacs_instance.specs.QueryTexts.{query_lines}
+use Rattle.dimacs_records.specs.declared.records.Record.TheVariants.{SourceQuery, PairQuery}
+use Rattle.dimacs_records.specs.Tests.{earlier_of}
+use Rattle.dimacs_instance.specs.QueryTexts.{QueriesValue, Sources, Pairs, query_lines}
 use Rattle.dimacs_instance.specs.QueriesReading.{QueriesBegun}
 
--- queries of this kind are asked, where it is one
-abbrev pub are_asked : Option QueryKind → List Record → Bool
-are_asked None rs = false
-are_asked (Some kind) rs = list_any (asks_for kind) rs
+-- these are others than the record's, which is a query
+abbrev pub are_others : Record → QueriesValue → Bool
+are_others (SourceQuery id) (Pairs pairs) = true
+are_others (PairQuery from to) (Sources ids) = true
+are_others r queries = false
 
-abbrev pub declared_by : Option QueriesBegun → Option Declared
-declared_by None = None
-declared_by (Some begun) = Some (record { nodes = None; count = begun.declared })
+-- after the problem line and the queries so far
+abbrev pub after_lines : QueriesBegun → Earlier
+after_lines begun = earlier_of (Some (record { nodes = None; count = begun.declared })) (length (query_lines begun.queries))
 
-abbrev pub queries_by : Option QueriesBegun → ℕ
-queries_by None = 0
-queries_by (Some begun) = length (query_lines begun.queries)
+-- what the records taken say of one more
+abbrev pub before : QueriesBegun → Record → Earlier
+before begun r = record (after_lines begun) { misplaced = are_others r begun.queries }

@@ -1,0 +1,8 @@
+use Rattle.dimacs_instance.proofs.MinTextLemmas.{min_faultless, one_min}
+use Rattle.dimacs_instance.proofs.min.BegunMinBegun.kind.Goals as goal
+
+pub returns-clause-faultless : goal.returns-clause-faultless
+returns-clause-faultless g c = min_faultless
+
+pub returns-clause-one : goal.returns-clause-one
+returns-clause-one g c = one_min
