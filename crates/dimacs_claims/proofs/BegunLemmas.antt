@@ -14,35 +14,42 @@ use Rattle.dimacs_lines.specs.Limits.{most_count, most_nodes}
 use Rattle.dimacs_nodes.specs.declared.node_table.NodeTable.{NodeTable}
 use Rattle.dimacs_nodes.specs.Tables.{value_of}
 use Rattle.dimacs_records.specs.declared.kinds.TextKind.TheVariants.{Labels}
-use Rattle.dimacs_records.specs.declared.order.Declared.{Declared}
 use Rattle.dimacs_records.specs.declared.records.Record.{Record}
-use Rattle.dimacs_records.specs.declared.records.Record.TheVariants.{LabelsProblem, LabelsBlock}
+use Rattle.dimacs_records.specs.declared.records.Record.TheVariants.{LabelsProblem, LabelsBlock, LabelsNode}
 use Rattle.dimacs_records.specs.declared.reasons.Reason.TheVariants.{RecordOrder, NodeRange, NodeTwice, TooMany, TooFew, PredUnknown, PastRadius}
 use Rattle.dimacs_records.specs.Blocks.{block_in, is_full_block, is_labelled, is_past, is_past_block, is_short_block}
 use Rattle.dimacs_records.specs.Conditions.{is_unfinished}
 use Rattle.dimacs_records.specs.Earlier.{counted_in, is_above, is_full, is_short, names, problem_in}
 use Rattle.dimacs_records.specs.Ranges.{IsRadius, IsWide}
 use Rattle.dimacs_records.specs.Readings.{IsAllowed, IsComplete, LineRecord, records_of}
-use Rattle.dimacs_records.specs.Tests.{Counts, IsToldOf, TellsEnd, earlier_of, problem_told}
+use Rattle.dimacs_records.specs.Spelling.{kind_of}
+use Rattle.dimacs_records.specs.Tests.{Counts, IsToldOf, PassesEnd, TellsEnd, problem_told}
 use Rattle.dimacs_claims.specs.declared.block.Label.{Label}
 use Rattle.dimacs_claims.specs.Labels.{AreSources, BlockValue, EachAfter, IsBlock, IsNewSource, distance_in, label, with_label, has_source}
 use Rattle.dimacs_claims.specs.LabelTexts.{GivesLabels, label_line}
 use Rattle.dimacs_claims.specs.LabelsReading.{LabelsBegun, AreLabelled, AreLabelsBegun, lines_of_blocks, labels_begun_records}
+use Rattle.dimacs_claims.specs.inside.LabelsReading.{after_lines, before, before_end}
 use Rattle.dimacs_claims.proofs.BlockLemmas.{label_id, near_radius, is_some-label, is_some-push, some_if, block_empty, block_push, each_after_nil, each_after_push}
 use Rattle.dimacs_claims.proofs.LabelRecords.{source_of, opened_with, last_after, last_cases, last_is, say_taken, short_told, list_any-has_source, lines_of_blocks-push_block, lines_of_blocks-push_label, lines_of_blocks-zero, new_source, push_same}
 
 -- what is told of the records is so
-pub counts : (begun : LabelsBegun) → Counts (Some (record { nodes = Some begun.nodes; count = begun.declared })) (length begun.blocks) (labels_begun_records begun)
-counts begun = record { problem_is = (say_taken begun).problem; counted_is = (say_taken begun).counted ∙ length-map begun.blocks source_of }
+pub counts : (b : LabelsBegun) → Counts (after_lines b).problem (after_lines b).counted (labels_begun_records b)
+counts b = record { problem_is = (say_taken b).problem; counted_is = (say_taken b).counted ∙ length-map b.blocks source_of }
 
 pub source_told : (begun : LabelsBegun) (source : ℕ) → list_any (names source) (labels_begun_records begun) ≡ list_any (has_source source) begun.blocks
 source_told begun source = (say_taken begun).named source ∙ sym (list_any-has_source source begun.blocks)
 
-pub end_tells : (p : Option Declared) (k : ℕ) (rs : List Record) → Counts p k rs → TellsEnd Labels (record (earlier_of p k) { block_short = is_short_block (block_in rs) }) rs
-end_tells p k rs so = record {
-  counts = so;
+pub tells : (b : LabelsBegun) (r : Record) → kind_of r ≡ Labels → IsToldOf (before b r) (labels_begun_records b) r
+tells b (LabelsProblem nodes blocks) of_kind = record { counts = counts b; misplaced = refl; named = refl; end_named = refl; lacks_end = refl; block_full = refl; block_short = refl; valued = refl; pred_unknown = refl; past_radius = refl }
+tells b (LabelsBlock source count radius) of_kind = record { counts = counts b; misplaced = refl; named = refl; end_named = refl; lacks_end = refl; block_full = refl; block_short = refl; valued = refl; pred_unknown = refl; past_radius = refl }
+tells b (LabelsNode id dist pred) of_kind = record { counts = counts b; misplaced = refl; named = refl; end_named = refl; lacks_end = refl; block_full = refl; block_short = refl; valued = refl; pred_unknown = refl; past_radius = refl }
+tells b r of_kind = absurd (cc)
+
+pub end_tells : (b : LabelsBegun) → TellsEnd Labels (before_end b) (labels_begun_records b)
+end_tells b = record {
+  counts = counts b;
   lacks_end = refl;
-  unfinished = ap₂ (λ q n. is_short q n || is_short_block (block_in rs)) so.problem_is so.counted_is ∙ or_swap (is_short (problem_told p) k) (is_short_block (block_in rs));
+  unfinished = ap₂ (λ q n. is_short q n || is_short_block (block_in (labels_begun_records b))) (counts b).problem_is (counts b).counted_is ∙ or_swap (is_short (problem_told (after_lines b).problem) (length b.blocks)) (is_short_block (block_in (labels_begun_records b)));
   valued = refl;
 }
   where
@@ -52,14 +59,12 @@ end_tells p k rs so = record {
     or_swap false true = refl
     or_swap false false = refl
 
--- what was begun and is complete gives its labels
-pub gives_labels : (begun : LabelsBegun) → AreLabelsBegun begun → (rs : List LineRecord) → records_of rs ≡ labels_begun_records begun → IsComplete Labels (records_of rs) → GivesLabels rs (record { nodes = begun.nodes; blocks = begun.blocks })
-gives_labels begun are rs is complete =
-    let so = counts begun in
-    let whole = subst (λ rs. is_unfinished Labels rs ≡ false) is (false_from_ne_true _ (complete TooFew)) in
-    let parts = or_parts (is_short (problem_in (labels_begun_records begun)) (counted_in (labels_begun_records begun))) (is_short_block (block_in (labels_begun_records begun))) whole in
-    let full : begun.declared ≡ length begun.blocks = omega (arith, ltb-false (length begun.blocks) begun.declared (ap₂ is_short (sym so.problem_is) (sym so.counted_is) ∙ parts.0), are.no_more) in
-    let none : begun.missing ≡ 0 = omega (arith, ltb-false 0 begun.missing (sym (short_told begun are.none_lack) ∙ parts.1)) in (
+-- what was begun and is whole gives its labels
+pub gives_labels : (b : LabelsBegun) → AreLabelsBegun b → PassesEnd Labels (before_end b) → (rs : List LineRecord) → records_of rs ≡ labels_begun_records b → GivesLabels rs (record { nodes = b.nodes; blocks = b.blocks })
+gives_labels begun are passes rs is =
+    let parts = or_parts (is_short_block (block_in (labels_begun_records begun))) (is_short (problem_told (after_lines begun).problem) (length begun.blocks)) passes.finished in
+    let full : begun.declared ≡ length begun.blocks = omega (arith, ltb-false (length begun.blocks) begun.declared parts.1, are.no_more) in
+    let none : begun.missing ≡ 0 = omega (arith, ltb-false 0 begun.missing (sym (short_told begun are.none_lack) ∙ parts.0)) in (
       is ∙ ap₂ (λ n rs. LabelsProblem begun.nodes n ∷ rs) full (ap (λ m. lines_of_blocks m begun.blocks) none ∙ lines_of_blocks-zero begun.blocks),
       record { nodes_few = are.nodes_few; blocks_few = omega (arith, are.no_more, are.blocks_few); blocks = are.blocks; sources = are.sources },
     )
@@ -99,20 +104,8 @@ module _ (begun : LabelsBegun) (front : List BlockValue) (b : BlockValue) (is : 
   in_last : block_in (labels_begun_records begun) ≡ Some (opened_with begun.missing b)
   in_last = (say_taken begun).block ∙ last_is begun.blocks begun.missing (front, b, is)
 
-  pub label_tells : (p : Option Declared) (k : ℕ) → Counts p k (labels_begun_records begun)
-      → IsToldOf (record (earlier_of p k) { named = is_some (label b l.id); block_full = begun.missing == 0; pred_unknown = not (is_some (label b l.pred)); past_radius = is_past b.radius l.dist }) (labels_begun_records begun) (label_line l)
-  label_tells p k so = record {
-    counts = so;
-    misplaced = ap is_none in_last;
-    named = ap (λ o. is_labelled o l.id) in_last ∙ sym (is_some-label b l.id);
-    end_named = refl;
-    lacks_end = refl;
-    block_full = ap is_full_block in_last ∙ full (length b.labels) begun.missing (length (map label_id b.labels)) (length-map b.labels label_id);
-    block_short = refl;
-    valued = refl;
-    pred_unknown = ap (λ o. not (is_labelled o l.pred)) in_last ∙ ap not (sym (is_some-label b l.pred));
-    past_radius = ap (λ o. is_past_block o l.dist) in_last;
-  }
+  pub label_told : record (after_lines begun) { named = is_some (label b l.id); block_full = begun.missing == 0; pred_unknown = not (is_some (label b l.pred)); past_radius = is_past b.radius l.dist } ≡ before begun (label_line l)
+  label_told = rw (in_last, is_some-label b l.id, is_some-label b l.pred, full (length b.labels) begun.missing (length (map label_id b.labels)) (length-map b.labels label_id)) refl
     where
       full : (n m k : ℕ) → k ≡ n → nat_le (n + m) k ≡ (m == 0)
       full n zero k same = le-leb (n + 0) k (omega (arith, same))

@@ -16,10 +16,11 @@ use Rattle.dimacs_records.specs.Forms.{form, Word, Nodes, Count, Id, Wide, Radiu
 use Rattle.dimacs_records.specs.Canonical.{CanBeSpelled}
 use Rattle.dimacs_records.specs.Ranges.{IsRadius}
 use Rattle.dimacs_records.specs.declared.faults.ReadError.{ReadError}
-use Rattle.dimacs_records.specs.Readings.{LineRecord, ReadsLines, numbered, records_of, IsAllowed, IsComplete}
+use Rattle.dimacs_records.specs.Readings.{LineRecord, numbered, records_of, IsAllowed, IsComplete}
 use Rattle.dimacs_records.specs.inside.Texts.{AreFaultless}
 use Rattle.dimacs_records.proofs.CanonicalLaws.{canonical_spelled, numbered_all}
-use Rattle.dimacs_records.proofs.ReadLaws.{spelled_of_faultless}
+use Rattle.dimacs_records.specs.Faults.{Fault}
+use Rattle.dimacs_records.specs.Texts.{Reads, SpellsValue}
 use Rattle.dimacs_claims.specs.declared.block.Label.{Label}
 use Rattle.dimacs_claims.specs.Labels.{BlockValue, LabelsValue, AreLabels, EachAfter, IsBlock, IsLabel, IsFresh, HasPred, IsNear, IsNewSource}
 use Rattle.dimacs_claims.specs.LabelTexts.{label_line, block_lines, label_records, GivesLabels, SpellsLabels, canonical_labels, FitText}
@@ -225,8 +226,8 @@ labels_round_trip labels are few =
     }
 
 -- the labels of a text have no more lines than it
-pub fit_read : (all : List (List ℕ)) (told : Result LabelsValue ReadError) → ReadsLines Labels GivesLabels all told → IfOk told FitText
+pub fit_read : (all : List (List ℕ)) (told : Result LabelsValue ReadError) → Reads (SpellsValue Labels GivesLabels all) (Fault Labels all) told → IfOk told FitText
 fit_read all (Ok labels) h =
-    let spelled = spelled_of_faultless Labels all h.said h.faultless in
-    omega (arith, one_a_line Labels all h.said 1 spelled.spell, spelled.few, ap length h.given.0, length-map (numbered 1 h.said) (λ (r : LineRecord). r.says))
+    let spells = h.0 in
+    omega (arith, one_a_line Labels all spells.said 1 spells.spelled.spell, spells.spelled.few, ap length spells.given.0, length-map (numbered 1 spells.said) (λ (r : LineRecord). r.says))
 fit_read all (Err error) h = tt

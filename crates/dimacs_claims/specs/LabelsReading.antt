@@ -1,5 +1,5 @@
 -- How far labels have been read.
-use Rattle.std.specs.Prelude.{ℕ, ◌≡◌, ◌≤◌, ◌+◌, List, [], ◌∷◌, ◌++◌, map, length, Option, None, Some, is_some, ◌==◌}
+use Rattle.std.specs.Prelude.{ℕ, ◌≡◌, ◌≤◌, ◌+◌, List, [], ◌∷◌, ◌++◌, map, length, is_some, ◌==◌}
 use Rattle.std.specs.List.{All}
 use Rattle.dimacs_lines.specs.Limits.{most_count, most_nodes}
 use Rattle.dimacs_nodes.specs.declared.node_table.NodeTable.{NodeTable}
@@ -33,10 +33,6 @@ lines_of_blocks missing (b ∷ more) = lines_of_short (lacking missing more) b +
 -- the records that were taken
 abbrev pub labels_begun_records : LabelsBegun → List Record
 labels_begun_records begun = LabelsProblem begun.nodes begun.declared ∷ lines_of_blocks begun.missing begun.blocks
-
-abbrev pub label_records_so_far : Option LabelsBegun → List Record
-label_records_so_far None = []
-label_records_so_far (Some begun) = labels_begun_records begun
 
 -- the last block declared no more labels than may be
 abbrev pub LastIsFew : LabelsBegun → Type 0

@@ -1,38 +1,34 @@
 //! Labels: claimed distances from sources.
 
-ghost use Rattle.std.specs.Prelude.{◌≡◌, ◌<◌, ◌≤◌, ◌++◌, ◌∷◌, [], ℕ, List, Option, Some, None, OnOk, OnErr, IfOk, IfSome, is_some, length};
+ghost use Rattle.std.specs.Prelude.{◌≡◌, ◌<◌, ◌≤◌, ◌++◌, ◌∷◌, [], ℕ, List, Option, Some, None, OnOk, OnErr, IfOk, IfSome, is_some, length, refl};
 ghost use Rattle.dimacs_lines.specs.Limits.{most_count, most_nodes};
 ghost use Rattle.dimacs_lines.specs.Devices.{CountsFault};
 ghost use Rattle.dimacs_lines.specs.Lines.{lines};
 ghost use Rattle.dimacs_lines.specs.Pages.{Appends, CountsOn};
 ghost use Rattle.dimacs_lines.specs.Puts.{Puts};
 ghost use Rattle.dimacs_records.specs.declared.kinds.TextKind.TheVariants as kinds;
-ghost use Rattle.dimacs_records.specs.declared.records.Record.TheVariants.{LabelsProblem, LabelsBlock, LabelsNode};
+ghost use Rattle.dimacs_records.specs.declared.records.Record.TheVariants.{LabelsBlock};
 ghost use Rattle.dimacs_records.specs.Canonical.{canonical_text};
-ghost use Rattle.dimacs_records.specs.Blocks.{block_in, is_short_block};
-ghost use Rattle.dimacs_records.specs.Earlier.{names};
 ghost use Rattle.dimacs_records.specs.Faults.{Fault};
-ghost use Rattle.dimacs_records.specs.Readings.{CountsRead, IsAllowed, records_of};
-ghost use Rattle.dimacs_records.specs.inside.Readings.{TakesRecord};
-ghost use Rattle.dimacs_records.specs.Tests.{Counts, IsToldOf, earlier_of};
+ghost use Rattle.dimacs_records.specs.Readings.{CountsRead, IsAllowed};
 ghost use Rattle.dimacs_records.specs.Texts.{Reads};
 ghost use Rattle.dimacs_claims.specs.ById.{AreIndexed};
 ghost use Rattle.dimacs_claims.specs.Labels as claims;
 ghost use Rattle.dimacs_claims.specs.Labels.{AreLabels, AreSources, BlockValue, IsBlock, IsNewSource, LabelsValue, label_at, with_block, with_label};
 ghost use Rattle.std.specs.FinSet as set;
-ghost use Rattle.std.specs.List.{All, list_any};
+ghost use Rattle.std.specs.List.{All};
 ghost use Rattle.std.specs.Ordering.{nat_cmp};
 ghost use Rattle.dimacs_records.specs.Ranges.{IsRadius, IsWide};
 ghost use Rattle.dimacs_claims.specs.LabelTexts.{FitText, GivesLabels, SpellsLabels, block_lines, canonical_labels, label_line};
 ghost use Rattle.dimacs_claims.specs.LabelsReading.{labels_begun_records};
+ghost use Rattle.dimacs_claims.specs.inside.LabelsReading.{after_lines, before, before_end};
 
 use crate::block::{Block, Label};
 use crate::by_id::{ById, distance_by};
 use dimacs_lines::{DeviceFault, Memory, Page, Sink, Source};
 use dimacs_nodes::{NodeSet, NodeTable};
 use dimacs_records::{
-    Declared, Earlier, ReadError, Reading, Record, TakeError, TextKind, read_text, test_end,
-    test_record, write_record,
+    Begun, CountedReading, Declared, Earlier, ReadError, Record, TextKind, read_counted, write_record,
 };
 use std::alloc::Global;
 use std::marker::Model;
@@ -136,25 +132,11 @@ fn index_others(blocks: &[Block], indices: &mut Vec<ById>) -> Result<(), Memory>
 }
 
 /// Makes labels of the records of a text, without an index of them.
-#[derive(Drop)]
-pub struct LabelsReading {
-    alloc: Global,
-    begun: Option<BegunLabels>,
-}
-
-impl Model for LabelsReading {
-    ghost use Rattle.std.specs.Prelude.{List};
-    ghost use Rattle.dimacs_records.specs.declared.records.Record.{Record};
-    ghost use Rattle.dimacs_claims.specs.LabelsReading.{label_records_so_far};
-
-    ghost Value = { List Record };
-
-    ghost view = { λ reading. label_records_so_far reading.begun };
-}
+pub type LabelsReading = CountedReading<BegunLabels>;
 
 /// The blocks that came after the problem line.
 #[derive(Drop)]
-pub(crate) struct BegunLabels {
+pub struct BegunLabels {
     nodes: u32,
     declared: u32,
     /// How many labels the last block lacks.
@@ -191,6 +173,38 @@ impl BegunLabels {
         ensures { (front : List BlockValue) (b : BlockValue) → self.now.blocks ≡ front ++ b ∷ [] → b.source ≡ source → result ≡ is_some (claims.label b id) }
     {
         source == id || self.labelled.get(id) == self.len()
+    }
+
+    /// What is told of a record that asks for no block.
+    #[inline(always)]
+    fn lines(&self) -> Earlier
+        ensures { result ≡ after_lines self.now }
+    {
+        let nodes = Some(self.nodes);
+        let count = self.declared;
+        Earlier::of(Some(Declared { nodes, count }), self.len())
+    }
+
+    /// What the records that were taken say of a label.
+    #[inline(always)]
+    fn before_label(&self, label: Label) -> Earlier
+        ensures { result ≡ before self.now (label_line label) }
+    {
+        let Some(block) = self.blocks.last() else {
+            return Earlier {
+                misplaced: true,
+                pred_unknown: true,
+                ..self.lines()
+            };
+        };
+        let source = block.source();
+        Earlier {
+            named: self.has_label(source, label.id),
+            block_full: self.missing == 0,
+            pred_unknown: !self.has_label(source, label.pred),
+            past_radius: block.is_past(label.dist),
+            ..self.lines()
+        }
     }
 
     /// Opens a block after the others.
@@ -240,181 +254,80 @@ fn add_to_last(blocks: &mut Vec<Block>, label: Label) -> Result<(), Memory>
     blocks[last].add(label)
 }
 
-impl LabelsReading {
-    pub fn new(alloc: Global) -> LabelsReading
-        ensures { result ≡ [] }
-    {
-        LabelsReading { alloc, begun: None }
-    }
-
-    /// What the earlier records say of one that asks for no block.
-    #[inline(always)]
-    fn earlier(&self) -> Earlier
-        ensures counts { Counts result.problem result.counted self.now }
-        ensures others { result ≡ earlier_of result.problem result.counted }
-    {
-        match &self.begun {
-            Some(begun) => {
-                let nodes = Some(begun.nodes);
-                let count = begun.declared;
-                Earlier::of(Some(Declared { nodes, count }), begun.len())
-            }
-            None => Earlier::of(None, 0),
-        }
-    }
-
-    /// Whether a block has this source.
-    #[inline(always)]
-    fn names(&self, source: u32) -> bool
-        ensures { result ≡ list_any (names source) self.now }
-    {
-        match &self.begun {
-            Some(begun) => begun.sources.contains(source),
-            None => false,
-        }
-    }
-
-    /// Whether the last block has fewer labels than it declares.
-    #[inline(always)]
-    fn lacks_labels(&self) -> bool
-        ensures { result ≡ is_short_block (block_in self.now) }
-    {
-        match &self.begun {
-            Some(begun) => begun.missing > 0,
-            None => false,
-        }
-    }
-
-    /// What the earlier records say of a label.
-    #[inline(always)]
-    fn before_label(&self, label: Label) -> Earlier
-        ensures { IsToldOf result self.now (label_line label) }
-    {
-        let outside = Earlier {
-            misplaced: true,
-            pred_unknown: true,
-            ..self.earlier()
-        };
-        let Some(begun) = &self.begun else {
-            return outside;
-        };
-        let Some(block) = begun.blocks.last() else {
-            return outside;
-        };
-        let source = block.source();
-        Earlier {
-            misplaced: false,
-            named: begun.has_label(source, label.id),
-            block_full: begun.missing == 0,
-            pred_unknown: !begun.has_label(source, label.pred),
-            past_radius: block.is_past(label.dist),
-            ..outside
-        }
-    }
-
-    fn start(&mut self, nodes: u32, blocks: u32) -> Result<(), TakeError>
-        requires nodes { nodes ≤ most_nodes }
-        requires blocks { blocks ≤ most_count }
-        ensures { TakesRecord self.old (LabelsProblem nodes blocks) result self.new }
-    {
-        test_record(self.earlier(), Record::LabelsProblem { nodes, blocks })?;
-        self.begun = Some(BegunLabels {
-            nodes,
-            declared: blocks,
-            missing: 0,
-            sources: NodeSet::new(self.alloc),
-            labelled: NodeTable::new(self.alloc, 0),
-            blocks: Vec::new(self.alloc),
-        });
-        Ok(())
-    }
-
-    fn start_block(
-        &mut self,
-        source: u32,
-        count: u32,
-        radius: Option<i128>,
-    ) -> Result<(), TakeError>
-        requires source { 1 ≤ source }
-        requires count { count ≤ most_count }
-        requires radius { IfSome radius IsRadius }
-        ensures { TakesRecord self.old (LabelsBlock source count radius) result self.new }
-    {
-        let earlier = Earlier {
-            named: self.names(source),
-            block_short: self.lacks_labels(),
-            ..self.earlier()
-        };
-        test_record(
-            earlier,
-            Record::LabelsBlock {
-                source,
-                count,
-                radius,
-            },
-        )?;
-        let Some(begun) = &mut self.begun else {
-            unreachable!()
-        };
-        begun.open(source, count, radius)?;
-        Ok(())
-    }
-
-    #[inline(always)]
-    fn add_label(&mut self, label: Label) -> Result<(), TakeError>
-        requires id { 1 ≤ label.id }
-        requires pred { 1 ≤ label.pred }
-        requires dist { IsWide label.dist }
-        ensures { TakesRecord self.old (label_line label) result self.new }
-    {
-        test_record(self.before_label(label), label_record(label))?;
-        let Some(begun) = &mut self.begun else {
-            unreachable!()
-        };
-        begun.keep_label(label)?;
-        Ok(())
-    }
-}
-
-impl Reading for LabelsReading {
+impl Begun for BegunLabels {
     type Value = Labels;
 
-    ghost kind = { λ reading. kinds.Labels };
+    ghost kind = { kinds.Labels };
 
-    ghost stands_for = { λ reading rs. records_of rs ≡ reading };
+    ghost begun_by = { λ begun rs. rs ≡ labels_begun_records begun };
+
+    ghost told = { λ begun r. before begun r };
+
+    ghost told_end = { λ begun. before_end begun };
 
     ghost gives = { λ rs labels. GivesLabels rs labels };
 
+    fn kind() -> TextKind {
+        TextKind::Labels
+    }
+
+    fn begin(alloc: Global, problem: Record) -> BegunLabels {
+        let Record::LabelsProblem { nodes, blocks } = problem else {
+            unreachable!()
+        };
+        BegunLabels {
+            nodes,
+            declared: blocks,
+            missing: 0,
+            sources: NodeSet::new(alloc),
+            labelled: NodeTable::new(alloc, 0),
+            blocks: Vec::new(alloc),
+        }
+    }
+
     #[inline(always)]
-    fn take(&mut self, _line: u64, said: Record) -> Result<(), TakeError> {
+    fn before(&self, said: Record) -> Earlier {
         match said {
-            Record::LabelsProblem { nodes, blocks } => self.start(nodes, blocks),
-            Record::LabelsBlock {
-                source,
-                count,
-                radius,
-            } => self.start_block(source, count, radius),
-            Record::LabelsNode { id, dist, pred } => self.add_label(Label { dist, id, pred }),
+            Record::LabelsNode { id, dist, pred } => self.before_label(Label { dist, id, pred }),
+            Record::LabelsBlock { source, .. } => Earlier {
+                named: self.sources.contains(source),
+                ..self.before_end()
+            },
+            Record::LabelsProblem { .. } => self.lines(),
             _ => unreachable!(),
         }
     }
 
-    fn finish(self) -> Result<Labels, TakeError> {
-        let earlier = Earlier {
-            block_short: self.lacks_labels(),
-            ..self.earlier()
-        };
-        test_end(TextKind::Labels, earlier)?;
-        let alloc = self.alloc;
-        let Some(begun) = self.begun else {
-            unreachable!()
-        };
+    #[inline(always)]
+    fn keep(&mut self, said: Record) -> Result<(), Memory> {
+        match said {
+            Record::LabelsNode { id, dist, pred } => self.keep_label(Label { dist, id, pred }),
+            Record::LabelsBlock {
+                source,
+                count,
+                radius,
+            } => self.open(source, count, radius),
+            _ => unreachable!(),
+        }
+    }
+
+    #[inline(always)]
+    fn before_end(&self) -> Earlier {
+        Earlier {
+            block_short: self.missing > 0,
+            ..self.lines()
+        }
+    }
+
+    fn value(self, alloc: Global) -> Result<Labels, Memory> {
         Ok(Labels {
-            nodes: begun.nodes,
-            blocks: begun.blocks,
+            nodes: self.nodes,
+            blocks: self.blocks,
             indices: Vec::new(alloc),
         })
     }
+
+    ghost has_problem = { refl };
 }
 
 /// Reads a text of labels, and builds their index.
@@ -434,7 +347,7 @@ pub fn read_plain_labels<S: Source>(alloc: Global, source: &mut S) -> Result<Lab
     ensures fits { (text : List ℕ) → S.coming source.old ≡ Some text → IfOk result (λ labels. FitText labels) }
     ensures device { CountsRead result (S.faults source.old) (S.faults source.new) }
 {
-    read_text(alloc, TextKind::Labels, LabelsReading::new(alloc), source)
+    read_counted::<BegunLabels, S>(alloc, source)
 }
 
 /// Writes the canonical text of labels.
