@@ -25,5 +25,4 @@ pub mod WrittenLemmas
 pub mod CountLemmas
 pub mod NameLemmas
 pub mod TakenLines
-pub mod TakingLemmas
 pub mod OrderLemmas

@@ -1,5 +1,5 @@
 -- The first fault, by what is told of the earlier records.
-use Rattle.std.proofs.Common.{◌≡◌, ◌++◌, ◌∷◌, [], List, Bool, false, true, Option, Some, None, Ok, Err, refl, ap₂, ◌∙◌}
+use Rattle.std.proofs.Common.{◌≡◌, ◌++◌, ◌∷◌, [], List, Bool, false, true, Option, Some, None, refl, ap₂, ◌∙◌}
 use Rattle.std.specs.Prelude.{◌&&◌, ◌||◌, not, is_none, is_some, if◌then◌else◌}
 use Rattle.dimacs_records.specs.declared.kinds.TextKind.{TextKind}
 use Rattle.dimacs_records.specs.declared.order.Earlier.{Earlier}
@@ -12,11 +12,7 @@ use Rattle.dimacs_records.specs.Conditions.{bounded_ids, is_above_at, is_bound_w
 use Rattle.dimacs_records.specs.Earlier.{is_counted, is_full, is_problem, is_short}
 use Rattle.dimacs_records.specs.Faults.{FirstAtEnd}
 use Rattle.dimacs_records.specs.Order.{Place, at}
-use Rattle.dimacs_records.specs.declared.faults.TakeError.{TakeError}
-use Rattle.dimacs_records.specs.Readings.{IsAllowed, IsComplete, IsFirstCondition, RefusesRecord}
-use Rattle.dimacs_records.specs.inside.Readings.{TakesRecord}
-use Rattle.dimacs_records.specs.Takings.{StandsFor}
-use Rattle.dimacs_records.specs.inside.Takings.{Takes}
+use Rattle.dimacs_records.specs.Readings.{IsAllowed, IsComplete, IsFirstCondition}
 use Rattle.dimacs_records.specs.Spelling.{kind_of}
 use Rattle.dimacs_records.specs.Tests.{Passes, PassesEnd, IsToldOf, TellsEnd, is_too_many_told, problem_told}
 use Rattle.dimacs_records.proofs.ConditionLemmas.{first_place, first_reason_at_end, is_allowed, is_complete, is_first_at_end, is_first_condition}
@@ -70,21 +66,6 @@ first_end_told kind e all reason h t = is_first_at_end kind all reason (end_told
 
 pub complete_told : (kind : TextKind) (e : Earlier) (all : List Record) → PassesEnd kind e → TellsEnd kind e all → IsComplete kind all
 complete_told kind e all p t = is_complete kind all (end_told kind e all t ∙ rw (p.problem, p.ends, p.finished, p.value) refl)
-
--- what a reading answers that stands for some records, by the tests
-module _ {B : Type 0} (by : B → List Record → Type 0) (old : Option B) (r : Record) (e : Earlier) (tells : (rs : List Record) → StandsFor by old rs → IsToldOf e rs r) where
-  pub refused_told : (error : TakeError) → ((rs : List Record) → IsToldOf e rs r → RefusesRecord rs r error) → Takes by old r (Err error) old
-  refused_told error refuses = ((λ rs h. refuses rs (tells rs h)), refl)
-
-  pub taken_told : (new : B) → Passes e r → ((rs : List Record) → StandsFor by old rs → by new (rs ++ r ∷ [])) → Takes by old r (Ok tt) (Some new)
-  taken_told new p stands = λ rs h. (allowed_told e rs r p (tells rs h), stands rs h)
-
--- what a reading answers that keeps all records, by the tests
-pub refused_record : (e : Earlier) (before : List Record) (r : Record) (error : TakeError) → IsToldOf e before r → ((rs : List Record) → IsToldOf e rs r → RefusesRecord rs r error) → TakesRecord before r (Err error) before
-refused_record e before r error t refuses = (refuses before t, refl)
-
-pub taken_record : (e : Earlier) (before after : List Record) (r : Record) → IsToldOf e before r → Passes e r → after ≡ before ++ r ∷ [] → TakesRecord before r (Ok tt) after
-taken_record e before after r t p same = (allowed_told e before r p t, same)
 
 -- the first record of a text that begins with a problem line
 pub first_missing : (r : Record) → is_problem r ≡ false → needs_problem (kind_of r) ≡ true → IsFirstCondition [] r (record { field = 0; reason = ProblemMissing })

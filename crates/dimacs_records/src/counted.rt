@@ -43,8 +43,11 @@ pub trait Begun: Drop {
     /// The value that the records of a text give.
     ghost gives: { List LineRecord → Self.Value → Type 0 };
 
+    /// Records that give a value are refused for nothing, and give no other.
     fn kind() -> TextKind
-        ensures { result ≡ kind };
+        ensures kind { result ≡ kind }
+        ensures faultless { (rs : List LineRecord) (value : Self.Value) → gives rs value → AreFaultless kind (records_of rs) }
+        ensures one { (rs : List LineRecord) (value other : Self.Value) → gives rs value → gives rs other → value ≡ other };
 
     /// What a problem line begins.
     fn begin(alloc: Global, problem: Record) -> Self
@@ -77,12 +80,6 @@ pub trait Begun: Drop {
 
     /// Texts of the kind begin with a problem line.
     ghost has_problem: { needs_problem kind ≡ true };
-
-    /// Records that give a value are refused for nothing.
-    ghost faultless: { (rs : List LineRecord) (value : Self.Value) → gives rs value → AreFaultless kind (records_of rs) };
-
-    /// Records give one value.
-    ghost one: { (rs : List LineRecord) (value other : Self.Value) → gives rs value → gives rs other → value ≡ other };
 }
 
 /// Makes a value of the records of a text that begins with a problem line.

@@ -8,8 +8,7 @@ ghost use Rattle.dimacs_records.specs.Conditions.{is_above_at, bounded_ids, is_b
 ghost use Rattle.dimacs_records.specs.Earlier.{Problem, is_above, is_counted, is_full, is_problem, is_short};
 ghost use Rattle.dimacs_records.specs.Readings.{RefusesRecord, RefusesEnd};
 ghost use Rattle.dimacs_records.specs.Spelling.{kind_of};
-ghost use Rattle.dimacs_records.specs.Tests.{Passes, PassesEnd, IsToldOf, TellsEnd, earlier_of, is_too_many_told, problem_told};
-ghost use Rattle.dimacs_records.specs.inside.Tests.{is_above_found};
+ghost use Rattle.dimacs_records.specs.Tests.{Passes, PassesEnd, IsToldOf, TellsEnd, earlier_of, is_above_found, is_too_many_told, problem_told};
 
 use crate::faults::TakeError;
 use crate::kinds::TextKind;
