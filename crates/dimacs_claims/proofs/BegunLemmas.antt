@@ -18,10 +18,9 @@ use Rattle.dimacs_records.specs.declared.records.Record.{Record}
 use Rattle.dimacs_records.specs.declared.records.Record.TheVariants.{LabelsProblem, LabelsBlock, LabelsNode}
 use Rattle.dimacs_records.specs.declared.reasons.Reason.TheVariants.{RecordOrder, NodeRange, NodeTwice, TooMany, TooFew, PredUnknown, PastRadius}
 use Rattle.dimacs_records.specs.Blocks.{block_in, is_full_block, is_labelled, is_past, is_past_block, is_short_block}
-use Rattle.dimacs_records.specs.Conditions.{is_unfinished}
-use Rattle.dimacs_records.specs.Earlier.{counted_in, is_above, is_full, is_short, names, problem_in}
+use Rattle.dimacs_records.specs.Earlier.{is_above, is_full, is_short, names}
 use Rattle.dimacs_records.specs.Ranges.{IsRadius, IsWide}
-use Rattle.dimacs_records.specs.Readings.{IsAllowed, IsComplete, LineRecord, records_of}
+use Rattle.dimacs_records.specs.Readings.{IsAllowed, LineRecord, records_of}
 use Rattle.dimacs_records.specs.Spelling.{kind_of}
 use Rattle.dimacs_records.specs.Tests.{Counts, IsToldOf, PassesEnd, TellsEnd, problem_told}
 use Rattle.dimacs_claims.specs.declared.block.Label.{Label}

@@ -1,5 +1,5 @@
 -- Sets of nodes, and records after those of a set that was begun.
-use Rattle.std.proofs.Common.{◌≡◌, ℕ, suc, ◌<◌, ◌≤◌, ◌∷◌, ◌++◌, [], List, Bool, true, false, Option, Some, None, length, map, ◌+◌, ◌-◌, ◌==◌, ◌||◌, refl, ap, ap₂, sym, ◌∙◌, subst, arith}
+use Rattle.std.proofs.Common.{◌≡◌, ℕ, suc, ◌<◌, ◌≤◌, ◌∷◌, ◌++◌, [], List, Bool, true, false, Some, length, map, ◌+◌, ◌-◌, ◌==◌, ◌||◌, refl, ap, ap₂, sym, ◌∙◌, subst, arith}
 use Rattle.std.specs.Prelude.{codes, nat_lt, nat_le, count_by}
 use Rattle.std.specs.List.{All, filter, list_any, range_with_len}
 use Rattle.std.specs.Ordering.{nat_cmp}
@@ -19,15 +19,14 @@ use Rattle.dimacs_records.specs.declared.records.Record.TheVariants.{CutProblem,
 use Rattle.dimacs_records.specs.Earlier.{names, counted_in, is_short}
 use Rattle.dimacs_records.specs.Canonical.{CanBeSpelled}
 use Rattle.dimacs_records.specs.Forms.{form, Word, Nodes, Count, Id}
-use Rattle.dimacs_records.specs.Readings.{LineRecord, records_of, IsAllowed, IsComplete, IsOfKind}
-use Rattle.dimacs_records.proofs.FitLaws.{fits_of}
+use Rattle.dimacs_records.specs.Readings.{LineRecord, records_of, IsAllowed, IsComplete}
 use Rattle.dimacs_records.specs.inside.Texts.{AreFaultless}
 use Rattle.dimacs_records.proofs.CanonicalLaws.{canonical_spelled, numbered_all}
 use Rattle.dimacs_records.proofs.ConditionLemmas.{is_allowed, is_complete, allowed_at}
 use Rattle.dimacs_records.proofs.SplitLemmas.{image_at, All-at}
 use Rattle.dimacs_claims.specs.Cuts.{CutValue, IsCut, AreNamed, GivesCut, SpellsCut, canonical_cut, cut_records, empty_cut, ids_in, is_id, with_node}
 use Rattle.dimacs_records.specs.Ranges.{IsNode}
-use Rattle.dimacs_records.specs.Tests.{Counts, Passes, PassesEnd, IsToldOf, TellsEnd}
+use Rattle.dimacs_records.specs.Tests.{Counts, Passes, IsToldOf, TellsEnd}
 use Rattle.dimacs_claims.specs.CutReading.{CutBegun, IsCutBegunBy}
 use Rattle.dimacs_claims.specs.inside.CutReading.{after_lines, before}
 use Rattle.dimacs_records.specs.Spelling.{kind_of}
@@ -104,13 +103,6 @@ tells b r of_kind rs h = absurd (cc)
 pub end_tells : (b : CutBegun) (rs : List Record) → IsCutBegunBy b rs → TellsEnd kinds.Cut (after_lines b) rs
 end_tells b rs h = record { counts = counts b rs h; lacks_end = refl; unfinished = ap₂ is_short (counts b rs h).problem_is (counts b rs h).counted_is; valued = refl }
 
--- what a spelled line has
-pub spelled_problem : (n k : ℕ) → IsOfKind kinds.Cut (CutProblem n k) → n ≤ most_nodes
-spelled_problem n k h = let fits = fits_of kinds.Cut (CutProblem n k) (Word (codes "cut") ∷ Nodes ∷ Count ∷ []) h refl in omega (arith, ints, fits.1.0.1)
-
-pub spelled_node : (id : ℕ) → IsOfKind kinds.Cut (CutNode id) → 1 ≤ id
-spelled_node id h = let fits = fits_of kinds.Cut (CutNode id) (Id ∷ []) h refl in omega (arith, ints, fits.0.0)
-
 -- a problem line begins a set
 pub begins : (n k : ℕ) → n ≤ most_nodes → IsCutBegunBy (record { declared = k; cut = empty_cut n }) (CutProblem n k ∷ [])
 begins n k few = record {
@@ -139,12 +131,6 @@ more b id least p rs h =
       is_cut = law_with_node b.cut id h.is_cut node;
       records = ap (λ rs. rs ++ CutNode id ∷ []) h.records ∙ ap (λ rs. CutProblem b.cut.nodes b.declared ∷ rs) (sym (map-append CutNode h.named (id ∷ [])));
     }
-
--- what was begun and is whole gives its set
-pub gives_cut : (b : CutBegun) → PassesEnd kinds.Cut (after_lines b) → (rs : List LineRecord) → IsCutBegunBy b (records_of rs) → GivesCut rs b.cut
-gives_cut b p rs h =
-    let full : b.declared ≡ length h.named = grind (arith, nat_tests, p.finished, h.count, h.no_more) in
-    record { named = h.named; are_named = h.are_named; ids = h.ids; records = h.records ∙ ap (λ k. cut_records b.cut.nodes k h.named) full; is_cut = h.is_cut }
 
 -- the lines of a set are refused for nothing
 lines_allowed : (nodes : ℕ) (named : List ℕ) → AreNamed nodes named → (before after : List Record) (r : Record) → cut_records nodes (length named) named ≡ before ++ r ∷ after → IsAllowed before r

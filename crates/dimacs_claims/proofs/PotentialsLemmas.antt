@@ -18,7 +18,7 @@ use Rattle.dimacs_records.specs.declared.records.Record.TheVariants.{PotentialsP
 use Rattle.dimacs_records.specs.Earlier.{names, counted_in, is_short}
 use Rattle.dimacs_records.specs.Canonical.{CanBeSpelled}
 use Rattle.dimacs_records.specs.Forms.{form, Word, Nodes, Count, Id, Wide}
-use Rattle.dimacs_records.specs.Readings.{LineRecord, records_of, IsAllowed, IsComplete, IsOfKind}
+use Rattle.dimacs_records.specs.Readings.{LineRecord, records_of, IsAllowed, IsComplete}
 use Rattle.dimacs_records.specs.inside.Texts.{AreFaultless}
 use Rattle.dimacs_records.proofs.CanonicalLaws.{canonical_spelled, numbered_all}
 use Rattle.dimacs_records.proofs.ConditionLemmas.{is_allowed, is_complete, allowed_at}
@@ -31,7 +31,6 @@ use Rattle.dimacs_claims.specs.PotentialsReading.{PotentialsBegun, ArePotentials
 use Rattle.dimacs_claims.specs.inside.PotentialsReading.{after_lines, before, has_line}
 use Rattle.dimacs_records.specs.Tests.{Counts, Passes, PassesEnd, IsToldOf, TellsEnd}
 use Rattle.dimacs_records.specs.Spelling.{kind_of}
-use Rattle.dimacs_records.proofs.FitLaws.{fits_of}
 use Rattle.dimacs_claims.proofs.NodeLists.{All-passing, count_map, passing, passing_below, passing_few, passing_listed, passing_once}
 use Rattle.dimacs_records.proofs.CountLemmas.{once_before, same_test}
 use Rattle.dimacs_records.proofs.NameLemmas.{has-from_entries, map_more, named_more, not_zero, without_zeros-named}
@@ -80,13 +79,6 @@ tells b r of_kind rs h = absurd (cc)
 
 pub end_tells : (b : PotentialsBegun) (rs : List Record) → ArePotentialsBegunBy b rs → TellsEnd kinds.Potentials (after_lines b) rs
 end_tells b rs h = record { counts = counts b rs h; lacks_end = refl; unfinished = ap₂ is_short (counts b rs h).problem_is (counts b rs h).counted_is; valued = refl }
-
--- what a spelled line has
-pub spelled_problem : (n k : ℕ) → IsOfKind kinds.Potentials (PotentialsProblem n k) → n ≤ most_nodes
-spelled_problem n k h = let fits = fits_of kinds.Potentials (PotentialsProblem n k) (Word (codes "pot") ∷ Nodes ∷ Count ∷ []) h refl in omega (arith, ints, fits.1.0.1)
-
-pub spelled_node : (id : ℕ) (v : ℤ) → IsOfKind kinds.Potentials (PotentialsNode id v) → (1 ≤ id) × IsWide v
-spelled_node id v h = let fits = fits_of kinds.Potentials (PotentialsNode id v) (Id ∷ Wide ∷ []) h refl in (omega (arith, ints, fits.0.0), fits.1.0)
 
 -- a problem line begins potentials
 pub begins : (n k : ℕ) → ArePotentialsBegunBy (record { nodes = n; declared = k; taken = 0; values = empty }) (PotentialsProblem n k ∷ [])

@@ -22,7 +22,8 @@ ghost use Rattle.dimacs_claims.specs.inside.CutReading.{after_lines, before};
 use dimacs_lines::{DeviceFault, Memory, Page, Sink, Source};
 use dimacs_nodes::NodeSet;
 use dimacs_records::{
-    Begun, CountedReading, Declared, Earlier, ReadError, Record, TextKind, read_counted, write_record,
+    Begun, CountedReading, Declared, Earlier, ReadError, Record, TextKind, read_counted,
+    write_record,
 };
 use std::alloc::Global;
 use std::marker::Model;
@@ -139,12 +140,12 @@ impl Begun for BegunCut {
     }
 
     fn begin(alloc: Global, problem: Record) -> BegunCut {
-        match problem {
-            Record::CutProblem { nodes, count } => BegunCut {
-                declared: count,
-                cut: Cut::new(alloc, nodes),
-            },
-            _ => unreachable!(),
+        let Record::CutProblem { nodes, count } = problem else {
+            unreachable!()
+        };
+        BegunCut {
+            declared: count,
+            cut: Cut::new(alloc, nodes),
         }
     }
 
@@ -162,10 +163,10 @@ impl Begun for BegunCut {
 
     #[inline(always)]
     fn keep(&mut self, said: Record) -> Result<(), Memory> {
-        match said {
-            Record::CutNode { id } => self.cut.add(id),
-            _ => unreachable!(),
-        }
+        let Record::CutNode { id } = said else {
+            unreachable!()
+        };
+        self.cut.add(id)
     }
 
     #[inline(always)]

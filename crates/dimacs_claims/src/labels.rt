@@ -28,7 +28,8 @@ use crate::by_id::{ById, distance_by};
 use dimacs_lines::{DeviceFault, Memory, Page, Sink, Source};
 use dimacs_nodes::{NodeSet, NodeTable};
 use dimacs_records::{
-    Begun, CountedReading, Declared, Earlier, ReadError, Record, TextKind, read_counted, write_record,
+    Begun, CountedReading, Declared, Earlier, ReadError, Record, TextKind, read_counted,
+    write_record,
 };
 use std::alloc::Global;
 use std::marker::Model;

@@ -22,7 +22,8 @@ ghost use Rattle.dimacs_claims.specs.inside.PotentialsReading.{after_lines, befo
 use dimacs_lines::{DeviceFault, Memory, Page, Sink, Source};
 use dimacs_nodes::WideMap;
 use dimacs_records::{
-    Begun, CountedReading, Declared, Earlier, ReadError, Record, TextKind, read_counted, write_record,
+    Begun, CountedReading, Declared, Earlier, ReadError, Record, TextKind, read_counted,
+    write_record,
 };
 use std::alloc::Global;
 use std::marker::Model;
@@ -147,14 +148,14 @@ impl Begun for BegunPotentials {
     }
 
     fn begin(alloc: Global, problem: Record) -> BegunPotentials {
-        match problem {
-            Record::PotentialsProblem { nodes, count } => BegunPotentials {
-                nodes,
-                declared: count,
-                taken: 0,
-                values: WideMap::new(alloc),
-            },
-            _ => unreachable!(),
+        let Record::PotentialsProblem { nodes, count } = problem else {
+            unreachable!()
+        };
+        BegunPotentials {
+            nodes,
+            declared: count,
+            taken: 0,
+            values: WideMap::new(alloc),
         }
     }
 
@@ -172,14 +173,16 @@ impl Begun for BegunPotentials {
 
     #[inline(always)]
     fn keep(&mut self, said: Record) -> Result<(), Memory> {
-        match said {
-            Record::PotentialsNode { id, value } => {
-                self.values.set(id, value)?;
-                self.taken += 1;
-                Ok(())
-            }
-            _ => unreachable!(),
-        }
+        let Record::PotentialsNode {
+            id,
+            value: potential,
+        } = said
+        else {
+            unreachable!()
+        };
+        self.values.set(id, potential)?;
+        self.taken += 1;
+        Ok(())
     }
 
     #[inline(always)]

@@ -1,5 +1,5 @@
 -- Records after those of a graph that was begun.
-use Rattle.std.proofs.Common.{◌≡◌, ℕ, suc, ◌<◌, ◌≤◌, ◌∷◌, ◌++◌, [], List, false, Option, Some, None, length, map, take, ◌+◌, refl, ap, ap₂, sym, ◌∙◌, arith}
+use Rattle.std.proofs.Common.{◌≡◌, ℕ, suc, ◌<◌, ◌≤◌, ◌∷◌, ◌++◌, [], List, false, Some, length, map, take, ◌+◌, refl, ap, ap₂, sym, ◌∙◌, arith}
 use Rattle.std.specs.Prelude.{ℤ, pos, codes, slice_get, nat_lt, nat_le}
 use Rattle.std.specs.List.{All}
 use Rattle.std.proofs.lemmas.List.{map-append}
@@ -14,7 +14,7 @@ use Rattle.dimacs_records.specs.declared.records.Record.{Record}
 use Rattle.dimacs_records.specs.declared.records.Record.TheVariants.{GraphProblem, GraphArc}
 use Rattle.dimacs_records.specs.Earlier.{counted_in, is_short}
 use Rattle.dimacs_records.specs.Spelling.{kind_of}
-use Rattle.dimacs_records.specs.Tests.{Counts, IsToldOf, PassesEnd, TellsEnd}
+use Rattle.dimacs_records.specs.Tests.{Counts, IsToldOf, TellsEnd}
 use Rattle.dimacs_records.specs.Readings.{IsAllowed, IsComplete}
 use Rattle.dimacs_records.proofs.ConditionLemmas.{is_allowed, is_complete}
 use Rattle.dimacs_instance.specs.declared.network.ArcView.{ArcView}
@@ -27,7 +27,7 @@ use Rattle.dimacs_records.proofs.SplitLemmas.{image_at, All-at}
 use Rattle.dimacs_records.proofs.CanonicalLaws.{canonical_spelled, numbered_all}
 use Rattle.dimacs_instance.specs.Arcs.{JoinsNodes, NetworkValue}
 use Rattle.dimacs_instance.specs.Graph.{IsGraph, HasWeightAlone, GivesGraph, SpellsGraph, canonical_graph, graph_records, graph_arc}
-use Rattle.dimacs_instance.specs.GraphReading.{GraphBegun, IsGraphBegun, graph_begun_records}
+use Rattle.dimacs_instance.specs.GraphReading.{GraphBegun, graph_begun_records}
 use Rattle.dimacs_instance.specs.inside.GraphReading.{after_lines}
 use Rattle.dimacs_instance.proofs.ArcLemmas.{take_next}
 
@@ -64,14 +64,6 @@ tells b r of_kind = absurd (cc)
 
 pub end_tells : (b : GraphBegun) → TellsEnd Graph (after_lines b) (graph_begun_records b)
 end_tells b = record { counts = counts b; lacks_end = refl; unfinished = ap₂ is_short (counts b).problem_is (counts b).counted_is; valued = refl }
-
--- what was begun and is whole gives its graph
-pub gives_graph : (b : GraphBegun) → IsGraphBegun b → PassesEnd Graph (after_lines b) → (rs : List LineRecord) → records_of rs ≡ graph_begun_records b → GivesGraph rs (record { nodes = b.nodes; arcs = b.arcs })
-gives_graph b law p rs same =
-    let full : b.declared ≡ length b.arcs = grind (arith, nat_tests, p.finished, law.no_more) in (
-      same ∙ ap (λ n. GraphProblem b.nodes n ∷ map graph_arc b.arcs) full,
-      record { nodes_few = law.nodes_few; arcs_few = omega (arith, law.no_more, law.arcs_few); joined = law.joined; weights = law.weights },
-    )
 
 arc_allowed : (nodes declared : ℕ) (arcs : List ArcView) (a : ArcView) (before : List Record) (r : Record) → before ≡ GraphProblem nodes declared ∷ map graph_arc arcs → r ≡ graph_arc a
     → JoinsNodes nodes a → length arcs < declared → IsAllowed before r

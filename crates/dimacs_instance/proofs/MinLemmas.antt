@@ -1,5 +1,5 @@
 -- Records after those of a minimum cost flow instance that was begun.
-use Rattle.std.proofs.Common.{◌≡◌, ℕ, suc, ◌+◌, ◌<◌, ◌≤◌, ◌∷◌, ◌++◌, [], List, false, Option, Some, None, length, map, ◌==◌, ◌||◌, refl, ap, ap₂, sym, ◌∙◌, subst, append_assoc, arith}
+use Rattle.std.proofs.Common.{◌≡◌, ℕ, suc, ◌+◌, ◌<◌, ◌≤◌, ◌∷◌, ◌++◌, [], List, false, Option, Some, None, length, map, ◌==◌, ◌||◌, refl, ap, ap₂, sym, ◌∙◌, subst, arith}
 use Rattle.std.specs.Prelude.{ℤ, pos, ◌≤ℤ◌, is_some, nat_lt, nat_le, int_lt, Result, Ok, Err, OnOk, OnErr}
 use Rattle.std.specs.List.{list_any}
 use Rattle.std.specs.Ordering.{nat_cmp}
@@ -145,16 +145,6 @@ module _ (b : MinBegun) (a : ArcView) (passes : Passes (after_lines b) (min_arc 
 
   pub arc_room : length b.arcs < b.declared
   arc_room = grind (arith, nat_tests, passes.room)
-
-  pub adds_one : (rs : List Record) → IsMinBegunBy b rs → IsMinBegunBy (with_arc b a) (rs ++ min_arc a ∷ [])
-  adds_one rs h = record {
-    named = h.named;
-    name_nodes = h.name_nodes;
-    supplies = h.supplies;
-    records = ap (λ rs. rs ++ min_arc a ∷ []) h.records
-        ∙ ap (λ rs. MinProblem b.nodes b.declared ∷ rs) (append_assoc (map min_node h.named) (map min_arc b.arcs) (min_arc a ∷ []))
-        ∙ ap (λ arcs. MinProblem b.nodes b.declared ∷ map min_node h.named ++ arcs) (sym (map-append min_arc b.arcs (a ∷ [])));
-  }
 
 -- what was begun, without the supplies that are 0
 module _ (b : MinBegun) (law : IsMinBegun b) where

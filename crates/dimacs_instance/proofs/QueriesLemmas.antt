@@ -1,5 +1,5 @@
 -- Records after those of queries that were begun.
-use Rattle.std.proofs.Common.{◌≡◌, ℕ, suc, ◌<◌, ◌≤◌, ◌∷◌, ◌++◌, [], List, Bool, true, false, Option, Some, None, length, map, take, ◌+◌, refl, ap, ap₂, sym, ◌∙◌, arith, inl, inr, ◌⊎◌}
+use Rattle.std.proofs.Common.{◌≡◌, ℕ, suc, ◌<◌, ◌≤◌, ◌∷◌, ◌++◌, [], List, true, false, Some, length, map, take, ◌+◌, refl, ap, ap₂, sym, ◌∙◌, arith, inl, inr, ◌⊎◌}
 use Rattle.std.specs.Prelude.{codes, nat_lt, nat_le, slice_get}
 use Rattle.std.specs.List.{All, list_any}
 use Rattle.std.proofs.lemmas.Int.{ints}
@@ -19,13 +19,13 @@ use Rattle.dimacs_records.specs.Canonical.{CanBeSpelled}
 use Rattle.dimacs_records.specs.Ranges.{IsId}
 use Rattle.dimacs_records.specs.Readings.{LineRecord, IsAllowed, IsComplete, records_of}
 use Rattle.dimacs_records.specs.Spelling.{kind_of, query_word}
-use Rattle.dimacs_records.specs.Tests.{Counts, IsToldOf, PassesEnd, TellsEnd}
+use Rattle.dimacs_records.specs.Tests.{Counts, IsToldOf, TellsEnd}
 use Rattle.dimacs_records.specs.inside.Texts.{AreFaultless}
 use Rattle.dimacs_records.proofs.CanonicalLaws.{canonical_spelled, numbered_all}
 use Rattle.dimacs_records.proofs.ConditionLemmas.{is_allowed, is_complete, allowed_at}
 use Rattle.dimacs_records.proofs.SplitLemmas.{image_at}
 use Rattle.dimacs_instance.specs.QueryTexts.{QueriesValue, Sources, Pairs, AreIds, AreLawful, GivesQueries, HaveIds, SpellsQueries, canonical_queries, kind_asked, pair_query, query_lines, query_records}
-use Rattle.dimacs_instance.specs.QueriesReading.{QueriesBegun, AreQueriesBegun, queries_begun_records}
+use Rattle.dimacs_instance.specs.QueriesReading.{QueriesBegun, queries_begun_records}
 use Rattle.dimacs_instance.specs.inside.QueriesReading.{after_lines, are_others, before}
 
 all_counted : {X : Type 0} (say : X → Record) → ((x : X) → is_counted (say x) ≡ true) → (xs : List X) → counted_in (map say xs) ≡ length (map say xs)
@@ -79,14 +79,6 @@ tells b r of_kind = absurd (cc)
 
 pub end_tells : (b : QueriesBegun) → TellsEnd kinds.Queries (after_lines b) (queries_begun_records b)
 end_tells b = record { counts = counts b; lacks_end = refl; unfinished = ap₂ is_short (counts b).problem_is (counts b).counted_is; valued = refl }
-
--- what was begun and is whole gives its queries
-pub gives_queries : (b : QueriesBegun) → AreQueriesBegun b → PassesEnd kinds.Queries (after_lines b) → (rs : List LineRecord) → records_of rs ≡ queries_begun_records b → GivesQueries rs b.queries
-gives_queries b law p rs same =
-    let full : b.declared ≡ length (query_lines b.queries) = grind (arith, nat_tests, p.finished, law.no_more) in (
-      same ∙ ap (λ count. QueriesProblem (kind_asked b.queries) count ∷ query_lines b.queries) full,
-      record { few = omega (arith, law.no_more, law.few); ids = law.ids },
-    )
 
 -- the records of queries are refused for nothing
 source_allowed : (n : ℕ) (ids : List ℕ) (id : ℕ) → length (map SourceQuery ids) < n → IsAllowed (earlier n (Sources ids)) (SourceQuery id)

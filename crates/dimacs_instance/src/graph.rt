@@ -19,7 +19,8 @@ use crate::plain::{KeptArc, PlainArcs, WeightArc};
 use crate::star::ForwardStar;
 use dimacs_lines::{DeviceFault, Memory, Page, Sink, Source};
 use dimacs_records::{
-    Begun, CountedReading, Declared, Earlier, ReadError, Record, TextKind, read_counted, write_record,
+    Begun, CountedReading, Declared, Earlier, ReadError, Record, TextKind, read_counted,
+    write_record,
 };
 use std::alloc::Global;
 use std::marker::{Model, PhantomData};

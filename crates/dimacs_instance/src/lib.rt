@@ -24,9 +24,7 @@ pub use graph::{
     Graph, GraphReading, PlainGraphReading, read_graph, read_plain_graph, write_graph,
 };
 pub use links::{Links, Side};
-pub use max::{
-    MaxInstance, MaxReading, PlainMaxReading, read_max, read_plain_max, write_max,
-};
+pub use max::{MaxInstance, MaxReading, PlainMaxReading, read_max, read_plain_max, write_max};
 pub use min::{
     MinInstance, MinReading, PlainMinReading, SupplySums, read_min, read_plain_min, write_min,
 };

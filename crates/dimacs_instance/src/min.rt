@@ -26,7 +26,8 @@ use crate::star::ForwardStar;
 use dimacs_lines::{DeviceFault, Memory, Page, Sink, Source};
 use dimacs_nodes::NodeMap;
 use dimacs_records::{
-    Begun, CountedReading, Declared, Earlier, ReadError, Record, TextKind, read_counted, write_record,
+    Begun, CountedReading, Declared, Earlier, ReadError, Record, TextKind, read_counted,
+    write_record,
 };
 use std::alloc::Global;
 use std::marker::{Model, PhantomData};

@@ -16,13 +16,19 @@ pub trait OfCapacityArcs: Network {
 }
 
 impl OfCapacityArcs for PlainArcs<CapacityArc> {
-    fn of_arcs(_alloc: Global, arcs: PlainArcs<CapacityArc>) -> Result<PlainArcs<CapacityArc>, Memory> {
+    fn of_arcs(
+        _alloc: Global,
+        arcs: PlainArcs<CapacityArc>,
+    ) -> Result<PlainArcs<CapacityArc>, Memory> {
         Ok(arcs)
     }
 }
 
 impl OfCapacityArcs for ForwardStar<CapacityArc> {
-    fn of_arcs(alloc: Global, arcs: PlainArcs<CapacityArc>) -> Result<ForwardStar<CapacityArc>, Memory> {
+    fn of_arcs(
+        alloc: Global,
+        arcs: PlainArcs<CapacityArc>,
+    ) -> Result<ForwardStar<CapacityArc>, Memory> {
         ForwardStar::of(alloc, arcs)
     }
 }
@@ -60,7 +66,10 @@ impl OfWeightArcs for PlainArcs<WeightArc> {
 }
 
 impl OfWeightArcs for ForwardStar<WeightArc> {
-    fn of_arcs(alloc: Global, arcs: PlainArcs<WeightArc>) -> Result<ForwardStar<WeightArc>, Memory> {
+    fn of_arcs(
+        alloc: Global,
+        arcs: PlainArcs<WeightArc>,
+    ) -> Result<ForwardStar<WeightArc>, Memory> {
         ForwardStar::of(alloc, arcs)
     }
 }

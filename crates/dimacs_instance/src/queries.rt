@@ -188,7 +188,10 @@ impl Begun for BegunQueries {
     #[inline(always)]
     fn before_end(&self) -> Earlier {
         let count = self.declared;
-        Earlier::of(Some(Declared { nodes: None, count }), self.queries.len() as u32)
+        Earlier::of(
+            Some(Declared { nodes: None, count }),
+            self.queries.len() as u32,
+        )
     }
 
     fn value(self, _alloc: Global) -> Result<LawfulQueries, Memory> {
