@@ -1,5 +1,5 @@
 -- The first fault, by what is told of the earlier records.
-use Rattle.std.proofs.Common.{◌≡◌, ◌++◌, ◌∷◌, [], List, Bool, false, true, Option, Some, None, refl, ap₂, ◌∙◌}
+use Rattle.std.proofs.Common.{◌≡◌, [], List, Bool, false, true, Option, Some, None, refl, ap₂, ◌∙◌}
 use Rattle.std.specs.Prelude.{◌&&◌, ◌||◌, not, is_none, is_some, if◌then◌else◌}
 use Rattle.dimacs_records.specs.declared.kinds.TextKind.{TextKind}
 use Rattle.dimacs_records.specs.declared.order.Earlier.{Earlier}

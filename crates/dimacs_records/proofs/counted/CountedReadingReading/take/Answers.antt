@@ -1,4 +1,4 @@
-use Rattle.std.proofs.Common.{◌≡◌, ◌∙◌, ap, true, [], sym}
+use Rattle.std.proofs.Common.{◌≡◌, ◌∙◌, ap, true, []}
 use Rattle.std.proofs.lemmas.Result.{err_from_is_err_and}
 use Rattle.dimacs_records.specs.Conditions.{needs_problem}
 use Rattle.dimacs_records.specs.Readings.{records_of}
