@@ -1,9 +1,8 @@
--- Maps of potentials, with and without those that are 0.
+-- The laws of potentials.
 use Rattle.std.proofs.Common.{◌≡◌, ◌≤◌, ℕ, ◌==◌, Bool, true, false, Option, Some, None, cond, refl, sym, ◌∙◌, ap, arith}
-use Rattle.std.specs.Prelude.{ℤ, pos, not, unwrap_or, if◌then◌else◌, Result, Ok, Err, OnOk, OnErr}
+use Rattle.std.specs.Prelude.{ℤ, pos, unwrap_or, if◌then◌else◌, Result, Ok, Err, OnOk, OnErr}
 use Rattle.std.specs.Ordering.{nat_cmp, int_eq}
-use Rattle.std.specs.Cmp.{nat_cmp_total, unsigned_tied}
-use Rattle.std.specs.FinMap.{FinMap, get, insert, remove, same_map, get-empty, get-remove, nat_cmp-IsAntisymmetric}
+use Rattle.std.specs.FinMap.{FinMap, get, insert, remove, get-empty}
 use Rattle.std.proofs.lemmas.Bool.{eqb-true}
 use Rattle.std.proofs.lemmas.Int.{ints}
 use Rattle.dimacs_lines.specs.Limits.{most_nodes}
@@ -11,33 +10,9 @@ use Rattle.dimacs_nodes.proofs.Nodes.{get-insert}
 use Rattle.dimacs_records.specs.Ranges.{IsNode, IsWide}
 use Rattle.dimacs_claims.specs.Potentials.{PotentialsValue, ArePotentials, IsPotential, potential_of, with_potential, zero_potentials}
 use Rattle.dimacs_records.specs.NodeValues.{without_zeros}
-use Rattle.dimacs_records.proofs.NameLemmas.{get-without_zeros, isnt_zero, unless_zero}
+use Rattle.dimacs_records.proofs.NameLemmas.{isnt_zero}
+use Rattle.dimacs_records.proofs.ZeroLemmas.{get-removed, without_zeros-insert}
 
-pub get-removed : (m : FinMap nat_cmp ℤ) (id other : ℕ) → get (remove m id) other ≡ cond (other == id) None (get m other)
-get-removed m id other = get-remove nat_cmp_total m id other ∙ ap (λ b. cond b None (get m other)) (unsigned_tied other id)
-
--- to set a value is to change one potential
-pub without_zeros-insert : (m : FinMap nat_cmp ℤ) (id : ℕ) (n : ℤ) → without_zeros (insert m id n) ≡ (if int_eq n (pos 0) then remove (without_zeros m) id else insert (without_zeros m) id n)
-without_zeros-insert m id n = by_test (int_eq n (pos 0)) refl
-  where
-    after : (other : ℕ) → get (without_zeros (insert m id n)) other ≡ unless_zero (cond (other == id) (Some n) (get m other))
-    after other = get-without_zeros (insert m id n) other ∙ ap unless_zero (get-insert m id other n)
-
-    zero_at : (b : Bool) (found : Option ℤ) → int_eq n (pos 0) ≡ true → unless_zero (cond b (Some n) found) ≡ cond b None (unless_zero found)
-    zero_at true found e = ap (λ b. cond (not b) (Some n) None) e
-    zero_at false found e = refl
-
-    value_at : (b : Bool) (found : Option ℤ) → int_eq n (pos 0) ≡ false → unless_zero (cond b (Some n) found) ≡ cond b (Some n) (unless_zero found)
-    value_at true found e = ap (λ b. cond (not b) (Some n) None) e
-    value_at false found e = refl
-
-    by_test : (b : Bool) → int_eq n (pos 0) ≡ b → without_zeros (insert m id n) ≡ (if b then remove (without_zeros m) id else insert (without_zeros m) id n)
-    by_test true e =
-        same_map nat_cmp_total nat_cmp-IsAntisymmetric _ _ (λ other. after other ∙ zero_at (other == id) (get m other) e ∙ ap (cond (other == id) None) (sym (get-without_zeros m other)) ∙ sym (get-removed (without_zeros m) id other))
-    by_test false e =
-        same_map nat_cmp_total nat_cmp-IsAntisymmetric _ _ (λ other. after other ∙ value_at (other == id) (get m other) e ∙ ap (cond (other == id) (Some n)) (sym (get-without_zeros m other)) ∙ sym (get-insert (without_zeros m) id other n))
-
--- the laws of potentials
 pub zero_law : (nodes : ℕ) → nodes ≤ most_nodes → ArePotentials (zero_potentials nodes)
 zero_law nodes few = record { nodes_few = few; within = λ id n e. absurd (cc (get-empty nat_cmp id, e)) }
 

@@ -11,3 +11,4 @@ mod MinTextLemmas
 mod PigeonLemmas
 mod QueriesLemmas
 mod StarLemmas
+mod SupplyLemmas

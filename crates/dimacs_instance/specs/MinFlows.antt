@@ -1,8 +1,8 @@
 -- What minimum cost flow instances are.
-use Rattle.std.specs.Prelude.{ℕ, suc, ℤ, ◌≢◌, ◌≤◌, ◌≤ℤ◌, List, length, pos, negsuc, unwrap_or, sum_by}
+use Rattle.std.specs.Prelude.{ℕ, suc, ℤ, ◌≢◌, ◌≤◌, ◌≤ℤ◌, if◌then◌else◌, List, length, pos, negsuc, unwrap_or, sum_by}
 use Rattle.std.specs.List.{All}
-use Rattle.std.specs.Ordering.{nat_cmp}
-use Rattle.std.specs.FinMap.{FinMap, get, entries, values}
+use Rattle.std.specs.Ordering.{int_eq, nat_cmp}
+use Rattle.std.specs.FinMap.{FinMap, get, insert, remove, entries, values}
 use Rattle.dimacs_lines.specs.Limits.{most_count, most_nodes}
 use Rattle.dimacs_instance.specs.declared.network.ArcView.{ArcView}
 use Rattle.dimacs_instance.specs.Arcs.{JoinsNodes}
@@ -32,6 +32,10 @@ pub record IsMin (m : MinValue) : Type 0 where
 -- the supply of a node; 0 where the map has none
 abbrev pub supply_of : MinValue → ℕ → ℤ
 supply_of m id = unwrap_or (get m.supplies id) (pos 0)
+
+-- with another supply of this node
+abbrev pub with_supply : MinValue → ℕ → ℤ → MinValue
+with_supply m id supply = record m { supplies = if int_eq supply (pos 0) then remove m.supplies id else insert m.supplies id supply }
 
 abbrev pub positive_part : ℤ → ℕ
 positive_part (pos n) = n

@@ -13,6 +13,8 @@ ghost use Rattle.dimacs_instance.specs.Arcs.{NetworkValue};
 ghost use Rattle.dimacs_instance.specs.GraphReading.{graph_begun_records};
 ghost use Rattle.dimacs_instance.specs.inside.GraphReading.{after_lines};
 
+mod build;
+
 use crate::network::{ArcView, Network};
 use crate::of_arcs::OfWeightArcs;
 use crate::plain::{KeptArc, PlainArcs, WeightArc};

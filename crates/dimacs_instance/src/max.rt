@@ -16,6 +16,8 @@ ghost use Rattle.dimacs_instance.specs.MaxTexts.{GivesMax, SpellsMax, canonical_
 ghost use Rattle.dimacs_instance.specs.MaxReading.{EndsAreApart, end_records, max_begun_records, max_node};
 ghost use Rattle.dimacs_instance.specs.inside.MaxReading.{after_lines, before, before_end};
 
+mod build;
+
 use crate::network::{ArcView, Network};
 use crate::of_arcs::OfCapacityArcs;
 use crate::plain::{CapacityArc, KeptArc, PlainArcs};

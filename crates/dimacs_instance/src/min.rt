@@ -19,6 +19,8 @@ ghost use Rattle.dimacs_records.specs.NodeValues.{has_value};
 ghost use Rattle.dimacs_instance.specs.MinReading.{IsMinBegunBy};
 ghost use Rattle.dimacs_instance.specs.inside.MinReading.{after_lines, before};
 
+mod build;
+
 use crate::network::{ArcView, Network};
 use crate::of_arcs::OfCostArcs;
 use crate::plain::{KeptArc, PlainArcs};

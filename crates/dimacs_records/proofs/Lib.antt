@@ -24,5 +24,6 @@ pub mod FitLaws
 pub mod WrittenLemmas
 pub mod CountLemmas
 pub mod NameLemmas
+pub mod ZeroLemmas
 pub mod TakenLines
 pub mod OrderLemmas

@@ -1,0 +1,35 @@
+//! Graphs that are built an arc at a time.
+
+ghost use Rattle.std.specs.Prelude.{◌≡◌, ◌≤◌, ◌<◌, ◌++◌, ◌∷◌, [], OnOk, OnErr, length};
+ghost use Rattle.dimacs_lines.specs.Limits.{most_count, most_nodes};
+ghost use Rattle.dimacs_records.specs.Ranges.{IsNode};
+ghost use Rattle.dimacs_instance.specs.Plain.{weight_arc};
+
+use crate::graph::Graph;
+use crate::plain::{PlainArcs, WeightArc};
+use dimacs_lines::Memory;
+use std::alloc::Global;
+
+impl Graph<PlainArcs<WeightArc>> {
+    /// A graph without arcs. Takes no memory.
+    pub fn new(alloc: Global, nodes: u32) -> Graph<PlainArcs<WeightArc>>
+        requires nodes { nodes ≤ most_nodes }
+        ensures { result ≡ record { nodes = nodes; arcs = [] } }
+    {
+        Graph {
+            network: PlainArcs::new(alloc, nodes),
+        }
+    }
+
+    /// Adds an arc after the others.
+    #[inline(always)]
+    pub fn push(&mut self, arc: WeightArc) -> Result<(), Memory>
+        requires tail { IsNode self.old.nodes arc.tail }
+        requires head { IsNode self.old.nodes arc.head }
+        requires room { length self.old.arcs < most_count }
+        ensures pushed { OnOk result (self.new ≡ record self.old { arcs = self.old.arcs ++ weight_arc arc.tail arc.head arc.weight ∷ [] }) }
+        ensures unchanged { OnErr result (self.new ≡ self.old) }
+    {
+        self.network.push(arc)
+    }
+}

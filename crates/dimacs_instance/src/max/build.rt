@@ -1,0 +1,46 @@
+//! Maximum flow instances that are built an arc at a time.
+
+ghost use Rattle.std.specs.Prelude.{◌≡◌, ◌≢◌, ◌≤◌, ◌<◌, ◌≤ℤ◌, ◌++◌, ◌∷◌, [], OnOk, OnErr, length, pos};
+ghost use Rattle.dimacs_lines.specs.Limits.{most_count, most_nodes};
+ghost use Rattle.dimacs_records.specs.Ranges.{IsNode};
+ghost use Rattle.dimacs_instance.specs.Plain.{capacity_arc};
+
+use crate::max::MaxInstance;
+use crate::plain::{CapacityArc, PlainArcs};
+use dimacs_lines::Memory;
+use std::alloc::Global;
+
+impl MaxInstance<PlainArcs<CapacityArc>> {
+    /// An instance without arcs. Takes no memory.
+    pub fn new(
+        alloc: Global,
+        nodes: u32,
+        source: u32,
+        sink: u32,
+    ) -> MaxInstance<PlainArcs<CapacityArc>>
+        requires nodes { nodes ≤ most_nodes }
+        requires source { IsNode nodes source }
+        requires sink { IsNode nodes sink }
+        requires apart { source ≢ sink }
+        ensures { result ≡ record { nodes = nodes; source = source; sink = sink; arcs = [] } }
+    {
+        MaxInstance {
+            source,
+            sink,
+            network: PlainArcs::new(alloc, nodes),
+        }
+    }
+
+    /// Adds an arc after the others.
+    #[inline(always)]
+    pub fn push(&mut self, arc: CapacityArc) -> Result<(), Memory>
+        requires tail { IsNode self.old.nodes arc.tail }
+        requires head { IsNode self.old.nodes arc.head }
+        requires capacity { pos 0 ≤ℤ arc.cap }
+        requires room { length self.old.arcs < most_count }
+        ensures pushed { OnOk result (self.new ≡ record self.old { arcs = self.old.arcs ++ capacity_arc arc.tail arc.head arc.cap ∷ [] }) }
+        ensures unchanged { OnErr result (self.new ≡ self.old) }
+    {
+        self.network.push(arc)
+    }
+}

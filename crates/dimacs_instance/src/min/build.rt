@@ -1,0 +1,50 @@
+//! Minimum cost flow instances that are built a supply and an arc at a time.
+
+ghost use Rattle.std.specs.Prelude.{◌≡◌, ◌≤◌, ◌<◌, ◌++◌, ◌∷◌, [], OnOk, OnErr, length};
+ghost use Rattle.std.specs.FinMap.{empty};
+ghost use Rattle.dimacs_lines.specs.Limits.{most_count, most_nodes};
+ghost use Rattle.dimacs_records.specs.Ranges.{IsNode};
+ghost use Rattle.dimacs_instance.specs.Arcs.{JoinsNodes};
+ghost use Rattle.dimacs_instance.specs.MinFlows.{HasBounds, with_supply};
+
+use crate::min::MinInstance;
+use crate::network::ArcView;
+use crate::plain::PlainArcs;
+use dimacs_lines::Memory;
+use dimacs_nodes::NodeMap;
+use std::alloc::Global;
+
+impl MinInstance<PlainArcs<ArcView>> {
+    /// An instance without arcs, whose nodes have the supply 0. Takes no memory.
+    pub fn new(alloc: Global, nodes: u32) -> MinInstance<PlainArcs<ArcView>>
+        requires nodes { nodes ≤ most_nodes }
+        ensures { result ≡ record { nodes = nodes; supplies = empty; arcs = [] } }
+    {
+        MinInstance {
+            supplies: NodeMap::new(alloc),
+            network: PlainArcs::new(alloc, nodes),
+        }
+    }
+
+    /// Gives a node another supply.
+    #[inline]
+    pub fn set_supply(&mut self, id: u32, supply: i64) -> Result<(), Memory>
+        requires node { IsNode self.old.nodes id }
+        ensures set { OnOk result (self.new ≡ with_supply self.old id supply) }
+        ensures unchanged { OnErr result (self.new ≡ self.old) }
+    {
+        self.supplies.set(id, supply)
+    }
+
+    /// Adds an arc after the others.
+    #[inline(always)]
+    pub fn push(&mut self, arc: ArcView) -> Result<(), Memory>
+        requires joined { JoinsNodes self.old.nodes arc }
+        requires bounds { HasBounds arc }
+        requires room { length self.old.arcs < most_count }
+        ensures pushed { OnOk result (self.new ≡ record self.old { arcs = self.old.arcs ++ arc ∷ [] }) }
+        ensures unchanged { OnErr result (self.new ≡ self.old) }
+    {
+        self.network.push(arc)
+    }
+}
