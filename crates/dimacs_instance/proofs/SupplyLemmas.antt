@@ -62,14 +62,14 @@ module _ (m : MinValue) (law : IsMin m) where
     }
 
 -- where a supply was set, or not
-module _ {E : Type 0} (nodes : ℕ) (arcs : List ArcView) (old new : FinMap nat_cmp ℤ) (id : ℕ) (n : ℤ) where
+module _ (nodes : ℕ) (arcs : List ArcView) (old new : FinMap nat_cmp ℤ) (id : ℕ) (n : ℤ) where
   abbrev with_values : FinMap nat_cmp ℤ → MinValue
   with_values values = record { nodes = nodes; supplies = without_zeros values; arcs = arcs }
 
-  pub min_after_set : (r : Result Unit E) → OnOk r (new ≡ insert old id n) → OnErr r (new ≡ old) → IsMin (with_values old) → IsNode nodes id → IsWhole n → IsMin (with_values new)
+  pub min_after_set : {E : Type 0} (r : Result Unit E) → OnOk r (new ≡ insert old id n) → OnErr r (new ≡ old) → IsMin (with_values old) → IsNode nodes id → IsWhole n → IsMin (with_values new)
   min_after_set (Ok done) set unset law node whole = rw (set, without_zeros-insert old id n) (min_with_supply (with_values old) law id n node whole)
   min_after_set (Err error) set unset law node whole = rw unset law
 
-  pub supply_set : (r : Result Unit E) → OnOk r (new ≡ insert old id n) → OnOk r (with_values new ≡ with_supply (with_values old) id n)
+  pub supply_set : {E : Type 0} (r : Result Unit E) → OnOk r (new ≡ insert old id n) → OnOk r (with_values new ≡ with_supply (with_values old) id n)
   supply_set (Ok done) set = ap with_values set ∙ ap (λ m. record { nodes = nodes; supplies = m; arcs = arcs }) (without_zeros-insert old id n)
   supply_set (Err error) set = tt
