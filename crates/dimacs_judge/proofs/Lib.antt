@@ -23,6 +23,7 @@ pub mod QueriesPassing
 pub mod PathsPassing
 pub mod MaxJudge
 pub mod MinJudge
+pub mod FlowJudges
 mod SolutionLemmas
 mod MarkLemmas
 mod LeavingLemmas

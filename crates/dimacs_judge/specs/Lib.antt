@@ -10,6 +10,7 @@ pub mod Labels
 pub mod Laws
 pub mod Tests
 pub mod Rows
+pub mod FlowJudges
 pub mod FlowTests
 pub mod CertificateTests
 pub mod Agreement

@@ -53,6 +53,15 @@ impl Flow {
         })
     }
 
+    /// The flow that carries these amounts.
+    pub fn of(alloc: Global, amounts: &[i64]) -> Result<Flow, Memory>
+        ensures { IfOk result (λ flow. flow ≡ amounts.now) }
+    {
+        Ok(Flow {
+            amounts: amounts.to_vec(alloc)?,
+        })
+    }
+
     /// Changes the amount on one arc.
     pub fn set(&mut self, arc: u32, amount: i64)
         requires { arc < length self.old }

@@ -13,6 +13,7 @@ mod cuts;
 mod entries;
 mod feasible;
 mod flow;
+mod flow_judges;
 mod infeasible;
 mod labels;
 mod laws;
@@ -36,6 +37,7 @@ pub use cuts::cut_tests;
 pub use entries::{flow_of, placed};
 pub use feasible::{bounds_hold, feasible_max, feasible_min};
 pub use flow::Flow;
+pub use flow_judges::{judge_max_flow, judge_min_flow};
 pub use infeasible::judge_infeasible;
 pub use labels::label_tests;
 pub use laws::{
