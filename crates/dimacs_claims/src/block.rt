@@ -61,7 +61,9 @@ impl Block {
         requires { claims.label self.old label.id ≡ None }
         ensures added { OnOk result (self.new ≡ with_label self.old label) }
         ensures labels { OnOk result ((id : ℕ) → claims.label self.new id ≡ (if label.id == id then Some label.dist else claims.label self.old id)) }
-        ensures lawful { OnOk result ((nodes : ℕ) → IsBlock nodes self.old → IsLabel nodes label → length self.old.labels < most_count → IsSome (claims.label self.old label.pred) → IsNear self.old.radius label.dist → IsBlock nodes self.new) }
+        ensures lawful { OnOk result ((nodes : ℕ) → IsBlock nodes self.old → IsLabel nodes label
+            → length self.old.labels < most_count → IsSome (claims.label self.old label.pred)
+            → IsNear self.old.radius label.dist → IsBlock nodes self.new) }
         ensures unchanged { OnErr result (self.new ≡ self.old) }
     {
         self.labels.push(label)?;

@@ -211,7 +211,8 @@ pub fn write_cut<S: Sink>(cut: &Cut, sink: &mut S) -> Result<(), DeviceFault>
 /// Writes the line of a node, if it is in the set.
 #[inline(always)]
 fn write_node<S: Sink>(page: &mut Page, sink: &mut S, cut: &Cut, id: u32)
-    ensures written { Appends (canonical_text (map CutNode (filter (set.contains cut.now.ids) (id ∷ [])))) (S.accepted sink.old) page.old (S.accepted sink.new) page.new }
+    ensures written { Appends (canonical_text (map CutNode (filter (set.contains cut.now.ids) (id ∷ []))))
+        (S.accepted sink.old) page.old (S.accepted sink.new) page.new }
     ensures faults { CountsOn (S.faults sink.old) page.old (S.faults sink.new) page.new }
 {
     if cut.contains(id) {

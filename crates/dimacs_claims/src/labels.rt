@@ -75,7 +75,8 @@ impl Labels {
         requires few { length self.old.blocks < most_count }
         ensures pushed { OnOk result (self.new ≡ with_block self.old block) }
         ensures lawful { OnOk result (AreLabels self.new) }
-        ensures sources { OnOk result ((sources : set.FinSet nat_cmp) → AreSources sources self.old.blocks → AreSources (set.insert sources block.source) self.new.blocks) }
+        ensures sources { OnOk result ((sources : set.FinSet nat_cmp) → AreSources sources self.old.blocks
+            → AreSources (set.insert sources block.source) self.new.blocks) }
         ensures unchanged { OnErr result (self.new ≡ self.old) }
     {
         Ok(self.blocks.push(block)?)
@@ -156,7 +157,9 @@ impl Model for BegunLabels {
 
     ghost view = { λ b. record { nodes = b.nodes; declared = b.declared; missing = b.missing; blocks = b.blocks.items } };
 
-    ghost invariant = { λ b. AreLabelsBegun (record { nodes = b.nodes; declared = b.declared; missing = b.missing; blocks = b.blocks.items }) × AreSources b.sources b.blocks.items × AreLabelled b.labelled b.blocks.items };
+    ghost invariant = { λ b. AreLabelsBegun
+        (record { nodes = b.nodes; declared = b.declared; missing = b.missing; blocks = b.blocks.items })
+        × AreSources b.sources b.blocks.items × AreLabelled b.labelled b.blocks.items };
 }
 
 impl BegunLabels {
@@ -248,7 +251,8 @@ impl BegunLabels {
 
 fn add_to_last(blocks: &mut Vec<Block>, label: Label) -> Result<(), Memory>
     requires { (front : List BlockValue) × (b : BlockValue) × (blocks.old.items ≡ front ++ b ∷ []) × (claims.label b label.id ≡ None) }
-    ensures added { OnOk result ((front : List BlockValue) (b : BlockValue) → blocks.old.items ≡ front ++ b ∷ [] → blocks.new.items ≡ front ++ with_label b label ∷ []) }
+    ensures added { OnOk result ((front : List BlockValue) (b : BlockValue) → blocks.old.items ≡ front ++ b ∷ []
+        → blocks.new.items ≡ front ++ with_label b label ∷ []) }
     ensures unchanged { OnErr result (blocks.new.items ≡ blocks.old.items) }
 {
     let last = blocks.len() - 1;
@@ -356,7 +360,8 @@ pub fn write_labels<S: Sink>(labels: &Labels, sink: &mut S) -> Result<(), Device
     ensures puts { Puts result (S.accepted sink.old) (canonical_labels labels.now) (S.accepted sink.new) }
     ensures fault { CountsFault result (S.faults sink.old) (S.faults sink.new) }
     ensures round_trip { FitText labels.now → SpellsLabels (canonical_labels labels.now) labels.now }
-    ensures same_text { FitText labels.now → (read : LabelsValue) → SpellsLabels (canonical_labels labels.now) read → canonical_labels read ≡ canonical_labels labels.now }
+    ensures same_text { FitText labels.now → (read : LabelsValue) → SpellsLabels (canonical_labels labels.now) read
+        → canonical_labels read ≡ canonical_labels labels.now }
 {
     let nodes = labels.nodes();
     let blocks = labels.blocks();

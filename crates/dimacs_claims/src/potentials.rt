@@ -215,7 +215,8 @@ pub fn write_potentials<S: Sink>(potentials: &Potentials, sink: &mut S) -> Resul
     ensures puts { Puts result (S.accepted sink.old) (canonical_potentials potentials.now) (S.accepted sink.new) }
     ensures fault { CountsFault result (S.faults sink.old) (S.faults sink.new) }
     ensures round_trip { SpellsPotentials (canonical_potentials potentials.now) potentials.now }
-    ensures same_text { (read : PotentialsValue) → SpellsPotentials (canonical_potentials potentials.now) read → canonical_potentials read ≡ canonical_potentials potentials.now }
+    ensures same_text { (read : PotentialsValue) → SpellsPotentials (canonical_potentials potentials.now) read
+        → canonical_potentials read ≡ canonical_potentials potentials.now }
 {
     let nodes = potentials.nodes();
     let count = potentials.count_nonzero();
@@ -230,7 +231,9 @@ pub fn write_potentials<S: Sink>(potentials: &Potentials, sink: &mut S) -> Resul
 /// Writes the line of a node, if its potential isn't 0.
 #[inline(always)]
 fn write_node<S: Sink>(page: &mut Page, sink: &mut S, potentials: &Potentials, id: u32)
-    ensures written { Appends (canonical_text (map node_line (with_values potentials.now (filter (λ id. is_nonzero (potential_of potentials.now id)) (id ∷ []))))) (S.accepted sink.old) page.old (S.accepted sink.new) page.new }
+    ensures written { Appends (canonical_text (map node_line
+        (with_values potentials.now (filter (λ id. is_nonzero (potential_of potentials.now id)) (id ∷ [])))))
+        (S.accepted sink.old) page.old (S.accepted sink.new) page.new }
     ensures faults { CountsOn (S.faults sink.old) page.old (S.faults sink.new) page.new }
 {
     let value = potentials.of(id);

@@ -74,7 +74,8 @@ pub struct SolutionReading<P: Place> {
 
 impl<P: Place> SolutionReading<P> {
     pub fn new(place: P) -> SolutionReading<P>
-        ensures begins { (entries : List Entry) → P.stands_for place entries → StandsForSolution result.value (P.stands_for result.place) (map entry_line entries) }
+        ensures begins { (entries : List Entry) → P.stands_for place entries
+            → StandsForSolution result.value (P.stands_for result.place) (map entry_line entries) }
         ensures fixed { P.fixed result.place ≡ P.fixed place }
     {
         SolutionReading { value: None, place }
@@ -92,7 +93,9 @@ impl<P: Place> SolutionReading<P> {
     }
 
     fn take_value(&mut self, said: ValueLine) -> Result<(), TakeError>
-        ensures takes { TakesSolutionLine (StandsForSolution self.old.value (P.stands_for self.old.place)) (on_line said.line (records.SolutionValue said.value)) result (StandsForSolution self.new.value (P.stands_for self.new.place)) }
+        ensures takes { TakesSolutionLine (StandsForSolution self.old.value (P.stands_for self.old.place))
+            (on_line said.line (records.SolutionValue said.value)) result
+            (StandsForSolution self.new.value (P.stands_for self.new.place)) }
         ensures fixed { P.fixed self.new.place ≡ P.fixed self.old.place }
     {
         test_record(self.earlier(), Record::SolutionValue { value: said.value })?;
@@ -102,7 +105,8 @@ impl<P: Place> SolutionReading<P> {
 
     #[inline(always)]
     fn take_entry(&mut self, entry: Entry) -> Result<(), TakeError>
-        ensures takes { TakesSolutionLine (StandsForSolution self.old.value (P.stands_for self.old.place)) (entry_line entry) result (StandsForSolution self.new.value (P.stands_for self.new.place)) }
+        ensures takes { TakesSolutionLine (StandsForSolution self.old.value (P.stands_for self.old.place))
+            (entry_line entry) result (StandsForSolution self.new.value (P.stands_for self.new.place)) }
         ensures fixed { P.fixed self.new.place ≡ P.fixed self.old.place }
     {
         self.place.place(entry)?;
@@ -150,7 +154,8 @@ impl<P: Place> Reading for SolutionReading<P> {
 
 /// Reads a text of a solution.
 pub fn read_solution<S: Source>(alloc: Global, source: &mut S) -> Result<Solution, ReadError>
-    ensures reads { (text : List ℕ) → S.coming source.old ≡ Some text → Reads (SpellsSolution text) (Fault kinds.Solution (lines text)) (result_map_both claimed (λ e. e) result) }
+    ensures reads { (text : List ℕ) → S.coming source.old ≡ Some text
+        → Reads (SpellsSolution text) (Fault kinds.Solution (lines text)) (result_map_both claimed (λ e. e) result) }
     ensures lawful { IfOk result (λ solution. IsLawful (claimed solution)) }
     ensures device { CountsRead result (S.faults source.old) (S.faults source.new) }
 {
@@ -170,7 +175,9 @@ pub fn read_solution_into<P: Place, S: Source>(
     source: &mut S,
 ) -> Result<Placed<P>, ReadError>
     requires empty { P.stands_for place [] }
-    ensures reads { (text : List ℕ) → S.coming source.old ≡ Some text → ReadsLike (λ solution placed. IsPlaced placed.value placed.value_line (P.stands_for placed.place) solution) text result }
+    ensures reads { (text : List ℕ) → S.coming source.old ≡ Some text
+        → ReadsLike
+        (λ solution placed. IsPlaced placed.value placed.value_line (P.stands_for placed.place) solution) text result }
     ensures lawful { IfOk result (λ placed. IsPlacedLawful placed.value placed.value_line (P.stands_for placed.place)) }
     ensures fixed { IfOk result (λ placed. P.fixed placed.place ≡ P.fixed place) }
     ensures device { CountsRead result (S.faults source.old) (S.faults source.new) }
@@ -189,7 +196,9 @@ pub fn write_solution<S: Sink>(solution: &Solution, sink: &mut S) -> Result<(), 
     ensures puts { Puts result (S.accepted sink.old) (canonical_solution (claimed solution.now)) (S.accepted sink.new) }
     ensures fault { CountsFault result (S.faults sink.old) (S.faults sink.new) }
     ensures round_trip { IsLawful (claimed solution.now) → SpellsSolution (canonical_solution (claimed solution.now)) (renumbered (claimed solution.now)) }
-    ensures same_text { IsLawful (claimed solution.now) → (read : SolutionValue) → SpellsSolution (canonical_solution (claimed solution.now)) read → canonical_solution read ≡ canonical_solution (claimed solution.now) }
+    ensures same_text { IsLawful (claimed solution.now) → (read : SolutionValue)
+        → SpellsSolution (canonical_solution (claimed solution.now)) read
+        → canonical_solution read ≡ canonical_solution (claimed solution.now) }
 {
     let value = solution.value;
     let mut page = Page::new();

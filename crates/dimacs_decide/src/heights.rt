@@ -120,7 +120,8 @@ pub(crate) fn round<N: Network>(
     requires heights { AreHeights (N.list network.now) flow.now (value_of labels.old) }
     requires bounded { BelowBound (N.node_count network.now + 1) (value_of labels.old) }
     ensures heights { OnOk result (AreHeights (N.list network.now) flow.now (value_of labels.new)) }
-    ensures round { IfOk result (λ changed. IsRound (N.node_count network.now) (N.list network.now) flow.now (length (N.list network.now)) (value_of labels.old) changed (value_of labels.new)) }
+    ensures round { IfOk result (λ changed. IsRound (N.node_count network.now) (N.list network.now) flow.now
+        (length (N.list network.now)) (value_of labels.old) changed (value_of labels.new)) }
 {
     let mut changed = false;
     for i in 0..network.arcs() {

@@ -67,7 +67,8 @@ fn begun(alloc: Global, source: u32, sink: u32) -> Result<Search, Memory>
     requires { source ≢ sink }
     ensures ends { IfOk result (λ search. AreEnds source sink (value_of search.surplus)) }
     ensures reached { IfOk result (λ search. 0 < rank_of (value_of search.visits) source) }
-    ensures begun { IfOk result (λ search. (nodes : ℕ) (arcs : List ArcView) (x : List ℤ) → IsNode nodes source → IsResidualSearch nodes arcs x (value_of search.surplus) (value_of search.visits) search.queue.items 0) }
+    ensures begun { IfOk result (λ search. (nodes : ℕ) (arcs : List ArcView) (x : List ℤ) → IsNode nodes source
+        → IsResidualSearch nodes arcs x (value_of search.surplus) (value_of search.visits) search.queue.items 0) }
 {
     let mut surplus = NodeTable::new(alloc, 0i128);
     surplus.set(source, MOST)?;

@@ -37,7 +37,8 @@ impl TightTree {
         requires source { IsNode (N.node_count network.now) source }
         requires claimed { C.claimed claim.now source ≡ Some (pos 0) }
         ensures source { IfOk result (λ tree. tree.block.source ≡ source) }
-        ensures tree { IfOk result (λ tree. IsTightTree (N.node_count network.now) (N.list network.now) (C.claimed claim.now) tree.block (value_of tree.reached)) }
+        ensures tree { IfOk result (λ tree. IsTightTree (N.node_count network.now) (N.list network.now)
+            (C.claimed claim.now) tree.block (value_of tree.reached)) }
     {
         let mut reached = NodeTable::new(alloc, false);
         reached.set(source, true)?;
@@ -94,7 +95,8 @@ impl TightTree {
         requires links { AreLinksOf Tail (N.list network.now) links.now }
         requires tree { IsTightTree (N.node_count network.now) (N.list network.now) (C.claimed claim.now) self.old.block (value_of self.old.reached) }
         requires reached { value_of self.old.reached from ≡ true }
-        ensures tree { OnOk result (IsTightTree (N.node_count network.now) (N.list network.now) (C.claimed claim.now) self.new.block (value_of self.new.reached)) }
+        ensures tree { OnOk result (IsTightTree (N.node_count network.now) (N.list network.now) (C.claimed claim.now)
+            self.new.block (value_of self.new.reached)) }
         ensures grows { OnOk result (TreeGrows self.old.block (value_of self.old.reached) self.new.block (value_of self.new.reached)) }
         ensures passed { OnOk result (IsPassed (N.list network.now) (C.claimed claim.now) (value_of self.new.reached) from) }
     {
@@ -120,9 +122,11 @@ impl TightTree {
         requires via { via < length (N.list network.now) }
         requires tree { IsTightTree (N.node_count network.now) (N.list network.now) (C.claimed claim.now) self.old.block (value_of self.old.reached) }
         requires reached { value_of self.old.reached (arc_at (N.list network.now) via).tail ≡ true }
-        ensures tree { OnOk result (IsTightTree (N.node_count network.now) (N.list network.now) (C.claimed claim.now) self.new.block (value_of self.new.reached)) }
+        ensures tree { OnOk result (IsTightTree (N.node_count network.now) (N.list network.now) (C.claimed claim.now)
+            self.new.block (value_of self.new.reached)) }
         ensures grows { OnOk result (TreeGrows self.old.block (value_of self.old.reached) self.new.block (value_of self.new.reached)) }
-        ensures followed { OnOk result (IsTight (C.claimed claim.now) (arc_at (N.list network.now) via) → value_of self.new.reached (arc_at (N.list network.now) via).head ≡ true) }
+        ensures followed { OnOk result (IsTight (C.claimed claim.now) (arc_at (N.list network.now) via)
+            → value_of self.new.reached (arc_at (N.list network.now) via).head ≡ true) }
     {
         let arc = network.arc(via);
         if self.reached.get(arc.head) {
@@ -144,7 +148,8 @@ impl TightTree {
 /// The distance that is claimed of the head of an arc, if the arc is tight.
 #[inline(always)]
 fn tight_dist<C: DistanceClaim>(claim: &C, arc: ArcView) -> Option<i128>
-    ensures tight { MatchOption result (¬ IsTight (C.claimed claim.now) arc) (λ dist. IsTight (C.claimed claim.now) arc × (C.claimed claim.now arc.head ≡ Some dist)) }
+    ensures tight { MatchOption result (¬ IsTight (C.claimed claim.now) arc)
+        (λ dist. IsTight (C.claimed claim.now) arc × (C.claimed claim.now arc.head ≡ Some dist)) }
     ensures wide { IfSome result IsWide }
 {
     let from = claim.of(arc.tail)?;
@@ -179,7 +184,8 @@ pub(crate) fn tight_tree<N: Network, C: DistanceClaim>(
     requires source { IsNode (N.node_count network.now) source }
     requires claimed { C.claimed claim.now source ≡ Some (pos 0) }
     ensures source { IfOk result (λ tree. tree.block.source ≡ source) }
-    ensures tree { IfOk result (λ tree. IsWholeTightTree (N.node_count network.now) (N.list network.now) (C.claimed claim.now) tree.block (value_of tree.reached)) }
+    ensures tree { IfOk result (λ tree. IsWholeTightTree (N.node_count network.now) (N.list network.now)
+        (C.claimed claim.now) tree.block (value_of tree.reached)) }
 {
     let mut tree = TightTree::new(alloc, network, source, claim)?;
     let mut at = 0;

@@ -317,7 +317,8 @@ fn write_supplies<N: Network, S: Sink>(page: &mut Page, sink: &mut S, instance: 
 /// Writes the line of a node, unless its supply is 0.
 #[inline(always)]
 fn write_supply<S: Sink>(page: &mut Page, sink: &mut S, id: u32, supply: i64)
-    ensures written { Appends (canonical_text (map min_node (filter has_value ((id, supply) ∷ [])))) (S.accepted sink.old) page.old (S.accepted sink.new) page.new }
+    ensures written { Appends (canonical_text (map min_node (filter has_value ((id, supply) ∷ []))))
+        (S.accepted sink.old) page.old (S.accepted sink.new) page.new }
     ensures faults { CountsOn (S.faults sink.old) page.old (S.faults sink.new) page.new }
 {
     if supply != 0 {

@@ -205,7 +205,8 @@ impl Begun for BegunQueries {
 
 /// Reads a text of queries.
 pub fn read_queries<S: Source>(alloc: Global, source: &mut S) -> Result<Queries, ReadError>
-    ensures reads { (text : List ℕ) → S.coming source.old ≡ Some text → Reads (SpellsQueries text) (Fault kinds.Queries (lines text)) (result_map_both asked (λ e. e) result) }
+    ensures reads { (text : List ℕ) → S.coming source.old ≡ Some text
+        → Reads (SpellsQueries text) (Fault kinds.Queries (lines text)) (result_map_both asked (λ e. e) result) }
     ensures lawful { IfOk result (λ queries. AreLawful (asked queries)) }
     ensures device { CountsRead result (S.faults source.old) (S.faults source.new) }
 {
@@ -220,7 +221,9 @@ pub fn write_queries<S: Sink>(queries: &Queries, sink: &mut S) -> Result<(), Dev
     ensures puts { Puts result (S.accepted sink.old) (canonical_queries (asked queries.now)) (S.accepted sink.new) }
     ensures fault { CountsFault result (S.faults sink.old) (S.faults sink.new) }
     ensures round_trip { AreLawful (asked queries.now) → SpellsQueries (canonical_queries (asked queries.now)) (asked queries.now) }
-    ensures same_text { AreLawful (asked queries.now) → (read : QueriesValue) → SpellsQueries (canonical_queries (asked queries.now)) read → canonical_queries read ≡ canonical_queries (asked queries.now) }
+    ensures same_text { AreLawful (asked queries.now) → (read : QueriesValue)
+        → SpellsQueries (canonical_queries (asked queries.now)) read
+        → canonical_queries read ≡ canonical_queries (asked queries.now) }
 {
     let mut page = Page::new();
     write_problem(&mut page, sink, queries.kind(), queries.len());

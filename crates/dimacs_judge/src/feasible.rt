@@ -126,7 +126,8 @@ pub(crate) fn balances_hold<N: Network, D: Demands>(
     demands: &D,
 ) -> Result<(), (Where, Reason)>
     requires { N.node_count network.now ≤ most_nodes }
-    ensures { (x : List ℤ) → AreBalances (N.list network.now) x balances.now → TellsRow (balance_row (N.node_count network.now) (N.list network.now) (D.demand demands.now) x) result }
+    ensures { (x : List ℤ) → AreBalances (N.list network.now) x balances.now
+        → TellsRow (balance_row (N.node_count network.now) (N.list network.now) (D.demand demands.now) x) result }
 {
     for v in 1..network.nodes() + 1 {
         if let Some(reason) = balance_fault(demands.demand_at(v), balances.of(v)) {

@@ -31,7 +31,9 @@ pub fn judge_max_flow<N: Network>(
     cut: &Cut,
 ) -> Result<Verdict, JudgeError>
     requires { length flow.now ≡ length instance.now.arcs }
-    ensures { Judges (max_flow_rows instance.now flow.now (members cut.now)) (ShowsMaxFlow instance.now flow.now (members cut.now)) (λ verdict. verdict ≡ Max (value instance.now flow.now)) result }
+    ensures { Judges (max_flow_rows instance.now flow.now (members cut.now))
+        (ShowsMaxFlow instance.now flow.now (members cut.now)) (λ verdict. verdict ≡ Max (value instance.now flow.now))
+        result }
 {
     let network = instance.network();
     let balances = feasible(alloc, network, flow, instance)?;
@@ -52,7 +54,9 @@ pub fn judge_min_flow<N: Network>(
     potentials: &Potentials,
 ) -> Result<Verdict, JudgeError>
     requires { length flow.now ≡ length instance.now.arcs }
-    ensures { Judges (min_flow_rows instance.now flow.now (potential_of potentials.now)) (ShowsMinFlow instance.now flow.now (potential_of potentials.now)) (λ verdict. verdict ≡ Min (cost instance.now.arcs flow.now)) result }
+    ensures { Judges (min_flow_rows instance.now flow.now (potential_of potentials.now))
+        (ShowsMinFlow instance.now flow.now (potential_of potentials.now))
+        (λ verdict. verdict ≡ Min (cost instance.now.arcs flow.now)) result }
 {
     let network = instance.network();
     feasible(alloc, network, flow, instance)?;

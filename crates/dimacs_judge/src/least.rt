@@ -35,7 +35,9 @@ pub fn judge_min<N: Network>(
     solution: &Solution,
     potentials: &Potentials,
 ) -> Result<Verdict, JudgeError>
-    ensures { Judges (min_rows instance.now (claimed solution.now) potentials.now) (ShowsLeast instance.now (claimed solution.now) potentials.now) (λ verdict. verdict ≡ Min solution.now.value) result }
+    ensures { Judges (min_rows instance.now (claimed solution.now) potentials.now)
+        (ShowsLeast instance.now (claimed solution.now) potentials.now) (λ verdict. verdict ≡ Min solution.now.value)
+        result }
 {
     let placed = placed(alloc, instance.network(), solution)?;
     judge_min_placed(alloc, instance, &placed, potentials)

@@ -293,7 +293,8 @@ pub(crate) fn pass_arc(
 ) -> Result<bool, Reason>
     requires blank { (blank_of marks.old).block < number }
     requires wide { AreWide labels.now number marks.old }
-    ensures told { TellsReason (RelaxFails radius (marked_dist labels.now number (value_of marks.old arc.tail)) (marked_dist labels.now number (value_of marks.old arc.head)) arc.cost) (result_err result) }
+    ensures told { TellsReason (RelaxFails radius (marked_dist labels.now number (value_of marks.old arc.tail))
+        (marked_dist labels.now number (value_of marks.old arc.head)) arc.cost) (result_err result) }
     ensures marks { MarksArc labels.now number arc marks.old marks.new }
     ensures made { IfOk result (λ made. IsTrue made → IsTight labels.now number arc marks.old) }
 {
@@ -332,7 +333,8 @@ fn pass_doubtful(
 ) -> Result<bool, Reason>
     requires blank { (blank_of marks.old).block < number }
     requires wide { AreWide labels.now number marks.old }
-    ensures told { TellsReason (RelaxFails radius (marked_dist labels.now number (value_of marks.old arc.tail)) (marked_dist labels.now number (value_of marks.old arc.head)) arc.cost) (result_err result) }
+    ensures told { TellsReason (RelaxFails radius (marked_dist labels.now number (value_of marks.old arc.tail))
+        (marked_dist labels.now number (value_of marks.old arc.head)) arc.cost) (result_err result) }
     ensures marks { MarksArc labels.now number arc marks.old marks.new }
     ensures made { IfOk result (λ made. IsTrue made → IsTight labels.now number arc marks.old) }
 {

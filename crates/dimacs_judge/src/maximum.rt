@@ -37,7 +37,8 @@ pub fn judge_max<N: Network>(
     solution: &Solution,
     cut: &Cut,
 ) -> Result<Verdict, JudgeError>
-    ensures { Judges (max_rows instance.now (claimed solution.now) cut.now) (ShowsMaximum instance.now (claimed solution.now) cut.now) (λ verdict. verdict ≡ Max solution.now.value) result }
+    ensures { Judges (max_rows instance.now (claimed solution.now) cut.now)
+        (ShowsMaximum instance.now (claimed solution.now) cut.now) (λ verdict. verdict ≡ Max solution.now.value) result }
 {
     let placed = placed(alloc, instance.network(), solution)?;
     judge_max_placed(alloc, instance, &placed, cut)
@@ -89,7 +90,8 @@ fn value_holds<N: Network, P: Place>(
     balances: &Balances,
     placed: &Placed<P>,
 ) -> Result<(), (Where, Reason)>
-    ensures { (x : List ℤ) → AreBalances instance.now.arcs x balances.now → TellsRow (value_row (value instance.now x) placed.now.value placed.now.value_line) result }
+    ensures { (x : List ℤ) → AreBalances instance.now.arcs x balances.now
+        → TellsRow (value_row (value instance.now x) placed.now.value placed.now.value_line) result }
 {
     value_agrees(balances.of(instance.source()), placed)
 }

@@ -32,7 +32,9 @@ pub fn judge_paths<N: Network>(
     labels: &Labels,
 ) -> Result<Verdict, JudgeError>
     requires lawful { AreLawful (asked queries.now) }
-    ensures { Judges (paths_rows graph.now (asked queries.now) labels.now) (ShowsDistances graph.now (asked queries.now) labels.now) (AnswersQueries labels.now.blocks (asked queries.now)) result }
+    ensures { Judges (paths_rows graph.now (asked queries.now) labels.now)
+        (ShowsDistances graph.now (asked queries.now) labels.now) (AnswersQueries labels.now.blocks (asked queries.now))
+        result }
 {
     let network = graph.network();
     let nodes = network.nodes();

@@ -45,9 +45,12 @@ impl<'a, N: Network> Model for FlowPlaces<'a, N> {
 
     ghost Value = { PlacesValue };
 
-    ghost view = { λ p. record { arcs = N.list p.network.now; flow = p.flow; counts = p.counts.items; in_order = p.in_order; out_of_order = p.out_of_order; refusal = p.refusal } };
+    ghost view = { λ p. record
+        { arcs = N.list p.network.now; flow = p.flow; counts = p.counts.items; in_order = p.in_order; out_of_order = p.out_of_order; refusal = p.refusal } };
 
-    ghost invariant = { λ p. HaveRoom (record { arcs = N.list p.network.now; flow = p.flow; counts = p.counts.items; in_order = p.in_order; out_of_order = p.out_of_order; refusal = p.refusal }) × IsIndexFor (N.list p.network.now) p.out_of_order p.index };
+    ghost invariant = { λ p. HaveRoom (record
+        { arcs = N.list p.network.now; flow = p.flow; counts = p.counts.items; in_order = p.in_order; out_of_order = p.out_of_order; refusal = p.refusal })
+        × IsIndexFor (N.list p.network.now) p.out_of_order p.index };
 }
 
 impl<'a, N: Network> FlowPlaces<'a, N> {
@@ -90,7 +93,8 @@ impl<'a, N: Network> FlowPlaces<'a, N> {
     pub(crate) fn flow(&self) -> Result<&Flow, (Where, Reason)>
         ensures one_each { IfOk result (λ flow. length flow.now ≡ length self.now.arcs) }
         ensures carried { IfOk result (λ flow. (entries : List Entry) → ArePlaced self.now entries → Carries self.now.arcs entries flow.now) }
-        ensures first { IfErr result (λ refusal. (entries : List Entry) → ArePlaced self.now entries → FirstOfRow (entry_row self.now.arcs entries) refusal.0 refusal.1) }
+        ensures first { IfErr result (λ refusal. (entries : List Entry) → ArePlaced self.now entries
+            → FirstOfRow (entry_row self.now.arcs entries) refusal.0 refusal.1) }
     {
         match self.refusal {
             None => Ok(&self.flow),
@@ -140,7 +144,9 @@ impl<'a, N: Network> FlowPlaces<'a, N> {
     /// Whether all entries came in the order of the arcs, and this one has the ends of the next arc.
     #[inline(always)]
     fn is_next(&self, entry: Entry) -> bool
-        ensures { IsTrue result → (self.now.out_of_order ≡ false) × (self.now.in_order < length self.now.arcs) × (joins entry.tail entry.head (arc_at self.now.arcs self.now.in_order) ≡ true) }
+        ensures { IsTrue result
+            → (self.now.out_of_order ≡ false) × (self.now.in_order < length self.now.arcs)
+            × (joins entry.tail entry.head (arc_at self.now.arcs self.now.in_order) ≡ true) }
     {
         if self.out_of_order || self.in_order >= self.network.arcs() {
             return false;

@@ -26,7 +26,8 @@ pub fn slack_tests<N: Network>(
     potentials: &Potentials,
 ) -> Result<(), (Where, Reason)>
     requires { length flow.now ≡ length instance.now.arcs }
-    ensures { Decides (Slack instance.now.arcs flow.now (potential_of potentials.now)) (slack_row instance.now.arcs (potential_of potentials.now) flow.now ∷ []) result }
+    ensures { Decides (Slack instance.now.arcs flow.now (potential_of potentials.now))
+        (slack_row instance.now.arcs (potential_of potentials.now) flow.now ∷ []) result }
 {
     arcs_slack(instance.network(), flow, potentials)
 }

@@ -127,7 +127,8 @@ impl Page {
 
     /// Puts what is left of the text, and tells whether the sink failed.
     pub fn finish<S: Sink>(mut self, sink: &mut S) -> Result<(), DeviceFault>
-        ensures puts { (start : Option (List ℕ)) (text : List ℕ) → IsWritten start text (S.accepted sink.old) self → Puts result start text (S.accepted sink.new) }
+        ensures puts { (start : Option (List ℕ)) (text : List ℕ) → IsWritten start text (S.accepted sink.old) self
+            → Puts result start text (S.accepted sink.new) }
         ensures fault { (start : ℕ) → FaultsAre start (S.faults sink.old) self → CountsFault result start (S.faults sink.new) }
     {
         self.flush(sink);
@@ -155,7 +156,8 @@ impl Page {
     #[inline(always)]
     fn make_room<S: Sink>(&mut self, sink: &mut S, bytes: usize)
         requires { bytes ≤ 16384 }
-        ensures written { (start : Option (List ℕ)) (text : List ℕ) → IsWritten start text (S.accepted sink.old) self.old → IsWritten start text (S.accepted sink.new) self.new }
+        ensures written { (start : Option (List ℕ)) (text : List ℕ)
+            → IsWritten start text (S.accepted sink.old) self.old → IsWritten start text (S.accepted sink.new) self.new }
         ensures faults { CountsOn (S.faults sink.old) self.old (S.faults sink.new) self.new }
         ensures room { length self.new.kept + bytes ≤ 16384 }
     {
@@ -165,7 +167,8 @@ impl Page {
     }
 
     fn flush<S: Sink>(&mut self, sink: &mut S)
-        ensures written { (start : Option (List ℕ)) (text : List ℕ) → IsWritten start text (S.accepted sink.old) self.old → IsWritten start text (S.accepted sink.new) self.new }
+        ensures written { (start : Option (List ℕ)) (text : List ℕ)
+            → IsWritten start text (S.accepted sink.old) self.old → IsWritten start text (S.accepted sink.new) self.new }
         ensures faults { CountsOn (S.faults sink.old) self.old (S.faults sink.new) self.new }
         ensures empty { self.new.kept ≡ [] }
     {

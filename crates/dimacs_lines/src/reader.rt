@@ -67,7 +67,8 @@ impl Model for Lines {
 
     ghost Value = { State };
 
-    ghost view = { λ s. record { held = slice_range s.buffer.items s.next s.end; given = s.given; line = slice_range s.buffer.items s.line_start s.line_end; progress = s.progress } };
+    ghost view = { λ s. record
+        { held = slice_range s.buffer.items s.next s.end; given = s.given; line = slice_range s.buffer.items s.line_start s.line_end; progress = s.progress } };
 
     ghost invariant = { λ s. IsLaidOut s.line_start s.line_end s.next s.end s.given (length s.buffer.items) };
 }

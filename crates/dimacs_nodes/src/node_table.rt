@@ -51,7 +51,8 @@ impl<T: Copy> NodeTable<T> {
     /// The value of a node for which memory was taken, which may be blank.
     #[inline]
     pub fn get_placed(&self, id: u32) -> Option<T>
-        ensures { MatchOption result ((value_of self.now id ≡ blank_of self.now) × (¬ HasPlace self.now id)) (λ value. (value ≡ value_of self.now id) × HasPlace self.now id) }
+        ensures { MatchOption result ((value_of self.now id ≡ blank_of self.now) × (¬ HasPlace self.now id))
+            (λ value. (value ≡ value_of self.now id) × HasPlace self.now id) }
     {
         self.slots.get(place(&self.directory, id)).copied()
     }

@@ -104,7 +104,8 @@ pub fn write_record<S: Sink>(page: &mut Page, sink: &mut S, said: &Record)
 /// Writes a problem line that declares nodes and a count.
 #[inline(always)]
 fn write_problem<S: Sink>(page: &mut Page, sink: &mut S, word: &[u8], nodes: u32, count: u32)
-    ensures written { Appends (line_of (codes "p") (Text word.now ∷ Amount (pos nodes) ∷ Amount (pos count) ∷ [])) (S.accepted sink.old) page.old (S.accepted sink.new) page.new }
+    ensures written { Appends (line_of (codes "p") (Text word.now ∷ Amount (pos nodes) ∷ Amount (pos count) ∷ []))
+        (S.accepted sink.old) page.old (S.accepted sink.new) page.new }
     ensures faults { CountsOn (S.faults sink.old) page.old (S.faults sink.new) page.new }
 {
     write_line(
@@ -118,7 +119,8 @@ fn write_problem<S: Sink>(page: &mut Page, sink: &mut S, word: &[u8], nodes: u32
 /// Writes a line of two ends and a number.
 #[inline(always)]
 fn write_arc<S: Sink>(page: &mut Page, sink: &mut S, letter: u8, tail: u32, head: u32, n: i64)
-    ensures written { Appends (line_of (letter ∷ []) (Amount (pos tail) ∷ Amount (pos head) ∷ Amount n ∷ [])) (S.accepted sink.old) page.old (S.accepted sink.new) page.new }
+    ensures written { Appends (line_of (letter ∷ []) (Amount (pos tail) ∷ Amount (pos head) ∷ Amount n ∷ []))
+        (S.accepted sink.old) page.old (S.accepted sink.new) page.new }
     ensures faults { CountsOn (S.faults sink.old) page.old (S.faults sink.new) page.new }
 {
     page.line_of_three(sink, letter, i64::from(tail), i64::from(head), n);

@@ -61,7 +61,8 @@ fn read_lines<R: Reading, S: Source>(
     ensures few { IfOk result (λ count. count ≤ most_lines) }
     ensures reads { (all : List (List ℕ)) → IsReadSoFar kind all lines.old.given (text_left lines.old (S.coming source.old)) (R.stands_for reading.old)
         → ReadsAll kind all (R.stands_for reading.new) result }
-    ensures spelled { IfOk result (λ count. HasTaken kind (lines.old.given + 1) (R.stands_for reading.old) → HasTaken kind (count + 1) (R.stands_for reading.new)) }
+    ensures spelled { IfOk result (λ count. HasTaken kind (lines.old.given + 1) (R.stands_for reading.old)
+        → HasTaken kind (count + 1) (R.stands_for reading.new)) }
     ensures kept { (value : R.Value) → R.keeps reading.new value → R.keeps reading.old value }
     ensures device { CountsRead result (S.faults source.old) (S.faults source.new) }
 {
@@ -86,9 +87,11 @@ fn take_held<R: Reading>(
     ensures progress { lines.new.progress ≡ lines.old.progress }
     ensures no_fewer { lines.old.given ≤ lines.new.given }
     ensures few { lines.old.given ≤ most_lines → lines.new.given ≤ most_lines }
-    ensures reads { (all : List (List ℕ)) (coming : Option (List ℕ)) → IsReadSoFar kind all lines.old.given (text_left lines.old coming) (R.stands_for reading.old)
+    ensures reads { (all : List (List ℕ)) (coming : Option (List ℕ))
+        → IsReadSoFar kind all lines.old.given (text_left lines.old coming) (R.stands_for reading.old)
         → ReadsSome kind all lines.new.given (text_left lines.new coming) (R.stands_for reading.new) result }
-    ensures spelled { OnOk result (HasTaken kind (lines.old.given + 1) (R.stands_for reading.old) → HasTaken kind (lines.new.given + 1) (R.stands_for reading.new)) }
+    ensures spelled { OnOk result (HasTaken kind (lines.old.given + 1) (R.stands_for reading.old)
+        → HasTaken kind (lines.new.given + 1) (R.stands_for reading.new)) }
     ensures kept { (value : R.Value) → R.keeps reading.new value → R.keeps reading.old value }
     ensures undisturbed { IfErr result (λ error. error ≢ Device) }
 {
@@ -114,8 +117,11 @@ fn take_plain<R: Reading>(
     ensures within { IfOk result (λ taken. taken.bytes ≤ length held.now) }
     ensures whole { IfOk result (λ taken. AreWholeLines (take taken.bytes held.now) taken.lines) }
     ensures few { IfOk result (λ taken. given + taken.lines ≤ most_lines) }
-    ensures takes { (all : List (List ℕ)) (coming : Option (List ℕ)) → IsReadSoFar kind all given (before_piece held.now coming) (R.stands_for reading.old) → TakesPlain kind all given held.now coming (R.stands_for reading.new) result }
-    ensures spelled { IfOk result (λ taken. HasTaken kind (given + 1) (R.stands_for reading.old) → HasTaken kind (given + taken.lines + 1) (R.stands_for reading.new)) }
+    ensures takes { (all : List (List ℕ)) (coming : Option (List ℕ))
+        → IsReadSoFar kind all given (before_piece held.now coming) (R.stands_for reading.old)
+        → TakesPlain kind all given held.now coming (R.stands_for reading.new) result }
+    ensures spelled { IfOk result (λ taken. HasTaken kind (given + 1) (R.stands_for reading.old)
+        → HasTaken kind (given + taken.lines + 1) (R.stands_for reading.new)) }
     ensures kept { (value : R.Value) → R.keeps reading.new value → R.keeps reading.old value }
     ensures undisturbed { IfErr result (λ error. error ≢ Device) }
 {
@@ -142,10 +148,12 @@ fn read_line<R: Reading, S: Source>(
     requires kind { R.kind reading.old ≡ kind }
     requires open { lines.old.progress ≡ Open }
     ensures kind { R.kind reading.new ≡ kind }
-    ensures next { IfOk result (λ answer. IfSome answer (λ number. (lines.new.progress ≡ Open) × (lines.new.given ≡ number) × (number ≡ lines.old.given + 1) × (number ≤ most_lines))) }
+    ensures next { IfOk result (λ answer. IfSome answer (λ number. (lines.new.progress ≡ Open)
+        × (lines.new.given ≡ number) × (number ≡ lines.old.given + 1) × (number ≤ most_lines))) }
     ensures reads { (all : List (List ℕ)) → IsReadSoFar kind all lines.old.given (text_left lines.old (S.coming source.old)) (R.stands_for reading.old)
         → ReadsNext kind all lines.old.given (text_left lines.new (S.coming source.new)) (R.stands_for reading.new) result }
-    ensures spelled { IfOk result (λ answer. HasTaken kind (lines.old.given + 1) (R.stands_for reading.old) → HasTaken kind (lines.old.given + 1 + option_len answer) (R.stands_for reading.new)) }
+    ensures spelled { IfOk result (λ answer. HasTaken kind (lines.old.given + 1) (R.stands_for reading.old)
+        → HasTaken kind (lines.old.given + 1 + option_len answer) (R.stands_for reading.new)) }
     ensures kept { (value : R.Value) → R.keeps reading.new value → R.keeps reading.old value }
     ensures device { CountsRead result (S.faults source.old) (S.faults source.new) }
 {
@@ -169,7 +177,8 @@ fn take_line<R: Reading>(
 ) -> Result<(), TakeError>
     requires { R.kind reading.old ≡ kind }
     ensures kind { R.kind reading.new ≡ kind }
-    ensures takes { (before : List (List ℕ)) (said : List (Option Record)) → ComesAfter kind before said number line.now → R.stands_for reading.old (numbered 1 said)
+    ensures takes { (before : List (List ℕ)) (said : List (Option Record)) → ComesAfter kind before said number line.now
+        → R.stands_for reading.old (numbered 1 said)
         → TakesLine kind before said line.now (R.stands_for reading.new) result }
     ensures spelled { OnOk result (HasTaken kind number (R.stands_for reading.old) → HasTaken kind (number + 1) (R.stands_for reading.new)) }
     ensures kept { (value : R.Value) → R.keeps reading.new value → R.keeps reading.old value }

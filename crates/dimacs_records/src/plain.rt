@@ -202,7 +202,8 @@ fn node_line(bytes: &[u8], letter: u8) -> Option<NodeLine>
 /// A line of two nodes and a number.
 #[inline(always)]
 fn arc_line(bytes: &[u8], letter: u8) -> Option<ArcLine>
-    ensures { IfSome result (λ line. IsPlainLine bytes.now letter (Id ∷ Id ∷ Whole ∷ []) (Amount (pos line.tail) ∷ Amount (pos line.head) ∷ Amount line.number ∷ []) line.size) }
+    ensures { IfSome result (λ line. IsPlainLine bytes.now letter (Id ∷ Id ∷ Whole ∷ [])
+        (Amount (pos line.tail) ∷ Amount (pos line.head) ∷ Amount line.number ∷ []) line.size) }
 {
     if !begins_with(bytes, letter) {
         return None;

@@ -69,8 +69,10 @@ pub(crate) fn close_written<'a, F: Files>(
     files: &mut F,
     file: InUse<'a, F::Output>,
 ) -> Option<Failure<'a>>
-    ensures failure { IsFirstOf result (failures (closed_written file.entry.name.now (F.Output.accepted file.entry.device) (F.Output.faults file.entry.device))) }
-    ensures seen { Sees (closed_written file.entry.name.now (F.Output.accepted file.entry.device) (F.Output.faults file.entry.device) ∷ []) (F.seen files.old) (F.seen files.new) }
+    ensures failure { IsFirstOf result (failures
+        (closed_written file.entry.name.now (F.Output.accepted file.entry.device) (F.Output.faults file.entry.device))) }
+    ensures seen { Sees (closed_written file.entry.name.now (F.Output.accepted file.entry.device)
+        (F.Output.faults file.entry.device) ∷ []) (F.seen files.old) (F.seen files.new) }
 {
     if files.close_output(file.name, file.device) {
         Some(Failure::File(FileCall::Write, file.name))

@@ -38,12 +38,20 @@ pub fn run_judge<P: Source, Q: Source, R: Source, K: Sink>(
     certificate: &mut R,
     sink: &mut K,
 ) -> Result<Status, RunError>
-    ensures reports { (a b c : List ℕ) → P.coming instance.old ≡ Some a → IsClaim kind (Q.coming claim.old) b → R.coming certificate.old ≡ Some c → Reports (Judged kind a b c) result (K.accepted sink.old) (K.accepted sink.new) }
-    ensures faults { CountsDevices result (P.faults instance.old ∷ Q.faults claim.old ∷ R.faults certificate.old ∷ K.faults sink.old ∷ []) (P.faults instance.new ∷ Q.faults claim.new ∷ R.faults certificate.new ∷ K.faults sink.new ∷ []) }
-    ensures nothing_written { (P.faults instance.new ≢ P.faults instance.old) ⊎ (Q.faults claim.new ≢ Q.faults claim.old) ⊎ (R.faults certificate.new ≢ R.faults certificate.old) → K.accepted sink.new ≡ K.accepted sink.old }
+    ensures reports { (a b c : List ℕ) → P.coming instance.old ≡ Some a → IsClaim kind (Q.coming claim.old) b
+        → R.coming certificate.old ≡ Some c
+        → Reports (Judged kind a b c) result (K.accepted sink.old) (K.accepted sink.new) }
+    ensures faults { CountsDevices result
+        (P.faults instance.old ∷ Q.faults claim.old ∷ R.faults certificate.old ∷ K.faults sink.old ∷ [])
+        (P.faults instance.new ∷ Q.faults claim.new ∷ R.faults certificate.new ∷ K.faults sink.new ∷ []) }
+    ensures nothing_written { (P.faults instance.new ≢ P.faults instance.old)
+        ⊎ (Q.faults claim.new ≢ Q.faults claim.old) ⊎ (R.faults certificate.new ≢ R.faults certificate.old)
+        → K.accepted sink.new ≡ K.accepted sink.old }
     ensures memory { result ≡ Err Memory → K.accepted sink.new ≡ K.accepted sink.old }
-    ensures stops_at_instance { (a : List ℕ) (l f : ℕ) (r : Reason) → P.coming instance.old ≡ Some a → Fault (instance_kind kind) (lines a) l f r → (claim.new ≡ claim.old) × (certificate.new ≡ certificate.old) }
-    ensures stops_at_claim { (claimed : TextKind) (b : List ℕ) (l f : ℕ) (r : Reason) → claim_kind kind ≡ Some claimed → Q.coming claim.old ≡ Some b → Fault claimed (lines b) l f r → certificate.new ≡ certificate.old }
+    ensures stops_at_instance { (a : List ℕ) (l f : ℕ) (r : Reason) → P.coming instance.old ≡ Some a
+        → Fault (instance_kind kind) (lines a) l f r → (claim.new ≡ claim.old) × (certificate.new ≡ certificate.old) }
+    ensures stops_at_claim { (claimed : TextKind) (b : List ℕ) (l f : ℕ) (r : Reason) → claim_kind kind ≡ Some claimed
+        → Q.coming claim.old ≡ Some b → Fault claimed (lines b) l f r → certificate.new ≡ certificate.old }
     ensures unclaimed { kind ≡ judges.Infeasible → claim.new ≡ claim.old }
 {
     let told = match kind {
@@ -62,10 +70,14 @@ fn tell_max<P: Source, Q: Source, R: Source>(
     claim: &mut Q,
     certificate: &mut R,
 ) -> Result<Told, RunError>
-    ensures told { (a b c : List ℕ) → P.coming instance.old ≡ Some a → Q.coming claim.old ≡ Some b → R.coming certificate.old ≡ Some c → ToldAlone (Judged judges.Max a b c) result }
-    ensures faults { CountsDevices result (P.faults instance.old ∷ Q.faults claim.old ∷ R.faults certificate.old ∷ []) (P.faults instance.new ∷ Q.faults claim.new ∷ R.faults certificate.new ∷ []) }
-    ensures stops_at_instance { (a : List ℕ) (l f : ℕ) (r : Reason) → P.coming instance.old ≡ Some a → Fault kinds.Max (lines a) l f r → (claim.new ≡ claim.old) × (certificate.new ≡ certificate.old) }
-    ensures stops_at_claim { (b : List ℕ) (l f : ℕ) (r : Reason) → Q.coming claim.old ≡ Some b → Fault kinds.Solution (lines b) l f r → certificate.new ≡ certificate.old }
+    ensures told { (a b c : List ℕ) → P.coming instance.old ≡ Some a → Q.coming claim.old ≡ Some b
+        → R.coming certificate.old ≡ Some c → ToldAlone (Judged judges.Max a b c) result }
+    ensures faults { CountsDevices result (P.faults instance.old ∷ Q.faults claim.old ∷ R.faults certificate.old ∷ [])
+        (P.faults instance.new ∷ Q.faults claim.new ∷ R.faults certificate.new ∷ []) }
+    ensures stops_at_instance { (a : List ℕ) (l f : ℕ) (r : Reason) → P.coming instance.old ≡ Some a
+        → Fault kinds.Max (lines a) l f r → (claim.new ≡ claim.old) × (certificate.new ≡ certificate.old) }
+    ensures stops_at_claim { (b : List ℕ) (l f : ℕ) (r : Reason) → Q.coming claim.old ≡ Some b
+        → Fault kinds.Solution (lines b) l f r → certificate.new ≡ certificate.old }
 {
     let instance = match read::<MaxInstance<PlainArcs<CapacityArc>>, P>(alloc, instance) {
         Ok(instance) => instance,
@@ -85,10 +97,14 @@ fn tell_min<P: Source, Q: Source, R: Source>(
     claim: &mut Q,
     certificate: &mut R,
 ) -> Result<Told, RunError>
-    ensures told { (a b c : List ℕ) → P.coming instance.old ≡ Some a → Q.coming claim.old ≡ Some b → R.coming certificate.old ≡ Some c → ToldAlone (Judged judges.Min a b c) result }
-    ensures faults { CountsDevices result (P.faults instance.old ∷ Q.faults claim.old ∷ R.faults certificate.old ∷ []) (P.faults instance.new ∷ Q.faults claim.new ∷ R.faults certificate.new ∷ []) }
-    ensures stops_at_instance { (a : List ℕ) (l f : ℕ) (r : Reason) → P.coming instance.old ≡ Some a → Fault kinds.Min (lines a) l f r → (claim.new ≡ claim.old) × (certificate.new ≡ certificate.old) }
-    ensures stops_at_claim { (b : List ℕ) (l f : ℕ) (r : Reason) → Q.coming claim.old ≡ Some b → Fault kinds.Solution (lines b) l f r → certificate.new ≡ certificate.old }
+    ensures told { (a b c : List ℕ) → P.coming instance.old ≡ Some a → Q.coming claim.old ≡ Some b
+        → R.coming certificate.old ≡ Some c → ToldAlone (Judged judges.Min a b c) result }
+    ensures faults { CountsDevices result (P.faults instance.old ∷ Q.faults claim.old ∷ R.faults certificate.old ∷ [])
+        (P.faults instance.new ∷ Q.faults claim.new ∷ R.faults certificate.new ∷ []) }
+    ensures stops_at_instance { (a : List ℕ) (l f : ℕ) (r : Reason) → P.coming instance.old ≡ Some a
+        → Fault kinds.Min (lines a) l f r → (claim.new ≡ claim.old) × (certificate.new ≡ certificate.old) }
+    ensures stops_at_claim { (b : List ℕ) (l f : ℕ) (r : Reason) → Q.coming claim.old ≡ Some b
+        → Fault kinds.Solution (lines b) l f r → certificate.new ≡ certificate.old }
 {
     let instance = match read::<MinInstance<PlainArcs<ArcView>>, P>(alloc, instance) {
         Ok(instance) => instance,
@@ -114,7 +130,8 @@ fn tell_infeasible<P: Source, R: Source>(
 ) -> Result<Told, RunError>
     ensures told { (a c : List ℕ) → P.coming instance.old ≡ Some a → R.coming certificate.old ≡ Some c → ToldAlone (Judged judges.Infeasible a [] c) result }
     ensures faults { CountsDevices result (P.faults instance.old ∷ R.faults certificate.old ∷ []) (P.faults instance.new ∷ R.faults certificate.new ∷ []) }
-    ensures stops_at_instance { (a : List ℕ) (l f : ℕ) (r : Reason) → P.coming instance.old ≡ Some a → Fault kinds.Min (lines a) l f r → certificate.new ≡ certificate.old }
+    ensures stops_at_instance { (a : List ℕ) (l f : ℕ) (r : Reason) → P.coming instance.old ≡ Some a
+        → Fault kinds.Min (lines a) l f r → certificate.new ≡ certificate.old }
 {
     match read_two::<MinInstance<PlainArcs<ArcView>>, Cut, P, R>(alloc, instance, certificate) {
         Ok((instance, set)) => answer_told(judge_infeasible(&instance, &set)),
@@ -129,10 +146,14 @@ fn tell_paths<P: Source, Q: Source, R: Source>(
     queries: &mut Q,
     labels: &mut R,
 ) -> Result<Told, RunError>
-    ensures told { (a b c : List ℕ) → P.coming graph.old ≡ Some a → Q.coming queries.old ≡ Some b → R.coming labels.old ≡ Some c → ToldAlone (Judged judges.Paths a b c) result }
-    ensures faults { CountsDevices result (P.faults graph.old ∷ Q.faults queries.old ∷ R.faults labels.old ∷ []) (P.faults graph.new ∷ Q.faults queries.new ∷ R.faults labels.new ∷ []) }
-    ensures stops_at_instance { (a : List ℕ) (l f : ℕ) (r : Reason) → P.coming graph.old ≡ Some a → Fault kinds.Graph (lines a) l f r → (queries.new ≡ queries.old) × (labels.new ≡ labels.old) }
-    ensures stops_at_claim { (b : List ℕ) (l f : ℕ) (r : Reason) → Q.coming queries.old ≡ Some b → Fault kinds.Queries (lines b) l f r → labels.new ≡ labels.old }
+    ensures told { (a b c : List ℕ) → P.coming graph.old ≡ Some a → Q.coming queries.old ≡ Some b
+        → R.coming labels.old ≡ Some c → ToldAlone (Judged judges.Paths a b c) result }
+    ensures faults { CountsDevices result (P.faults graph.old ∷ Q.faults queries.old ∷ R.faults labels.old ∷ [])
+        (P.faults graph.new ∷ Q.faults queries.new ∷ R.faults labels.new ∷ []) }
+    ensures stops_at_instance { (a : List ℕ) (l f : ℕ) (r : Reason) → P.coming graph.old ≡ Some a
+        → Fault kinds.Graph (lines a) l f r → (queries.new ≡ queries.old) × (labels.new ≡ labels.old) }
+    ensures stops_at_claim { (b : List ℕ) (l f : ℕ) (r : Reason) → Q.coming queries.old ≡ Some b
+        → Fault kinds.Queries (lines b) l f r → labels.new ≡ labels.old }
 {
     match read_three::<Graph<PlainArcs<WeightArc>>, Queries, Labels, P, Q, R>(
         alloc, graph, queries, labels,

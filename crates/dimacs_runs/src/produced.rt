@@ -35,7 +35,8 @@ pub(crate) enum Made {
 impl Made {
     /// Puts the claim, and then the certificate.
     fn put<C: Sink, D: Sink>(&self, claim: &mut C, certificate: &mut D) -> Result<(), DeviceFault>
-        ensures puts { PutTexts result (made_texts self.now) (C.accepted claim.old ∷ D.accepted certificate.old ∷ []) (C.accepted claim.new ∷ D.accepted certificate.new ∷ []) }
+        ensures puts { PutTexts result (made_texts self.now) (C.accepted claim.old ∷ D.accepted certificate.old ∷ [])
+            (C.accepted claim.new ∷ D.accepted certificate.new ∷ []) }
         ensures faults { CountsPuts result (C.faults claim.old ∷ D.faults certificate.old ∷ []) (C.faults claim.new ∷ D.faults certificate.new ∷ []) }
         ensures unclaimed { IsClaimless self.now → claim.new ≡ claim.old }
     {
@@ -71,8 +72,11 @@ impl Produced {
         certificate: &mut D,
         report: &mut K,
     ) -> Result<(), DeviceFault>
-        ensures puts { PutTexts result (produced.produced_texts self.now) (C.accepted claim.old ∷ D.accepted certificate.old ∷ K.accepted report.old ∷ []) (C.accepted claim.new ∷ D.accepted certificate.new ∷ K.accepted report.new ∷ []) }
-        ensures faults { CountsPuts result (C.faults claim.old ∷ D.faults certificate.old ∷ K.faults report.old ∷ []) (C.faults claim.new ∷ D.faults certificate.new ∷ K.faults report.new ∷ []) }
+        ensures puts { PutTexts result (produced.produced_texts self.now)
+            (C.accepted claim.old ∷ D.accepted certificate.old ∷ K.accepted report.old ∷ [])
+            (C.accepted claim.new ∷ D.accepted certificate.new ∷ K.accepted report.new ∷ []) }
+        ensures faults { CountsPuts result (C.faults claim.old ∷ D.faults certificate.old ∷ K.faults report.old ∷ [])
+            (C.faults claim.new ∷ D.faults certificate.new ∷ K.faults report.new ∷ []) }
         ensures unclaimed { IsClaimless self.now.made → claim.new ≡ claim.old }
     {
         self.made.put(claim, certificate)?;
@@ -147,7 +151,11 @@ pub(crate) fn put_produced<C: Sink, D: Sink, K: Sink>(
     certificate: &mut D,
     report: &mut K,
 ) -> Result<Status, RunError>
-    ensures ends { EndsProducing produced result (C.accepted claim.old ∷ D.accepted certificate.old ∷ K.accepted report.old ∷ []) (C.accepted claim.new ∷ D.accepted certificate.new ∷ K.accepted report.new ∷ []) (C.faults claim.old ∷ D.faults certificate.old ∷ K.faults report.old ∷ []) (C.faults claim.new ∷ D.faults certificate.new ∷ K.faults report.new ∷ []) }
+    ensures ends { EndsProducing produced result
+        (C.accepted claim.old ∷ D.accepted certificate.old ∷ K.accepted report.old ∷ [])
+        (C.accepted claim.new ∷ D.accepted certificate.new ∷ K.accepted report.new ∷ [])
+        (C.faults claim.old ∷ D.faults certificate.old ∷ K.faults report.old ∷ [])
+        (C.faults claim.new ∷ D.faults certificate.new ∷ K.faults report.new ∷ []) }
     ensures unclaimed { IfOk produced (λ p. IsClaimless p.made) → claim.new ≡ claim.old }
 {
     let produced = produced?;

@@ -44,11 +44,24 @@ pub fn run_solve<P: Source, Q: Source, C: Sink, D: Sink, K: Sink>(
     certificate_out: &mut D,
     report: &mut K,
 ) -> Result<Status, RunError>
-    ensures reports { (a b : List ℕ) → P.coming instance.old ≡ Some a → AreQueries job (Q.coming queries.old) b → ReportsAll (MayTell (Solved job a b)) result (C.accepted claim_out.old ∷ D.accepted certificate_out.old ∷ K.accepted report.old ∷ []) (C.accepted claim_out.new ∷ D.accepted certificate_out.new ∷ K.accepted report.new ∷ []) }
-    ensures faults { CountsDevices result (P.faults instance.old ∷ Q.faults queries.old ∷ C.faults claim_out.old ∷ D.faults certificate_out.old ∷ K.faults report.old ∷ []) (P.faults instance.new ∷ Q.faults queries.new ∷ C.faults claim_out.new ∷ D.faults certificate_out.new ∷ K.faults report.new ∷ []) }
-    ensures nothing_written { (P.faults instance.new ≢ P.faults instance.old) ⊎ (Q.faults queries.new ≢ Q.faults queries.old) → (C.accepted claim_out.new ≡ C.accepted claim_out.old) × (D.accepted certificate_out.new ≡ D.accepted certificate_out.old) × (K.accepted report.new ≡ K.accepted report.old) }
-    ensures memory { result ≡ Err Memory → (C.accepted claim_out.new ≡ C.accepted claim_out.old) × (D.accepted certificate_out.new ≡ D.accepted certificate_out.old) × (K.accepted report.new ≡ K.accepted report.old) }
-    ensures stops_at_instance { (a : List ℕ) (l f : ℕ) (r : Reason) → P.coming instance.old ≡ Some a → Fault (solved_kind job) (lines a) l f r → queries.new ≡ queries.old }
+    ensures reports { (a b : List ℕ) → P.coming instance.old ≡ Some a → AreQueries job (Q.coming queries.old) b
+        → ReportsAll (MayTell (Solved job a b)) result
+        (C.accepted claim_out.old ∷ D.accepted certificate_out.old ∷ K.accepted report.old ∷ [])
+        (C.accepted claim_out.new ∷ D.accepted certificate_out.new ∷ K.accepted report.new ∷ []) }
+    ensures faults { CountsDevices result (P.faults instance.old ∷ Q.faults queries.old ∷ C.faults claim_out.old ∷
+        D.faults certificate_out.old ∷ K.faults report.old ∷ []) (P.faults instance.new ∷ Q.faults queries.new ∷
+        C.faults claim_out.new ∷ D.faults certificate_out.new ∷ K.faults report.new ∷ []) }
+    ensures nothing_written { (P.faults instance.new ≢ P.faults instance.old)
+        ⊎ (Q.faults queries.new ≢ Q.faults queries.old)
+        → (C.accepted claim_out.new ≡ C.accepted claim_out.old)
+        × (D.accepted certificate_out.new ≡ D.accepted certificate_out.old)
+        × (K.accepted report.new ≡ K.accepted report.old) }
+    ensures memory { result ≡ Err Memory
+        → (C.accepted claim_out.new ≡ C.accepted claim_out.old)
+        × (D.accepted certificate_out.new ≡ D.accepted certificate_out.old)
+        × (K.accepted report.new ≡ K.accepted report.old) }
+    ensures stops_at_instance { (a : List ℕ) (l f : ℕ) (r : Reason) → P.coming instance.old ≡ Some a
+        → Fault (solved_kind job) (lines a) l f r → queries.new ≡ queries.old }
     ensures unqueried { job ≢ jobs.Paths → queries.new ≡ queries.old }
     ensures unclaimed { job ≡ jobs.Paths → claim_out.new ≡ claim_out.old }
 {

@@ -35,7 +35,8 @@ pub fn run_convert<S: Source, K: Sink>(
     text: &mut S,
     sink: &mut K,
 ) -> Result<Status, RunError>
-    ensures reports { (bytes : List ℕ) → S.coming text.old ≡ Some bytes → Reports (Told Canonical kind bytes) result (K.accepted sink.old) (K.accepted sink.new) }
+    ensures reports { (bytes : List ℕ) → S.coming text.old ≡ Some bytes
+        → Reports (Told Canonical kind bytes) result (K.accepted sink.old) (K.accepted sink.new) }
     ensures faults { CountsDevices result (S.faults text.old ∷ K.faults sink.old ∷ []) (S.faults text.new ∷ K.faults sink.new ∷ []) }
     ensures nothing_written { S.faults text.new ≢ S.faults text.old → K.accepted sink.new ≡ K.accepted sink.old }
     ensures memory { result ≡ Err Memory → K.accepted sink.new ≡ K.accepted sink.old }
@@ -89,7 +90,9 @@ fn tell<T: Text, S: Source, K: Sink>(
     text: &mut S,
     sink: &mut K,
 ) -> Result<Status, RunError>
-    ensures reports { (bytes : List ℕ) → S.coming text.old ≡ Some bytes → Reports (TellsText T.kind T.spells (in_form form T.canonical T.shown) bytes) result (K.accepted sink.old) (K.accepted sink.new) }
+    ensures reports { (bytes : List ℕ) → S.coming text.old ≡ Some bytes
+        → Reports (TellsText T.kind T.spells (in_form form T.canonical T.shown) bytes) result (K.accepted sink.old)
+        (K.accepted sink.new) }
     ensures faults { CountsDevices result (S.faults text.old ∷ K.faults sink.old ∷ []) (S.faults text.new ∷ K.faults sink.new ∷ []) }
     ensures nothing_written { S.faults text.new ≢ S.faults text.old → K.accepted sink.new ≡ K.accepted sink.old }
     ensures memory { result ≡ Err Memory → K.accepted sink.new ≡ K.accepted sink.old }

@@ -59,7 +59,8 @@ pub(crate) fn read_two<V: Text, W: Text, P: Source, Q: Source>(
     first: &mut P,
     second: &mut Q,
 ) -> Result<(V, W), Unread>
-    ensures reads { (a b : List ℕ) → P.coming first.old ≡ Some a → Q.coming second.old ≡ Some b → ReadsTwo V.said W.said (says V.kind V.spells a) (says W.kind W.spells b) result }
+    ensures reads { (a b : List ℕ) → P.coming first.old ≡ Some a → Q.coming second.old ≡ Some b
+        → ReadsTwo V.said W.said (says V.kind V.spells a) (says W.kind W.spells b) result }
     ensures faults { CountsUnread result (P.faults first.old ∷ Q.faults second.old ∷ []) (P.faults first.new ∷ Q.faults second.new ∷ []) }
     ensures stops_at_first { (a : List ℕ) (l f : ℕ) (r : Reason) → P.coming first.old ≡ Some a → Fault V.kind (lines a) l f r → second.new ≡ second.old }
     ensures lawful { IfOk result (λ values. V.lawful (V.said values.0) × W.lawful (W.said values.1)) }
@@ -76,9 +77,14 @@ pub(crate) fn read_three<V: Text, W: Text, X: Text, P: Source, Q: Source, R: Sou
     second: &mut Q,
     third: &mut R,
 ) -> Result<(V, W, X), Unread>
-    ensures reads { (a b c : List ℕ) → P.coming first.old ≡ Some a → Q.coming second.old ≡ Some b → R.coming third.old ≡ Some c → ReadsThree V.said W.said X.said (says V.kind V.spells a) (says W.kind W.spells b) (says X.kind X.spells c) result }
-    ensures faults { CountsUnread result (P.faults first.old ∷ Q.faults second.old ∷ R.faults third.old ∷ []) (P.faults first.new ∷ Q.faults second.new ∷ R.faults third.new ∷ []) }
-    ensures stops_at_first { (a : List ℕ) (l f : ℕ) (r : Reason) → P.coming first.old ≡ Some a → Fault V.kind (lines a) l f r → (second.new ≡ second.old) × (third.new ≡ third.old) }
+    ensures reads { (a b c : List ℕ) → P.coming first.old ≡ Some a → Q.coming second.old ≡ Some b
+        → R.coming third.old ≡ Some c
+        → ReadsThree V.said W.said X.said (says V.kind V.spells a) (says W.kind W.spells b)
+        (says X.kind X.spells c) result }
+    ensures faults { CountsUnread result (P.faults first.old ∷ Q.faults second.old ∷ R.faults third.old ∷ [])
+        (P.faults first.new ∷ Q.faults second.new ∷ R.faults third.new ∷ []) }
+    ensures stops_at_first { (a : List ℕ) (l f : ℕ) (r : Reason) → P.coming first.old ≡ Some a
+        → Fault V.kind (lines a) l f r → (second.new ≡ second.old) × (third.new ≡ third.old) }
     ensures stops_at_second { (b : List ℕ) (l f : ℕ) (r : Reason) → Q.coming second.old ≡ Some b → Fault W.kind (lines b) l f r → third.new ≡ third.old }
     ensures lawful { IfOk result (λ values. V.lawful (V.said values.0) × W.lawful (W.said values.1) × X.lawful (X.said values.2)) }
 {
@@ -97,10 +103,12 @@ pub(crate) fn read_placed<E: Place, W: Text, P: Source, Q: Source>(
 ) -> Result<(Placed<E>, W), Unread>
     requires empty { E.stands_for place [] }
     ensures reads { (a b : List ℕ) → P.coming first.old ≡ Some a → Q.coming second.old ≡ Some b
-        → ReadsPlaced (λ solution placed. IsPlaced placed.value placed.value_line (E.stands_for placed.place) solution) W.said (says kinds.Solution SpellsSolution a) (says W.kind W.spells b) result }
+        → ReadsPlaced (λ solution placed. IsPlaced placed.value placed.value_line (E.stands_for placed.place) solution)
+        W.said (says kinds.Solution SpellsSolution a) (says W.kind W.spells b) result }
     ensures fixed { IfOk result (λ values. E.fixed values.0.place ≡ E.fixed place) }
     ensures faults { CountsUnread result (P.faults first.old ∷ Q.faults second.old ∷ []) (P.faults first.new ∷ Q.faults second.new ∷ []) }
-    ensures stops_at_first { (a : List ℕ) (l f : ℕ) (r : Reason) → P.coming first.old ≡ Some a → Fault kinds.Solution (lines a) l f r → second.new ≡ second.old }
+    ensures stops_at_first { (a : List ℕ) (l f : ℕ) (r : Reason) → P.coming first.old ≡ Some a
+        → Fault kinds.Solution (lines a) l f r → second.new ≡ second.old }
     ensures lawful { IfOk result (λ values. W.lawful (W.said values.1)) }
 {
     let placed = place_solution(alloc, place, first)?;
@@ -115,7 +123,9 @@ pub(crate) fn place_solution<E: Place, P: Source>(
     source: &mut P,
 ) -> Result<Placed<E>, Unread>
     requires empty { E.stands_for place [] }
-    ensures reads { (a : List ℕ) → P.coming source.old ≡ Some a → PlacesOne (λ solution placed. IsPlaced placed.value placed.value_line (E.stands_for placed.place) solution) (says kinds.Solution SpellsSolution a) result }
+    ensures reads { (a : List ℕ) → P.coming source.old ≡ Some a
+        → PlacesOne (λ solution placed. IsPlaced placed.value placed.value_line (E.stands_for placed.place) solution)
+        (says kinds.Solution SpellsSolution a) result }
     ensures lawful { IfOk result (λ placed. IsPlacedLawful placed.value placed.value_line (E.stands_for placed.place)) }
     ensures fixed { IfOk result (λ placed. E.fixed placed.place ≡ E.fixed place) }
     ensures faults { CountsUnread result (P.faults source.old ∷ []) (P.faults source.new ∷ []) }

@@ -59,7 +59,9 @@ impl<D: Distance> Frontier<D> {
     /// Takes the nearest.
     #[inline]
     pub(crate) fn pop(&mut self) -> Option<Reach<D>>
-        ensures { MatchOption result ((self.old ≡ []) × (self.new ≡ [])) (λ reach. IsPermutation self.old (way_of D.value reach ∷ self.new) × IsNearest (way_of D.value reach) self.new) }
+        ensures { MatchOption result ((self.old ≡ []) × (self.new ≡ [])) (λ reach. IsPermutation self.old
+            (way_of D.value reach ∷ self.new)
+            × IsNearest (way_of D.value reach) self.new) }
     {
         let Reverse(reach) = self.heap.pop()?;
         Some(reach)

@@ -26,7 +26,9 @@ pub(super) fn record(letter: &[u8], fields: FieldReader) -> Result<Option<Record
 
 fn problem(mut fields: FieldReader) -> Result<Option<Record>, LineFault>
     requires { IsUntouched fields }
-    ensures { ReadsForm Queries (codes "p") (Word (codes "aux") ∷ Word (codes "sp") ∷ Either (codes "ss") (codes "p2p") ∷ Count ∷ []) (texts_left fields.entry) result }
+    ensures { ReadsForm Queries (codes "p")
+        (Word (codes "aux") ∷ Word (codes "sp") ∷ Either (codes "ss") (codes "p2p") ∷ Count ∷ [])
+        (texts_left fields.entry) result }
 {
     fields.word(2, b"aux");
     fields.word(3, b"sp");
