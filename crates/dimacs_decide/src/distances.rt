@@ -64,7 +64,7 @@ pub fn decide_distances_over<N: Network, C: DistanceClaim>(
 }
 
 /// Whether the claim of the source is 0.
-fn source_holds<C: DistanceClaim>(source: u32, claim: &C) -> Result<(), (Where, Reason)>
+pub fn source_holds<C: DistanceClaim>(source: u32, claim: &C) -> Result<(), (Where, Reason)>
     ensures { TellsRow (source_row source (C.claimed claim.now)) result }
 {
     match claim.of(source) {
