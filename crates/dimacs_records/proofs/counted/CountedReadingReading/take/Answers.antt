@@ -3,6 +3,7 @@ use Rattle.std.proofs.lemmas.Result.{err_from_is_err_and}
 use Rattle.dimacs_records.specs.Conditions.{needs_problem}
 use Rattle.dimacs_records.specs.Readings.{records_of}
 use Rattle.dimacs_records.specs.Spelling.{kind_of}
+use Rattle.dimacs_records.proofs.OrderLemmas.{allowed_told}
 use Rattle.dimacs_records.proofs.counted.CountedReadingReading.take.Goals as goal
 
 pub returns-in_err-test_first-in-None-clause-refused : goal.returns-in_err-test_first-in-None-clause-refused
@@ -14,3 +15,8 @@ returns-in_err-test_first-in-None-clause-refused g c =
 pub returns-in_ok-test_first-in-None-clause-allowed : goal.returns-in_ok-test_first-in-None-clause-allowed
 returns-in_ok-test_first-in-None-clause-allowed g c = λ rs h.
     let none : records_of rs ≡ [] = rw c.in-None.is at h in rw none c.in_ok-test_first-in-None.ensures.allowed
+
+pub returns-in_ok-keep-in-Some-clause-allowed : goal.returns-in_ok-keep-in-Some-clause-allowed
+returns-in_ok-keep-in-Some-clause-allowed g c = λ rs h.
+    let begun = rw c.in-Some.is at h in
+    allowed_told c.before-in-Some.result (records_of rs) c.args.said c.in_ok-test_record-in-Some.ensures.passes (c.before-in-Some.ensures.so (records_of rs) begun)
