@@ -17,10 +17,9 @@ use Rattle.dimacs_records.specs.Canonical.{CanBeSpelled}
 use Rattle.dimacs_records.specs.Ranges.{IsRadius}
 use Rattle.dimacs_records.specs.declared.faults.ReadError.{ReadError}
 use Rattle.dimacs_records.specs.Readings.{LineRecord, numbered, records_of, IsAllowed, IsComplete}
-use Rattle.dimacs_records.specs.inside.Texts.{AreFaultless}
+use Rattle.dimacs_records.specs.Texts.{AreFaultless, Reads, SpellsValue}
 use Rattle.dimacs_records.proofs.CanonicalLaws.{canonical_spelled, numbered_all}
 use Rattle.dimacs_records.specs.Faults.{Fault}
-use Rattle.dimacs_records.specs.Texts.{Reads, SpellsValue}
 use Rattle.dimacs_claims.specs.declared.block.Label.{Label}
 use Rattle.dimacs_claims.specs.Labels.{BlockValue, LabelsValue, AreLabels, EachAfter, IsBlock, IsLabel, IsFresh, HasPred, IsNear, IsNewSource}
 use Rattle.dimacs_claims.specs.LabelTexts.{label_line, block_lines, label_records, GivesLabels, SpellsLabels, canonical_labels, FitText}

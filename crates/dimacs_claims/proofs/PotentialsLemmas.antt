@@ -19,7 +19,7 @@ use Rattle.dimacs_records.specs.Earlier.{names, counted_in, is_short}
 use Rattle.dimacs_records.specs.Canonical.{CanBeSpelled}
 use Rattle.dimacs_records.specs.Forms.{form, Word, Nodes, Count, Id, Wide}
 use Rattle.dimacs_records.specs.Readings.{LineRecord, records_of, IsAllowed, IsComplete}
-use Rattle.dimacs_records.specs.inside.Texts.{AreFaultless}
+use Rattle.dimacs_records.specs.Texts.{AreFaultless}
 use Rattle.dimacs_records.proofs.CanonicalLaws.{canonical_spelled, numbered_all}
 use Rattle.dimacs_records.proofs.ConditionLemmas.{is_allowed, is_complete, allowed_at}
 use Rattle.dimacs_records.proofs.SplitLemmas.{image_at, All-at}
@@ -27,8 +27,7 @@ use Rattle.dimacs_claims.specs.Cuts.{is_id}
 use Rattle.dimacs_records.specs.Ranges.{IsNode, IsWide}
 use Rattle.dimacs_claims.specs.Potentials.{PotentialsValue, ArePotentials, GivesPotentials, SpellsPotentials, canonical_potentials, node_line, nonzero_ids, potential_of, potentials_records, with_values, zero_potentials}
 use Rattle.dimacs_records.specs.NodeValues.{NameNodes, has_value, is_nonzero, is_of, without_zeros}
-use Rattle.dimacs_claims.specs.PotentialsReading.{PotentialsBegun, ArePotentialsBegunBy, potentials_begun}
-use Rattle.dimacs_claims.specs.inside.PotentialsReading.{after_lines, before, has_line}
+use Rattle.dimacs_claims.specs.PotentialsReading.{PotentialsBegun, ArePotentialsBegunBy, potentials_begun, after_lines, before, has_line}
 use Rattle.dimacs_records.specs.Tests.{Counts, Passes, PassesEnd, IsToldOf, TellsEnd}
 use Rattle.dimacs_records.specs.Spelling.{kind_of}
 use Rattle.dimacs_claims.proofs.NodeLists.{All-passing, count_map, passing, passing_below, passing_few, passing_listed, passing_once}

@@ -22,8 +22,7 @@ use Rattle.dimacs_records.specs.Forms.{form, Wide, Id, Whole}
 use Rattle.dimacs_records.specs.Canonical.{CanBeSpelled, FitAll, canonical_text}
 use Rattle.dimacs_records.specs.Readings.{LineRecord, AreBefore, AreSpelledBefore, IsOfKind, ReadsLines, IsAllowed, RefusesRecord, on_line, records_of, numbered}
 use Rattle.dimacs_records.specs.Tests.{Passes, IsToldOf, TellsEnd}
-use Rattle.dimacs_records.specs.Texts.{AreSpelled}
-use Rattle.dimacs_records.specs.inside.Texts.{AreFaultless}
+use Rattle.dimacs_records.specs.Texts.{AreSpelled, AreFaultless}
 use Rattle.dimacs_records.proofs.CanonicalLaws.{canonical_spelled}
 use Rattle.dimacs_records.proofs.ConditionLemmas.{is_allowed, is_complete}
 use Rattle.dimacs_records.proofs.FitLaws.{fits_of}

@@ -1,11 +1,14 @@
 -- How far a set of nodes has been read, and how such values are stored.
-use Rattle.std.specs.Prelude.{ℕ, ◌≡◌, ◌≤◌, List, length, refl}
+use Rattle.std.specs.Prelude.{ℕ, ◌≡◌, ◌≤◌, List, length, refl, Some}
 use Rattle.std.specs.Coded.{Coded, code_by, coded×, coded_ℕ}
 use Rattle.std.specs.Ordering.{nat_cmp}
-use Rattle.std.specs.FinSet.{FinSet, from_list}
+use Rattle.std.specs.FinSet.{FinSet, from_list, contains}
 use Rattle.std.specs.FinSet as set
 use Rattle.dimacs_records.specs.declared.records.Record.{Record}
 use Rattle.dimacs_claims.specs.Cuts.{CutValue, IsCut, AreNamed, cut_records, ids_in}
+use Rattle.dimacs_records.specs.declared.order.Earlier.{Earlier}
+use Rattle.dimacs_records.specs.declared.records.Record.TheVariants.{CutNode}
+use Rattle.dimacs_records.specs.Tests.{earlier_of}
 
 -- what the problem line declares, and the nodes after it
 pub record CutBegun : Type 0 where
@@ -27,3 +30,12 @@ cut_code = code_by (ℕ × FinSet nat_cmp) (coded× coded_ℕ (set.code coded_�
 
 abbrev pub begun_code : Coded CutBegun
 begun_code = code_by (ℕ × CutValue) (coded× coded_ℕ cut_code) (λ b. (b.declared, b.cut)) (λ p. record { declared = p.0; cut = p.1 }) (λ _. refl)
+
+-- after the problem line and the nodes so far
+abbrev pub after_lines : CutBegun → Earlier
+after_lines begun = earlier_of (Some (record { nodes = Some begun.cut.nodes; count = begun.declared })) (length (ids_in begun.cut))
+
+-- what the records taken say of one more
+abbrev pub before : CutBegun → Record → Earlier
+before begun (CutNode id) = record (after_lines begun) { named = contains begun.cut.ids id }
+before begun r = after_lines begun

@@ -1,13 +1,17 @@
 -- How far labels have been read.
-use Rattle.std.specs.Prelude.{ℕ, ◌≡◌, ◌≤◌, ◌+◌, List, [], ◌∷◌, ◌++◌, map, length, is_some, ◌==◌}
-use Rattle.std.specs.List.{All}
+use Rattle.std.specs.Prelude.{ℕ, ◌≡◌, ◌≤◌, ◌+◌, List, [], ◌∷◌, ◌++◌, map, length, is_some, ◌==◌, Some, is_none, not}
+use Rattle.std.specs.List.{All, list_any}
 use Rattle.dimacs_lines.specs.Limits.{most_count, most_nodes}
 use Rattle.dimacs_nodes.specs.declared.node_table.NodeTable.{NodeTable}
 use Rattle.dimacs_nodes.specs.Tables.{value_of}
 use Rattle.dimacs_records.specs.declared.records.Record.{Record}
-use Rattle.dimacs_records.specs.declared.records.Record.TheVariants.{LabelsProblem, LabelsBlock}
+use Rattle.dimacs_records.specs.declared.records.Record.TheVariants.{LabelsProblem, LabelsBlock, LabelsNode}
 use Rattle.dimacs_claims.specs.Labels.{BlockValue, EachAfter, IsBlock, IsNewSource, distance_in}
 use Rattle.dimacs_claims.specs.LabelTexts.{label_line}
+use Rattle.dimacs_records.specs.declared.order.Earlier.{Earlier}
+use Rattle.dimacs_records.specs.Blocks.{block_in, is_full_block, is_labelled, is_past_block, is_short_block}
+use Rattle.dimacs_records.specs.Earlier.{names}
+use Rattle.dimacs_records.specs.Tests.{earlier_of}
 
 -- what the problem line declares, the blocks after it, and how many labels the last one lacks
 pub record LabelsBegun : Type 0 where
@@ -52,3 +56,25 @@ pub record AreLabelsBegun (begun : LabelsBegun) : Type 0 where
 pub record AreLabelled (labelled : NodeTable ℕ) (blocks : List BlockValue) : Type 0 where
   pub few : (id : ℕ) → value_of labelled id ≤ length blocks
   pub last : (front : List BlockValue) (b : BlockValue) → blocks ≡ front ++ b ∷ [] → (id : ℕ) → (value_of labelled id == length blocks) ≡ is_some (distance_in b.labels id)
+
+-- after the problem line and the blocks so far, for a record that asks for no block
+abbrev pub after_lines : LabelsBegun → Earlier
+after_lines begun = earlier_of (Some (record { nodes = Some begun.nodes; count = begun.declared })) (length begun.blocks)
+
+-- what the records taken say of the end
+abbrev pub before_end : LabelsBegun → Earlier
+before_end begun = record (after_lines begun) { block_short = is_short_block (block_in (labels_begun_records begun)) }
+
+-- what they say of one more
+abbrev pub before : LabelsBegun → Record → Earlier
+before begun (LabelsBlock source count radius) = record (before_end begun) { named = list_any (names source) (labels_begun_records begun) }
+before begun (LabelsNode id dist pred) =
+    let block = block_in (labels_begun_records begun) in
+    record (after_lines begun) {
+      misplaced = is_none block;
+      named = is_labelled block id;
+      block_full = is_full_block block;
+      pred_unknown = not (is_labelled block pred);
+      past_radius = is_past_block block dist;
+    }
+before begun r = after_lines begun

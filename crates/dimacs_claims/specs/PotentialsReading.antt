@@ -1,12 +1,15 @@
 -- How far potentials have been read, and how such values are stored.
-use Rattle.std.specs.Prelude.{ℕ, ℤ, ◌≡◌, ◌≤◌, List, length, refl}
+use Rattle.std.specs.Prelude.{ℕ, ℤ, ◌≡◌, ◌≤◌, List, length, refl, Bool, Some, is_some}
 use Rattle.std.specs.Coded.{Coded, code_by, coded×, coded_ℕ, coded_ℤ}
 use Rattle.std.specs.Ordering.{nat_cmp}
-use Rattle.std.specs.FinMap.{FinMap, from_entries}
+use Rattle.std.specs.FinMap.{FinMap, from_entries, get}
 use Rattle.std.specs.FinMap as map
 use Rattle.dimacs_records.specs.declared.records.Record.{Record}
 use Rattle.dimacs_claims.specs.Potentials.{PotentialsValue, potentials_records}
 use Rattle.dimacs_records.specs.NodeValues.{NameNodes, without_zeros}
+use Rattle.dimacs_records.specs.declared.order.Earlier.{Earlier}
+use Rattle.dimacs_records.specs.declared.records.Record.TheVariants.{PotentialsNode}
+use Rattle.dimacs_records.specs.Tests.{earlier_of}
 
 -- what the problem line declares, how many lines came after it, and the potentials of the nodes that they name
 pub record PotentialsBegun : Type 0 where
@@ -35,3 +38,15 @@ abbrev pub begun_code : Coded PotentialsBegun
 begun_code =
     code_by (ℕ × (ℕ × (ℕ × FinMap nat_cmp ℤ))) (coded× coded_ℕ (coded× coded_ℕ (coded× coded_ℕ (map.code coded_ℕ coded_ℤ)))) (λ b. (b.nodes, (b.declared, (b.taken, b.values))))
     (λ p. record { nodes = p.0; declared = p.1.0; taken = p.1.1.0; values = p.1.1.1 }) (λ _. refl)
+
+abbrev pub has_line : PotentialsBegun → ℕ → Bool
+has_line begun id = is_some (get begun.values id)
+
+-- after the problem line and the lines so far
+abbrev pub after_lines : PotentialsBegun → Earlier
+after_lines begun = earlier_of (Some (record { nodes = Some begun.nodes; count = begun.declared })) begun.taken
+
+-- what the records taken say of one more
+abbrev pub before : PotentialsBegun → Record → Earlier
+before begun (PotentialsNode id value) = record (after_lines begun) { named = has_line begun id }
+before begun r = after_lines begun

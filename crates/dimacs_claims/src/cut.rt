@@ -16,8 +16,7 @@ ghost use Rattle.dimacs_records.specs.Readings.{CountsRead};
 ghost use Rattle.dimacs_records.specs.Texts.{Reads};
 ghost use Rattle.dimacs_claims.specs.Cuts.{CutValue, IsCut, GivesCut, SpellsCut, canonical_cut, empty_cut, ids_in, with_node};
 ghost use Rattle.dimacs_records.specs.Ranges.{IsNode};
-ghost use Rattle.dimacs_claims.specs.CutReading.{IsCutBegunBy};
-ghost use Rattle.dimacs_claims.specs.inside.CutReading.{after_lines, before};
+ghost use Rattle.dimacs_claims.specs.CutReading.{IsCutBegunBy, after_lines, before};
 
 use dimacs_lines::{DeviceFault, Memory, Page, Sink, Source};
 use dimacs_nodes::NodeSet;

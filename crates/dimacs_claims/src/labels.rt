@@ -20,8 +20,7 @@ ghost use Rattle.std.specs.List.{All};
 ghost use Rattle.std.specs.Ordering.{nat_cmp};
 ghost use Rattle.dimacs_records.specs.Ranges.{IsRadius, IsWide};
 ghost use Rattle.dimacs_claims.specs.LabelTexts.{FitText, GivesLabels, SpellsLabels, block_lines, canonical_labels, label_line};
-ghost use Rattle.dimacs_claims.specs.LabelsReading.{labels_begun_records};
-ghost use Rattle.dimacs_claims.specs.inside.LabelsReading.{after_lines, before, before_end};
+ghost use Rattle.dimacs_claims.specs.LabelsReading.{labels_begun_records, after_lines, before, before_end};
 
 use crate::block::{Block, Label};
 use crate::by_id::{ById, distance_by};

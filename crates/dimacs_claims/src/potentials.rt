@@ -16,8 +16,7 @@ ghost use Rattle.dimacs_records.specs.Texts.{Reads};
 ghost use Rattle.dimacs_records.specs.Ranges.{IsNode, IsWide};
 ghost use Rattle.dimacs_claims.specs.Potentials.{PotentialsValue, ArePotentials, GivesPotentials, SpellsPotentials, canonical_potentials, node_line, nonzero_ids, potential_of, with_potential, with_values, zero_potentials};
 ghost use Rattle.dimacs_records.specs.NodeValues.{is_nonzero};
-ghost use Rattle.dimacs_claims.specs.PotentialsReading.{ArePotentialsBegunBy};
-ghost use Rattle.dimacs_claims.specs.inside.PotentialsReading.{after_lines, before};
+ghost use Rattle.dimacs_claims.specs.PotentialsReading.{ArePotentialsBegunBy, after_lines, before};
 
 use dimacs_lines::{DeviceFault, Memory, Page, Sink, Source};
 use dimacs_nodes::WideMap;

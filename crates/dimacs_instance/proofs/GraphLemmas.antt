@@ -22,13 +22,12 @@ use Rattle.dimacs_instance.specs.Plain.{weight_arc}
 use Rattle.dimacs_records.specs.Forms.{form, Word, Nodes, Count, Id, Whole}
 use Rattle.dimacs_records.specs.Canonical.{CanBeSpelled}
 use Rattle.dimacs_records.specs.Readings.{LineRecord, records_of}
-use Rattle.dimacs_records.specs.inside.Texts.{AreFaultless}
+use Rattle.dimacs_records.specs.Texts.{AreFaultless}
 use Rattle.dimacs_records.proofs.SplitLemmas.{image_at, All-at}
 use Rattle.dimacs_records.proofs.CanonicalLaws.{canonical_spelled, numbered_all}
 use Rattle.dimacs_instance.specs.Arcs.{JoinsNodes, NetworkValue}
 use Rattle.dimacs_instance.specs.Graph.{IsGraph, HasWeightAlone, GivesGraph, SpellsGraph, canonical_graph, graph_records, graph_arc}
-use Rattle.dimacs_instance.specs.GraphReading.{GraphBegun, graph_begun_records}
-use Rattle.dimacs_instance.specs.inside.GraphReading.{after_lines}
+use Rattle.dimacs_instance.specs.GraphReading.{GraphBegun, graph_begun_records, after_lines}
 use Rattle.dimacs_instance.proofs.ArcLemmas.{take_next}
 
 counted_in-arcs : (arcs : List ArcView) → counted_in (map graph_arc arcs) ≡ length arcs

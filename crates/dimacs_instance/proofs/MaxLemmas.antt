@@ -23,8 +23,7 @@ use Rattle.dimacs_instance.specs.declared.max.EndLine.{EndLine}
 use Rattle.dimacs_instance.specs.declared.max.EndLines.{EndLines}
 use Rattle.dimacs_instance.specs.declared.max.EndLines.TheVariants.{Neither, One, Both}
 use Rattle.dimacs_instance.specs.MaxTexts.{max_arc}
-use Rattle.dimacs_instance.specs.MaxReading.{MaxBegun, end_records, max_begun_records, max_node}
-use Rattle.dimacs_instance.specs.inside.MaxReading.{after_lines, before, before_end}
+use Rattle.dimacs_instance.specs.MaxReading.{MaxBegun, end_records, max_begun_records, max_node, after_lines, before, before_end}
 
 none_of_arcs : (test : Record → Bool) → ((a : ArcView) → test (max_arc a) ≡ false) → (arcs : List ArcView) → list_any test (map max_arc arcs) ≡ false
 none_of_arcs test none [] = refl

@@ -16,8 +16,7 @@ use Rattle.dimacs_records.specs.Earlier.{names, is_end_node}
 use Rattle.dimacs_records.specs.Forms.{form, Word, Either, Nodes, Count, Id, Whole}
 use Rattle.dimacs_records.specs.Canonical.{CanBeSpelled, canonical_text}
 use Rattle.dimacs_records.specs.Readings.{LineRecord, records_of, IsAllowed}
-use Rattle.dimacs_records.specs.Texts.{AreSpelled}
-use Rattle.dimacs_records.specs.inside.Texts.{AreFaultless}
+use Rattle.dimacs_records.specs.Texts.{AreSpelled, AreFaultless}
 use Rattle.dimacs_records.proofs.SplitLemmas.{ImageAt, image_at, All-at}
 use Rattle.dimacs_records.proofs.CanonicalLaws.{canonical_spelled, numbered_all}
 use Rattle.dimacs_instance.specs.declared.network.ArcView.{ArcView}

@@ -20,13 +20,12 @@ use Rattle.dimacs_records.specs.Ranges.{IsId}
 use Rattle.dimacs_records.specs.Readings.{LineRecord, IsAllowed, IsComplete, records_of}
 use Rattle.dimacs_records.specs.Spelling.{kind_of, query_word}
 use Rattle.dimacs_records.specs.Tests.{Counts, IsToldOf, TellsEnd}
-use Rattle.dimacs_records.specs.inside.Texts.{AreFaultless}
+use Rattle.dimacs_records.specs.Texts.{AreFaultless}
 use Rattle.dimacs_records.proofs.CanonicalLaws.{canonical_spelled, numbered_all}
 use Rattle.dimacs_records.proofs.ConditionLemmas.{is_allowed, is_complete, allowed_at}
 use Rattle.dimacs_records.proofs.SplitLemmas.{image_at}
 use Rattle.dimacs_instance.specs.QueryTexts.{QueriesValue, Sources, Pairs, AreIds, AreLawful, GivesQueries, HaveIds, SpellsQueries, canonical_queries, kind_asked, pair_query, query_lines, query_records}
-use Rattle.dimacs_instance.specs.QueriesReading.{QueriesBegun, queries_begun_records}
-use Rattle.dimacs_instance.specs.inside.QueriesReading.{after_lines, are_others, before}
+use Rattle.dimacs_instance.specs.QueriesReading.{QueriesBegun, queries_begun_records, after_lines, are_others, before}
 
 all_counted : {X : Type 0} (say : X → Record) → ((x : X) → is_counted (say x) ≡ true) → (xs : List X) → counted_in (map say xs) ≡ length (map say xs)
 all_counted say each [] = refl

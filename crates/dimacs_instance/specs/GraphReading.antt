@@ -1,5 +1,5 @@
 -- How far a graph has been read.
-use Rattle.std.specs.Prelude.{ℕ, ◌≤◌, List, ◌∷◌, map, length}
+use Rattle.std.specs.Prelude.{ℕ, ◌≤◌, List, ◌∷◌, map, length, Some}
 use Rattle.std.specs.List.{All}
 use Rattle.dimacs_lines.specs.Limits.{most_count, most_nodes}
 use Rattle.dimacs_records.specs.declared.records.Record.{Record}
@@ -7,6 +7,8 @@ use Rattle.dimacs_records.specs.declared.records.Record.TheVariants.{GraphProble
 use Rattle.dimacs_instance.specs.declared.network.ArcView.{ArcView}
 use Rattle.dimacs_instance.specs.Arcs.{JoinsNodes}
 use Rattle.dimacs_instance.specs.Graph.{HasWeightAlone, graph_arc}
+use Rattle.dimacs_records.specs.declared.order.Earlier.{Earlier}
+use Rattle.dimacs_records.specs.Tests.{earlier_of}
 
 -- what the problem line declares, and the arcs after it
 pub record GraphBegun : Type 0 where
@@ -25,3 +27,7 @@ pub record IsGraphBegun (begun : GraphBegun) : Type 0 where
 -- the records that were taken
 abbrev pub graph_begun_records : GraphBegun → List Record
 graph_begun_records begun = GraphProblem begun.nodes begun.declared ∷ map graph_arc begun.arcs
+
+-- after the problem line and the arcs so far
+abbrev pub after_lines : GraphBegun → Earlier
+after_lines begun = earlier_of (Some (record { nodes = Some begun.nodes; count = begun.declared })) (length begun.arcs)

@@ -1,8 +1,8 @@
 -- How far a minimum cost flow instance has been read.
-use Rattle.std.specs.Prelude.{ℕ, ℤ, ◌≡◌, ◌≤◌, List, length}
+use Rattle.std.specs.Prelude.{ℕ, ℤ, ◌≡◌, ◌≤◌, List, length, Bool, Some, is_some, nat_lt}
 use Rattle.std.specs.List.{All}
 use Rattle.std.specs.Ordering.{nat_cmp}
-use Rattle.std.specs.FinMap.{FinMap, from_entries, entries}
+use Rattle.std.specs.FinMap.{FinMap, from_entries, entries, get}
 use Rattle.dimacs_lines.specs.Limits.{most_count, most_nodes}
 use Rattle.dimacs_records.specs.declared.records.Record.{Record}
 use Rattle.dimacs_instance.specs.declared.network.ArcView.{ArcView}
@@ -11,6 +11,9 @@ use Rattle.dimacs_instance.specs.MinFlows.{HasBounds}
 use Rattle.dimacs_instance.specs.MinTexts.{min_records}
 use Rattle.dimacs_records.specs.NodeValues.{NameNodes}
 use Rattle.dimacs_records.specs.Ranges.{IsNode, IsWhole}
+use Rattle.dimacs_records.specs.declared.order.Earlier.{Earlier}
+use Rattle.dimacs_records.specs.declared.records.Record.TheVariants.{MinNode}
+use Rattle.dimacs_records.specs.Tests.{earlier_of}
 
 -- what the problem line declares, the supplies of the nodes that were named, and the arcs
 pub record MinBegun : Type 0 where
@@ -38,3 +41,15 @@ pub record IsMinBegunBy (begun : MinBegun) (rs : List Record) : Type 0 where
   pub name_nodes : NameNodes begun.nodes named
   pub supplies : begun.supplies ≡ from_entries named
   pub records : rs ≡ min_records begun.nodes begun.declared named begun.arcs
+
+abbrev pub has_line : MinBegun → ℕ → Bool
+has_line begun id = is_some (get begun.supplies id)
+
+-- after the problem line, the node lines and the arcs so far
+abbrev pub after_lines : MinBegun → Earlier
+after_lines begun = earlier_of (Some (record { nodes = Some begun.nodes; count = begun.declared })) (length begun.arcs)
+
+-- what the records taken say of one more
+abbrev pub before : MinBegun → Record → Earlier
+before begun (MinNode id supply) = record (after_lines begun) { misplaced = nat_lt 0 (length begun.arcs); named = has_line begun id }
+before begun r = after_lines begun

@@ -10,8 +10,7 @@ ghost use Rattle.dimacs_records.specs.Texts.{Reads};
 ghost use Rattle.dimacs_lines.specs.Lines.{lines};
 ghost use Rattle.dimacs_instance.specs.Graph.{IsGraph, GivesGraph, SpellsGraph, canonical_graph, graph_arc};
 ghost use Rattle.dimacs_instance.specs.Arcs.{NetworkValue};
-ghost use Rattle.dimacs_instance.specs.GraphReading.{graph_begun_records};
-ghost use Rattle.dimacs_instance.specs.inside.GraphReading.{after_lines};
+ghost use Rattle.dimacs_instance.specs.GraphReading.{graph_begun_records, after_lines};
 
 mod build;
 

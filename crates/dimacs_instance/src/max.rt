@@ -13,8 +13,7 @@ ghost use Rattle.dimacs_records.specs.Faults.{Fault};
 ghost use Rattle.dimacs_records.specs.Texts.{Reads};
 ghost use Rattle.dimacs_instance.specs.MaxFlows.{MaxValue, IsMax};
 ghost use Rattle.dimacs_instance.specs.MaxTexts.{GivesMax, SpellsMax, canonical_max, max_arc, nodes_by_id};
-ghost use Rattle.dimacs_instance.specs.MaxReading.{EndsAreApart, end_records, max_begun_records, max_node};
-ghost use Rattle.dimacs_instance.specs.inside.MaxReading.{after_lines, before, before_end};
+ghost use Rattle.dimacs_instance.specs.MaxReading.{EndsAreApart, end_records, max_begun_records, max_node, after_lines, before, before_end};
 
 mod build;
 

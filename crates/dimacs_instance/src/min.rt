@@ -16,8 +16,7 @@ ghost use Rattle.dimacs_records.specs.Texts.{Reads};
 ghost use Rattle.dimacs_instance.specs.MinFlows.{MinValue, IsMin, supply_of, positive_part, negative_part, supplied, demanded};
 ghost use Rattle.dimacs_instance.specs.MinTexts.{GivesMin, SpellsMin, canonical_min, min_node, min_arc};
 ghost use Rattle.dimacs_records.specs.NodeValues.{has_value};
-ghost use Rattle.dimacs_instance.specs.MinReading.{IsMinBegunBy};
-ghost use Rattle.dimacs_instance.specs.inside.MinReading.{after_lines, before};
+ghost use Rattle.dimacs_instance.specs.MinReading.{IsMinBegunBy, after_lines, before};
 
 mod build;
 

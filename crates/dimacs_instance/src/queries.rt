@@ -13,8 +13,7 @@ ghost use Rattle.dimacs_records.specs.Faults.{Fault};
 ghost use Rattle.dimacs_records.specs.Readings.{CountsRead};
 ghost use Rattle.dimacs_records.specs.Texts.{Reads};
 ghost use Rattle.dimacs_instance.specs.QueryTexts.{QueriesValue, AreLawful, GivesQueries, SpellsQueries, asked, canonical_queries, kind_asked, query_lines};
-ghost use Rattle.dimacs_instance.specs.QueriesReading.{queries_begun_records};
-ghost use Rattle.dimacs_instance.specs.inside.QueriesReading.{after_lines, are_others, before};
+ghost use Rattle.dimacs_instance.specs.QueriesReading.{queries_begun_records, after_lines, are_others, before};
 
 use dimacs_lines::{DeviceFault, Memory, Page, Sink, Source};
 use dimacs_records::{

@@ -13,8 +13,7 @@ use Rattle.dimacs_records.specs.Conditions.{limit_condition}
 use Rattle.dimacs_records.specs.Order.{Place, at}
 use Rattle.dimacs_records.specs.Faults.{Condition, of_limit, of_shape, of_record, Spell, records_in, IsClean, IsFaultless, Fault}
 use Rattle.dimacs_records.specs.Readings.{LineRecord, records_of, numbered, IsAllowed, ReadsLines}
-use Rattle.dimacs_records.specs.Texts.{AreSpelled, SpellsValue, Reads}
-use Rattle.dimacs_records.specs.inside.Texts.{AreFaultless}
+use Rattle.dimacs_records.specs.Texts.{AreSpelled, SpellsValue, Reads, AreFaultless}
 use Rattle.dimacs_records.proofs.SpellLaws.{spells_one}
 use Rattle.dimacs_records.proofs.ShapeLaws.{spelled_shape}
 use Rattle.dimacs_records.proofs.FaultLaws.{say_same, one_fault, no_fault}

@@ -8,7 +8,7 @@ use Rattle.dimacs_records.specs.declared.records.Record.{Record}
 use Rattle.dimacs_records.specs.declared.records.Record.TheVariants.{LabelsNode}
 use Rattle.dimacs_records.specs.Blocks.{block_in, is_full_block}
 use Rattle.dimacs_records.specs.Conditions.{bounded_ids, is_above_at, is_bound_wrong, is_end_twice, is_named_twice, is_out_of_order, is_past_radius, is_pred_unknown, is_too_few, is_unfinished, is_value_twice, is_without_ends, lacks_end, needs_ends, needs_problem, needs_value}
-use Rattle.dimacs_records.specs.Earlier.{Problem, counted_in, is_above, is_counted, is_full, is_problem, is_short, is_value, problem_in}
+use Rattle.dimacs_records.specs.Earlier.{Problem, counted_in, is_counted, is_full, is_problem, is_short, is_value, problem_in}
 use Rattle.dimacs_records.specs.Spelling.{kind_of}
 
 -- the problem line that is told
@@ -28,11 +28,6 @@ is_full_label earlier r = false
 abbrev pub is_too_many_told : Earlier → Record → Bool
 is_too_many_told e (LabelsNode id dist pred) = e.block_full
 is_too_many_told e r = is_counted r && is_full (problem_told e.problem) e.counted
-
--- an ID that there is, and that is above NODES
-abbrev pub is_above_found : Option Problem → Option ℕ → Bool
-is_above_found p None = false
-is_above_found p (Some id) = is_above p id
 
 -- this is the problem line of these records, and the number of lines that it counts
 pub record Counts (problem : Option Declared) (counted : ℕ) (rs : List Record) : Type 0 where

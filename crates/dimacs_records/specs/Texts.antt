@@ -1,5 +1,5 @@
 -- What a text spells, with no word of faults; and what a reader answers.
-use Rattle.std.specs.Prelude.{ℕ, ◌≡◌, ◌≤◌, List, length, Option, Result, Ok, Err}
+use Rattle.std.specs.Prelude.{ℕ, ◌≡◌, ◌≤◌, List, length, Option, Result, Ok, Err, ◌∷◌, ◌++◌}
 use Rattle.std.specs.List.{All}
 use Rattle.dimacs_lines.specs.Limits.{longest_line, most_lines}
 use Rattle.dimacs_records.specs.declared.kinds.TextKind.{TextKind}
@@ -8,7 +8,7 @@ use Rattle.dimacs_records.specs.declared.reasons.Reason.{Reason}
 use Rattle.dimacs_records.specs.declared.faults.ReadError.{ReadError}
 use Rattle.dimacs_records.specs.declared.faults.ReadError.TheVariants as read_errors
 use Rattle.dimacs_records.specs.Faults.{Spell}
-use Rattle.dimacs_records.specs.Readings.{LineRecord, numbered}
+use Rattle.dimacs_records.specs.Readings.{LineRecord, numbered, IsAllowed, IsComplete}
 
 -- the lines lie within the limits, and each is skipped or spells the record beside it
 pub record AreSpelled (kind : TextKind) (all : List (List ℕ)) (said : List (Option Record)) : Type 0 where
@@ -33,3 +33,8 @@ Reads spells fault (Err read_errors.Memory) = Unit {0}
 abbrev pub ReadsAs : {T V : Type 0} → (T → V) → (V → Type 0) → (ℕ → ℕ → Reason → Type 0) → Result T ReadError → Type 0
 ReadsAs said spells fault (Ok value) = Reads spells fault (Ok (said value))
 ReadsAs said spells fault (Err error) = Reads spells fault (Err error)
+
+-- no condition holds at any record, nor at the end
+pub record AreFaultless (kind : TextKind) (all : List Record) : Type 0 where
+  pub allowed : (before after : List Record) (r : Record) → all ≡ before ++ r ∷ after → IsAllowed before r
+  pub complete : IsComplete kind all

@@ -1,4 +1,3 @@
 pub mod Driver
 pub mod FieldReader
 pub mod Plain
-pub mod Texts

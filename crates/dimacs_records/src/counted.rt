@@ -12,8 +12,7 @@ ghost use Rattle.dimacs_records.specs.Readings.{CountsRead, LineRecord, IsAllowe
 ghost use Rattle.dimacs_records.specs.Spelling.{kind_of};
 ghost use Rattle.dimacs_records.specs.Takings.{StandsFor};
 ghost use Rattle.dimacs_records.specs.Tests.{IsToldOf, Passes, PassesEnd, TellsEnd};
-ghost use Rattle.dimacs_records.specs.Texts.{Reads, SpellsValue};
-ghost use Rattle.dimacs_records.specs.inside.Texts.{AreFaultless};
+ghost use Rattle.dimacs_records.specs.Texts.{Reads, SpellsValue, AreFaultless};
 
 use crate::driver::read_text;
 use crate::faults::{ReadError, TakeError};

@@ -5,10 +5,10 @@ ghost use Rattle.dimacs_records.specs.declared.faults.TakeError.TheVariants.{Ref
 ghost use Rattle.dimacs_records.specs.declared.kinds.TextKind.{TextKind};
 ghost use Rattle.dimacs_records.specs.declared.records.Record.{Record};
 ghost use Rattle.dimacs_records.specs.Conditions.{is_above_at, bounded_ids, is_bound_wrong, needs_problem, needs_value};
-ghost use Rattle.dimacs_records.specs.Earlier.{Problem, is_above, is_counted, is_full, is_problem, is_short};
+ghost use Rattle.dimacs_records.specs.Earlier.{Problem, is_above, is_counted, is_full, is_problem, is_short, is_so};
 ghost use Rattle.dimacs_records.specs.Readings.{RefusesRecord, RefusesEnd};
 ghost use Rattle.dimacs_records.specs.Spelling.{kind_of};
-ghost use Rattle.dimacs_records.specs.Tests.{Passes, PassesEnd, IsToldOf, TellsEnd, earlier_of, is_above_found, is_too_many_told, problem_told};
+ghost use Rattle.dimacs_records.specs.Tests.{Passes, PassesEnd, IsToldOf, TellsEnd, earlier_of, is_too_many_told, problem_told};
 
 use crate::faults::TakeError;
 use crate::kinds::TextKind;
@@ -151,7 +151,7 @@ impl Earlier {
     /// There is such an ID, and it is above NODES.
     #[inline(always)]
     fn has_above(self, id: Option<u32>) -> bool
-        ensures { result ≡ is_above_found (problem_told self.problem) id }
+        ensures { result ≡ is_so (is_above (problem_told self.problem)) id }
     {
         match id {
             Some(id) => self.is_above(id),
@@ -276,7 +276,7 @@ pub(crate) fn declares(said: Record) -> bool
 /// The ID in field 2, where NODES bounds it.
 #[inline(always)]
 fn second_id(said: Record) -> Option<u32>
-    ensures { (p : Option Problem) → is_above_at 2 p (bounded_ids said) ≡ is_above_found p result }
+    ensures { (p : Option Problem) → is_above_at 2 p (bounded_ids said) ≡ is_so (is_above p) result }
 {
     match said {
         Record::MaxNode { id, .. }
@@ -294,7 +294,7 @@ fn second_id(said: Record) -> Option<u32>
 /// The ID in field 3, where NODES bounds it.
 #[inline(always)]
 fn third_id(said: Record) -> Option<u32>
-    ensures { (p : Option Problem) → is_above_at 3 p (bounded_ids said) ≡ is_above_found p result }
+    ensures { (p : Option Problem) → is_above_at 3 p (bounded_ids said) ≡ is_so (is_above p) result }
 {
     match said {
         Record::MaxArc { head, .. } | Record::MinArc { head, .. } | Record::GraphArc { head, .. } =>
@@ -306,7 +306,7 @@ fn third_id(said: Record) -> Option<u32>
 /// The ID in field 4, where NODES bounds it.
 #[inline(always)]
 fn fourth_id(said: Record) -> Option<u32>
-    ensures { (p : Option Problem) → is_above_at 4 p (bounded_ids said) ≡ is_above_found p result }
+    ensures { (p : Option Problem) → is_above_at 4 p (bounded_ids said) ≡ is_so (is_above p) result }
 {
     match said {
         Record::LabelsNode { pred, .. } => Some(pred),
