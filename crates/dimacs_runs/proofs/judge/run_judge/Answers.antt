@@ -14,10 +14,10 @@ pub returns-clause-reports : goal.returns-clause-reports
 returns-clause-reports g c = λ a b d first second third.
     told_reports (Judged c.args.kind a b d) c.match-kind.told c.put_told.result (g.K.Sink.accepted c.args.sink.now) (g.K.Sink.accepted c.put_told.new.sink) (g.K.Sink.faults c.args.sink.now) (g.K.Sink.faults c.put_told.new.sink)
     (elim c.match-kind.branch [
-      | in-Max w ↦ let claim = subst (λ (k : JudgeKind). IsClaim k (g.Q.Source.coming c.args.claim.now) b) w.in-Max.is second in rw (w.in-Max.is, w.told-is) (w.tell_max-told.ensures.told a b d first (claim tt) third)
-      | in-Min w ↦ let claim = subst (λ (k : JudgeKind). IsClaim k (g.Q.Source.coming c.args.claim.now) b) w.in-Min.is second in rw (w.in-Min.is, w.told-is) (w.tell_min-told.ensures.told a b d first (claim tt) third)
+      | in-Max w ↦ let claim = subst (λ (k : JudgeKind). IsClaim k (g.Q.Source.coming c.args.claim.now) b) w.in-Max.is second in rw (w.in-Max.is, w.told-is) (w.tell_max-told.ensures.told a b d first (claim refl) third)
+      | in-Min w ↦ let claim = subst (λ (k : JudgeKind). IsClaim k (g.Q.Source.coming c.args.claim.now) b) w.in-Min.is second in rw (w.in-Min.is, w.told-is) (w.tell_min-told.ensures.told a b d first (claim refl) third)
       | in-Infeasible w ↦ rw (w.in-Infeasible.is, w.told-is) (w.tell_infeasible-told.ensures.told a d first third)
-      | in-Paths w ↦ let claim = subst (λ (k : JudgeKind). IsClaim k (g.Q.Source.coming c.args.claim.now) b) w.in-Paths.is second in rw (w.in-Paths.is, w.told-is) (w.tell_paths-told.ensures.told a b d first (claim tt) third)
+      | in-Paths w ↦ let claim = subst (λ (k : JudgeKind). IsClaim k (g.Q.Source.coming c.args.claim.now) b) w.in-Paths.is second in rw (w.in-Paths.is, w.told-is) (w.tell_paths-told.ensures.told a b d first (claim refl) third)
     ]) c.put_told.ensures
 
 pub returns-clause-stops_at_instance : goal.returns-clause-stops_at_instance

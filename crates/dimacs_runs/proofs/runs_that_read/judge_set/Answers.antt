@@ -40,7 +40,7 @@ returns g c =
           (without_second ended 0 i _ _ (rw (c.in_ok-instance.ensures.faultless, c.in_ok-set.ensures.faultless) at c.run_judge-ended.ensures.faults))
           (two_texts _ _ (λ (texts : List (List ℕ)). TellsJudged judges.Infeasible texts (named ended failure) (old ∷ []) (new ∷ [])) (λ a d first second.
           reports_named (Judged judges.Infeasible a [] d) ended failure old new (c.run_judge-ended.ensures.reports a [] d
-          (c.in_ok-instance.ensures.coming ∙ first) (λ none. absurd none)
+          (c.in_ok-instance.ensures.coming ∙ first) (λ none. absurd cc)
           (c.in_ok-set.ensures.coming ∙ ap (λ (h : Contents). h c.args.set.now) c.in_ok-instance.ensures.holds ∙ second))))
           (λ memory. ap (λ (x : Option (List ℕ)). x ∷ []) (c.run_judge-ended.ensures.memory memory))
           (λ unread. ap (λ (x : Option (List ℕ)). x ∷ []) (c.run_judge-ended.ensures.nothing_written (elim unread [
