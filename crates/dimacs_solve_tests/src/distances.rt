@@ -1,7 +1,7 @@
 //! Whether claimed distances are true.
 
 use crate::checks::same;
-use crate::tables::{case, cell, rows};
+use crate::tables::{case, cell, distances, rows};
 use dimacs_claims::{Labels, read_labels, write_labels};
 use dimacs_decide::{
     DistanceClaim, DistancesByNode, DistancesOfBlock, decide_distances, decide_distances_over,
@@ -31,20 +31,6 @@ the source at another distance | p sp 2 1;a 1 2 1 | 1 2 | Refused(Node(1), NotSh
 the source without a distance | p sp 2 1;a 1 2 1 | x 1 | Refused(Node(1), NotShortest)
 a cycle of negative weight | p sp 2 2;a 1 2 -1;a 2 1 0 | 0 -1 | Refused(Arc(2), NotShortest)
 a predecessor with a greater ID | p sp 3 2;a 1 3 1;a 3 2 1 | 0 2 1 | p dist 3 1;t 1 2;d 3 1 1;d 2 2 3;";
-
-/// The distances in a cell, with the mark for none. Where a word is no number, the test stops there.
-fn distances(rt: &impl Abort, alloc: Global, cell: &str) -> Result<Vec<i64>, Fail> {
-    let mut list = Vec::new(alloc);
-    for word in cell.split_whitespace() {
-        let distance = if word == "x" {
-            i64::MAX
-        } else {
-            word.parse::<i64>().expect(rt, word)
-        };
-        list.push(distance)?;
-    }
-    Ok(list)
-}
 
 /// Whether it is decided of a claim of distances from node 1 what is wanted.
 fn decides<N: Network, C: DistanceClaim>(

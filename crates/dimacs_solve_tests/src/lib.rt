@@ -17,4 +17,6 @@ mod maximum;
 #[cfg(test)]
 mod paths;
 #[cfg(test)]
+mod paths_by_node;
+#[cfg(test)]
 mod tables;

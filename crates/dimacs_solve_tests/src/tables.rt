@@ -5,6 +5,7 @@ use crate::checks::same;
 use std::alloc::{AllocError, Global};
 use std::process::Abort;
 use std::str::Lines;
+use std::test::Fail;
 
 /// The lines of a table, which has so many.
 pub fn rows<'a>(rt: &impl Abort, table: &'a str, count: usize) -> Lines<'a> {
@@ -25,4 +26,18 @@ pub fn cell<'a>(rt: &impl Abort, case: &'a str) -> (&'a str, &'a str) {
 /// The number in a cell. Where there is none, the test stops at this cell.
 pub fn number(rt: &impl Abort, cell: &str) -> u64 {
     cell.parse::<u64>().expect(rt, cell)
+}
+
+/// The distances in a cell, `x` where there is none. Where a word is no number, the test stops there.
+pub fn distances(rt: &impl Abort, alloc: Global, cell: &str) -> Result<Vec<i64>, Fail> {
+    let mut list = Vec::new(alloc);
+    for word in cell.split_whitespace() {
+        let distance = if word == "x" {
+            i64::MAX
+        } else {
+            word.parse::<i64>().expect(rt, word)
+        };
+        list.push(distance)?;
+    }
+    Ok(list)
 }

@@ -1,0 +1,7 @@
+mod LabelLemmas
+mod DistanceLemmas
+mod TreeLemmas
+mod WayLemmas
+mod PredLemmas
+mod CertifyPathsLemmas
+mod OrderLemmas

@@ -1,0 +1,81 @@
+-- Labels that say the same pass together, whatever their order.
+use Rattle.std.proofs.Common.{◌≡◌, ◌≢◌, ◌==◌, inl, inr, ℕ, suc, ◌+◌, ◌<◌, ◌≤◌, List, [], ◌∷◌, All, Contains, length, get_or, Option, Some, None, ℤ, ◌+ℤ◌, true, false, refl, sym, ap, subst, ◌∙◌, arith}
+use Rattle.std.proofs.lemmas.Bool.{ne_eqb}
+use Rattle.std.proofs.lemmas.Bool.Decides.{eqb_tells}
+use Rattle.std.proofs.lemmas.List.Elements.{All-cons, All-contains, All-from_get_or, All-get_or, All-head, All-nil}
+use Rattle.dimacs_records.specs.Ranges.{IsNode}
+use Rattle.dimacs_instance.specs.declared.network.ArcView.{ArcView}
+use Rattle.dimacs_instance.specs.Arcs.{JoinsNodes, NetworkValue}
+use Rattle.dimacs_instance.specs.QueryTexts.{Sources}
+use Rattle.dimacs_claims.specs.declared.block.Label.{Label}
+use Rattle.dimacs_claims.specs.Labels.{BlockValue, IsBlock, IsLabel, IsNear, LabelsValue, distance_in, label, no_label}
+use Rattle.dimacs_claims.proofs.ByIdLemmas.{distance_in-at, fresh_apart}
+use Rattle.dimacs_judge.specs.Answers.{block_of}
+use Rattle.dimacs_judge.specs.Labels.{HasTightArc, IsReached, IsRelaxed, LabelsOk}
+use Rattle.dimacs_judge.specs.PathsJudge.{PassesPaths}
+use Rattle.dimacs_judge.specs.QueryTests.{HasFullBlock}
+use Rattle.dimacs_judge.specs.Rows.{arc_at, no_arc}
+use Rattle.dimacs_arrays.specs.Paths.{AreLabelsBy}
+use Rattle.dimacs_arrays.proofs.CertifyPathsLemmas.{not_source}
+
+-- the label of a distance
+label_at_distance : (ls : List Label) (v : ℕ) (d : ℤ) → distance_in ls v ≡ Some d → (m : Label) × Contains ls m × (m.id ≡ v) × (m.dist ≡ d)
+label_at_distance [] v d at = absurd (cc)
+label_at_distance (l ∷ ls) v d at = elim (eqb_tells l.id v) [
+  | inl same ↦ (let e : Some l.dist ≡ Some d = rw same.0 at at in let f : l.dist ≡ d = cc in (l, (0, omega arith, refl), same.1, f))
+  | inr apart ↦ (let (m, there, id, dist) = label_at_distance ls v d (rw apart.0 at at) in (m, (suc there.0, omega (arith, there.1), there.2), id, dist))
+]
+
+module _ (g : NetworkValue) (s : ℕ) (claim : ℕ → Option ℤ) (pred : ℕ → ℕ) (joined : All (JoinsNodes g.nodes) g.arcs) (one two : LabelsValue) (mine : AreLabelsBy g.nodes s claim pred one) (yours : AreLabelsBy g.nodes s claim pred two) where
+  abbrev b : BlockValue
+  b = mine.block
+
+  abbrev b' : BlockValue
+  b' = yours.block
+
+  same_label : (v : ℕ) → IsNode g.nodes v → label b' v ≡ label b v
+  same_label v node = yours.says v node ∙ sym (mine.says v node)
+
+  reached : (v : ℕ) (far : ℤ) → IsNode g.nodes v → IsReached b v far → IsReached b' v far
+  reached v far node (inl labelled) = inl (labelled.0, same_label v node ∙ labelled.1, labelled.2)
+  reached v far node (inr out) = inr (same_label v node ∙ out.0, subst (λ r. ¬ IsNear r far) (mine.whole ∙ sym yours.whole) out.1)
+
+  relaxed : All (IsRelaxed b) g.arcs → All (IsRelaxed b') g.arcs
+  relaxed all = All-from_get_or (IsRelaxed b') g.arcs no_arc (λ k inside d at.
+      let ends : JoinsNodes g.nodes (arc_at g.arcs k) = All-get_or (JoinsNodes g.nodes) g.arcs k no_arc inside joined in
+      reached (arc_at g.arcs k).head (d +ℤ (arc_at g.arcs k).cost) ends.1 (All-get_or (IsRelaxed b) g.arcs k no_arc inside all d (sym (same_label _ ends.0) ∙ at)))
+
+  tight_one : All (HasTightArc g.arcs b) b.labels → (k : ℕ) → k < length b'.labels → HasTightArc g.arcs b' (get_or b'.labels k no_label)
+  tight_one all k inside =
+      let l = get_or b'.labels k no_label in
+      let lawful : IsLabel g.nodes l = All-get_or (IsLabel g.nodes) b'.labels k no_label inside yours.lawful.within in
+      let other : l.id ≢ b'.source = All-get_or (λ (m : Label). m.id ≢ b'.source) b'.labels k no_label inside (not_source b'.source [] b'.labels yours.lawful.fresh) in
+      let named : distance_in b'.labels l.id ≡ Some l.dist = distance_in-at b'.labels (fresh_apart b'.source b'.labels yours.lawful.fresh) k inside in
+      let here : label b' l.id ≡ Some l.dist = rw (ne_eqb b'.source l.id (λ e. other (sym e))) named in
+      let there : label b l.id ≡ Some l.dist = sym (same_label l.id lawful.id) ∙ here in
+      let found : distance_in b.labels l.id ≡ Some l.dist = rw (ne_eqb b.source l.id (λ e. other (sym e ∙ (mine.source ∙ sym yours.source)))) at there in
+      let (m, has, id, dist) = label_at_distance b.labels l.id l.dist found in
+      let (base, at, h) = All-contains (HasTightArc g.arcs b) b.labels m all has in
+      let by : m.pred ≡ l.pred = All-contains (λ (n : Label). n.pred ≡ pred n.id) b.labels m mine.preds has ∙ (ap pred id ∙ sym (All-get_or (λ (n : Label). n.pred ≡ pred n.id) b'.labels k no_label inside yours.preds)) in
+      (base, same_label l.pred lawful.pred ∙ (ap (label b) (sym by) ∙ at), record { arc = h.arc; present = h.present; from = h.from ∙ by; to = h.to ∙ id; adds = h.adds ∙ dist })
+
+  labels_pass : LabelsOk g.arcs b → LabelsOk g.arcs b'
+  labels_pass passes = record {
+    weights = rw yours.whole tt;
+    tight = All-from_get_or (HasTightArc g.arcs b') b'.labels no_label (tight_one passes.tight);
+    relaxed = relaxed passes.relaxed;
+  }
+
+  found_two : block_of (b' ∷ []) s ≡ Some b'
+  found_two = elim (eqb_tells b'.source s) [ inl same ↦ rw same.0 refl | inr apart ↦ absurd (apart.1 yours.source) ]
+
+  pub both_pass : PassesPaths g (Sources (s ∷ [])) one → PassesPaths g (Sources (s ∷ [])) two
+  both_pass passes =
+      let mine_alone : one.blocks ≡ b ∷ [] = ap (λ (l : LabelsValue). l.blocks) mine.alone in
+      let yours_alone : two.blocks ≡ b' ∷ [] = ap (λ (l : LabelsValue). l.blocks) yours.alone in
+      record {
+        nodes = ap (λ (l : LabelsValue). l.nodes) yours.alone;
+        queries = passes.queries;
+        blocks = All-cons (HasFullBlock two.blocks) s [] (b', ap (λ blocks. block_of blocks s) yours_alone ∙ found_two, yours.whole) (All-nil _);
+        labels = subst (All (LabelsOk g.arcs)) (sym yours_alone) (All-cons (LabelsOk g.arcs) b' [] (labels_pass (All-head (LabelsOk g.arcs) b [] (subst (All (LabelsOk g.arcs)) mine_alone passes.labels))) (All-nil _));
+      }

@@ -1,0 +1,54 @@
+-- The predecessors of labels by node.
+use Rattle.std.proofs.Common.{◌≡◌, ◌≢◌, inl, inr, ℕ, suc, zero, ◌+◌, ◌-◌, ◌<◌, ◌≤◌, List, [], ◌∷◌, All, length, get_or, Option, None, Some, refl, sym, ap, subst, ◌∙◌, arith}
+use Rattle.std.specs.Prelude.{slice_set}
+use Rattle.std.proofs.lemmas.Bool.{cases_order}
+use Rattle.std.proofs.lemmas.List.{get_or-set_other, get_or-set_same}
+use Rattle.std.proofs.lemmas.List.Elements.{All-from_get_or}
+use Rattle.dimacs_records.specs.Ranges.{IsNode}
+use Rattle.dimacs_claims.specs.ById.{NodesAreApart}
+use Rattle.dimacs_claims.specs.declared.block.Label.{Label}
+use Rattle.dimacs_claims.specs.Labels.{distance_in, no_label}
+use Rattle.dimacs_claims.proofs.ByIdLemmas.{distance_in-at}
+use Rattle.dimacs_arrays.specs.Paths.{pred_by_node}
+use Rattle.dimacs_arrays.specs.inside.LabelTrees.{ArePredsOf}
+
+abbrev pub at_place : List Label → ℕ → Label
+at_place labels j = get_or labels j no_label
+
+-- the predecessors of the first n labels are there, and no other
+pub record AreFilled (labels : List Label) (preds : List ℕ) (n : ℕ) : Type 0 where
+  pub named : (j : ℕ) → j < n → pred_by_node preds (at_place labels j).id ≡ (at_place labels j).pred
+  pub others : (v : ℕ) → ((j : ℕ) → j < n → (at_place labels j).id ≢ v) → pred_by_node preds v ≡ 0
+
+set_here : (preds : List ℕ) (u p : ℕ) → IsNode (length preds) u → pred_by_node (slice_set preds (u - 1) p) u ≡ p
+set_here preds zero p node = absurd (omega (arith, node.0))
+set_here preds (suc k) p node = let e : suc k - 1 ≡ k = omega arith in rw e (get_or-set_same preds k p 0 (omega (arith, node.1)))
+
+set_there : (preds : List ℕ) (u v p : ℕ) → 1 ≤ u → v ≢ u → pred_by_node (slice_set preds (u - 1) p) v ≡ pred_by_node preds v
+set_there preds u zero p some apart = refl
+set_there preds u (suc k) p some apart = get_or-set_other preds (u - 1) k p 0 (λ e. apart (omega (arith, e, some)))
+
+module _ (labels : List Label) (apart : NodesAreApart labels) (preds : List ℕ) where
+  -- one label more
+  pub filled_more : (n : ℕ) → n < length labels → IsNode (length preds) (at_place labels n).id → AreFilled labels preds n → AreFilled labels (slice_set preds ((at_place labels n).id - 1) (at_place labels n).pred) (n + 1)
+  filled_more n inside node is = record {
+    named = λ j less. elim (cases_order j n) [
+      | inl same ↦ subst (λ k. pred_by_node after (at_place labels k).id ≡ (at_place labels k).pred) (sym same) (set_here preds _ _ node)
+      | inr other ↦ elim other [
+        | inl before ↦ set_there preds _ _ _ node.0 (λ (e : (at_place labels j).id ≡ (at_place labels n).id). omega (arith, before, apart j n (omega (arith, before, inside)) inside e)) ∙ is.named j before
+        | inr past ↦ absurd (omega (arith, past, less))
+      ]
+    ];
+    others = λ v none. set_there preds _ v _ node.0 (λ e. none n (omega arith) (sym e)) ∙ is.others v (λ j less. none j (omega (arith, less)));
+  }
+    where
+      after : List ℕ
+      after = slice_set preds ((at_place labels n).id - 1) (at_place labels n).pred
+
+  -- those of all labels
+  pub filled_all : (nodes n : ℕ) → length labels ≡ n → length preds ≡ nodes → AreFilled labels preds n → ArePredsOf nodes labels preds
+  filled_all nodes n over each is = record {
+    each = each;
+    named = All-from_get_or (λ (l : Label). l.pred ≡ pred_by_node preds l.id) labels no_label (λ i inside. sym (is.named i (omega (arith, inside, over))));
+    others = λ v none. is.others v (λ j less same. let f : Some (at_place labels j).dist ≡ None = sym (distance_in-at labels apart j (omega (arith, less, over))) ∙ (ap (distance_in labels) same ∙ none) in cc);
+  }

@@ -1,0 +1,133 @@
+-- Labels of nodes that lead back to the source, and one more.
+use Rattle.std.proofs.Common.{◌≡◌, ◌≢◌, inl, inr, ℕ, suc, zero, ◌+◌, ◌<◌, ◌≤◌, ◌==◌, Bool, true, false, not, cond, List, [], ◌∷◌, ◌++◌, All, length, Option, Some, None, IsSome, is_some, ℤ, pos, refl, sym, ap, subst, ◌∙◌, arith}
+use Rattle.std.proofs.lemmas.Bool.{cases_eq, ne_eqb}
+use Rattle.std.proofs.lemmas.Bool.Decides.{eqb_tells}
+use Rattle.std.proofs.lemmas.List.{length-append}
+use Rattle.std.proofs.lemmas.List.Elements.{All-nil, All-push}
+use Rattle.dimacs_lines.specs.Limits.{most_count, most_nodes}
+use Rattle.dimacs_records.specs.Ranges.{IsNode}
+use Rattle.dimacs_claims.specs.declared.block.Label.{Label}
+use Rattle.dimacs_claims.specs.Labels.{BlockValue, IsBlock, distance_in, label, with_label}
+use Rattle.dimacs_claims.proofs.BlockLemmas.{each_after_nil, each_after_push}
+use Rattle.dimacs_decide.specs.inside.TightTrees.{absent}
+use Rattle.dimacs_decide.proofs.CountLemmas.{count_all, one_fewer}
+use Rattle.dimacs_arrays.specs.Paths.{IsDue, IsNext, LeadsBack}
+use Rattle.dimacs_arrays.specs.inside.LabelTrees.{AreLedBelow, IsLabelTree, Keeps, Places}
+
+one_led : (led after : ℕ → Bool) (at : ℕ) → ((v : ℕ) → v ≢ at → after v ≡ led v) → (n : ℕ) → at < n → led at ≡ false → after at ≡ true → absent after n + 1 ≡ absent led n
+one_led led after at others n h old new = one_fewer (λ v. not (led v)) (λ v. not (after v)) at (λ v ne. ap not (others v ne)) n h (ap not old) (ap not new)
+
+-- ---- the source alone
+pub begun : (nodes : ℕ) (claim : ℕ → Option ℤ) (pred : ℕ → ℕ) (s : ℕ) (led : ℕ → Bool) → IsNode nodes s → claim s ≡ Some (pos 0) → IsBlock nodes (record { source = s; radius = None; labels = [] })
+    → led s ≡ true → ((v : ℕ) → v ≢ s → led v ≡ false) → IsLabelTree nodes s claim pred (record { source = s; radius = None; labels = [] }) led
+begun nodes claim pred s led node at lawful here others = record {
+  source = refl;
+  whole = refl;
+  lawful = lawful;
+  marked = λ v. elim (eqb_tells s v) [
+    | inl same ↦ rw same.0 (ap led (sym same.1) ∙ here)
+    | inr apart ↦ rw apart.0 (others v (λ e. apart.1 (sym e)))
+  ];
+  claimed = λ v d is. elim (eqb_tells s v) [
+    | inl same ↦ (let e : Some (pos 0) ≡ Some d = rw same.0 at is in ap claim (sym same.1) ∙ (at ∙ e))
+    | inr apart ↦ absurd (let e : None ≡ Some d = rw apart.0 at is in cc)
+  ];
+  preds = All-nil _;
+  order = each_after_nil _;
+  leads = λ v is. elim (cases_eq v s) [
+    | inl same ↦ (0, same)
+    | inr apart ↦ absurd (let e : false ≡ true = sym (others v apart) ∙ is in cc)
+  ];
+  inside = λ v is. elim (cases_eq v s) [
+    | inl same ↦ subst (IsNode nodes) (sym same) node
+    | inr apart ↦ absurd (let e : false ≡ true = sym (others v apart) ∙ is in cc)
+  ];
+  count = omega (arith, count_all (λ v. true) (nodes + 1) (λ v h. refl), one_led (λ v. false) led s others (nodes + 1) (omega (arith, node.1)) refl here);
+}
+
+-- ---- one node more
+none_of : (o : Option ℤ) → is_some o ≡ false → o ≡ None
+none_of None none = refl
+none_of (Some d) none = absurd (cc)
+
+module _ (nodes s : ℕ) (claim : ℕ → Option ℤ) (pred : ℕ → ℕ) (b : BlockValue) (led : ℕ → Bool) (u : ℕ) (is : IsLabelTree nodes s claim pred b led) (new : led u ≡ false) where
+  pub unlabelled : label b u ≡ None
+  unlabelled = none_of (label b u) (sym (is.marked u) ∙ new)
+
+  pub few : nodes ≤ most_nodes → IsNode nodes u → length b.labels < most_count
+  few small node =
+      let one = one_led led (λ v. cond (v == u) true (led v)) u (λ v ne. elim (eqb_tells v u) [ inl same ↦ absurd (ne same.1) | inr apart ↦ rw apart.0 refl ]) (nodes + 1) (omega (arith, node.1)) new (elim (eqb_tells u u) [ inl same ↦ rw same.0 refl | inr apart ↦ absurd (apart.1 refl) ]) in
+      omega (arith, one, is.count, small)
+
+  pub pred_labelled : led (pred u) ≡ true → is_some (label b (pred u)) ≡ true
+  pred_labelled from = sym (is.marked (pred u)) ∙ from
+
+  module _ (d : ℤ) (after : ℕ → Bool) (node : IsNode nodes u) (from : led (pred u) ≡ true) (next : IsNext s claim pred b.labels (record { dist = d; id = u; pred = pred u })) (named : claim u ≡ Some d)
+      (lawful : IsBlock nodes (with_label b (record { dist = d; id = u; pred = pred u })))
+      (adds : (v : ℕ) → label (with_label b (record { dist = d; id = u; pred = pred u })) v ≡ cond (u == v) (Some d) (label b v))
+      (here : after u ≡ true) (others : (v : ℕ) → v ≢ u → after v ≡ led v) where
+    abbrev l : Label
+    l = record { dist = d; id = u; pred = pred u }
+
+    on_node : (v : ℕ) → (u == v) ≡ true → label (with_label b l) v ≡ Some d
+    on_node v same = adds v ∙ ap (λ t. cond t (Some d) (label b v)) same
+
+    off_node : (v : ℕ) → (u == v) ≡ false → label (with_label b l) v ≡ label b v
+    off_node v apart = adds v ∙ ap (λ t. cond t (Some d) (label b v)) apart
+
+    further : LeadsBack pred s u
+    further = let (steps, leads) = is.leads (pred u) from in (suc steps, leads)
+
+    pub grown : IsLabelTree nodes s claim pred (with_label b l) after
+    grown = record {
+      source = is.source;
+      whole = is.whole;
+      lawful = lawful;
+      marked = λ v. elim (eqb_tells u v) [
+        | inl same ↦ (ap after (sym same.1) ∙ here) ∙ sym (ap is_some (on_node v same.0))
+        | inr apart ↦ others v (λ e. apart.1 (sym e)) ∙ (is.marked v ∙ sym (ap is_some (off_node v apart.0)))
+      ];
+      claimed = λ v e at. elim (eqb_tells u v) [
+        | inl same ↦ ap claim (sym same.1) ∙ (named ∙ (sym (on_node v same.0) ∙ at))
+        | inr apart ↦ is.claimed v e (sym (off_node v apart.0) ∙ at)
+      ];
+      preds = All-push (λ (m : Label). m.pred ≡ pred m.id) b.labels l is.preds refl;
+      order = each_after_push (IsNext s claim pred) b.labels l is.order next;
+      leads = λ v h. elim (cases_eq v u) [
+        | inl same ↦ subst (LeadsBack pred s) (sym same) further
+        | inr apart ↦ is.leads v (sym (others v apart) ∙ h)
+      ];
+      inside = λ v h. elim (cases_eq v u) [
+        | inl same ↦ subst (IsNode nodes) (sym same) node
+        | inr apart ↦ is.inside v (sym (others v apart) ∙ h)
+      ];
+      count = omega (arith, is.count, one_led led after u others (nodes + 1) (omega (arith, node.1)) new here, length-append b.labels (l ∷ []));
+    }
+
+-- no label is lost where one is placed
+pub placed_keeps : (led after : ℕ → Bool) (u : ℕ) → Places led after u → Keeps led after
+placed_keeps led after u placed v h = elim (cases_eq v u) [ inl same ↦ ap after same ∙ placed.0 | inr apart ↦ placed.1 v apart ∙ h ]
+
+-- the source is labelled with its own distance
+pub source_led : (nodes s : ℕ) (claim : ℕ → Option ℤ) (pred : ℕ → ℕ) (b : BlockValue) (led : ℕ → Bool) → IsLabelTree nodes s claim pred b led → (led s ≡ true) × (claim s ≡ Some (pos 0))
+source_led nodes s claim pred b led is = (is.marked s ∙ ap is_some own, is.claimed s (pos 0) own)
+  where
+    own : label b s ≡ Some (pos 0)
+    own = elim (eqb_tells b.source s) [ inl same ↦ rw same.0 refl | inr apart ↦ absurd (apart.1 is.source) ]
+
+-- ---- which label is the next
+module _ (nodes s : ℕ) (claim : ℕ → Option ℤ) (pred : ℕ → ℕ) (b : BlockValue) (led : ℕ → Bool) (is : IsLabelTree nodes s claim pred b led) where
+  among_labels : (v : ℕ) → v ≢ s → label b v ≡ distance_in b.labels v
+  among_labels v apart = rw (ne_eqb b.source v (λ e. apart (sym e ∙ is.source))) refl
+
+  pub next_label : (v : ℕ) (l : Label) → AreLedBelow claim led v → IsSome (claim v) → led v ≡ false → LeadsBack pred l.id v → IsNext s claim pred b.labels l
+  next_label v l earlier some unled leads =
+      let apart : v ≢ s = λ e. (let f : true ≡ false = sym (source_led nodes s claim pred b led is).0 ∙ (ap led (sym e) ∙ unled) in cc) in (
+        v,
+        record {
+          due = (apart, some);
+          left = sym (among_labels v apart) ∙ none_of (label b v) (sym (is.marked v) ∙ unled);
+          least = λ u less due. ap is_some (sym (among_labels u due.0)) ∙ (sym (is.marked u) ∙ earlier u less due.1);
+        },
+        leads,
+      )

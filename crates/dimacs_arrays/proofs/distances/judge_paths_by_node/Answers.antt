@@ -1,0 +1,16 @@
+use Rattle.std.proofs.Common.{inl, length}
+use Rattle.dimacs_decide.specs.Claims.{claimed_by_node}
+use Rattle.dimacs_arrays.specs.Paths.{pred_by_node}
+use Rattle.dimacs_arrays.proofs.LabelLemmas.{unlabelled}
+use Rattle.dimacs_arrays.proofs.distances.judge_paths_by_node.Goals as goal
+
+pub returns-in_err-labels : goal.returns-in_err-labels
+returns-in_err-labels g c =
+    let refutes = rw c.requires.distances at c.in_err-labels.ensures.labels in
+    unlabelled c.args.graph.now c.args.source (claimed_by_node c.args.distances.now) (pred_by_node c.args.predecessors.now) c.in_err-labels.field-0.0 refutes _ c.from_residual.ensures.1
+
+pub returns : goal.returns
+returns g c =
+    let by = rw c.requires.distances at c.in_ok-labels.ensures.labels in
+    let judges = rw c.in_ok-all_from.ensures at c.judge_paths.ensures in
+    inl (c.in_ok-labels.labels, by, c.in_ok-labels.ensures.order, judges)

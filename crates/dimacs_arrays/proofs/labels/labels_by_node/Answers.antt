@@ -1,0 +1,42 @@
+use Rattle.std.proofs.Common.{length}
+use Rattle.dimacs_nodes.specs.Tables.{value_of}
+use Rattle.dimacs_decide.specs.Claims.{claimed_by_node}
+use Rattle.dimacs_arrays.specs.Paths.{pred_by_node}
+use Rattle.dimacs_arrays.proofs.DistanceLemmas.{no_pred_without}
+use Rattle.dimacs_arrays.proofs.LabelLemmas.{in_order, no_pred, no_source, refused, refused_by, spelled}
+use Rattle.dimacs_arrays.proofs.labels.labels_by_node.Goals as goal
+
+pub returns-in_err-source_holds-clause-labels : goal.returns-in_err-source_holds-clause-labels
+returns-in_err-source_holds-clause-labels c =
+    let claim = claimed_by_node c.args.distances.now in
+    let pred = pred_by_node c.args.predecessors.now in
+    let nodes = length c.args.distances.now in
+    refused nodes c.args.source claim pred _ _ (no_source nodes c.args.source claim pred _ _ c.requires.source c.in_err-source_holds.ensures) _ c.from_residual.ensures.1
+
+pub returns-in_err-predecessors_hold-clause-labels : goal.returns-in_err-predecessors_hold-clause-labels
+returns-in_err-predecessors_hold-clause-labels c =
+    let claim = claimed_by_node c.args.distances.now in
+    let pred = pred_by_node c.args.predecessors.now in
+    let nodes = length c.args.distances.now in
+    refused nodes c.args.source claim pred _ _ (no_pred nodes c.args.source claim pred _ _ c.in_ok-source_holds.ensures c.in_err-predecessors_hold.ensures) _ c.from_residual-in_err-predecessors_hold.ensures.1
+
+pub label_tree-requires-clause-preds : goal.label_tree-requires-clause-preds
+label_tree-requires-clause-preds c =
+    no_pred_without c.args.predecessors.now (length c.args.distances.now) c.args.source (claimed_by_node c.args.distances.now) c.requires.predecessors c.in_ok-predecessors_hold.ensures
+
+pub returns-in_err-tree-clause-labels : goal.returns-in_err-tree-clause-labels
+returns-in_err-tree-clause-labels c =
+    refused_by (length c.args.distances.now) c.args.source (claimed_by_node c.args.distances.now) (pred_by_node c.args.predecessors.now) c.in_ok-source_holds.ensures c.in_ok-predecessors_hold.ensures
+    c.in_err-tree.field-0.0 c.in_err-tree.ensures.first _ c.from_residual-in_err-tree.ensures.1
+
+pub returns-clause-order : goal.returns-clause-order
+returns-clause-order c =
+    let tree = c.in_ok-tree.tree in
+    let made = rw (c.new-labels.ensures.made, c.into_block.ensures, ← c.requires.distances) at c.in_ok-push.ensures.pushed in
+    rw made (in_order (length c.args.distances.now) c.args.source (claimed_by_node c.args.distances.now) (pred_by_node c.args.predecessors.now) tree.block (value_of tree.led) c.in_ok-tree.ensures.tree.0)
+
+pub returns-clause-labels : goal.returns-clause-labels
+returns-clause-labels c =
+    let tree = c.in_ok-tree.tree in
+    let made = rw (c.new-labels.ensures.made, c.into_block.ensures, ← c.requires.distances) at c.in_ok-push.ensures.pushed in
+    rw made (spelled (length c.args.distances.now) c.args.source (claimed_by_node c.args.distances.now) (pred_by_node c.args.predecessors.now) tree.block (value_of tree.led) c.in_ok-predecessors_hold.ensures c.in_ok-tree.ensures.tree.0 c.in_ok-tree.ensures.tree.1)

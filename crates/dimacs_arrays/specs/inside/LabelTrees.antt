@@ -1,0 +1,71 @@
+-- Inside: labels of the nodes that are known to lead back to the source, and the way back from one more.
+use Rattle.std.specs.Prelude.{ℕ, ◌≡◌, ◌≢◌, ◌<◌, ◌≤◌, ◌+◌, ◌⊎◌, ◌==◌, Bool, true, false, not, List, [], ◌∷◌, All, length, Option, Some, None, IsSome, is_some, ℤ}
+use Rattle.dimacs_records.specs.Ranges.{IsNode}
+use Rattle.dimacs_claims.specs.declared.block.Label.{Label}
+use Rattle.dimacs_claims.specs.Labels.{BlockValue, EachAfter, IsBlock, distance_in, label}
+use Rattle.dimacs_decide.specs.inside.Counting.{count_below}
+use Rattle.dimacs_decide.specs.inside.TightTrees.{absent}
+use Rattle.dimacs_arrays.specs.Paths.{IsNext, LeadsBack, pred_by_node}
+
+-- the labels of nodes that lead back to the source, each with the distance and the predecessor of its node
+pub record IsLabelTree (nodes s : ℕ) (claim : ℕ → Option ℤ) (pred : ℕ → ℕ) (b : BlockValue) (led : ℕ → Bool) : Type 0 where
+  pub source : b.source ≡ s
+  pub whole : b.radius ≡ None
+  pub lawful : IsBlock nodes b
+  pub marked : (v : ℕ) → led v ≡ is_some (label b v)
+  pub claimed : (v : ℕ) (d : ℤ) → label b v ≡ Some d → claim v ≡ Some d
+  pub preds : All (λ (l : Label). l.pred ≡ pred l.id) b.labels
+  pub leads : (v : ℕ) → led v ≡ true → LeadsBack pred s v
+  pub inside : (v : ℕ) → led v ≡ true → IsNode nodes v
+  pub order : EachAfter (IsNext s claim pred) b.labels
+  pub count : absent led (nodes + 1) + length b.labels ≡ nodes
+
+-- no label is lost
+abbrev pub Keeps : (ℕ → Bool) → (ℕ → Bool) → Type 0
+Keeps led after = (v : ℕ) → led v ≡ true → after v ≡ true
+
+-- no node but this one gets a label
+abbrev pub Places : (ℕ → Bool) → (ℕ → Bool) → ℕ → Type 0
+Places led after u = (after u ≡ true) × ((v : ℕ) → v ≢ u → after v ≡ led v)
+
+-- each node before this one has a label, if it has a distance
+abbrev pub AreLedBelow : (ℕ → Option ℤ) → (ℕ → Bool) → ℕ → Type 0
+AreLedBelow claim led n = (v : ℕ) → v < n → IsSome (claim v) → led v ≡ true
+
+-- nodes with distances, each the predecessor of the one before it, from v on; the next is `end`
+abbrev pub IsWayBack : (ℕ → Option ℤ) → (ℕ → ℕ) → ℕ → List ℕ → ℕ → Type 0
+IsWayBack claim pred v [] end = v ≡ end
+IsWayBack claim pred v (u ∷ way) end = (v ≡ u) × IsSome (claim v) × IsWayBack claim pred (pred v) way end
+
+-- the node comes first on the way, if at all, and not again
+abbrev pub ComesFirst : ℕ → List ℕ → Type 0
+ComesFirst v [] = Unit {0}
+ComesFirst v (u ∷ way) = All (λ w. w ≢ v) way
+
+-- how many of the nodes below n have another root than v
+abbrev pub others : (ℕ → ℕ) → ℕ → ℕ → ℕ
+others roots v n = count_below (λ u. not (roots u == v)) n
+
+-- the way back from v as far as to `end`; v is the root of its nodes, and of no other
+pub record IsClimbing (claim : ℕ → Option ℤ) (pred : ℕ → ℕ) (led : ℕ → Bool) (v : ℕ) (roots : ℕ → ℕ) (way : List ℕ) (end : ℕ) : Type 0 where
+  pub goes : IsWayBack claim pred v way end
+  pub few : (u : ℕ) → roots u ≤ v
+  pub begun : ((v ≡ end) × (way ≡ [])) ⊎ (roots v ≡ v)
+  pub once : ComesFirst v way
+  pub closed : (u : ℕ) → roots u ≡ v → (roots (pred u) ≡ v) ⊎ (pred u ≡ end)
+  pub unled : (u : ℕ) → roots u ≡ v → led u ≡ false
+
+-- the node has no distance, or has a label; or it has a distance and doesn't lead back to the source
+abbrev pub Leads : (ℕ → ℕ) → ℕ → (ℕ → Option ℤ) → (ℕ → Bool) → ℕ → Bool → Type 0
+Leads pred s claim led v true = (claim v ≡ None) ⊎ (led v ≡ true)
+Leads pred s claim led v false = IsSome (claim v) × (¬ LeadsBack pred s v)
+
+-- each node with a distance has a label
+abbrev pub AreLed : (ℕ → Option ℤ) → (ℕ → Bool) → Type 0
+AreLed claim led = (v : ℕ) → IsSome (claim v) → led v ≡ true
+
+-- the predecessor of each labelled node; 0 at the others
+pub record ArePredsOf (nodes : ℕ) (labels : List Label) (preds : List ℕ) : Type 0 where
+  pub each : length preds ≡ nodes
+  pub named : All (λ (l : Label). l.pred ≡ pred_by_node preds l.id) labels
+  pub others : (v : ℕ) → distance_in labels v ≡ None → pred_by_node preds v ≡ 0

@@ -1,0 +1,111 @@
+//! The labels of nodes that lead back to the source, predecessor by predecessor.
+
+ghost use Rattle.std.specs.Prelude.{◌≡◌, ◌≤◌, Some, true, length, IfOk, IfSome, IsSome, OnOk, pos};
+ghost use Rattle.dimacs_lines.specs.Limits.{most_nodes};
+ghost use Rattle.dimacs_records.specs.Ranges.{IsNode, IsWide};
+ghost use Rattle.dimacs_claims.specs.declared.block.Label.{Label};
+ghost use Rattle.dimacs_nodes.specs.Tables.{value_of};
+ghost use Rattle.dimacs_decide.specs.Claims.{claimed_by_node};
+ghost use Rattle.dimacs_arrays.specs.Paths.{IsNext, pred_by_node};
+ghost use Rattle.dimacs_arrays.specs.inside.LabelTrees.{IsLabelTree, Places};
+
+use dimacs_claims::{Block, Label};
+use dimacs_decide::{DistanceClaim, DistancesByNode};
+use dimacs_lines::Memory;
+use dimacs_nodes::NodeTable;
+use std::alloc::Global;
+
+/// The distance of a node; none where it has none.
+#[inline(always)]
+pub(crate) fn distance_of(distances: &[i64], id: u32) -> Option<i128>
+    ensures distance { result ≡ claimed_by_node distances.now id }
+    ensures wide { IfSome result IsWide }
+{
+    let claim = DistancesByNode { distances };
+    claim.of(id)
+}
+
+/// The predecessor of a node.
+#[inline(always)]
+pub(crate) fn predecessor_of(predecessors: &[u32], id: u32) -> u32
+    ensures { result ≡ pred_by_node predecessors.now id }
+{
+    if id == 0 {
+        return 0;
+    }
+    match predecessors.get(id as usize - 1) {
+        Some(predecessor) => *predecessor,
+        None => 0,
+    }
+}
+
+/// Labels in an order in which the predecessor of each comes first.
+#[derive(Drop)]
+pub(crate) struct LabelTree {
+    block: Block,
+    led: NodeTable<bool>,
+}
+
+impl LabelTree {
+    /// The source alone.
+    pub fn new(
+        alloc: Global,
+        distances: &[i64],
+        predecessors: &[u32],
+        source: u32,
+    ) -> Result<LabelTree, Memory>
+        requires source { IsNode (length distances.now) source }
+        requires distance { claimed_by_node distances.now source ≡ Some (pos 0) }
+        ensures { IfOk result (λ tree. IsLabelTree (length distances.now) source (claimed_by_node distances.now) (pred_by_node predecessors.now) tree.block (value_of tree.led)) }
+    {
+        let mut led = NodeTable::new(alloc, false);
+        led.set(source, true)?;
+        let block = Block::new(alloc, source);
+        Ok(LabelTree { block, led })
+    }
+
+    /// Whether a node has a label.
+    #[inline(always)]
+    pub fn is_led(&self, node: u32) -> bool
+        ensures { result ≡ value_of self.now.led node }
+    {
+        self.led.get(node)
+    }
+
+    pub fn into_block(self) -> Block
+        ensures { result ≡ self.block }
+    {
+        self.block
+    }
+
+    /// Adds the label of a node whose predecessor has one, if it has none.
+    #[inline(always)]
+    pub fn place(
+        &mut self,
+        distances: &[i64],
+        predecessors: &[u32],
+        node: u32,
+    ) -> Result<(), Memory>
+        requires few_nodes { length distances.now ≤ most_nodes }
+        requires tree { IsLabelTree (length distances.now) self.old.block.source (claimed_by_node distances.now) (pred_by_node predecessors.now) self.old.block (value_of self.old.led) }
+        requires distance { IsSome (claimed_by_node distances.now node) }
+        requires next { (l : Label) → l.id ≡ node → IsNext self.old.block.source (claimed_by_node distances.now) (pred_by_node predecessors.now) self.old.block.labels l }
+        requires led { value_of self.old.led (pred_by_node predecessors.now node) ≡ true }
+        ensures tree { OnOk result (IsLabelTree (length distances.now) self.old.block.source (claimed_by_node distances.now) (pred_by_node predecessors.now) self.new.block (value_of self.new.led)) }
+        ensures placed { OnOk result (Places (value_of self.old.led) (value_of self.new.led) node) }
+    {
+        if self.led.get(node) {
+            return Ok(());
+        }
+        let Some(dist) = distance_of(distances, node) else {
+            return Ok(());
+        };
+        self.led.set(node, true)?;
+        self.block.add(Label {
+            dist,
+            id: node,
+            pred: predecessor_of(predecessors, node),
+        })?;
+        Ok(())
+    }
+}

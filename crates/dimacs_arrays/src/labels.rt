@@ -1,0 +1,100 @@
+//! Labels from distances and predecessors by node.
+
+ghost use Rattle.std.specs.Prelude.{ℕ, ◌≡◌, ◌≤◌, ◌↔◌, None, Some, length, IfErr, IfOk, IsTrue, pos};
+ghost use Rattle.dimacs_lines.specs.Limits.{most_nodes};
+ghost use Rattle.dimacs_records.specs.Ranges.{IsNode};
+ghost use Rattle.dimacs_nodes.specs.Tables.{value_of};
+ghost use Rattle.dimacs_judge.specs.Tests.{FirstOfRow, Settles, TellsRow};
+ghost use Rattle.dimacs_judge.specs.inside.Tests.{Refuses};
+ghost use Rattle.dimacs_decide.specs.Claims.{claimed_by_node};
+ghost use Rattle.dimacs_arrays.specs.Paths.{AreInOrder, AreLabelsBy, IsPred, back_row, label_rows, pred_by_node, pred_row};
+ghost use Rattle.dimacs_arrays.specs.inside.LabelTrees.{AreLed, IsLabelTree};
+
+use crate::label_tree::{LabelTree, distance_of, predecessor_of};
+use crate::way_back::WayBack;
+use dimacs_claims::Labels;
+use dimacs_decide::{DistancesByNode, source_holds};
+use dimacs_judge::{JudgeError, Where};
+use dimacs_records::Reason;
+use std::alloc::Global;
+
+/// The labels of a text that says these distances, `i64::MAX` for none, each by the predecessor of its node. A label
+/// stands after that of its predecessor, and as far as that leaves it open by ID.
+///
+/// The tests in their order: `NotShortest` at the source, where its distance isn't 0; each node, by ID: `NodeRange`, where
+/// its predecessor is 0 or above the number of nodes, or isn't 0 at the source or a node without a distance; each node
+/// with a distance, by ID: `PredUnknown`, where it doesn't lead back to the source, predecessor by predecessor.
+pub(crate) fn labels_by_node(
+    alloc: Global,
+    nodes: u32,
+    source: u32,
+    distances: &[i64],
+    predecessors: &[u32],
+) -> Result<Labels, JudgeError>
+    requires few_nodes { length distances.now ≤ most_nodes }
+    requires source { IsNode (length distances.now) source }
+    requires distances { length distances.now ≡ nodes }
+    requires predecessors { length predecessors.now ≡ length distances.now }
+    ensures order { IfOk result (AreInOrder source (claimed_by_node distances.now) (pred_by_node predecessors.now)) }
+    ensures labels { Settles (AreLabelsBy (length distances.now) source (claimed_by_node distances.now) (pred_by_node predecessors.now)) (label_rows (length distances.now) source (claimed_by_node distances.now) (pred_by_node predecessors.now)) result }
+{
+    source_holds(source, &DistancesByNode { distances })?;
+    predecessors_hold(source, distances, predecessors)?;
+    let tree = label_tree(alloc, source, distances, predecessors)?;
+    let mut labels = Labels::new(alloc, nodes);
+    labels.push(tree.into_block())?;
+    Ok(labels)
+}
+
+/// The first node whose predecessor is out of its range.
+fn predecessors_hold(
+    source: u32,
+    distances: &[i64],
+    predecessors: &[u32],
+) -> Result<(), (Where, Reason)>
+    requires few_nodes { length distances.now ≤ most_nodes }
+    ensures { TellsRow (pred_row (length distances.now) source (claimed_by_node distances.now) (pred_by_node predecessors.now)) result }
+{
+    for v in 1..distances.len() as u32 + 1 {
+        if !is_predecessor(source, distances, v, predecessor_of(predecessors, v)) {
+            return Err((Where::Node(v), Reason::NodeRange));
+        }
+    }
+    Ok(())
+}
+
+/// Whether a number may be the predecessor of a node.
+#[inline(always)]
+fn is_predecessor(source: u32, distances: &[i64], node: u32, predecessor: u32) -> bool
+    ensures { IsTrue result ↔ IsPred (length distances.now) source (claimed_by_node distances.now) node predecessor }
+{
+    if node != source && distance_of(distances, node).is_some() {
+        predecessor >= 1 && predecessor as usize <= distances.len()
+    } else {
+        predecessor == 0
+    }
+}
+
+/// The labels of all nodes with distances; else the first node that doesn't lead back to the source.
+fn label_tree(
+    alloc: Global,
+    source: u32,
+    distances: &[i64],
+    predecessors: &[u32],
+) -> Result<LabelTree, JudgeError>
+    requires few_nodes { length distances.now ≤ most_nodes }
+    requires source { IsNode (length distances.now) source }
+    requires distance { claimed_by_node distances.now source ≡ Some (pos 0) }
+    requires preds { (v : ℕ) → claimed_by_node distances.now v ≡ None → pred_by_node predecessors.now v ≡ 0 }
+    ensures tree { IfOk result (λ tree. IsLabelTree (length distances.now) source (claimed_by_node distances.now) (pred_by_node predecessors.now) tree.block (value_of tree.led) × AreLed (claimed_by_node distances.now) (value_of tree.led)) }
+    ensures first { IfErr result (Refuses (FirstOfRow (back_row (length distances.now) source (claimed_by_node distances.now) (pred_by_node predecessors.now)))) }
+{
+    let mut tree = LabelTree::new(alloc, distances, predecessors, source)?;
+    let mut back = WayBack::new(alloc);
+    for v in 1..distances.len() as u32 + 1 {
+        if !back.lead(&mut tree, distances, predecessors, v)? {
+            return Err(JudgeError::Refused(Where::Node(v), Reason::PredUnknown));
+        }
+    }
+    Ok(tree)
+}
