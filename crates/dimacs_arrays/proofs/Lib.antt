@@ -1,7 +1,14 @@
-mod LabelLemmas
+pub mod AnswerLemmas
+mod ByNodeLemmas
+mod CertifyLemmas
+mod CertifyPathsLemmas
 mod DistanceLemmas
+mod InfeasibleLemmas
+mod LabelLemmas
+pub mod LimitLemmas
+mod MaxLemmas
+mod MinLemmas
+mod OrderLemmas
+mod PredLemmas
 mod TreeLemmas
 mod WayLemmas
-mod PredLemmas
-mod CertifyPathsLemmas
-mod OrderLemmas

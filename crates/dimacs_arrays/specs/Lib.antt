@@ -1,2 +1,7 @@
+pub mod Answers
+pub mod ByNode
+pub mod Limits
+pub mod MaxArrays
+pub mod MinArrays
 pub mod Paths
 pub mod inside

@@ -1,10 +1,36 @@
-//! What a program holds as arrays, judged and certified without a text.
+//! Judging and certifying over arrays, for programs that hold an instance, a flow or distances in memory and print no
+//! text of them.
+//!
+//! An instance is a struct of slices: the k-th arc goes from the k-th tail to the k-th head. Nodes count from 1, and what
+//! is said by node begins with node 1. Each call first tests the lengths of the arrays, and then whether the numbers lie
+//! within the limits of instances; its answer is that of the judge, or of the certifier, for the instance that the arrays
+//! spell.
 #![tactic(auto)]
 
+mod by_node;
+mod certify_max;
+mod certify_min;
 mod distances;
+mod error;
+mod judge_infeasible;
+mod judge_max;
+mod judge_min;
 mod label_tree;
 mod labels;
+mod lengths;
+mod limits;
+mod max;
+mod min;
 mod predecessors;
 mod way_back;
 
+pub use certify_max::{MaxCertified, certify_max_arrays};
+pub use certify_min::{MinCertified, certify_min_arrays};
 pub use distances::{certify_paths_by_node, judge_paths_by_node};
+pub use error::{Array, ArrayError};
+pub use judge_infeasible::judge_infeasible_arrays;
+pub use judge_max::judge_max_arrays;
+pub use judge_min::judge_min_arrays;
+pub use lengths::ArrayLength;
+pub use max::MaxArrays;
+pub use min::MinArrays;

@@ -1,0 +1,76 @@
+-- What a call over arrays answers, by the part that fails.
+use Rattle.std.proofs.Common.{◌≡◌, ◌==◌, Bool, true, false, List, [], ◌∷◌, ◌++◌, Option, None, Some, Result, Ok, Err, cond, refl, sym, ◌∙◌}
+use Rattle.std.specs.Prelude.{IsErrAnd}
+use Rattle.std.proofs.lemmas.Bool.{eqb-true}
+use Rattle.std.proofs.lemmas.Result.{err_from_is_err_and}
+use Rattle.dimacs_judge.specs.declared.verdict.JudgeError.{JudgeError}
+use Rattle.dimacs_judge.specs.declared.verdict.JudgeError.TheVariants as judged
+use Rattle.dimacs_judge.specs.Tests.{Row, AllClear, First}
+use Rattle.dimacs_judge.proofs.Firsts.{AllOneWay, none_first, one_first}
+use Rattle.dimacs_arrays.specs.declared.error.Array.{Array}
+use Rattle.dimacs_arrays.specs.declared.error.ArrayError.{ArrayError}
+use Rattle.dimacs_arrays.specs.declared.error.ArrayError.TheVariants as errors
+use Rattle.dimacs_arrays.specs.declared.lengths.ArrayLength.{ArrayLength}
+use Rattle.dimacs_arrays.specs.Answers.{AnswersArrays, first_misfit, of_judge}
+use Rattle.dimacs_arrays.specs.inside.Answers.{Spells, TellsLengths}
+
+-- each array has the length that it must have
+abbrev pub AllFit : List ArrayLength → Type 0
+AllFit [] = Unit {0}
+AllFit (l ∷ lengths) = (l.found ≡ l.wanted) × AllFit lengths
+
+fit_by : (b : Bool) (l : ArrayLength) (rest : Option Array) → (l.found == l.wanted) ≡ b → cond b rest (Some l.array) ≡ None → (l.found ≡ l.wanted) × (rest ≡ None)
+fit_by true l rest same e = (eqb-true l.found l.wanted same, e)
+fit_by false l rest apart e = absurd (cc)
+
+pub all_fit : (lengths : List ArrayLength) → first_misfit lengths ≡ None → AllFit lengths
+all_fit [] e = tt
+all_fit (l ∷ lengths) e = let (here, rest) = fit_by (l.found == l.wanted) l (first_misfit lengths) refl e in (here, all_fit lengths rest)
+
+-- the first that doesn't fit of two lists, one after the other
+front_by : (b : Bool) (one rest more : Option Array) (array : Array) → (rest ≡ Some array → more ≡ Some array) → cond b rest one ≡ Some array → cond b more one ≡ Some array
+front_by true one rest more array go e = go e
+front_by false one rest more array go e = e
+
+pub misfit_front : (lengths more : List ArrayLength) (array : Array) → first_misfit lengths ≡ Some array → first_misfit (lengths ++ more) ≡ Some array
+misfit_front [] more array e = absurd (cc)
+misfit_front (l ∷ lengths) more array e = front_by (l.found == l.wanted) (Some l.array) (first_misfit lengths) (first_misfit (lengths ++ more)) array (misfit_front lengths more array) e
+
+after_by : (b : Bool) (array : Array) (rest all more : Option Array) → (rest ≡ None → all ≡ more) → cond b rest (Some array) ≡ None → cond b all (Some array) ≡ more
+after_by true array rest all more go e = go e
+after_by false array rest all more go e = absurd (cc)
+
+pub misfit_after : (lengths more : List ArrayLength) → first_misfit lengths ≡ None → first_misfit (lengths ++ more) ≡ first_misfit more
+misfit_after [] more e = refl
+misfit_after (l ∷ lengths) more e = after_by (l.found == l.wanted) l.array (first_misfit lengths) (first_misfit (lengths ++ more)) (first_misfit more) (misfit_after lengths more) e
+
+module _ {X : Type 0} (lengths : List ArrayLength) (limits : List Row) (lawful : Type 0) (answers : Result X JudgeError → Type 0) where
+  -- an array that doesn't fit
+  pub tells_misfit : (error : ArrayError) → TellsLengths lengths (Err error) → (result : Result X ArrayError) → IsErrAnd result (λ e. e ≡ error) → AnswersArrays lengths limits lawful answers result
+  tells_misfit error told result is = let p = err_from_is_err_and result is in rw (p.1, p.2) (by_error error told)
+    where
+      by_error : (error : ArrayError) → TellsLengths lengths (Err error) → AnswersArrays lengths limits lawful answers (Err error)
+      by_error (errors.Length array) told = told
+      by_error (errors.Limit place reason) told = absurd told
+      by_error (errors.Refused place reason) told = absurd told
+      by_error errors.Memory told = tt
+
+  module _ (fit : first_misfit lengths ≡ None) where
+    -- a number past its limit
+    pub tells_limit : {I : Type 0} (i : I) (error : ArrayError) → AllOneWay limits → (lawful → AllClear limits) → Spells {X = I} limits i (Err error) → (result : Result X ArrayError) → IsErrAnd result (λ e. e ≡ error)
+        → AnswersArrays lengths limits lawful answers result
+    tells_limit {I} i error one needed told result is = let p = err_from_is_err_and result is in rw (p.1, p.2) (by_error error told)
+      where
+        by_error : (error : ArrayError) → Spells {X = I} limits i (Err error) → AnswersArrays lengths limits lawful answers (Err error)
+        by_error (errors.Length array) told = absurd told
+        by_error (errors.Limit place reason) first = (fit, (λ law. none_first limits place reason (needed law) first), (first, λ other why also. one_first limits other place why reason one also first))
+        by_error (errors.Refused place reason) told = absurd told
+        by_error errors.Memory told = tt
+
+    -- a test that fails
+    pub tells_refusal : lawful → (error : JudgeError) → answers (Err error) → (result : Result X ArrayError) → IsErrAnd result (λ e. e ≡ of_judge error) → AnswersArrays lengths limits lawful answers result
+    tells_refusal law error told result is = let p = err_from_is_err_and result is in rw (p.1, p.2) (by_error error told)
+      where
+        by_error : (error : JudgeError) → answers (Err error) → AnswersArrays lengths limits lawful answers (Err (of_judge error))
+        by_error (judged.Refused place reason) told = (fit, law, told)
+        by_error judged.Memory told = tt

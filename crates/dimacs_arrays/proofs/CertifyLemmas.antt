@@ -1,0 +1,104 @@
+-- Flows that are certified over arrays.
+use Rattle.std.proofs.Common.{◌≡◌, ℕ, Bool, List, [], ◌∷◌, ◌++◌, All, ℤ, length, inl, inr, sym, subst, ◌∙◌, Result}
+use Rattle.std.specs.Prelude.{IsErrAnd, ◌<ℤ◌}
+use Rattle.std.specs.List.{AllZip}
+use Rattle.std.proofs.lemmas.List.Elements.{All-head, All-tail}
+use Rattle.dimacs_records.specs.Ranges.{IsNode}
+use Rattle.dimacs_records.specs.declared.reasons.Reason.{Reason}
+use Rattle.dimacs_claims.specs.Potentials.{PotentialsValue, potential_of}
+use Rattle.dimacs_claims.specs.Cuts.{CutValue}
+use Rattle.dimacs_instance.specs.declared.network.ArcView.{ArcView}
+use Rattle.dimacs_instance.specs.Arcs.{JoinsNodes}
+use Rattle.dimacs_instance.specs.MaxFlows.{MaxValue, IsMax}
+use Rattle.dimacs_instance.specs.MinFlows.{MinValue}
+use Rattle.dimacs_judge.specs.declared.verdict.JudgeError.{JudgeError}
+use Rattle.dimacs_judge.specs.declared.verdict.JudgeError.TheVariants.{Refused}
+use Rattle.dimacs_judge.specs.declared.verdict.Where.{Where}
+use Rattle.dimacs_judge.specs.Cuts.{CutTight, IsTightAt, members}
+use Rattle.dimacs_judge.specs.Feasible.{FeasibleMax, FeasibleMin, value}
+use Rattle.dimacs_judge.specs.Flows.{cost}
+use Rattle.dimacs_judge.specs.FlowTests.{cost_row, feasible_min_rows, feasible_max_rows, min_demand}
+use Rattle.dimacs_judge.specs.Potentials.{Slack}
+use Rattle.dimacs_judge.specs.Tests.{AllClear, Clear, First, FirstOfRow, Refutes, Settles}
+use Rattle.dimacs_judge.specs.inside.Tests.{Refuses}
+use Rattle.dimacs_judge.proofs.Firsts.{AllOneWay}
+use Rattle.dimacs_judge.proofs.Passing.{costs_clear, costs_wide, feasible_min_clear}
+use Rattle.dimacs_judge.proofs.Reasons.{balance_one_way, bound_one_way, cost_one_way}
+use Rattle.dimacs_judge.proofs.RowLists.{all_clear-append, first_after}
+use Rattle.dimacs_judge.proofs.Settling.{error_settles, refused_in_front, refuted_refuses}
+use Rattle.dimacs_decide.specs.declared.maximum.MaxDecision.TheVariants as of_max
+use Rattle.dimacs_decide.specs.declared.least.MinDecision.TheVariants as of_min
+use Rattle.dimacs_decide.specs.MaxDecision.{DecidesMax}
+use Rattle.dimacs_decide.specs.MinDecision.{DecidesMin}
+use Rattle.dimacs_arrays.specs.declared.certify_max.MaxCertified.{MaxCertified}
+use Rattle.dimacs_arrays.specs.declared.certify_max.MaxCertified.TheVariants as max_told
+use Rattle.dimacs_arrays.specs.declared.certify_min.MinCertified.{MinCertified}
+use Rattle.dimacs_arrays.specs.declared.certify_min.MinCertified.TheVariants as min_told
+use Rattle.dimacs_arrays.specs.ByNode.{marked, number_of}
+use Rattle.dimacs_arrays.specs.MaxArrays.{CertifiesMaxFlow}
+use Rattle.dimacs_arrays.specs.MinArrays.{CertifiesMinFlow, min_claimed_rows}
+use Rattle.dimacs_arrays.specs.inside.MinCertified.{IsLeastBy}
+
+-- ---- maximum
+-- a cut with the same nodes is tight too
+module _ (i : MaxValue) (law : IsMax i) (x : List ℤ) (set other : ℕ → Bool) (same : (v : ℕ) → IsNode i.nodes v → other v ≡ set v) where
+  tight_at : (a : ArcView) (z : ℤ) → JoinsNodes i.nodes a → IsTightAt set a z → IsTightAt other a z
+  tight_at a z joined tight = rw (same a.tail joined.0, same a.head joined.1) tight
+
+  all_tight : (arcs : List ArcView) (y : List ℤ) → All (JoinsNodes i.nodes) arcs → AllZip (IsTightAt set) arcs y → AllZip (IsTightAt other) arcs y
+  all_tight [] [] joined tight = tt
+  all_tight [] (z ∷ y) joined tight = absurd tight
+  all_tight (a ∷ arcs) [] joined tight = absurd tight
+  all_tight (a ∷ arcs) (z ∷ y) joined tight = (tight_at a z (All-head (JoinsNodes i.nodes) a arcs joined) tight.0, all_tight arcs y (All-tail (JoinsNodes i.nodes) a arcs joined) tight.1)
+
+  pub same_cut : CutTight i x set → CutTight i x other
+  same_cut cut = record {
+    source_inside = same i.source law.source_within ∙ cut.source_inside;
+    sink_outside = same i.sink law.sink_within ∙ cut.sink_outside;
+    tight = all_tight i.arcs x law.joined cut.tight;
+  }
+
+module _ (i : MaxValue) (x : List ℤ) where
+  -- whatever is said of the flow, it is feasible
+  pub max_feasible : (told : MaxCertified) → CertifiesMaxFlow i x told → (done : Unit {0}) × FeasibleMax i x
+  max_feasible (max_told.Optimal total inside) says = (tt, says.0.0.feasible)
+  max_feasible (max_told.Better y) says = (tt, says.claimed)
+
+  pub max_better : (y : List ℤ) → FeasibleMax i x → DecidesMax i x (of_max.Better y) → CertifiesMaxFlow i x (max_told.Better y)
+  max_better y feasible told = record { claimed = feasible; not_maximum = told.0; feasible = told.1; greater = told.2 }
+
+-- ---- least
+module _ (i : MinValue) (x : List ℤ) where
+  min_one_way : AllOneWay (min_claimed_rows i x)
+  min_one_way = (bound_one_way i.arcs x, (balance_one_way i.nodes i.arcs (min_demand i) x, (cost_one_way i.arcs x, tt)))
+
+  min_clear : (told : MinCertified) → CertifiesMinFlow i x told → AllClear (min_claimed_rows i x)
+  min_clear (min_told.Optimal total potentials) says = all_clear-append (feasible_min_rows i x) (cost_row i.arcs x ∷ []) (feasible_min_clear i x says.0.0.feasible) (costs_clear i.arcs x says.0.0.costs_wide, tt)
+  min_clear (min_told.Wide total p) says = all_clear-append (feasible_min_rows i x) (cost_row i.arcs x ∷ []) (feasible_min_clear i x says.0.0.feasible) (costs_clear i.arcs x says.0.0.costs_wide, tt)
+  min_clear (min_told.Better y) says = all_clear-append (feasible_min_rows i x) (cost_row i.arcs x ∷ []) (feasible_min_clear i x says.claimed) (costs_clear i.arcs x says.costs_wide, tt)
+
+  min_refused : (error : JudgeError) → Refuses (First (min_claimed_rows i x)) error → (result : Result MinCertified JudgeError) → IsErrAnd result (λ e. e ≡ error) → Settles (CertifiesMinFlow i x) (min_claimed_rows i x) result
+  min_refused error first result is = error_settles (CertifiesMinFlow i x) (min_claimed_rows i x) min_one_way min_clear error first result is
+
+  -- the first test that fails
+  pub min_infeasible : (error : JudgeError) → Refutes (λ (done : Unit {0}). FeasibleMin i x) (feasible_min_rows i x) error → (result : Result MinCertified JudgeError) → IsErrAnd result (λ e. e ≡ error)
+      → Settles (CertifiesMinFlow i x) (min_claimed_rows i x) result
+  min_infeasible error told = min_refused error (refused_in_front (feasible_min_rows i x) (cost_row i.arcs x ∷ []) error (refuted_refuses _ (feasible_min_rows i x) error told))
+
+  module _ (feasible : FeasibleMin i x) where
+    pub min_costly : (place : Where) (reason : Reason) → FirstOfRow (cost_row i.arcs x) place reason → (result : Result MinCertified JudgeError) → IsErrAnd result (λ e. e ≡ Refused place reason)
+        → Settles (CertifiesMinFlow i x) (min_claimed_rows i x) result
+    min_costly place reason first =
+        min_refused (Refused place reason) (first_after (feasible_min_rows i x) (cost_row i.arcs x ∷ []) place reason (feasible_min_clear i x feasible) (inl first))
+
+    module _ (costs : Clear (cost_row i.arcs x)) where
+      pub min_better : (y : List ℤ) → DecidesMin i x (of_min.Better y) → CertifiesMinFlow i x (min_told.Better y)
+      min_better y told = record { claimed = feasible; costs_wide = costs_wide i.arcs x costs; not_least = told.0; feasible = told.1; less = told.2 }
+
+      pub min_least : (total : ℤ) (p : PotentialsValue) (told : MinCertified) → total ≡ cost i.arcs x → DecidesMin i x (of_min.Optimal p) → IsLeastBy total p told → CertifiesMinFlow i x told
+      min_least total p (min_told.Optimal said potentials) total_is decided is =
+          let slack = subst (λ (q : ℕ → ℤ). Slack i.arcs x q) (sym is.1) decided.1 in
+          ((record { feasible = feasible; costs_wide = costs_wide i.arcs x costs; slack = slack }, decided.0), is.0 ∙ total_is, is.2 ∙ decided.2)
+      min_least total p (min_told.Wide said q) total_is decided is =
+          rw is.1 ((record { feasible = feasible; costs_wide = costs_wide i.arcs x costs; slack = decided.1 }, decided.0), is.0 ∙ total_is, decided.2, is.2)
+      min_least total p (min_told.Better y) total_is decided is = absurd is

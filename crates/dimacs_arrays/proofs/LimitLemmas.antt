@@ -1,0 +1,53 @@
+-- The limits of arcs and counts.
+use Rattle.std.proofs.Common.{◌≡◌, inl, inr, ℕ, ◌+◌, ◌<◌, ◌≤◌, List, [], ◌∷◌, All, length, refl, sym, ◌∙◌, arith}
+use Rattle.std.specs.Prelude.{pos, ◌≤ℤ◌, ◌<ℤ◌}
+use Rattle.std.proofs.lemmas.Int.{ints}
+use Rattle.std.proofs.lemmas.List.Elements.{All-get_or}
+use Rattle.dimacs_lines.specs.Limits.{most_count, most_nodes}
+use Rattle.dimacs_records.specs.declared.reasons.Reason.{Reason}
+use Rattle.dimacs_records.specs.declared.reasons.Reason.TheVariants.{NumberRange}
+use Rattle.dimacs_instance.specs.declared.network.ArcView.{ArcView}
+use Rattle.dimacs_instance.specs.Arcs.{JoinsNodes}
+use Rattle.dimacs_judge.specs.declared.verdict.Where.{Where}
+use Rattle.dimacs_judge.specs.declared.verdict.Where.TheVariants.{Arc, Node}
+use Rattle.dimacs_judge.specs.Rows.{arc_at, no_arc, one_test}
+use Rattle.dimacs_judge.specs.Tests.{AllClear, Clear, FirstOfRow}
+use Rattle.dimacs_judge.proofs.Firsts.{AllOneWay, OneWay, arc_one_way, one_test_one_way}
+use Rattle.dimacs_arrays.specs.Limits.{ArcFails, count_rows, limit_row}
+
+-- a single test that fails, or passes
+pub one_first : (place : Where) (why : Reason) (fails : Type 0) → fails → FirstOfRow (one_test place why fails) place why
+one_first place why fails f = record { number = 0; fails = (refl, refl, refl, f); earlier = λ k below. absurd (omega (arith, below)) }
+
+pub one_clear : (place : Where) (why : Reason) (fails : Type 0) → (¬ fails) → Clear (one_test place why fails)
+one_clear place why fails off k p r f = off f.3
+
+pub counts_clear : (nodes arcs : ℕ) → nodes ≤ most_nodes → arcs ≤ most_count → AllClear (count_rows nodes arcs)
+counts_clear nodes arcs nodes_few arcs_few = (
+  one_clear (Node (most_nodes + 1)) NumberRange (most_nodes < nodes) (λ more. omega (arith, more, nodes_few)),
+  (one_clear (Arc (most_count + 1)) NumberRange (most_count < arcs) (λ more. omega (arith, more, arcs_few)), tt),
+)
+
+pub counts_one_way : (nodes arcs : ℕ) → AllOneWay (count_rows nodes arcs)
+counts_one_way nodes arcs = (one_test_one_way (Node (most_nodes + 1)) NumberRange (most_nodes < nodes), (one_test_one_way (Arc (most_count + 1)) NumberRange (most_count < arcs), tt))
+
+one_fault : (nodes : ℕ) (a : ArcView) (r s : Reason) → ArcFails nodes a r → ArcFails nodes a s → r ≡ s
+one_fault nodes a r s (inl f) (inl g) = f.0 ∙ sym g.0
+one_fault nodes a r s (inl f) (inr g) = absurd (f.1 g.1)
+one_fault nodes a r s (inr f) (inl g) = absurd (g.1 f.1)
+one_fault nodes a r s (inr f) (inr g) = f.0 ∙ sym g.0
+
+pub limit_one_way : (nodes : ℕ) (arcs : List ArcView) → OneWay (limit_row nodes arcs)
+limit_one_way nodes arcs = arc_one_way arcs _ (λ k r s f g. one_fault nodes (arc_at arcs k) r s f g)
+
+-- an arc that joins nodes and has lawful bounds
+abbrev pub HasLawfulBounds : ArcView → Type 0
+HasLawfulBounds a = (pos 0 ≤ℤ a.low) × (a.low ≤ℤ a.cap)
+
+no_fault : (nodes : ℕ) (a : ArcView) (reason : Reason) → JoinsNodes nodes a → HasLawfulBounds a → ¬ ArcFails nodes a reason
+no_fault nodes a reason joined bounds (inl f) = f.1 joined
+no_fault nodes a reason joined bounds (inr f) = elim f.2 [ inl low ↦ omega (arith, ints, low, bounds.0) | inr less ↦ omega (arith, ints, less, bounds.1) ]
+
+pub limits_clear : (nodes : ℕ) (arcs : List ArcView) → All (JoinsNodes nodes) arcs → All HasLawfulBounds arcs → Clear (limit_row nodes arcs)
+limits_clear nodes arcs joined bounds k place reason f =
+    no_fault nodes (arc_at arcs k) reason (All-get_or (JoinsNodes nodes) arcs k no_arc f.0 joined) (All-get_or HasLawfulBounds arcs k no_arc f.0 bounds) f.2

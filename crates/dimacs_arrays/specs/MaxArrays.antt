@@ -1,0 +1,65 @@
+-- The arrays of maximum flow instances, and what they spell.
+use Rattle.std.specs.Prelude.{ℕ, ◌≡◌, List, [], ◌∷◌, ◌++◌, length, get_or, map, ℤ, pos, ◌<ℤ◌}
+use Rattle.std.specs.List.{range_with_len}
+use Rattle.dimacs_records.specs.Ranges.{IsNode}
+use Rattle.dimacs_records.specs.declared.reasons.Reason.TheVariants.{NodeRange, NodeTwice}
+use Rattle.dimacs_instance.specs.declared.network.ArcView.{ArcView}
+use Rattle.dimacs_instance.specs.MaxFlows.{MaxValue}
+use Rattle.dimacs_instance.specs.Plain.{capacity_arc}
+use Rattle.dimacs_judge.specs.declared.verdict.Where.TheVariants.{Node}
+use Rattle.dimacs_judge.specs.Feasible.{FeasibleMax, value}
+use Rattle.dimacs_judge.specs.FlowJudges.{ShowsMaxFlow}
+use Rattle.dimacs_judge.specs.Optimum.{Maximum}
+use Rattle.dimacs_judge.specs.Rows.{one_test}
+use Rattle.dimacs_judge.specs.Tests.{Row}
+use Rattle.dimacs_arrays.specs.declared.error.Array.TheVariants as arrays
+use Rattle.dimacs_arrays.specs.declared.lengths.ArrayLength.{ArrayLength}
+use Rattle.dimacs_arrays.specs.declared.max.MaxArrays.{MaxArrays}
+use Rattle.dimacs_arrays.specs.declared.certify_max.MaxCertified.{MaxCertified}
+use Rattle.dimacs_arrays.specs.declared.certify_max.MaxCertified.TheVariants.{Optimal, Better}
+use Rattle.dimacs_arrays.specs.Answers.{length_of}
+use Rattle.dimacs_arrays.specs.ByNode.{marked}
+use Rattle.dimacs_arrays.specs.Limits.{count_rows, limit_row}
+
+-- the arc of this index
+abbrev pub max_arc : MaxArrays → ℕ → ArcView
+max_arc a k = capacity_arc (get_or a.tails.now k 0) (get_or a.heads.now k 0) (get_or a.caps.now k (pos 0))
+
+-- the instance that the arrays spell, with as many arcs as there are tails
+abbrev pub max_spelled : MaxArrays → MaxValue
+max_spelled a = record { nodes = a.nodes; source = a.source; sink = a.sink; arcs = map (max_arc a) (range_with_len 0 (length a.tails.now)) }
+
+-- a head and a capacity for each arc
+abbrev pub max_lengths : MaxArrays → List ArrayLength
+max_lengths a = length_of arrays.Heads (length a.heads.now) (length a.tails.now) ∷ length_of arrays.Caps (length a.caps.now) (length a.tails.now) ∷ []
+
+-- and an amount for each arc
+abbrev pub max_flow_lengths : MaxArrays → List ℤ → List ArrayLength
+max_flow_lengths a flows = max_lengths a ++ length_of arrays.Flows (length flows) (length a.tails.now) ∷ []
+
+-- and a byte for each node
+abbrev pub max_judge_lengths : MaxArrays → List ℤ → List ℕ → List ArrayLength
+max_judge_lengths a flows inside = max_flow_lengths a flows ++ length_of arrays.Inside (length inside) a.nodes ∷ []
+
+-- the source or the sink is no node, or both are the same
+abbrev pub end_rows : ℕ → ℕ → ℕ → List Row
+end_rows nodes source sink =
+    one_test (Node source) NodeRange (¬ IsNode nodes source)
+    ∷ one_test (Node sink) NodeRange (¬ IsNode nodes sink)
+    ∷ one_test (Node sink) NodeTwice (source ≡ sink) ∷ []
+
+-- the limits of the counts, of the ends, and of each arc, in order
+abbrev pub max_limits : MaxArrays → List Row
+max_limits a = count_rows a.nodes (length a.tails.now) ++ (end_rows a.nodes a.source a.sink ++ limit_row a.nodes (max_spelled a).arcs ∷ [])
+
+-- the flow is feasible and isn't maximum, and the other is feasible and has greater value
+pub record IsMaxFlowImproved (i : MaxValue) (x y : List ℤ) : Type 0 where
+  pub claimed : FeasibleMax i x
+  pub not_maximum : ¬ Maximum i x
+  pub feasible : FeasibleMax i y
+  pub greater : value i x <ℤ value i y
+
+-- the flow is maximum by the cut of the marked nodes, and has this value; or it isn't, and the other is better
+abbrev pub CertifiesMaxFlow : MaxValue → List ℤ → MaxCertified → Type 0
+CertifiesMaxFlow i x (Optimal total inside) = ShowsMaxFlow i x (marked inside.items) × (total ≡ value i x) × (length inside.items ≡ i.nodes)
+CertifiesMaxFlow i x (Better y) = IsMaxFlowImproved i x y

@@ -1,0 +1,87 @@
+-- The arrays of minimum cost flow instances, and what they spell.
+use Rattle.std.specs.Prelude.{ℕ, ◌≡◌, ◌<◌, Bool, List, [], ◌∷◌, ◌++◌, length, get_or, map, ℤ, pos, ◌<ℤ◌}
+use Rattle.std.specs.List.{range_with_len, zip}
+use Rattle.std.specs.Ordering.{nat_cmp}
+use Rattle.std.specs.FinMap.{FinMap, from_entries}
+use Rattle.dimacs_records.specs.NodeValues.{without_zeros}
+use Rattle.dimacs_records.specs.Ranges.{IsNode, IsWhole, IsWide}
+use Rattle.dimacs_claims.specs.Potentials.{PotentialsValue, potential_of}
+use Rattle.dimacs_instance.specs.declared.network.ArcView.{ArcView}
+use Rattle.dimacs_instance.specs.MinFlows.{MinValue}
+use Rattle.dimacs_instance.specs.Plain.{cost_arc}
+use Rattle.dimacs_judge.specs.Feasible.{FeasibleMin}
+use Rattle.dimacs_judge.specs.Flows.{cost}
+use Rattle.dimacs_judge.specs.FlowTests.{feasible_min_rows, cost_row, cost_through}
+use Rattle.dimacs_judge.specs.Optimum.{Least, NoFlow}
+use Rattle.dimacs_judge.specs.FlowJudges.{ShowsMinFlow}
+use Rattle.dimacs_judge.specs.Tests.{Row}
+use Rattle.dimacs_judge.specs.ViolatedSets.{Violated}
+use Rattle.dimacs_arrays.specs.declared.error.Array.TheVariants as arrays
+use Rattle.dimacs_arrays.specs.declared.lengths.ArrayLength.{ArrayLength}
+use Rattle.dimacs_arrays.specs.declared.min.MinArrays.{MinArrays}
+use Rattle.dimacs_arrays.specs.declared.certify_min.MinCertified.{MinCertified}
+use Rattle.dimacs_arrays.specs.declared.certify_min.MinCertified.TheVariants.{Optimal, Wide, Better}
+use Rattle.dimacs_arrays.specs.Answers.{length_of}
+use Rattle.dimacs_arrays.specs.ByNode.{number_of}
+use Rattle.dimacs_arrays.specs.Limits.{count_rows, limit_row}
+
+-- the arc of this index
+abbrev pub min_arc : MinArrays → ℕ → ArcView
+min_arc a k = cost_arc (get_or a.tails.now k 0) (get_or a.heads.now k 0) (get_or a.lows.now k (pos 0)) (get_or a.caps.now k (pos 0)) (get_or a.costs.now k (pos 0))
+
+-- each node beside its supply, but those whose supply is 0
+abbrev pub supplies_by_node : List ℤ → FinMap nat_cmp ℤ
+supplies_by_node supplies = without_zeros (from_entries (zip (range_with_len 1 (length supplies)) supplies))
+
+-- the instance that the arrays spell, with as many arcs as there are tails
+abbrev pub min_spelled : MinArrays → MinValue
+min_spelled a = record { nodes = a.nodes; supplies = supplies_by_node a.supplies.now; arcs = map (min_arc a) (range_with_len 0 (length a.tails.now)) }
+
+-- a head, a lower bound, a capacity and a cost for each arc, and a supply for each node
+abbrev pub min_lengths : MinArrays → List ArrayLength
+min_lengths a =
+    let arcs = length a.tails.now in
+    length_of arrays.Heads (length a.heads.now) arcs ∷ length_of arrays.Lows (length a.lows.now) arcs ∷ length_of arrays.Caps (length a.caps.now) arcs
+    ∷ length_of arrays.Costs (length a.costs.now) arcs ∷ length_of arrays.Supplies (length a.supplies.now) a.nodes ∷ []
+
+-- and an amount for each arc
+abbrev pub min_flow_lengths : MinArrays → List ℤ → List ArrayLength
+min_flow_lengths a flows = min_lengths a ++ length_of arrays.Flows (length flows) (length a.tails.now) ∷ []
+
+-- and a potential for each node
+abbrev pub min_judge_lengths : MinArrays → List ℤ → List ℤ → List ArrayLength
+min_judge_lengths a flows potentials = min_flow_lengths a flows ++ length_of arrays.Potentials (length potentials) a.nodes ∷ []
+
+-- or a byte for each node, and no flow
+abbrev pub infeasible_lengths : MinArrays → List ℕ → List ArrayLength
+infeasible_lengths a inside = min_lengths a ++ length_of arrays.Inside (length inside) a.nodes ∷ []
+
+-- the limits of the counts, and of each arc, in order
+abbrev pub min_limits : MinArrays → List Row
+min_limits a = count_rows a.nodes (length a.tails.now) ++ limit_row a.nodes (min_spelled a).arcs ∷ []
+
+-- the flow is feasible, with a cost that stays in its range arc by arc, and isn't least; and the other is feasible and costs less
+pub record IsMinFlowImproved (i : MinValue) (x y : List ℤ) : Type 0 where
+  pub claimed : FeasibleMin i x
+  pub costs_wide : (k : ℕ) → k < length i.arcs → IsWide (cost_through i.arcs x k)
+  pub not_least : ¬ Least i x
+  pub feasible : FeasibleMin i y
+  pub less : cost i.arcs y <ℤ cost i.arcs x
+
+-- one of the potentials of the nodes takes more than 64 bits
+abbrev pub IsWider : PotentialsValue → Type 0
+IsWider p = (v : ℕ) × IsNode p.nodes v × (¬ IsWhole (potential_of p v))
+
+-- the flow is least by these potentials, in an array or wider than that, and has this cost; or it isn't, and the other is better
+abbrev pub CertifiesMinFlow : MinValue → List ℤ → MinCertified → Type 0
+CertifiesMinFlow i x (Optimal total potentials) = ShowsMinFlow i x (number_of potentials.items) × (total ≡ cost i.arcs x) × (length potentials.items ≡ i.nodes)
+CertifiesMinFlow i x (Wide total p) = ShowsMinFlow i x (potential_of p) × (total ≡ cost i.arcs x) × (p.nodes ≡ i.nodes) × IsWider p
+CertifiesMinFlow i x (Better y) = IsMinFlowImproved i x y
+
+-- the tests of a flow before those of a certificate, in order
+abbrev pub min_claimed_rows : MinValue → List ℤ → List Row
+min_claimed_rows i x = feasible_min_rows i x ++ cost_row i.arcs x ∷ []
+
+-- the set is violated, and no flow is feasible
+abbrev pub ShowsInfeasible : MinValue → (ℕ → Bool) → Type 0
+ShowsInfeasible i set = Violated i set × NoFlow i

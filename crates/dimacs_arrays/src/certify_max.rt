@@ -1,0 +1,63 @@
+//! Certifying that a flow is maximum, over arrays.
+
+ghost use Rattle.std.specs.Prelude.{◌≡◌, length};
+ghost use Rattle.dimacs_instance.specs.MaxFlows.{IsMax};
+ghost use Rattle.dimacs_judge.specs.FlowTests.{feasible_max_rows};
+ghost use Rattle.dimacs_judge.specs.Tests.{Settles};
+ghost use Rattle.dimacs_arrays.specs.Answers.{AnswersArrays};
+ghost use Rattle.dimacs_arrays.specs.MaxArrays.{CertifiesMaxFlow, max_flow_lengths, max_limits, max_spelled};
+
+use crate::by_node::bytes_of;
+use crate::error::{Array, ArrayError};
+use crate::lengths::{ArrayLength, lengths_hold};
+use crate::max::MaxArrays;
+use dimacs_decide::{MaxDecision, decide_max};
+use dimacs_instance::{MaxInstance, Network};
+use dimacs_judge::{Flow, JudgeError, feasible_max, value_of};
+use std::alloc::Global;
+
+/// What certifying says of a flow.
+#[derive(Drop)]
+pub enum MaxCertified {
+    /// It is maximum, of this value; the nodes whose byte is 1 show it, with which `judge_max_arrays` says yes.
+    Optimal { value: i128, inside: Vec<u8> },
+    /// It isn't: this flow is feasible and has greater value.
+    Better(Flow),
+}
+
+/// Whether the flow is maximum, decided without a certificate: `Optimal` with one, or `Better` with a better flow. Else the
+/// first test that fails of those that `judge_max_arrays` makes before it looks at the nodes inside, in the same order;
+/// `Memory` says nothing of the arrays.
+pub fn certify_max_arrays(
+    alloc: Global,
+    arrays: &MaxArrays<'_>,
+    flows: &[i64],
+) -> Result<MaxCertified, ArrayError>
+    ensures { AnswersArrays (max_flow_lengths arrays.now flows.now) (max_limits arrays.now) (IsMax (max_spelled arrays.now))
+        (Settles (CertifiesMaxFlow (max_spelled arrays.now) flows.now) (feasible_max_rows (max_spelled arrays.now) flows.now)) result }
+{
+    arrays.lengths_hold()?;
+    lengths_hold(&[ArrayLength::of(Array::Flows, flows.len(), arrays.tails.len())])?;
+    let instance = arrays.instance(alloc)?;
+    Ok(certify_over(alloc, &instance, flows)?)
+}
+
+/// Whether the flow is maximum, of an instance that was made.
+fn certify_over<N: Network>(
+    alloc: Global,
+    instance: &MaxInstance<N>,
+    flows: &[i64],
+) -> Result<MaxCertified, JudgeError>
+    requires { length flows.now ≡ length instance.now.arcs }
+    ensures { Settles (CertifiesMaxFlow instance.now flows.now) (feasible_max_rows instance.now flows.now) result }
+{
+    let flow = Flow::of(alloc, flows)?;
+    feasible_max(alloc, instance, &flow)?;
+    match decide_max(alloc, instance, &flow)? {
+        MaxDecision::Better(better) => Ok(MaxCertified::Better(better)),
+        MaxDecision::Optimal(cut) => Ok(MaxCertified::Optimal {
+            value: value_of(instance, &flow),
+            inside: bytes_of(alloc, instance.network().nodes(), &cut)?,
+        }),
+    }
+}

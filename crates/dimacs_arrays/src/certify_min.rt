@@ -1,0 +1,78 @@
+//! Certifying that a flow is least, over arrays.
+
+ghost use Rattle.std.specs.Prelude.{◌≡◌, length, IfOk};
+ghost use Rattle.dimacs_instance.specs.MinFlows.{IsMin};
+ghost use Rattle.dimacs_judge.specs.Tests.{Settles};
+ghost use Rattle.dimacs_arrays.specs.Answers.{AnswersArrays};
+ghost use Rattle.dimacs_arrays.specs.MinArrays.{CertifiesMinFlow, min_claimed_rows, min_flow_lengths, min_limits, min_spelled};
+ghost use Rattle.dimacs_arrays.specs.inside.MinCertified.{IsLeastBy};
+
+use crate::by_node::numbers_of;
+use crate::error::{Array, ArrayError};
+use crate::lengths::{ArrayLength, lengths_hold};
+use crate::min::MinArrays;
+use dimacs_claims::Potentials;
+use dimacs_decide::{MinDecision, decide_min};
+use dimacs_instance::{MinInstance, Network};
+use dimacs_judge::{Flow, JudgeError, cost_within, feasible_min};
+use dimacs_lines::Memory;
+use std::alloc::Global;
+
+/// What certifying says of a flow.
+#[derive(Drop)]
+pub enum MinCertified {
+    /// It is least, of this cost, by these potentials, with which `judge_min_arrays` says yes; that of node 1 comes first.
+    Optimal { cost: i128, potentials: Vec<i64> },
+    /// It is least, of this cost, by potentials some of which take more than 64 bits, so that no array can have them.
+    Wide { cost: i128, potentials: Potentials },
+    /// It isn't: this flow is feasible and costs less.
+    Better(Flow),
+}
+
+/// Whether the flow is least, decided without a certificate: `Optimal` or `Wide` with one, or `Better` with a better flow.
+/// Else the first test that fails of those that `judge_min_arrays` makes before it looks at the potentials, in the same
+/// order; `Memory` says nothing of the arrays.
+pub fn certify_min_arrays(
+    alloc: Global,
+    arrays: &MinArrays<'_>,
+    flows: &[i64],
+) -> Result<MinCertified, ArrayError>
+    ensures { AnswersArrays (min_flow_lengths arrays.now flows.now) (min_limits arrays.now) (IsMin (min_spelled arrays.now))
+        (Settles (CertifiesMinFlow (min_spelled arrays.now) flows.now) (min_claimed_rows (min_spelled arrays.now) flows.now)) result }
+{
+    arrays.lengths_hold()?;
+    lengths_hold(&[ArrayLength::of(Array::Flows, flows.len(), arrays.tails.len())])?;
+    let instance = arrays.instance(alloc)?;
+    Ok(certify_over(alloc, &instance, flows)?)
+}
+
+/// Whether the flow is least, of an instance that was made.
+fn certify_over<N: Network>(
+    alloc: Global,
+    instance: &MinInstance<N>,
+    flows: &[i64],
+) -> Result<MinCertified, JudgeError>
+    requires { length flows.now ≡ length instance.now.arcs }
+    ensures { Settles (CertifiesMinFlow instance.now flows.now) (min_claimed_rows instance.now flows.now) result }
+{
+    let flow = Flow::of(alloc, flows)?;
+    feasible_min(alloc, instance, &flow)?;
+    let cost = cost_within(instance.network(), &flow)?;
+    match decide_min(alloc, instance, &flow)? {
+        MinDecision::Better(better) => Ok(MinCertified::Better(better)),
+        MinDecision::Optimal(potentials) => Ok(least_by(alloc, cost, potentials)?),
+    }
+}
+
+/// What is said of a flow of this cost that these potentials show least.
+fn least_by(alloc: Global, cost: i128, potentials: Potentials) -> Result<MinCertified, Memory>
+    ensures { IfOk result (IsLeastBy cost potentials) }
+{
+    match numbers_of(alloc, &potentials)? {
+        Some(numbers) => Ok(MinCertified::Optimal {
+            cost,
+            potentials: numbers,
+        }),
+        None => Ok(MinCertified::Wide { cost, potentials }),
+    }
+}

@@ -1,0 +1,71 @@
+//! Why a call over arrays answers nothing better.
+
+use crate::limits::PastLimit;
+use dimacs_judge::{JudgeError, Where};
+use dimacs_lines::Memory;
+use dimacs_records::Reason;
+
+/// An array that is given to a call, but for the tails of the arcs, whose length is the number of arcs.
+#[derive(Clone, Copy, Debug, PartialEq, Eq)]
+pub enum Array {
+    Heads,
+    Lows,
+    Caps,
+    Costs,
+    Weights,
+    Supplies,
+    Flows,
+    Inside,
+    Potentials,
+    Distances,
+    Predecessors,
+}
+
+/// Why a call over arrays does not say yes.
+#[derive(Clone, Copy, Debug, PartialEq, Eq)]
+pub enum ArrayError {
+    /// This array has another length than there are arcs, or nodes where it says something by node.
+    Length(Array),
+    /// The first number that is outside of the limits of instances, and the reason for which a text would be refused.
+    Limit(Where, Reason),
+    /// The first test of the claim that fails.
+    Refused(Where, Reason),
+    /// A growth was refused.
+    Memory,
+}
+
+impl From<JudgeError> for ArrayError {
+    ghost use Rattle.std.specs.Prelude.{◌≡◌};
+    ghost use Rattle.dimacs_arrays.specs.Answers.{of_judge};
+
+    ghost from_gives = { λ error given. given ≡ of_judge error };
+
+    fn from(error: JudgeError) -> ArrayError {
+        match error {
+            JudgeError::Refused(place, reason) => ArrayError::Refused(place, reason),
+            JudgeError::Memory => ArrayError::Memory,
+        }
+    }
+}
+
+impl From<PastLimit> for ArrayError {
+    ghost use Rattle.std.specs.Prelude.{◌≡◌};
+    ghost use Rattle.dimacs_arrays.specs.declared.error.ArrayError.TheVariants.{Limit};
+
+    ghost from_gives = { λ limit given. given ≡ Limit limit.place limit.reason };
+
+    fn from(limit: PastLimit) -> ArrayError {
+        ArrayError::Limit(limit.place, limit.reason)
+    }
+}
+
+impl From<Memory> for ArrayError {
+    ghost use Rattle.std.specs.Prelude.{◌≡◌};
+    ghost use Rattle.dimacs_arrays.specs.declared.error.ArrayError.TheVariants as errors;
+
+    ghost from_gives = { λ memory given. given ≡ errors.Memory };
+
+    fn from(_memory: Memory) -> ArrayError {
+        ArrayError::Memory
+    }
+}

@@ -1,0 +1,60 @@
+//! Judging that a flow is maximum, over arrays.
+
+ghost use Rattle.std.specs.Prelude.{◌≡◌, length};
+ghost use Rattle.dimacs_instance.specs.MaxFlows.{IsMax};
+ghost use Rattle.dimacs_judge.specs.declared.verdict.Verdict.TheVariants.{Max};
+ghost use Rattle.dimacs_judge.specs.Feasible.{value};
+ghost use Rattle.dimacs_judge.specs.FlowJudges.{ShowsMaxFlow, max_flow_rows};
+ghost use Rattle.dimacs_judge.specs.Tests.{Judges};
+ghost use Rattle.dimacs_arrays.specs.Answers.{AnswersArrays};
+ghost use Rattle.dimacs_arrays.specs.ByNode.{marked};
+ghost use Rattle.dimacs_arrays.specs.MaxArrays.{max_judge_lengths, max_limits, max_spelled};
+
+use crate::by_node::cut_of;
+use crate::error::{Array, ArrayError};
+use crate::lengths::{ArrayLength, lengths_hold};
+use crate::max::MaxArrays;
+use dimacs_instance::{MaxInstance, Network};
+use dimacs_judge::{Flow, JudgeError, Verdict, judge_max_flow};
+use std::alloc::Global;
+
+/// Whether the nodes inside show that the flow is maximum: those whose byte isn't 0. A yes, `Max` with the flow's value,
+/// means that no feasible flow of whole numbers has a greater one. `Memory` says nothing of the arrays.
+///
+/// The tests in their order: the lengths of `heads`, `caps`, `flows` and `inside`; the limits: the number of nodes, and
+/// of arcs, `NumberRange`; the source, and then the sink, `NodeRange` where it is no node, `NodeTwice` where both are the
+/// same; each arc, from 1, `NodeRange` where an end is no node, `BoundOrder` where the capacity is negative; and then those
+/// of `judge_max_flow`.
+pub fn judge_max_arrays(
+    alloc: Global,
+    arrays: &MaxArrays<'_>,
+    flows: &[i64],
+    inside: &[u8],
+) -> Result<Verdict, ArrayError>
+    ensures { AnswersArrays (max_judge_lengths arrays.now flows.now inside.now) (max_limits arrays.now) (IsMax (max_spelled arrays.now))
+        (Judges (max_flow_rows (max_spelled arrays.now) flows.now (marked inside.now)) (ShowsMaxFlow (max_spelled arrays.now) flows.now (marked inside.now)) (λ verdict. verdict ≡ Max (value (max_spelled arrays.now) flows.now))) result }
+{
+    arrays.lengths_hold()?;
+    lengths_hold(&[
+        ArrayLength::of(Array::Flows, flows.len(), arrays.tails.len()),
+        ArrayLength::of(Array::Inside, inside.len(), arrays.nodes as usize),
+    ])?;
+    let instance = arrays.instance(alloc)?;
+    Ok(judge_over(alloc, &instance, flows, inside)?)
+}
+
+/// Whether the nodes inside show that the flow is maximum, of an instance that was made.
+fn judge_over<N: Network>(
+    alloc: Global,
+    instance: &MaxInstance<N>,
+    flows: &[i64],
+    inside: &[u8],
+) -> Result<Verdict, JudgeError>
+    requires flows { length flows.now ≡ length instance.now.arcs }
+    requires inside { length inside.now ≡ instance.now.nodes }
+    ensures { Judges (max_flow_rows instance.now flows.now (marked inside.now)) (ShowsMaxFlow instance.now flows.now (marked inside.now)) (λ verdict. verdict ≡ Max (value instance.now flows.now)) result }
+{
+    let flow = Flow::of(alloc, flows)?;
+    let cut = cut_of(alloc, instance.network().nodes(), inside)?;
+    judge_max_flow(alloc, instance, &flow, &cut)
+}

@@ -1,0 +1,59 @@
+//! Judging that a flow is least, over arrays.
+
+ghost use Rattle.std.specs.Prelude.{◌≡◌, length};
+ghost use Rattle.dimacs_instance.specs.MinFlows.{IsMin};
+ghost use Rattle.dimacs_judge.specs.declared.verdict.Verdict.TheVariants.{Min};
+ghost use Rattle.dimacs_judge.specs.Flows.{cost};
+ghost use Rattle.dimacs_judge.specs.FlowJudges.{ShowsMinFlow, min_flow_rows};
+ghost use Rattle.dimacs_judge.specs.Tests.{Judges};
+ghost use Rattle.dimacs_arrays.specs.Answers.{AnswersArrays};
+ghost use Rattle.dimacs_arrays.specs.ByNode.{number_of};
+ghost use Rattle.dimacs_arrays.specs.MinArrays.{min_judge_lengths, min_limits, min_spelled};
+
+use crate::by_node::potentials_of;
+use crate::error::{Array, ArrayError};
+use crate::lengths::{ArrayLength, lengths_hold};
+use crate::min::MinArrays;
+use dimacs_instance::{MinInstance, Network};
+use dimacs_judge::{Flow, JudgeError, Verdict, judge_min_flow};
+use std::alloc::Global;
+
+/// Whether the potentials show that the flow is least; that of node 1 comes first. A yes, `Min` with the flow's cost, means
+/// that no feasible flow of whole numbers costs less. `Memory` says nothing of the arrays.
+///
+/// The tests in their order: the lengths of `heads`, `lows`, `caps`, `costs`, `supplies`, `flows` and `potentials`; the
+/// limits: the number of nodes, and of arcs, `NumberRange`; each arc, from 1, `NodeRange` where an end is no node,
+/// `BoundOrder` where the lower bound is negative or the capacity less; and then those of `judge_min_flow`.
+pub fn judge_min_arrays(
+    alloc: Global,
+    arrays: &MinArrays<'_>,
+    flows: &[i64],
+    potentials: &[i64],
+) -> Result<Verdict, ArrayError>
+    ensures { AnswersArrays (min_judge_lengths arrays.now flows.now potentials.now) (min_limits arrays.now) (IsMin (min_spelled arrays.now))
+        (Judges (min_flow_rows (min_spelled arrays.now) flows.now (number_of potentials.now)) (ShowsMinFlow (min_spelled arrays.now) flows.now (number_of potentials.now)) (λ verdict. verdict ≡ Min (cost (min_spelled arrays.now).arcs flows.now))) result }
+{
+    arrays.lengths_hold()?;
+    lengths_hold(&[
+        ArrayLength::of(Array::Flows, flows.len(), arrays.tails.len()),
+        ArrayLength::of(Array::Potentials, potentials.len(), arrays.nodes as usize),
+    ])?;
+    let instance = arrays.instance(alloc)?;
+    Ok(judge_over(alloc, &instance, flows, potentials)?)
+}
+
+/// Whether the potentials show that the flow is least, of an instance that was made.
+fn judge_over<N: Network>(
+    alloc: Global,
+    instance: &MinInstance<N>,
+    flows: &[i64],
+    potentials: &[i64],
+) -> Result<Verdict, JudgeError>
+    requires flows { length flows.now ≡ length instance.now.arcs }
+    requires potentials { length potentials.now ≡ instance.now.nodes }
+    ensures { Judges (min_flow_rows instance.now flows.now (number_of potentials.now)) (ShowsMinFlow instance.now flows.now (number_of potentials.now)) (λ verdict. verdict ≡ Min (cost instance.now.arcs flows.now)) result }
+{
+    let flow = Flow::of(alloc, flows)?;
+    let potentials = potentials_of(alloc, instance.network().nodes(), potentials)?;
+    judge_min_flow(alloc, instance, &flow, &potentials)
+}

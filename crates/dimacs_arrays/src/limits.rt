@@ -1,0 +1,55 @@
+//! Whether the numbers of an instance lie within the limits that texts have.
+
+ghost use Rattle.std.specs.Prelude.{◌≤◌, ◌≤ℤ◌, pos, IfNone, OnOk};
+ghost use Rattle.dimacs_lines.specs.Limits.{most_count, most_nodes};
+ghost use Rattle.dimacs_arrays.specs.Limits.{ArcFails, count_rows};
+ghost use Rattle.dimacs_arrays.specs.inside.Answers.{TellsLimits};
+ghost use Rattle.dimacs_instance.specs.Arcs.{JoinsNodes};
+ghost use Rattle.dimacs_judge.specs.inside.Tests.{TellsReason};
+
+use dimacs_instance::{ArcView, MAX_ARCS};
+use dimacs_judge::Where;
+use dimacs_records::{MAX_NODES, Reason};
+
+/// Where a number is past its limit, and why.
+#[derive(Clone, Copy, Debug, PartialEq, Eq)]
+pub(crate) struct PastLimit {
+    pub(crate) place: Where,
+    pub(crate) reason: Reason,
+}
+
+/// Whether there are no more nodes and arcs than may be.
+pub(crate) fn counts_hold(nodes: u32, arcs: usize) -> Result<(), PastLimit>
+    ensures tells { TellsLimits (count_rows nodes arcs) result }
+    ensures few { OnOk result ((nodes ≤ most_nodes) × (arcs ≤ most_count)) }
+{
+    if nodes > MAX_NODES {
+        return Err(PastLimit {
+            place: Where::Node(MAX_NODES + 1),
+            reason: Reason::NumberRange,
+        });
+    }
+    if arcs > MAX_ARCS as usize {
+        return Err(PastLimit {
+            place: Where::Arc(MAX_ARCS + 1),
+            reason: Reason::NumberRange,
+        });
+    }
+    Ok(())
+}
+
+/// What is wrong with an arc of a network of so many nodes, if anything is.
+#[inline(always)]
+pub(crate) fn arc_fault(nodes: u32, arc: ArcView) -> Option<Reason>
+    ensures tells { TellsReason (ArcFails nodes arc) result }
+    ensures joined { IfNone result (JoinsNodes nodes arc) }
+    ensures bounds { IfNone result ((pos 0 ≤ℤ arc.low) × (arc.low ≤ℤ arc.cap)) }
+{
+    if arc.tail == 0 || arc.tail > nodes || arc.head == 0 || arc.head > nodes {
+        return Some(Reason::NodeRange);
+    }
+    if arc.low < 0 || arc.cap < arc.low {
+        return Some(Reason::BoundOrder);
+    }
+    None
+}
