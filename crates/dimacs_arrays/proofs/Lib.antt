@@ -3,6 +3,7 @@ mod ByNodeLemmas
 mod CertifyLemmas
 mod CertifyPathsLemmas
 mod DistanceLemmas
+mod GraphLemmas
 mod InfeasibleLemmas
 mod LabelLemmas
 pub mod LimitLemmas

@@ -1,5 +1,6 @@
 pub mod Answers
 pub mod ByNode
+pub mod GraphArrays
 pub mod Limits
 pub mod MaxArrays
 pub mod MinArrays

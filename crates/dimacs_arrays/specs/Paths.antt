@@ -80,11 +80,15 @@ AreInOrder s claim pred labels = All (λ b. EachAfter (IsNext s claim pred) b.la
 -- labels say these distances by these predecessors in this order, and so does judge_paths answer of them, asked for all
 -- distances from the source
 abbrev pub IsJudged : NetworkValue → ℕ → (ℕ → Option ℤ) → (ℕ → ℕ) → Result Verdict JudgeError → Type 0
-IsJudged g s claim pred result = (labels : LabelsValue) × AreLabelsBy g.nodes s claim pred labels × AreInOrder s claim pred labels × Judges (paths_rows g (Sources (s ∷ [])) labels) (ShowsDistances g (Sources (s ∷ [])) labels) (AnswersQueries labels.blocks (Sources (s ∷ []))) result
+IsJudged g s claim pred result =
+    (labels : LabelsValue) × AreLabelsBy g.nodes s claim pred labels × AreInOrder s claim pred labels
+    × Judges (paths_rows g (Sources (s ∷ [])) labels) (ShowsDistances g (Sources (s ∷ [])) labels)
+        (AnswersQueries labels.blocks (Sources (s ∷ []))) result
 
 -- what the judge answers of such labels; or there are none, by the first test that fails
 abbrev pub JudgesByNode : NetworkValue → ℕ → (ℕ → Option ℤ) → (ℕ → ℕ) → Result Verdict JudgeError → Type 0
-JudgesByNode g s claim pred result = IsJudged g s claim pred result ⊎ IsErrAnd result (Refutes (AreLabelsBy g.nodes s claim pred) (label_rows g.nodes s claim pred))
+JudgesByNode g s claim pred result =
+    IsJudged g s claim pred result ⊎ IsErrAnd result (Refutes (AreLabelsBy g.nodes s claim pred) (label_rows g.nodes s claim pred))
 
 -- a predecessor for each node: there are labels that say these distances by them, and all such labels pass the judge's tests
 pub record ArePredecessors (g : NetworkValue) (s : ℕ) (claim : ℕ → Option ℤ) (preds : List ℕ) : Type 0 where

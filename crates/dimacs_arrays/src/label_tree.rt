@@ -56,7 +56,8 @@ impl LabelTree {
     ) -> Result<LabelTree, Memory>
         requires source { IsNode (length distances.now) source }
         requires distance { claimed_by_node distances.now source ≡ Some (pos 0) }
-        ensures { IfOk result (λ tree. IsLabelTree (length distances.now) source (claimed_by_node distances.now) (pred_by_node predecessors.now) tree.block (value_of tree.led)) }
+        ensures { IfOk result (λ tree. IsLabelTree (length distances.now) source
+            (claimed_by_node distances.now) (pred_by_node predecessors.now) tree.block (value_of tree.led)) }
     {
         let mut led = NodeTable::new(alloc, false);
         led.set(source, true)?;
@@ -87,11 +88,14 @@ impl LabelTree {
         node: u32,
     ) -> Result<(), Memory>
         requires few_nodes { length distances.now ≤ most_nodes }
-        requires tree { IsLabelTree (length distances.now) self.old.block.source (claimed_by_node distances.now) (pred_by_node predecessors.now) self.old.block (value_of self.old.led) }
+        requires tree { IsLabelTree (length distances.now) self.old.block.source
+            (claimed_by_node distances.now) (pred_by_node predecessors.now) self.old.block (value_of self.old.led) }
         requires distance { IsSome (claimed_by_node distances.now node) }
-        requires next { (l : Label) → l.id ≡ node → IsNext self.old.block.source (claimed_by_node distances.now) (pred_by_node predecessors.now) self.old.block.labels l }
+        requires next { (l : Label) → l.id ≡ node → IsNext self.old.block.source
+            (claimed_by_node distances.now) (pred_by_node predecessors.now) self.old.block.labels l }
         requires led { value_of self.old.led (pred_by_node predecessors.now node) ≡ true }
-        ensures tree { OnOk result (IsLabelTree (length distances.now) self.old.block.source (claimed_by_node distances.now) (pred_by_node predecessors.now) self.new.block (value_of self.new.led)) }
+        ensures tree { OnOk result (IsLabelTree (length distances.now) self.old.block.source
+            (claimed_by_node distances.now) (pred_by_node predecessors.now) self.new.block (value_of self.new.led)) }
         ensures placed { OnOk result (Places (value_of self.old.led) (value_of self.new.led) node) }
     {
         if self.led.get(node) {

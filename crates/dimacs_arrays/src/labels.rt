@@ -36,7 +36,8 @@ pub(crate) fn labels_by_node(
     requires distances { length distances.now ≡ nodes }
     requires predecessors { length predecessors.now ≡ length distances.now }
     ensures order { IfOk result (AreInOrder source (claimed_by_node distances.now) (pred_by_node predecessors.now)) }
-    ensures labels { Settles (AreLabelsBy (length distances.now) source (claimed_by_node distances.now) (pred_by_node predecessors.now)) (label_rows (length distances.now) source (claimed_by_node distances.now) (pred_by_node predecessors.now)) result }
+    ensures labels { Settles (AreLabelsBy (length distances.now) source (claimed_by_node distances.now) (pred_by_node predecessors.now))
+        (label_rows (length distances.now) source (claimed_by_node distances.now) (pred_by_node predecessors.now)) result }
 {
     source_holds(source, &DistancesByNode { distances })?;
     predecessors_hold(source, distances, predecessors)?;
@@ -86,8 +87,10 @@ fn label_tree(
     requires source { IsNode (length distances.now) source }
     requires distance { claimed_by_node distances.now source ≡ Some (pos 0) }
     requires preds { (v : ℕ) → claimed_by_node distances.now v ≡ None → pred_by_node predecessors.now v ≡ 0 }
-    ensures tree { IfOk result (λ tree. IsLabelTree (length distances.now) source (claimed_by_node distances.now) (pred_by_node predecessors.now) tree.block (value_of tree.led) × AreLed (claimed_by_node distances.now) (value_of tree.led)) }
-    ensures first { IfErr result (Refuses (FirstOfRow (back_row (length distances.now) source (claimed_by_node distances.now) (pred_by_node predecessors.now)))) }
+    ensures tree { IfOk result (λ tree. IsLabelTree (length distances.now) source (claimed_by_node distances.now)
+        (pred_by_node predecessors.now) tree.block (value_of tree.led) × AreLed (claimed_by_node distances.now) (value_of tree.led)) }
+    ensures first { IfErr result (Refuses (FirstOfRow (back_row (length distances.now) source
+        (claimed_by_node distances.now) (pred_by_node predecessors.now)))) }
 {
     let mut tree = LabelTree::new(alloc, distances, predecessors, source)?;
     let mut back = WayBack::new(alloc);

@@ -39,11 +39,13 @@ impl WayBack {
         from: u32,
     ) -> Result<bool, Memory>
         requires few_nodes { length distances.now ≤ most_nodes }
-        requires tree { IsLabelTree (length distances.now) tree.old.block.source (claimed_by_node distances.now) (pred_by_node predecessors.now) tree.old.block (value_of tree.old.led) }
+        requires tree { IsLabelTree (length distances.now) tree.old.block.source
+            (claimed_by_node distances.now) (pred_by_node predecessors.now) tree.old.block (value_of tree.old.led) }
         requires preds { (v : ℕ) → claimed_by_node distances.now v ≡ None → pred_by_node predecessors.now v ≡ 0 }
         requires earlier { AreLedBelow (claimed_by_node distances.now) (value_of tree.old.led) from }
         requires roots { (v : ℕ) → value_of self.old.roots v < from }
-        ensures tree { OnOk result (IsLabelTree (length distances.now) tree.old.block.source (claimed_by_node distances.now) (pred_by_node predecessors.now) tree.new.block (value_of tree.new.led)) }
+        ensures tree { OnOk result (IsLabelTree (length distances.now) tree.old.block.source
+            (claimed_by_node distances.now) (pred_by_node predecessors.now) tree.new.block (value_of tree.new.led)) }
         ensures keeps { OnOk result (Keeps (value_of tree.old.led) (value_of tree.new.led)) }
         ensures roots { OnOk result ((v : ℕ) → value_of self.new.roots v ≤ from) }
         ensures led { IfOk result (Leads (pred_by_node predecessors.now) tree.old.block.source (claimed_by_node distances.now) (value_of tree.new.led) from) }
@@ -67,8 +69,10 @@ impl WayBack {
         from: u32,
     ) -> Result<u32, Memory>
         requires roots { (v : ℕ) → value_of self.old.roots v < from }
-        ensures climbing { IfOk result (IsClimbing (claimed_by_node distances.now) (pred_by_node predecessors.now) (value_of tree.now.led) from (value_of self.new.roots) self.new.way.items) }
-        ensures stops { IfOk result (λ end. (claimed_by_node distances.now end ≡ None) ⊎ ((value_of tree.now.led end ≡ true) ⊎ (value_of self.new.roots end ≡ from))) }
+        ensures climbing { IfOk result (IsClimbing (claimed_by_node distances.now) (pred_by_node predecessors.now)
+            (value_of tree.now.led) from (value_of self.new.roots) self.new.way.items) }
+        ensures stops { IfOk result (λ end. (claimed_by_node distances.now end ≡ None)
+            ⊎ ((value_of tree.now.led end ≡ true) ⊎ (value_of self.new.roots end ≡ from))) }
     {
         self.way.clear();
         let mut at = from;

@@ -17,6 +17,8 @@ mod maximum;
 #[cfg(test)]
 mod paths;
 #[cfg(test)]
+mod paths_arrays;
+#[cfg(test)]
 mod paths_by_node;
 #[cfg(test)]
 mod tables;

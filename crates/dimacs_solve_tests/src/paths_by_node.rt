@@ -1,12 +1,10 @@
 //! Whether distances by node are true, by predecessors that are claimed, and by none.
 
 use crate::checks::same;
-use crate::tables::{case, cell, distances, rows};
+use crate::tables::{case, cell, distances, ids, rows};
 use dimacs_arrays::{certify_paths_by_node, judge_paths_by_node};
 use dimacs_instance::{Network, read_graph};
 use dimacs_lines::MemorySource;
-use std::alloc::Global;
-use std::process::Abort;
 use std::test::Fail;
 
 /// Distances from node 1 and their predecessors in each line: what it shows, the lines of the graph, a distance for each
@@ -43,15 +41,6 @@ a node past the end | p sp 3 1;a 1 2 1 | 0 1 | 0 1 0
 a cycle that no walk leads to | p sp 4 3;a 1 2 5;a 3 4 0;a 4 3 0 | 0 5 7 7 | Refused(Node(3), NoTightArc)
 too great | p sp 3 3;a 1 2 4;a 1 3 1;a 2 3 -5 | 0 4 1 | Refused(Arc(3), NotShortest)";
 
-/// The predecessors in a cell. Where a word is no number, the test stops there.
-fn predecessors(rt: &impl Abort, alloc: Global, cell: &str) -> Result<Vec<u32>, Fail> {
-    let mut list = Vec::new(alloc);
-    for word in cell.split_whitespace() {
-        list.push(word.parse::<u32>().expect(rt, word))?;
-    }
-    Ok(list)
-}
-
 #[test]
 fn distances_are_judged_by_predecessors(rt: HostRuntime) -> Result<(), Fail> {
     let alloc = rt.alloc();
@@ -64,7 +53,7 @@ fn distances_are_judged_by_predecessors(rt: HostRuntime) -> Result<(), Fail> {
         let graph = read_graph(alloc, &mut MemorySource::new(text.as_bytes()))?;
         let nodes = graph.network().nodes() as usize;
         let list = distances(&rt, alloc, list)?;
-        let preds = predecessors(&rt, alloc, preds)?;
+        let preds = ids(&rt, alloc, preds)?;
         assert!(rt;
             nodes >= 1 && list.len() == nodes && preds.len() == nodes,
             "{name}"
@@ -91,7 +80,7 @@ fn true_distances_have_predecessors(rt: HostRuntime) -> Result<(), Fail> {
         assert!(rt; graph.network().nodes() >= 1, "{name}");
         match certify_paths_by_node(alloc, &graph, 1, &list) {
             Ok(preds) => {
-                let wanted = predecessors(&rt, alloc, wanted)?;
+                let wanted = ids(&rt, alloc, wanted)?;
                 same(&rt, name, preds.as_slice(), wanted.as_slice());
             }
             Err(error) => {

@@ -41,3 +41,12 @@ pub fn distances(rt: &impl Abort, alloc: Global, cell: &str) -> Result<Vec<i64>,
     }
     Ok(list)
 }
+
+/// The IDs in a cell. Where a word is no number of 32 bits, the test stops there.
+pub fn ids(rt: &impl Abort, alloc: Global, cell: &str) -> Result<Vec<u32>, Fail> {
+    let mut list = Vec::new(alloc);
+    for word in cell.split_whitespace() {
+        list.push(word.parse::<u32>().expect(rt, word))?;
+    }
+    Ok(list)
+}

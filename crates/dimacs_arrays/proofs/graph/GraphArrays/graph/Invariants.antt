@@ -1,0 +1,12 @@
+use Rattle.std.proofs.Common.{◌≡◌, length}
+use Rattle.dimacs_judge.specs.Tests.{ClearBelow}
+use Rattle.dimacs_arrays.specs.Limits.{limit_row}
+use Rattle.dimacs_arrays.proofs.GraphLemmas.{graph_begun, weighted_arcs}
+use Rattle.dimacs_arrays.proofs.graph.GraphArrays.graph.Given as goal
+
+-- the arcs so far, all within their limits
+abbrev pub invariant-loop-k : goal.invariant-loop-k
+invariant-loop-k l = record {
+  made : l.graph ≡ graph_begun l.self l.k;
+  within : ClearBelow (limit_row l.self.nodes (weighted_arcs l.self (length l.self.tails.now))) l.k;
+}

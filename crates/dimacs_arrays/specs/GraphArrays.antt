@@ -1,0 +1,50 @@
+-- The arrays of graphs, and what they spell.
+use Rattle.std.specs.Prelude.{ℕ, List, [], ◌∷◌, ◌++◌, length, get_or, map, ℤ, pos}
+use Rattle.std.specs.List.{range_with_len}
+use Rattle.dimacs_records.specs.Ranges.{IsNode}
+use Rattle.dimacs_records.specs.declared.reasons.Reason.TheVariants.{NodeRange}
+use Rattle.dimacs_instance.specs.declared.network.ArcView.{ArcView}
+use Rattle.dimacs_instance.specs.Arcs.{NetworkValue}
+use Rattle.dimacs_instance.specs.Graph.{IsGraph}
+use Rattle.dimacs_instance.specs.Plain.{weight_arc}
+use Rattle.dimacs_judge.specs.declared.verdict.Where.TheVariants.{Node}
+use Rattle.dimacs_judge.specs.Rows.{one_test}
+use Rattle.dimacs_judge.specs.Tests.{Row}
+use Rattle.dimacs_arrays.specs.declared.error.Array.TheVariants as arrays
+use Rattle.dimacs_arrays.specs.declared.lengths.ArrayLength.{ArrayLength}
+use Rattle.dimacs_arrays.specs.declared.graph.GraphArrays.{GraphArrays}
+use Rattle.dimacs_arrays.specs.Answers.{length_of}
+use Rattle.dimacs_arrays.specs.Limits.{count_rows, limit_row}
+
+-- the arc of this index
+abbrev pub weighted_arc : GraphArrays → ℕ → ArcView
+weighted_arc a k = weight_arc (get_or a.tails.now k 0) (get_or a.heads.now k 0) (get_or a.weights.now k (pos 0))
+
+-- the graph that the arrays spell, with as many arcs as there are tails
+abbrev pub graph_spelled : GraphArrays → NetworkValue
+graph_spelled a = record { nodes = a.nodes; arcs = map (weighted_arc a) (range_with_len 0 (length a.tails.now)) }
+
+-- a head and a weight for each arc
+abbrev pub graph_lengths : GraphArrays → List ArrayLength
+graph_lengths a = length_of arrays.Heads (length a.heads.now) (length a.tails.now) ∷ length_of arrays.Weights (length a.weights.now) (length a.tails.now) ∷ []
+
+-- and a distance for each node
+abbrev pub paths_lengths : GraphArrays → List ℤ → List ArrayLength
+paths_lengths a distances = graph_lengths a ++ length_of arrays.Distances (length distances) a.nodes ∷ []
+
+-- and a predecessor for each node
+abbrev pub paths_judge_lengths : GraphArrays → List ℤ → List ℕ → List ArrayLength
+paths_judge_lengths a distances preds =
+    graph_lengths a ++ length_of arrays.Distances (length distances) a.nodes ∷ length_of arrays.Predecessors (length preds) a.nodes ∷ []
+
+-- the source is no node
+abbrev pub source_rows : ℕ → ℕ → List Row
+source_rows nodes s = one_test (Node s) NodeRange (¬ IsNode nodes s) ∷ []
+
+-- the limits of the counts, of the source, and of each arc, in order
+abbrev pub graph_limits : GraphArrays → ℕ → List Row
+graph_limits a s = count_rows a.nodes (length a.tails.now) ++ (source_rows a.nodes s ++ limit_row a.nodes (graph_spelled a).arcs ∷ [])
+
+-- the arrays spell a graph, and the source is one of its nodes
+abbrev pub IsGraphFrom : GraphArrays → ℕ → Type 0
+IsGraphFrom a s = IsGraph (graph_spelled a) × IsNode a.nodes s
