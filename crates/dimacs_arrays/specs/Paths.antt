@@ -83,7 +83,7 @@ abbrev pub IsJudged : NetworkValue → ℕ → (ℕ → Option ℤ) → (ℕ →
 IsJudged g s claim pred result =
     (labels : LabelsValue) × AreLabelsBy g.nodes s claim pred labels × AreInOrder s claim pred labels
     × Judges (paths_rows g (Sources (s ∷ [])) labels) (ShowsDistances g (Sources (s ∷ [])) labels)
-        (AnswersQueries labels.blocks (Sources (s ∷ []))) result
+    (AnswersQueries labels.blocks (Sources (s ∷ []))) result
 
 -- what the judge answers of such labels; or there are none, by the first test that fails
 abbrev pub JudgesByNode : NetworkValue → ℕ → (ℕ → Option ℤ) → (ℕ → ℕ) → Result Verdict JudgeError → Type 0

@@ -25,11 +25,7 @@ pub fn certify_paths_arrays(
         (CertifiesByNode (graph_spelled arrays.now) source (claimed_by_node distances.now)) result }
 {
     arrays.lengths_hold()?;
-    lengths_hold(&[ArrayLength::of(
-        Array::Distances,
-        distances.len(),
-        arrays.nodes as usize,
-    )])?;
+    lengths_hold(&[ArrayLength::of(Array::Distances, distances.len(), arrays.nodes as usize)])?;
     let graph = arrays.graph(alloc, source)?;
     Ok(certify_paths_by_node(alloc, &graph, source, distances)?)
 }

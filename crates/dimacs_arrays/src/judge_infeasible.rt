@@ -43,7 +43,8 @@ fn judge_over<N: Network>(
     inside: &[u8],
 ) -> Result<Verdict, JudgeError>
     requires { length inside.now ≡ instance.now.nodes }
-    ensures { Judges (violated_row instance.now (marked inside.now) ∷ []) (ShowsInfeasible instance.now (marked inside.now)) (λ verdict. verdict ≡ Infeasible) result }
+    ensures { Judges (violated_row instance.now (marked inside.now) ∷ [])
+        (ShowsInfeasible instance.now (marked inside.now)) (λ verdict. verdict ≡ Infeasible) result }
 {
     let set = cut_of(alloc, instance.network().nodes(), inside)?;
     judge_infeasible(instance, &set)

@@ -52,7 +52,9 @@ fn judge_over<N: Network>(
 ) -> Result<Verdict, JudgeError>
     requires flows { length flows.now ≡ length instance.now.arcs }
     requires inside { length inside.now ≡ instance.now.nodes }
-    ensures { Judges (max_flow_rows instance.now flows.now (marked inside.now)) (ShowsMaxFlow instance.now flows.now (marked inside.now)) (λ verdict. verdict ≡ Max (value instance.now flows.now)) result }
+    ensures { Judges (max_flow_rows instance.now flows.now (marked inside.now))
+        (ShowsMaxFlow instance.now flows.now (marked inside.now))
+        (λ verdict. verdict ≡ Max (value instance.now flows.now)) result }
 {
     let flow = Flow::of(alloc, flows)?;
     let cut = cut_of(alloc, instance.network().nodes(), inside)?;

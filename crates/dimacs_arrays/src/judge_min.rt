@@ -51,7 +51,9 @@ fn judge_over<N: Network>(
 ) -> Result<Verdict, JudgeError>
     requires flows { length flows.now ≡ length instance.now.arcs }
     requires potentials { length potentials.now ≡ instance.now.nodes }
-    ensures { Judges (min_flow_rows instance.now flows.now (number_of potentials.now)) (ShowsMinFlow instance.now flows.now (number_of potentials.now)) (λ verdict. verdict ≡ Min (cost instance.now.arcs flows.now)) result }
+    ensures { Judges (min_flow_rows instance.now flows.now (number_of potentials.now))
+        (ShowsMinFlow instance.now flows.now (number_of potentials.now))
+        (λ verdict. verdict ≡ Min (cost instance.now.arcs flows.now)) result }
 {
     let flow = Flow::of(alloc, flows)?;
     let potentials = potentials_of(alloc, instance.network().nodes(), potentials)?;

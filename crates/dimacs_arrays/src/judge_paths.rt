@@ -33,7 +33,11 @@ pub fn judge_paths_arrays(
     arrays.lengths_hold()?;
     lengths_hold(&[
         ArrayLength::of(Array::Distances, distances.len(), arrays.nodes as usize),
-        ArrayLength::of(Array::Predecessors, predecessors.len(), arrays.nodes as usize),
+        ArrayLength::of(
+            Array::Predecessors,
+            predecessors.len(),
+            arrays.nodes as usize,
+        ),
     ])?;
     let graph = arrays.graph(alloc, source)?;
     Ok(judge_paths_by_node(alloc, &graph, source, distances, predecessors)?)

@@ -48,7 +48,7 @@ pub(crate) struct LabelTree {
 
 impl LabelTree {
     /// The source alone.
-    pub fn new(
+    pub(crate) fn new(
         alloc: Global,
         distances: &[i64],
         predecessors: &[u32],
@@ -67,13 +67,13 @@ impl LabelTree {
 
     /// Whether a node has a label.
     #[inline(always)]
-    pub fn is_led(&self, node: u32) -> bool
+    pub(crate) fn is_led(&self, node: u32) -> bool
         ensures { result ≡ value_of self.now.led node }
     {
         self.led.get(node)
     }
 
-    pub fn into_block(self) -> Block
+    pub(crate) fn into_block(self) -> Block
         ensures { result ≡ self.block }
     {
         self.block
@@ -81,7 +81,7 @@ impl LabelTree {
 
     /// Adds the label of a node whose predecessor has one, if it has none.
     #[inline(always)]
-    pub fn place(
+    pub(crate) fn place(
         &mut self,
         distances: &[i64],
         predecessors: &[u32],

@@ -21,7 +21,7 @@ pub(crate) struct WayBack {
 
 impl WayBack {
     /// No way. Takes no memory.
-    pub fn new(alloc: Global) -> WayBack
+    pub(crate) fn new(alloc: Global) -> WayBack
         ensures { (v : ℕ) → value_of result.roots v ≡ 0 }
     {
         WayBack {
@@ -31,7 +31,7 @@ impl WayBack {
     }
 
     /// Adds the labels of a node and of those on the way back from it, if it leads back to the source; tells whether.
-    pub fn lead(
+    pub(crate) fn lead(
         &mut self,
         tree: &mut LabelTree,
         distances: &[i64],
