@@ -1,4 +1,5 @@
-use Rattle.std.proofs.Common.{◌≡◌, ◌∙◌, None, Ok, Err, List, [], ◌∷◌, ℕ, ℤ, Result, Vec, length, subst, sym}
+use Rattle.std.proofs.Common.{◌≡◌, ◌∙◌, None, Ok, Err, List, [], ◌∷◌, ℕ, ℤ, Result, length, subst, sym}
+use Rattle.std.specs.Global.{Vec}
 use Rattle.dimacs_instance.specs.Arcs.{NetworkValue}
 use Rattle.dimacs_instance.specs.Graph.{IsGraph}
 use Rattle.dimacs_judge.specs.declared.verdict.JudgeError.{JudgeError}
@@ -13,7 +14,7 @@ use Rattle.dimacs_arrays.proofs.AnswerLemmas.{misfit_after, tells_limit, tells_r
 use Rattle.dimacs_arrays.proofs.GraphLemmas.{graph_clear, graph_one_way}
 use Rattle.dimacs_arrays.proofs.certify_paths.certify_paths_arrays.Goals as goal
 
-abbrev certified : ℕ → List ℤ → NetworkValue → Result (Vec ℕ _) JudgeError → Type 0
+abbrev certified : ℕ → List ℤ → NetworkValue → Result (Vec ℕ) JudgeError → Type 0
 certified s distances g = CertifiesByNode g s (claimed_by_node distances)
 
 abbrev claim_lengths : GraphArrays → List ℤ → List ArrayLength
@@ -31,7 +32,7 @@ returns-in_err-graph c =
     tells_limit (paths_lengths a distances) (graph_limits a s) (IsGraphFrom a s) (certified s distances (graph_spelled a)) (fit a distances c.in_ok-lengths_hold.ensures rest) (graph_spelled a) _ (graph_one_way a s) (graph_clear a s) c.in_err-graph.ensures.spells _ c.from_residual-in_err-graph.ensures.1
 
 pub certify_paths_by_node-requires : goal.certify_paths_by_node-requires
-certify_paths_by_node-requires c = rw c.in_ok-graph.ensures.spells c.in_ok-graph.ensures.source
+certify_paths_by_node-requires c = rw c.in_ok-graph.ensures.spells (record { source = c.in_ok-graph.ensures.source })
 
 pub returns-in_err-certify_paths_by_node : goal.returns-in_err-certify_paths_by_node
 returns-in_err-certify_paths_by_node c =
