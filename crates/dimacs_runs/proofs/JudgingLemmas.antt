@@ -27,8 +27,7 @@ use Rattle.dimacs_runs.specs.inside.Judgings.{ReadsIn, StopsAt, answer_told, err
 use Rattle.dimacs_runs.specs.Refusals.{refusal_line}
 use Rattle.dimacs_runs.specs.Runs.{TellsAlone, Reports}
 use Rattle.dimacs_runs.specs.inside.Told.{EndsAfter, ToldAlone, told_lines, told_status}
-use Rattle.dimacs_runs.specs.Verdicts.{answer_line, failure_line, sources_line}
-use Rattle.dimacs_runs.specs.inside.Verdicts.{verdict_lines}
+use Rattle.dimacs_runs.specs.Verdicts.{answer_line, failure_line, sources_line, verdict_lines}
 use Rattle.dimacs_judge.proofs.Firsts.{none_first}
 
 module _ {V : Type 0} (text : TextSays V) (next : V → Status → List ℕ → Type 0) where

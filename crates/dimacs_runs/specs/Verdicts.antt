@@ -1,10 +1,13 @@
 -- The lines of verdicts, and of a judge's refusals.
 use Rattle.std.specs.Prelude.{ℕ, List, [], ◌∷◌, codes, Option, None, Some, ℤ}
 use Rattle.std.specs.Fmt.{decimal, signed_decimal}
+use Rattle.std.specs.List.{flat_map}
 use Rattle.dimacs_records.specs.declared.reasons.Reason.{Reason}
 use Rattle.dimacs_records.specs.Names.{name_of}
 use Rattle.dimacs_records.specs.Printed.{spaced_line}
 use Rattle.dimacs_judge.specs.declared.verdict.Answer.{Answer}
+use Rattle.dimacs_judge.specs.declared.verdict.Verdict.{Verdict}
+use Rattle.dimacs_judge.specs.declared.verdict.Verdict.TheVariants as verdicts
 use Rattle.dimacs_judge.specs.declared.verdict.Where.{Where}
 use Rattle.dimacs_judge.specs.declared.verdict.Where.TheVariants as places
 use Rattle.dimacs_runs.specs.Refusals.{refusal_line}
@@ -36,6 +39,14 @@ distance_words (Some distance) beyond = signed_decimal distance ∷ []
 
 abbrev pub answer_line : Answer → List ℕ
 answer_line a = yes_line (decimal a.from ∷ decimal a.to ∷ distance_words a.distance a.beyond)
+
+-- the lines of a verdict: one, or that of each pair
+abbrev pub verdict_lines : Verdict → List ℕ
+verdict_lines (verdicts.Max value) = max_line value
+verdict_lines (verdicts.Min cost) = min_line cost
+verdict_lines verdicts.Infeasible = infeasible_line
+verdict_lines (verdicts.Sources count) = sources_line count
+verdict_lines (verdicts.Pairs answers) = flat_map answer_line answers.items
 
 -- the limit was reached
 abbrev pub gave_up_line : List ℕ

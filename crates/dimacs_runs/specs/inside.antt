@@ -3,4 +3,3 @@ pub mod Judgings
 pub mod Produced
 pub mod Runs
 pub mod Told
-pub mod Verdicts

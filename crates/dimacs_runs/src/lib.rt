@@ -34,4 +34,5 @@ pub use judge::run_judge;
 pub use outcome::{RunError, Status, complaint, exit_status};
 pub use solve::run_solve;
 pub use text::{run_convert, run_show};
+pub use verdict::{put_failure, put_gave_up, put_verdict};
 pub use words::job;

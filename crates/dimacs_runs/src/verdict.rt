@@ -5,8 +5,7 @@ ghost use Rattle.std.specs.List.{flat_map};
 ghost use Rattle.dimacs_lines.specs.Devices.{CountsFault};
 ghost use Rattle.dimacs_lines.specs.Pages.{Appends, CountsOn};
 ghost use Rattle.dimacs_lines.specs.Puts.{Puts};
-ghost use Rattle.dimacs_runs.specs.Verdicts.{failure_line, gave_up_line, numbered_line, answer_line};
-ghost use Rattle.dimacs_runs.specs.inside.Verdicts.{verdict_lines};
+ghost use Rattle.dimacs_runs.specs.Verdicts.{failure_line, gave_up_line, numbered_line, answer_line, verdict_lines};
 
 use crate::refusal::put_refusal;
 use dimacs_judge::{Answer, Verdict, Where};
@@ -14,7 +13,7 @@ use dimacs_lines::{DeviceFault, Page, Sink};
 use dimacs_records::{At, Part, Reason, put_line, write_line};
 
 /// Puts the lines of a verdict.
-pub(crate) fn put_verdict<K: Sink>(sink: &mut K, verdict: &Verdict) -> Result<(), DeviceFault>
+pub fn put_verdict<K: Sink>(sink: &mut K, verdict: &Verdict) -> Result<(), DeviceFault>
     ensures puts { Puts result (K.accepted sink.old) (verdict_lines verdict.now) (K.accepted sink.new) }
     ensures fault { CountsFault result (K.faults sink.old) (K.faults sink.new) }
 {
@@ -67,7 +66,7 @@ fn write_answer<K: Sink>(page: &mut Page, sink: &mut K, answer: &Answer)
 }
 
 /// Puts the line that tells that a limit was reached.
-pub(crate) fn put_gave_up<K: Sink>(sink: &mut K) -> Result<(), DeviceFault>
+pub fn put_gave_up<K: Sink>(sink: &mut K) -> Result<(), DeviceFault>
     ensures puts { Puts result (K.accepted sink.old) gave_up_line (K.accepted sink.new) }
     ensures fault { CountsFault result (K.faults sink.old) (K.faults sink.new) }
 {
@@ -75,11 +74,7 @@ pub(crate) fn put_gave_up<K: Sink>(sink: &mut K) -> Result<(), DeviceFault>
 }
 
 /// Puts the line of a test that fails.
-pub(crate) fn put_failure<K: Sink>(
-    sink: &mut K,
-    place: Where,
-    reason: Reason,
-) -> Result<(), DeviceFault>
+pub fn put_failure<K: Sink>(sink: &mut K, place: Where, reason: Reason) -> Result<(), DeviceFault>
     ensures puts { Puts result (K.accepted sink.old) (failure_line place reason) (K.accepted sink.new) }
     ensures fault { CountsFault result (K.faults sink.old) (K.faults sink.new) }
 {

@@ -10,8 +10,7 @@ use Rattle.dimacs_runs.specs.declared.told.Told.{Told}
 use Rattle.dimacs_runs.specs.declared.told.Told.TheVariants.{Yes, No, Fault, GaveUp}
 use Rattle.dimacs_runs.specs.Refusals.{refusal_line}
 use Rattle.dimacs_runs.specs.Runs.{TellsAlone}
-use Rattle.dimacs_runs.specs.Verdicts.{failure_line, gave_up_line}
-use Rattle.dimacs_runs.specs.inside.Verdicts.{verdict_lines}
+use Rattle.dimacs_runs.specs.Verdicts.{failure_line, gave_up_line, verdict_lines}
 
 abbrev pub told_status : Told → Status
 told_status (Yes verdict) = statuses.Done

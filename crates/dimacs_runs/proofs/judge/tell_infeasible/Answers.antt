@@ -4,8 +4,7 @@ use Rattle.dimacs_claims.specs.Cuts.{SpellsCut}
 use Rattle.dimacs_instance.specs.MinTexts.{SpellsMin}
 use Rattle.dimacs_judge.specs.InfeasibleJudge.{ShowsNoFlow, infeasible_rows}
 use Rattle.dimacs_runs.specs.Judgings.{VerdictOr, says}
-use Rattle.dimacs_runs.specs.Verdicts.{infeasible_line}
-use Rattle.dimacs_runs.specs.inside.Verdicts.{verdict_lines}
+use Rattle.dimacs_runs.specs.Verdicts.{infeasible_line, verdict_lines}
 use Rattle.dimacs_runs.proofs.JudgingLemmas.{answer_alone, two_told, two_values}
 use Rattle.dimacs_runs.proofs.judge.tell_infeasible.Goals as goal
 

@@ -5,8 +5,7 @@ use Rattle.dimacs_claims.specs.SolutionTexts.{SpellsSolution}
 use Rattle.dimacs_instance.specs.MaxTexts.{SpellsMax}
 use Rattle.dimacs_judge.specs.MaxJudge.{ShowsMaximum, max_rows}
 use Rattle.dimacs_runs.specs.Judgings.{VerdictOr, says}
-use Rattle.dimacs_runs.specs.Verdicts.{max_line}
-use Rattle.dimacs_runs.specs.inside.Verdicts.{verdict_lines}
+use Rattle.dimacs_runs.specs.Verdicts.{max_line, verdict_lines}
 use Rattle.dimacs_runs.proofs.JudgingLemmas.{answer_alone, three_told, three_values}
 use Rattle.dimacs_runs.proofs.judge.tell_max.Goals as goal
 
