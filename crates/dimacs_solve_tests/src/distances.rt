@@ -1,7 +1,7 @@
 //! Whether claimed distances are true.
 
 use crate::checks::same;
-use crate::tables::{case, cell, distances, rows};
+use crate::tables::{case, cell, numbers, rows};
 use dimacs_claims::{Labels, read_labels, write_labels};
 use dimacs_decide::{
     DistanceClaim, DistancesByNode, DistancesOfBlock, decide_distances, decide_distances_over,
@@ -78,7 +78,7 @@ fn claims_are_decided(rt: HostRuntime) -> Result<(), Fail> {
         let (list, wanted) = cell(&rt, rest);
         let text = case(alloc, graph)?;
         let graph = read_graph(alloc, &mut MemorySource::new(text.as_bytes()))?;
-        let list = distances(&rt, alloc, list)?;
+        let list = numbers(&rt, alloc, list)?;
         let claim = DistancesByNode { distances: &list };
         decides(&rt, alloc, name, &graph, &claim, wanted)?;
     }

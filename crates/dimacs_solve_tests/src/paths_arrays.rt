@@ -1,7 +1,7 @@
 //! Distances over arrays: which arrays are refused, and that the others are judged as the same by node.
 
 use crate::checks::same;
-use crate::tables::{cell, distances, ids, rows};
+use crate::tables::{cell, ids, numbers, rows};
 use dimacs_arrays::{GraphArrays, certify_paths_arrays, judge_paths_arrays};
 use std::test::Fail;
 
@@ -10,7 +10,7 @@ use std::test::Fail;
 static ARRAYS: &str = "\
 two arcs | 3 | 1 1 | 2 3 | 5 -7 | 1 | 0 5 -7 | 0 1 1 | Sources(1)
 from another node | 3 | 2 2 | 1 3 | 5 -7 | 2 | 5 0 -7 | 2 0 2 | Sources(1)
-no arcs | 2 |  |  |  | 1 | 0 x | 0 0 | Sources(1)
+no arcs | 2 | - | - | - | 1 | 0 x | 0 0 | Sources(1)
 a distance that is not the least | 3 | 1 1 | 2 3 | 5 -7 | 1 | 0 6 -7 | 0 1 1 | Refused(Node(2), NoTightArc)
 a head too few | 3 | 1 1 | 2 | 5 -7 | 1 | 0 5 -7 | 0 1 1 | Length(Heads)
 a weight too many | 3 | 1 1 | 2 3 | 5 -7 1 | 1 | 0 5 -7 | 0 1 1 | Length(Weights)
@@ -43,7 +43,7 @@ fn arrays_are_judged(rt: HostRuntime) -> Result<(), Fail> {
         let (preds, wanted) = cell(&rt, rest);
         let tails = ids(&rt, alloc, tails)?;
         let heads = ids(&rt, alloc, heads)?;
-        let weights = distances(&rt, alloc, weights)?;
+        let weights = numbers(&rt, alloc, weights)?;
         let arrays = GraphArrays {
             nodes: nodes.parse::<u32>().expect(&rt, nodes),
             tails: &tails,
@@ -51,7 +51,7 @@ fn arrays_are_judged(rt: HostRuntime) -> Result<(), Fail> {
             weights: &weights,
         };
         let source = source.parse::<u32>().expect(&rt, source);
-        let list = distances(&rt, alloc, list)?;
+        let list = numbers(&rt, alloc, list)?;
         let preds = ids(&rt, alloc, preds)?;
         let said = match judge_paths_arrays(alloc, &arrays, source, &list, &preds) {
             Ok(verdict) => format!(in alloc; "{verdict:?}")?,
@@ -76,9 +76,19 @@ fn arrays_are_certified(rt: HostRuntime) -> Result<(), Fail> {
     same(&rt, "true distances", said.as_str(), "Ok([0, 3, 1, 0])");
     let refused = certify_paths_arrays(alloc, &arrays, 1, &[0, 4, 1, i64::MAX]);
     let said = format!(in alloc; "{refused:?}")?;
-    same(&rt, "a distance too great", said.as_str(), "Err(Refused(Arc(3), NotShortest))");
+    same(
+        &rt,
+        "a distance too great",
+        said.as_str(),
+        "Err(Refused(Arc(3), NotShortest))",
+    );
     let short = certify_paths_arrays(alloc, &arrays, 1, &[0, 3, 1]);
     let said = format!(in alloc; "{short:?}")?;
-    same(&rt, "a distance too few", said.as_str(), "Err(Length(Distances))");
+    same(
+        &rt,
+        "a distance too few",
+        said.as_str(),
+        "Err(Length(Distances))",
+    );
     Ok(())
 }

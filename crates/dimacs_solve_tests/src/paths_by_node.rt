@@ -1,7 +1,7 @@
 //! Whether distances by node are true, by predecessors that are claimed, and by none.
 
 use crate::checks::same;
-use crate::tables::{case, cell, distances, ids, rows};
+use crate::tables::{case, cell, ids, numbers, rows};
 use dimacs_arrays::{certify_paths_by_node, judge_paths_by_node};
 use dimacs_instance::{Network, read_graph};
 use dimacs_lines::MemorySource;
@@ -52,7 +52,7 @@ fn distances_are_judged_by_predecessors(rt: HostRuntime) -> Result<(), Fail> {
         let text = case(alloc, graph)?;
         let graph = read_graph(alloc, &mut MemorySource::new(text.as_bytes()))?;
         let nodes = graph.network().nodes() as usize;
-        let list = distances(&rt, alloc, list)?;
+        let list = numbers(&rt, alloc, list)?;
         let preds = ids(&rt, alloc, preds)?;
         assert!(rt;
             nodes >= 1 && list.len() == nodes && preds.len() == nodes,
@@ -76,7 +76,7 @@ fn true_distances_have_predecessors(rt: HostRuntime) -> Result<(), Fail> {
         let (list, wanted) = cell(&rt, rest);
         let text = case(alloc, graph)?;
         let graph = read_graph(alloc, &mut MemorySource::new(text.as_bytes()))?;
-        let list = distances(&rt, alloc, list)?;
+        let list = numbers(&rt, alloc, list)?;
         assert!(rt; graph.network().nodes() >= 1, "{name}");
         match certify_paths_by_node(alloc, &graph, 1, &list) {
             Ok(preds) => {

@@ -5,7 +5,6 @@ use crate::checks::same;
 use std::alloc::{AllocError, Global};
 use std::process::Abort;
 use std::str::Lines;
-use std::test::Fail;
 
 /// The lines of a table, which has so many.
 pub fn rows<'a>(rt: &impl Abort, table: &'a str, count: usize) -> Lines<'a> {
@@ -28,25 +27,36 @@ pub fn number(rt: &impl Abort, cell: &str) -> u64 {
     cell.parse::<u64>().expect(rt, cell)
 }
 
-/// The distances in a cell, `x` where there is none. Where a word is no number, the test stops there.
-pub fn distances(rt: &impl Abort, alloc: Global, cell: &str) -> Result<Vec<i64>, Fail> {
+/// The numbers in a cell, `x` for the greatest one, and `-` where there are none. Where a word is no number of 64 bits, the
+/// test stops there.
+pub fn numbers(rt: &impl Abort, alloc: Global, cell: &str) -> Result<Vec<i64>, AllocError> {
     let mut list = Vec::new(alloc);
     for word in cell.split_whitespace() {
-        let distance = if word == "x" {
-            i64::MAX
-        } else {
-            word.parse::<i64>().expect(rt, word)
-        };
-        list.push(distance)?;
+        match word {
+            "-" => {}
+            "x" => list.push(i64::MAX)?,
+            word => list.push(word.parse::<i64>().expect(rt, word))?,
+        }
     }
     Ok(list)
 }
 
-/// The IDs in a cell. Where a word is no number of 32 bits, the test stops there.
-pub fn ids(rt: &impl Abort, alloc: Global, cell: &str) -> Result<Vec<u32>, Fail> {
+/// The IDs in a cell, `-` where there are none. Where a word is no number of 32 bits, the test stops there.
+pub fn ids(rt: &impl Abort, alloc: Global, cell: &str) -> Result<Vec<u32>, AllocError> {
     let mut list = Vec::new(alloc);
     for word in cell.split_whitespace() {
-        list.push(word.parse::<u32>().expect(rt, word))?;
+        if word != "-" {
+            list.push(word.parse::<u32>().expect(rt, word))?;
+        }
+    }
+    Ok(list)
+}
+
+/// The bytes in a cell. Where a word is no number of 8 bits, the test stops there.
+pub fn bytes(rt: &impl Abort, alloc: Global, cell: &str) -> Result<Vec<u8>, AllocError> {
+    let mut list = Vec::new(alloc);
+    for word in cell.split_whitespace() {
+        list.push(word.parse::<u8>().expect(rt, word))?;
     }
     Ok(list)
 }
