@@ -13,11 +13,7 @@ mod distances;
 #[cfg(test)]
 mod least;
 #[cfg(test)]
-mod max_arrays;
-#[cfg(test)]
 mod maximum;
-#[cfg(test)]
-mod min_arrays;
 #[cfg(test)]
 mod paths;
 #[cfg(test)]

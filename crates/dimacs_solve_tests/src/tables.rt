@@ -51,12 +51,3 @@ pub fn ids(rt: &impl Abort, alloc: Global, cell: &str) -> Result<Vec<u32>, Alloc
     }
     Ok(list)
 }
-
-/// The bytes in a cell. Where a word is no number of 8 bits, the test stops there.
-pub fn bytes(rt: &impl Abort, alloc: Global, cell: &str) -> Result<Vec<u8>, AllocError> {
-    let mut list = Vec::new(alloc);
-    for word in cell.split_whitespace() {
-        list.push(word.parse::<u8>().expect(rt, word))?;
-    }
-    Ok(list)
-}
