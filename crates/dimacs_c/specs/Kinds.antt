@@ -1,0 +1,34 @@
+-- The numbers by which callers name kinds.
+use Rattle.std.specs.Prelude.{ℕ, ◌==◌, if◌then◌else◌, Option, None, Some}
+use Rattle.dimacs_records.specs.declared.kinds.TextKind.{TextKind}
+use Rattle.dimacs_records.specs.declared.kinds.TextKind.TheVariants as texts
+use Rattle.dimacs_runs.specs.declared.jobs.CertifyKind.{CertifyKind}
+use Rattle.dimacs_runs.specs.declared.jobs.CertifyKind.TheVariants as claims
+use Rattle.dimacs_runs.specs.declared.jobs.JudgeKind.{JudgeKind}
+use Rattle.dimacs_runs.specs.declared.jobs.JudgeKind.TheVariants as judges
+
+abbrev pub judge_kind : ℕ → Option JudgeKind
+judge_kind number =
+    if number == 0 then Some judges.Max
+    else if number == 1 then Some judges.Min
+    else if number == 2 then Some judges.Infeasible
+    else if number == 3 then Some judges.Paths
+    else None
+
+abbrev pub certify_kind : ℕ → Option CertifyKind
+certify_kind number =
+    if number == 0 then Some claims.Max
+    else if number == 1 then Some claims.Min
+    else None
+
+abbrev pub text_kind : ℕ → Option TextKind
+text_kind number =
+    if number == 0 then Some texts.Max
+    else if number == 1 then Some texts.Min
+    else if number == 2 then Some texts.Graph
+    else if number == 3 then Some texts.Queries
+    else if number == 4 then Some texts.Solution
+    else if number == 5 then Some texts.Cut
+    else if number == 6 then Some texts.Potentials
+    else if number == 7 then Some texts.Labels
+    else None

@@ -1,0 +1,67 @@
+//! Certifying texts in memory.
+
+ghost use Rattle.dimacs_c.specs.Calls.{AnswersPair, AnswersPairKind, handed};
+ghost use Rattle.dimacs_c.specs.Kinds.{certify_kind};
+ghost use Rattle.dimacs_runs.specs.Certified.{Certified};
+
+use crate::answer::{end, misuse};
+use crate::kinds::certify_of;
+use dimacs_lines::{MemorySink, MemorySource};
+use dimacs_runs::{CertifyKind, run_certify};
+use std::alloc::Global;
+
+/// Certifies a claimed flow, as `certify-max` and so on. The second room is for the text of the certificate, or of a
+/// better solution.
+#[unsafe(no_mangle)]
+pub extern "C" fn dimacs_certify(
+    alloc: Global,
+    kind: u32,
+    instance: &[u8],
+    solution: &[u8],
+    out: &mut [u8],
+    told: &mut usize,
+    shown: &mut [u8],
+    shown_told: &mut usize,
+) -> u32
+    ensures { AnswersPairKind (certify_kind kind) (λ k. Certified k instance.now solution.now) result
+        (handed shown.old shown.new shown_told.new) (handed out.old out.new told.new) }
+{
+    match certify_of(kind) {
+        Some(kind) => certify(
+            alloc, kind, instance, solution, out, told, shown, shown_told,
+        ),
+        None => {
+            misuse(shown_told);
+            misuse(told)
+        }
+    }
+}
+
+fn certify(
+    alloc: Global,
+    kind: CertifyKind,
+    instance: &[u8],
+    solution: &[u8],
+    out: &mut [u8],
+    told: &mut usize,
+    shown: &mut [u8],
+    shown_told: &mut usize,
+) -> u32
+    ensures { AnswersPair (Certified kind instance.now solution.now) result
+        (handed shown.old shown.new shown_told.new) (handed out.old out.new told.new) }
+{
+    let mut certificate = MemorySink::new(alloc);
+    let mut report = MemorySink::new(alloc);
+    let mut first = MemorySource::new(instance);
+    let mut second = MemorySource::new(solution);
+    let ended = run_certify(
+        alloc,
+        kind,
+        &mut first,
+        &mut second,
+        &mut certificate,
+        &mut report,
+    );
+    end(ended, certificate.bytes(), shown, shown_told);
+    end(ended, report.bytes(), out, told)
+}

@@ -1,0 +1,49 @@
+//! Judging texts in memory.
+
+ghost use Rattle.dimacs_c.specs.Calls.{Answers, AnswersKind, handed};
+ghost use Rattle.dimacs_c.specs.Kinds.{judge_kind};
+ghost use Rattle.dimacs_runs.specs.Judged.{Judged};
+
+use crate::answer::{end, misuse};
+use crate::kinds::judge_of;
+use dimacs_lines::{MemorySink, MemorySource};
+use dimacs_runs::{JudgeKind, run_judge};
+use std::alloc::Global;
+
+/// Judges a claim, as `judge-max` and so on. The claim isn't read where there is none, as `judge-infeasible` has none.
+#[unsafe(no_mangle)]
+pub extern "C" fn dimacs_judge(
+    alloc: Global,
+    kind: u32,
+    instance: &[u8],
+    claim: &[u8],
+    certificate: &[u8],
+    out: &mut [u8],
+    told: &mut usize,
+) -> u32
+    ensures { AnswersKind (judge_kind kind) (λ k. Judged k instance.now claim.now certificate.now) result (handed out.old out.new told.new) }
+{
+    match judge_of(kind) {
+        Some(kind) => judge(alloc, kind, instance, claim, certificate, out, told),
+        None => misuse(told),
+    }
+}
+
+fn judge(
+    alloc: Global,
+    kind: JudgeKind,
+    instance: &[u8],
+    claim: &[u8],
+    certificate: &[u8],
+    out: &mut [u8],
+    told: &mut usize,
+) -> u32
+    ensures { Answers (Judged kind instance.now claim.now certificate.now) result (handed out.old out.new told.new) }
+{
+    let mut sink = MemorySink::new(alloc);
+    let mut first = MemorySource::new(instance);
+    let mut second = MemorySource::new(claim);
+    let mut third = MemorySource::new(certificate);
+    let ended = run_judge(alloc, kind, &mut first, &mut second, &mut third, &mut sink);
+    end(ended, sink.bytes(), out, told)
+}

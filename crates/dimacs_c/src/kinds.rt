@@ -1,0 +1,45 @@
+//! The numbers that name kinds.
+
+ghost use Rattle.std.specs.Prelude.{◌≡◌};
+ghost use Rattle.dimacs_c.specs.Kinds.{certify_kind, judge_kind, text_kind};
+
+use dimacs_records::TextKind;
+use dimacs_runs::{CertifyKind, JudgeKind};
+
+pub(crate) fn judge_of(number: u32) -> Option<JudgeKind>
+    ensures { result ≡ judge_kind number }
+{
+    match number {
+        0 => Some(JudgeKind::Max),
+        1 => Some(JudgeKind::Min),
+        2 => Some(JudgeKind::Infeasible),
+        3 => Some(JudgeKind::Paths),
+        _ => None,
+    }
+}
+
+pub(crate) fn certify_of(number: u32) -> Option<CertifyKind>
+    ensures { result ≡ certify_kind number }
+{
+    match number {
+        0 => Some(CertifyKind::Max),
+        1 => Some(CertifyKind::Min),
+        _ => None,
+    }
+}
+
+pub(crate) fn text_of(number: u32) -> Option<TextKind>
+    ensures { result ≡ text_kind number }
+{
+    match number {
+        0 => Some(TextKind::Max),
+        1 => Some(TextKind::Min),
+        2 => Some(TextKind::Graph),
+        3 => Some(TextKind::Queries),
+        4 => Some(TextKind::Solution),
+        5 => Some(TextKind::Cut),
+        6 => Some(TextKind::Potentials),
+        7 => Some(TextKind::Labels),
+        _ => None,
+    }
+}

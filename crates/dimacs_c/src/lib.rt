@@ -1,0 +1,11 @@
+//! The calls of the library for C: `lib/include/dimacs.h` declares them, and says what a caller has to know.
+//!
+//! Each answers the exit status that the command would end with, and hands out what the command would print: as much
+//! of it as there is room for, and the length of the whole.
+#![tactic(auto)]
+
+mod answer;
+mod certify;
+mod judge;
+mod kinds;
+mod texts;

@@ -1,0 +1,65 @@
+//! Converting and showing texts in memory.
+
+ghost use Rattle.dimacs_c.specs.Calls.{Answers, AnswersKind, handed};
+ghost use Rattle.dimacs_c.specs.Kinds.{text_kind};
+ghost use Rattle.dimacs_runs.specs.Runs.{Told};
+ghost use Rattle.dimacs_runs.specs.declared.text.TextForm.TheVariants.{Canonical, Summary};
+
+use crate::answer::{end, misuse};
+use crate::kinds::text_of;
+use dimacs_lines::{MemorySink, MemorySource};
+use dimacs_records::TextKind;
+use dimacs_runs::{run_convert, run_show};
+use std::alloc::Global;
+
+/// Converts a text to its canonical form, as `convert`.
+#[unsafe(no_mangle)]
+pub extern "C" fn dimacs_convert(
+    alloc: Global,
+    kind: u32,
+    text: &[u8],
+    out: &mut [u8],
+    told: &mut usize,
+) -> u32
+    ensures { AnswersKind (text_kind kind) (λ k. Told Canonical k text.now) result (handed out.old out.new told.new) }
+{
+    match text_of(kind) {
+        Some(kind) => convert(alloc, kind, text, out, told),
+        None => misuse(told),
+    }
+}
+
+fn convert(alloc: Global, kind: TextKind, text: &[u8], out: &mut [u8], told: &mut usize) -> u32
+    ensures { Answers (Told Canonical kind text.now) result (handed out.old out.new told.new) }
+{
+    let mut sink = MemorySink::new(alloc);
+    let mut source = MemorySource::new(text);
+    let ended = run_convert(alloc, kind, &mut source, &mut sink);
+    end(ended, sink.bytes(), out, told)
+}
+
+/// Tells in a line what a text is, as `show`.
+#[unsafe(no_mangle)]
+pub extern "C" fn dimacs_show(
+    alloc: Global,
+    kind: u32,
+    text: &[u8],
+    out: &mut [u8],
+    told: &mut usize,
+) -> u32
+    ensures { AnswersKind (text_kind kind) (λ k. Told Summary k text.now) result (handed out.old out.new told.new) }
+{
+    match text_of(kind) {
+        Some(kind) => show(alloc, kind, text, out, told),
+        None => misuse(told),
+    }
+}
+
+fn show(alloc: Global, kind: TextKind, text: &[u8], out: &mut [u8], told: &mut usize) -> u32
+    ensures { Answers (Told Summary kind text.now) result (handed out.old out.new told.new) }
+{
+    let mut sink = MemorySink::new(alloc);
+    let mut source = MemorySource::new(text);
+    let ended = run_show(alloc, kind, &mut source, &mut sink);
+    end(ended, sink.bytes(), out, told)
+}

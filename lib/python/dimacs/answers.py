@@ -1,0 +1,104 @@
+"""What calls answer, and what they raise."""
+
+from __future__ import annotations
+
+from dataclasses import dataclass
+from typing import Any, NamedTuple
+
+#: The distance of a node that isn't reached. Its predecessor is 0.
+UNREACHED = 2**63 - 1
+
+
+class Beyond(NamedTuple):
+    """In place of a distance: it is greater than this radius, or there is no walk."""
+
+    radius: int
+
+
+class Pair(NamedTuple):
+    """The answer to a query. The distance is None where there is no walk."""
+
+    source: int
+    target: int
+    distance: int | Beyond | None
+
+
+@dataclass(frozen=True)
+class Verdict:
+    """A yes.
+
+    kind is "max", "min", "infeasible", "sp" (all distances from so many sources) or "pairs"; value the value of the
+    flow, its cost, or the number of sources; pairs the answers to queries for pairs.
+    """
+
+    kind: str
+    value: int | None = None
+    pairs: tuple[Pair, ...] = ()
+
+    def __bool__(self) -> bool:
+        return True
+
+
+class Certified(NamedTuple):
+    """A yes, with what shows it, by which the judge says yes too.
+
+    The certificate is the text of a cut or of potentials; of arrays it is what the names below say, for each node: true
+    on the source's side of a cut, a potential, or a predecessor; of a graph a set of nodes, or a dict by node.
+    """
+
+    value: int | None
+    certificate: Any
+
+    @property
+    def inside(self) -> Any:
+        """The certificate of certify_max_arrays and certify_networkx_max."""
+        return self.certificate
+
+    @property
+    def potentials(self) -> Any:
+        """That of certify_min_arrays and certify_networkx_min."""
+        return self.certificate
+
+    @property
+    def predecessors(self) -> Any:
+        """That of certify_paths_arrays and certify_networkx_paths."""
+        return self.certificate
+
+
+class Refused(Exception):
+    """A no: the fault of a text, or the first test that fails.
+
+    Of a text's fault text is "instance", "query", "solution" or "certificate", and line and field say where, from 1;
+    field 0 is the whole line. Of a test arc is the number of an arc or node the ID of a node, from 1, and in the calls
+    over graphs the edge or the node itself. What doesn't apply is None. reason is the word of the command.
+    """
+
+    def __init__(
+        self,
+        reason: str,
+        *,
+        text: str | None = None,
+        line: int | None = None,
+        field: int | None = None,
+        arc: Any = None,
+        node: Any = None,
+    ) -> None:
+        place = [text, line, field] if text else ["arc", arc] if arc is not None else ["node", node]
+        super().__init__(" ".join(str(word) for word in (*place, reason)))
+        self.reason = reason
+        self.text = text
+        self.line = line
+        self.field = field
+        self.arc = arc
+        self.node = node
+
+
+class NotOptimal(Refused):
+    """A feasible flow that is what it claims, and there is a better one.
+
+    better is such a flow, in the form of the one that came; None where its cost is out of the range of solutions.
+    """
+
+    def __init__(self, reason: str, better: Any, **place: Any) -> None:
+        super().__init__(reason, **place)
+        self.better = better

@@ -1,0 +1,181 @@
+"""Where the items of a text or of an array lie in memory, and how many there are."""
+
+from __future__ import annotations
+
+import array
+import ctypes
+import math
+import sys
+from typing import Any, Iterable, NamedTuple
+
+from .answers import UNREACHED
+
+
+class Buffer:
+    """Where items lie, and how many, and the object that keeps the memory. Where that is bytes, it is the address too."""
+
+    __slots__ = ("kept", "address", "length")
+
+    def __init__(self, kept: Any, address: int | bytes, length: int) -> None:
+        self.kept = kept
+        self.address = address
+        self.length = length
+
+    def words(self) -> tuple[Any, int]:
+        return self.address, self.length
+
+
+class _View(ctypes.Structure):
+    """Python's Py_buffer."""
+
+    _fields_ = [
+        ("address", ctypes.c_void_p),
+        ("object", ctypes.py_object),
+        ("length", ctypes.c_ssize_t),
+        ("itemsize", ctypes.c_ssize_t),
+        ("readonly", ctypes.c_int),
+        ("ndim", ctypes.c_int),
+        ("format", ctypes.c_char_p),
+        ("shape", ctypes.c_void_p),
+        ("strides", ctypes.c_void_p),
+        ("suboffsets", ctypes.c_void_p),
+        ("internal", ctypes.c_void_p),
+    ]
+
+
+def _address_of(view: memoryview) -> int:
+    """Where the bytes of a view lie. They stay there while the view does."""
+    seen = _View()
+    ctypes.pythonapi.PyObject_GetBuffer(ctypes.py_object(view), ctypes.byref(seen), 0)
+    address = seen.address
+    ctypes.pythonapi.PyBuffer_Release(ctypes.byref(seen))
+    return address
+
+
+def bytes_of(text: Any) -> Buffer:
+    """The bytes of a text. A str is one of ASCII; a letter beyond that becomes bytes that no text has."""
+    if isinstance(text, str):
+        text = text.encode("utf-8", "surrogatepass")
+    if type(text) is bytes:
+        return Buffer(text, text, len(text))
+    view = memoryview(text)
+    if view.ndim != 1 or view.itemsize != 1 or not view.c_contiguous:
+        view = memoryview(view.tobytes())
+    return Buffer(view, _address_of(view) if len(view) else 0, len(view))
+
+
+class Items(NamedTuple):
+    """What the items of an array are."""
+
+    code: str
+    width: int
+    least: int
+    greatest: int
+    #: What an infinite number stands for, where it may stand there.
+    infinity: int | None = None
+
+
+IDS = Items("I", 4, 0, 2**32 - 1)
+NUMBERS = Items("q", 8, -(2**63), 2**63 - 1)
+MARKS = Items("B", 1, 0, 2**8 - 1)
+DISTANCES = NUMBERS._replace(infinity=UNREACHED)
+
+#: The codes of buffers that have such items already, by their code here.
+_SAME = {"I": ("I", "L", "=I", "@I", "<I"), "q": ("q", "l", "=q", "@q", "<q"), "B": ("B", "?")}
+
+
+def _refuse(name: str, number: Any) -> ValueError:
+    return ValueError(f"{name} has {number}, which isn't a whole number in its range")
+
+
+def _whole(number: Any, items: Items, name: str) -> int:
+    """The integer that a number is."""
+    if hasattr(number, "__index__"):
+        return number.__index__()
+    if not hasattr(number, "is_integer"):
+        raise TypeError(f"{name} has {number!r}, which isn't a number")
+    if items.infinity is not None and number == math.inf:
+        return items.infinity
+    if not number.is_integer():
+        raise _refuse(name, number)
+    return int(number)
+
+
+def _from_numbers(numbers: Iterable[Any], items: Items, name: str) -> Buffer:
+    """Converts numbers one by one."""
+    try:
+        kept = array.array(items.code, numbers)
+    except OverflowError:
+        raise ValueError(f"{name} has a number that is out of its range") from None
+    except TypeError:
+        whole = [_whole(number, items, name) for number in numbers]
+        return _from_numbers(whole, items, name)
+    address, length = kept.buffer_info()
+    return Buffer(kept, address, length)
+
+
+def _from_numpy(numpy: Any, numbers: Any, items: Items, name: str) -> Buffer:
+    """Takes a numpy array as it is where its items have the width, and else converts it."""
+    wanted = numpy.dtype(items.code)
+    kind = numbers.dtype.kind
+    if numbers.ndim != 1:
+        raise ValueError(f"{name} has {numbers.ndim} dimensions, and not one")
+    if kind == "O":
+        return _from_numbers(numbers.tolist(), items, name)
+    if kind == "b":
+        numbers = numbers.view(numpy.uint8)
+    elif kind == "f":
+        numbers = _whole_numpy(numpy, numbers, items, name)
+    elif kind not in "iu":
+        raise TypeError(f"{name} has items of {numbers.dtype}, which are no numbers")
+    if numbers.dtype != wanted:
+        if len(numbers) and not (items.least <= int(numbers.min()) and int(numbers.max()) <= items.greatest):
+            least = int(numbers.min())
+            raise _refuse(name, least if least < items.least else int(numbers.max()))
+        fits = numbers.dtype.itemsize == items.width and numbers.dtype.isnative
+        numbers = numbers.view(wanted) if fits else numbers.astype(wanted)
+    numbers = numpy.ascontiguousarray(numbers)
+    return Buffer(numbers, numbers.ctypes.data if len(numbers) else 0, len(numbers))
+
+
+def _whole_numpy(numpy: Any, numbers: Any, items: Items, name: str) -> Any:
+    """The integers that an array of floats is."""
+    infinite = numbers == math.inf if items.infinity is not None else numpy.zeros(len(numbers), bool)
+    finite = numpy.where(infinite, 0, numbers)
+    # The end is exact as a float, where the greatest of 64 bits isn't.
+    fits = (finite >= items.least) & (finite < items.greatest + 1) & (finite == numpy.floor(finite))
+    if not fits.all():
+        raise _refuse(name, finite[~fits][0])
+    whole = finite.astype(items.code)
+    if infinite.any():
+        whole[infinite] = items.infinity
+    return whole
+
+
+def array_of(numbers: Any, items: Items, name: str) -> Buffer:
+    """The items of an array: as they lie in memory, where a buffer has them so, and else converted.
+
+    Raises ValueError where one doesn't fit or isn't whole.
+    """
+    if type(numbers) in (list, tuple):
+        return _from_numbers(numbers, items, name)
+    numpy = sys.modules.get("numpy")
+    if numpy is not None and isinstance(numbers, numpy.ndarray):
+        return _from_numpy(numpy, numbers, items, name)
+    try:
+        view = memoryview(numbers)
+    except TypeError:
+        return _from_numbers(list(numbers), items, name)
+    if view.ndim != 1:
+        raise ValueError(f"{name} has {view.ndim} dimensions, and not one")
+    if view.format not in _SAME[items.code] or view.itemsize != items.width or not view.c_contiguous:
+        return _from_numbers(view.tolist(), items, name)
+    return Buffer(view, _address_of(view) if len(view) else 0, len(view))
+
+
+def number_of(number: Any, items: Items, name: str) -> int:
+    """A single number."""
+    whole = _whole(number, items, name)
+    if not items.least <= whole <= items.greatest:
+        raise _refuse(name, number)
+    return whole

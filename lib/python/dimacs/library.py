@@ -1,0 +1,121 @@
+"""The shared library, and how one of its calls is made."""
+
+from __future__ import annotations
+
+import ctypes
+import os
+from pathlib import Path
+from typing import Any, Callable
+
+from .answers import Beyond, NotOptimal, Pair, Refused, Verdict
+
+DONE, REFUSED, MISUSED, NO_MEMORY, GAVE_UP = 0, 1, 2, 4, 5
+
+#: The reasons with which a better flow is handed out.
+BETTER = (b"NotMaximum", b"NotLeast")
+
+#: As much as any line has that isn't one of many.
+LINE = 256
+
+_HERE = Path(__file__).resolve().parent
+
+
+def _find() -> Path:
+    """The library that DIMACS_LIBRARY names, else the one of this package, else the one that `make -C lib` built."""
+    named = os.environ.get("DIMACS_LIBRARY")
+    places = [Path(named)] if named else [_HERE / "libdimacs.so", _HERE.parents[1] / "out" / "libdimacs.so"]
+    for place in places:
+        if place.is_file():
+            return place
+    raise ImportError(f"{places[-1]} isn't there: build it by `make -C lib`")
+
+
+_address, _number, _size = ctypes.c_void_p, ctypes.c_uint32, ctypes.c_size_t
+_room = [_address, _size, ctypes.POINTER(_size)]
+
+_library = ctypes.CDLL(str(_find()))
+
+
+def export(name: str, *words: Any, texts: int = 0, rooms: int = 1) -> Callable[..., int]:
+    """The function of the library that takes these words, so many texts or arrays, and rooms for what it hands out."""
+    function = getattr(_library, name)
+    function.argtypes = [*words, *[_address, _size] * texts, *_room * rooms]
+    function.restype = _number
+    return function
+
+
+judge = export("dimacs_judge", _number, texts=3)
+certify = export("dimacs_certify", _number, texts=2, rooms=2)
+convert = export("dimacs_convert", _number, texts=1)
+show = export("dimacs_show", _number, texts=1)
+
+_Line = ctypes.c_char * LINE
+
+
+def _raise_for(status: int, said: bytes) -> None:
+    """Raises what a status means that says nothing of the claim."""
+    if status == NO_MEMORY:
+        raise MemoryError("there was not enough memory to judge")
+    if status == MISUSED:
+        raise ValueError(said.decode("ascii").strip() or "the library doesn't take these words")
+
+
+def call(function: Callable[..., int], *words: Any) -> tuple[int, bytes]:
+    """Makes a call that hands out a text, twice where that is longer than a line; its status, and the text."""
+    room, told = _Line(), _size()
+    status = function(*words, room, LINE, ctypes.byref(told))
+    length = told.value
+    if length > LINE:
+        room = ctypes.create_string_buffer(length)
+        function(*words, room, length, ctypes.byref(told))
+    said = room[:length]
+    if status != DONE and status != REFUSED:
+        _raise_for(status, said)
+    return status, said
+
+
+def call_for_text(function: Callable[..., int], *words: Any, room: int, has_line: bool) -> tuple[int, bytes, bytes]:
+    """Makes a call that hands out a long text, and where it has one a line before it, twice where the room is too small;
+    its status, the line and the text."""
+    while True:
+        line, line_told = _Line(), _size()
+        text, told = ctypes.create_string_buffer(room), _size()
+        before = (line, LINE, ctypes.byref(line_told)) if has_line else ()
+        status = function(*words, *before, text, room, ctypes.byref(told))
+        said = line[: line_told.value]
+        _raise_for(status, said)
+        if told.value <= room:
+            return status, said, ctypes.string_at(text, told.value)
+        room = told.value
+
+
+def refusal(line: bytes, **more: Any) -> Refused:
+    """What a line that begins with x says."""
+    _, place, *numbers, reason = line.decode("ascii").split()
+    kind = NotOptimal if more else Refused
+    if place in ("arc", "node"):
+        return kind(reason, **{place: int(numbers[0])}, **more)
+    return kind(reason, text=place, line=int(numbers[0]), field=int(numbers[1]), **more)
+
+
+def _distance(words: list[str]) -> int | Beyond | None:
+    if words[0] == "unreachable":
+        return None
+    if words[0] == "more":
+        return Beyond(int(words[1]))
+    return int(words[0])
+
+
+def verdict(said: bytes) -> Verdict:
+    """What the lines of a verdict say."""
+    words = said.decode("ascii").split("\n", 1)[0].split()
+    kind = words[1] if words else "pairs"
+    if kind in ("max", "min"):
+        return Verdict(kind, int(words[2]))
+    if kind == "infeasible":
+        return Verdict(kind)
+    if kind == "sp":
+        return Verdict(kind, int(words[3]))
+    lines = (line.split() for line in said.decode("ascii").splitlines())
+    pairs = tuple(Pair(int(line[1]), int(line[2]), _distance(line[3:])) for line in lines)
+    return Verdict("pairs", None, pairs)

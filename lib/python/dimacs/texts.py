@@ -1,0 +1,102 @@
+"""The calls over texts in memory. A text is bytes, str, or anything with a buffer of bytes, as a bytearray or mmap."""
+
+from __future__ import annotations
+
+from typing import Any, Union
+
+from . import library
+from .answers import Certified, Verdict
+from .buffers import bytes_of
+
+Text = Union[bytes, str, bytearray, memoryview]
+
+_JUDGES = {"max": 0, "min": 1, "infeasible": 2, "paths": 3}
+_TEXTS = {"max": 0, "min": 1, "gr": 2, "query": 3, "solution": 4, "cut": 5, "pot": 6, "dist": 7}
+
+
+def _judge(kind: str, instance: Text, claim: Text, certificate: Text) -> Verdict:
+    texts = bytes_of(instance), bytes_of(claim), bytes_of(certificate)
+    words = texts[0].words() + texts[1].words() + texts[2].words()
+    status, said = library.call(library.judge, _JUDGES[kind], *words)
+    if status == library.REFUSED:
+        raise library.refusal(said)
+    return library.verdict(said)
+
+
+def judge_max(instance: Text, solution: Text, cut: Text) -> Verdict:
+    """Judges that a solution's flow is maximum, as the cut shows. Raises Refused where it doesn't."""
+    return _judge("max", instance, solution, cut)
+
+
+def judge_min(instance: Text, solution: Text, potentials: Text) -> Verdict:
+    """Judges that a solution's flow costs least, as the potentials show. Raises Refused where they don't."""
+    return _judge("min", instance, solution, potentials)
+
+
+def judge_infeasible(instance: Text, cut: Text) -> Verdict:
+    """Judges that no flow is feasible, as the set of nodes shows. Raises Refused where it doesn't."""
+    return _judge("infeasible", instance, b"", cut)
+
+
+def judge_paths(graph: Text, queries: Text, labels: Text) -> Verdict:
+    """Judges that all labels are distances, and answers the queries by them. Raises Refused where one isn't."""
+    return _judge("paths", graph, queries, labels)
+
+
+def _in_form_of(came: Text, text: bytes) -> Any:
+    return text.decode("ascii") if isinstance(came, str) else text
+
+
+def _certify(kind: str, instance: Text, solution: Text) -> Certified:
+    texts = bytes_of(instance), bytes_of(solution)
+    words = texts[0].words() + texts[1].words()
+    room = library.LINE + texts[0].length + texts[1].length
+    call = library.call_for_text(library.certify, _JUDGES[kind], *words, room=room, has_line=True)
+    status, said, shown = call
+    if status == library.REFUSED and said.rstrip().endswith(library.BETTER):
+        raise library.refusal(said, better=_in_form_of(solution, shown) if shown else None)
+    if status == library.REFUSED:
+        raise library.refusal(said)
+    return Certified(library.verdict(said).value, _in_form_of(instance, shown))
+
+
+def certify_max(instance: Text, solution: Text) -> Certified:
+    """Decides whether a solution's flow is maximum; its value, and the text of a cut that shows it.
+
+    Raises NotOptimal where the flow is feasible and has the claimed value, but there is a better one, whose text it
+    has; Refused where a text has a fault or the flow isn't what it claims. The certificate is str where the instance is.
+    """
+    return _certify("max", instance, solution)
+
+
+def certify_min(instance: Text, solution: Text) -> Certified:
+    """Decides whether a solution's flow costs least; its cost, and the text of potentials that show it.
+
+    Raises NotOptimal where the flow is feasible and has the claimed cost, but another costs less, whose text it has,
+    and Refused, as certify_max.
+    """
+    return _certify("min", instance, solution)
+
+
+def _told(function: Any, kind: str, text: Text) -> Any:
+    if kind not in _TEXTS:
+        raise ValueError(f"{kind!r} is no kind of text: these are {', '.join(_TEXTS)}")
+    given = bytes_of(text)
+    room = library.LINE + given.length
+    status, _, said = library.call_for_text(function, _TEXTS[kind], *given.words(), room=room, has_line=False)
+    if status == library.REFUSED:
+        raise library.refusal(said)
+    return _in_form_of(text, said)
+
+
+def convert(kind: str, text: Text) -> Any:
+    """The canonical form of a text: str where the text is str, else bytes. Raises Refused where it has a fault.
+
+    kind is "max", "min", "gr", "query", "solution", "cut", "pot" or "dist".
+    """
+    return _told(library.convert, kind, text)
+
+
+def show(kind: str, text: Text) -> Any:
+    """A line that says what a text is, as `i max 4 5 1 4`. The kinds and what is raised are those of convert."""
+    return _told(library.show, kind, text)

@@ -1,0 +1,45 @@
+/* Counts what passed and what failed. */
+#ifndef CHECK_H
+#define CHECK_H
+
+#include <stdint.h>
+#include <stdio.h>
+#include <stdlib.h>
+#include <string.h>
+
+#ifdef __GNUC__
+#define MAYBE_UNUSED __attribute__((unused))
+#else
+#define MAYBE_UNUSED
+#endif
+
+static int passed, failed;
+
+/* A case passes where the call answered this status and handed out this text, whole. */
+MAYBE_UNUSED static void check(const char *name, uint32_t status, const uint8_t *out, size_t told, uint32_t wanted,
+                               const char *text) {
+    if (status == wanted && told == strlen(text) && memcmp(out, text, told) == 0) {
+        passed++;
+        return;
+    }
+    failed++;
+    printf("%s: wanted status %u and '%s', got status %u and '%.*s'\n", name, wanted, text, status, (int)told,
+           (const char *)out);
+}
+
+static void check_that(const char *name, int holds) {
+    if (holds) {
+        passed++;
+    } else {
+        failed++;
+        printf("%s: doesn't hold\n", name);
+    }
+}
+
+/* Says how many, and answers the exit status. */
+static int count(void) {
+    printf("%d passed, %d failed\n", passed, failed);
+    return failed != 0;
+}
+
+#endif

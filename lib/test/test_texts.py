@@ -1,0 +1,146 @@
+"""The calls over texts, from Python."""
+
+import mmap
+import tempfile
+import unittest
+
+import dimacs
+
+MAX = "p max 4 5\nn 1 s\nn 4 t\na 1 2 4\na 1 3 2\na 2 3 2\na 2 4 3\na 3 4 5\n"
+FLOW = "s 6\nf 1 2 4\nf 1 3 2\nf 2 3 1\nf 2 4 3\nf 3 4 3\n"
+SLOW = "s 5\nf 1 2 3\nf 1 3 2\nf 2 4 3\nf 3 4 2\n"
+CUT = "p cut 4 1\nu 1\n"
+MIN = "p min 4 5\nn 1 4\nn 4 -4\na 1 2 0 4 2\na 1 3 0 2 2\na 2 3 0 2 1\na 2 4 0 3 3\na 3 4 0 5 1\n"
+LEAST = "s 14\nf 1 2 2\nf 1 3 2\nf 2 3 2\nf 3 4 4\n"
+DEAR = "s 15\nf 1 2 2\nf 1 3 2\nf 2 3 1\nf 2 4 1\nf 3 4 3\n"
+POT = "p pot 4 3\ny 1 4\ny 2 2\ny 3 1\n"
+GRAPH = "p sp 4 3\na 1 2 5\na 3 4 0\na 4 3 0\n"
+PAIRS = "p aux sp p2p 2\nq 1 2\nq 1 4\n"
+SOURCE = "p aux sp ss 1\ns 1\n"
+DIST = "p dist 4 1\nt 1 1\nd 2 5 1\n"
+NEAR = "p dist 4 1\nt 1 0 3\n"
+
+
+class Judges(unittest.TestCase):
+    def test_yes(self):
+        cases = [
+            (dimacs.judge_max(MAX, FLOW, CUT), dimacs.Verdict("max", 6)),
+            (dimacs.judge_min(MIN, LEAST, POT), dimacs.Verdict("min", 14)),
+            (dimacs.judge_infeasible("p min 1 0\nn 1 1\n", "p cut 1 1\nu 1\n"), dimacs.Verdict("infeasible")),
+            (dimacs.judge_paths(GRAPH, SOURCE, DIST), dimacs.Verdict("sp", 1)),
+            (
+                dimacs.judge_paths(GRAPH, PAIRS, DIST),
+                dimacs.Verdict("pairs", None, (dimacs.Pair(1, 2, 5), dimacs.Pair(1, 4, None))),
+            ),
+            (
+                dimacs.judge_paths(GRAPH, PAIRS, NEAR).pairs,
+                (dimacs.Pair(1, 2, dimacs.Beyond(3)), dimacs.Pair(1, 4, dimacs.Beyond(3))),
+            ),
+            (dimacs.judge_paths(GRAPH, "p aux sp p2p 0\n", DIST), dimacs.Verdict("pairs")),
+        ]
+        for got, wanted in cases:
+            self.assertEqual(got, wanted)
+            self.assertTrue(got)
+
+    def test_faults(self):
+        cases = [
+            (dimacs.judge_max, ("", FLOW, CUT), ("instance", 1, 0, "ProblemMissing")),
+            (dimacs.judge_max, (MAX, "s 6\nf 1 2 x\n", CUT), ("solution", 2, 4, "BadNumber")),
+            (dimacs.judge_max, (MAX, FLOW, "p cut 4 1\nu 5\n"), ("certificate", 2, 2, "NodeRange")),
+            (dimacs.judge_max, (MAX, "s 7" + FLOW[3:], CUT), ("solution", 1, 2, "ValueDiffers")),
+            (dimacs.judge_paths, (GRAPH, "p aux sp xx 0\n", DIST), ("query", 1, 4, "BadWord")),
+            (dimacs.convert, ("gr", "p sp 2 1\na 1 3 5\n"), ("instance", 2, 3, "NodeRange")),
+            (dimacs.show, ("gr", "p sp 2 1\u00b9\n"), ("instance", 1, 4, "BadNumber")),
+        ]
+        for call, words, wanted in cases:
+            with self.assertRaises(dimacs.Refused) as caught:
+                call(*words)
+            it = caught.exception
+            self.assertEqual((it.text, it.line, it.field, it.reason), wanted)
+            self.assertEqual((it.arc, it.node), (None, None))
+            self.assertNotIsInstance(it, dimacs.NotOptimal)
+
+    def test_failed_tests(self):
+        with self.assertRaises(dimacs.Refused) as caught:
+            dimacs.judge_max(MAX, SLOW, CUT)
+        it = caught.exception
+        self.assertEqual((it.arc, it.node, it.reason, str(it)), (1, None, "NotSaturated", "arc 1 NotSaturated"))
+        self.assertEqual((it.text, it.line, it.field), (None, None, None))
+        with self.assertRaises(dimacs.Refused) as caught:
+            dimacs.judge_max(MAX, "s 6\nf 1 2 4\n", CUT)
+        self.assertEqual((caught.exception.arc, caught.exception.node), (None, 2))
+
+    def test_pairs_of_many_lines(self):
+        pairs = "".join(f"q 1 {k % 4 + 1}\n" for k in range(1000))
+        answers = dimacs.judge_paths(GRAPH, f"p aux sp p2p 1000\n{pairs}", DIST).pairs
+        self.assertEqual([it.target for it in answers], [k % 4 + 1 for k in range(1000)])
+
+
+class Certifies(unittest.TestCase):
+    def test_yes(self):
+        self.assertEqual(dimacs.certify_max(MAX, FLOW), dimacs.Certified(6, CUT))
+        cost, potentials = dimacs.certify_min(MIN.encode(), LEAST)
+        self.assertEqual(cost, 14)
+        self.assertIsInstance(potentials, bytes)
+        self.assertEqual(dimacs.judge_min(MIN, LEAST, potentials).value, 14)
+
+    def test_better(self):
+        for call, judge, instance, claim, reason in [
+            (dimacs.certify_max, dimacs.judge_max, MAX, SLOW, "NotMaximum"),
+            (dimacs.certify_min, dimacs.judge_min, MIN, DEAR, "NotLeast"),
+        ]:
+            with self.assertRaises(dimacs.NotOptimal) as caught:
+                call(instance, claim)
+            it = caught.exception
+            self.assertEqual((it.text, it.line, it.field, it.reason), ("solution", 1, 2, reason))
+            self.assertIsInstance(it.better, str)
+            value, certificate = call(instance, it.better)
+            self.assertEqual(judge(instance, it.better, certificate).value, value)
+            with self.assertRaises(dimacs.NotOptimal) as caught:
+                call(instance, claim.encode())
+            self.assertIsInstance(caught.exception.better, bytes)
+
+    def test_not_feasible(self):
+        with self.assertRaises(dimacs.Refused) as caught:
+            dimacs.certify_min(MIN, "s 0\n")
+        self.assertNotIsInstance(caught.exception, dimacs.NotOptimal)
+        self.assertEqual(caught.exception.node, 1)
+
+
+class Texts(unittest.TestCase):
+    def test_forms(self):
+        for kind, text, shown in [
+            ("max", MAX, "i max 4 5 1 4\n"),
+            ("min", MIN, "i min 4 5 4 4\n"),
+            ("gr", GRAPH, "i sp 4 3\n"),
+            ("query", PAIRS, "i p2p 2\n"),
+            ("solution", FLOW, "i solution 6 5\n"),
+            ("cut", CUT, "i cut 4 1\n"),
+            ("pot", POT, "i pot 4 3\n"),
+            ("dist", DIST, "i dist 4 1\n"),
+        ]:
+            loose = "c loose\n" + text.replace(" ", " \t").replace("\n", " \r\n")
+            self.assertEqual(dimacs.convert(kind, loose), text)
+            self.assertEqual(dimacs.convert(kind, loose.encode()), text.encode())
+            self.assertEqual(dimacs.show(kind, text), shown)
+
+    def test_buffers(self):
+        plain = MAX.encode()
+        with tempfile.TemporaryFile() as file:
+            file.write(plain)
+            file.flush()
+            with mmap.mmap(file.fileno(), 0, access=mmap.ACCESS_READ) as mapped:
+                for text in (plain, bytearray(plain), memoryview(plain), memoryview(b"?" + plain)[1:], mapped):
+                    self.assertEqual(dimacs.convert("max", text), plain)
+        spread = memoryview(b"".join(bytes([byte, 0]) for byte in plain))[::2]
+        self.assertEqual(dimacs.convert("max", spread), plain)
+
+    def test_misuse(self):
+        with self.assertRaises(ValueError):
+            dimacs.convert("graph", GRAPH)
+        with self.assertRaises(TypeError):
+            dimacs.convert("gr", 5)
+
+
+if __name__ == "__main__":
+    unittest.main()

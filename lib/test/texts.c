@@ -1,0 +1,184 @@
+/* The calls over texts: what they answer and hand out, with room and without. */
+#include "check.h"
+#include "dimacs.h"
+
+#define TEXT(s) (const uint8_t *)(s), strlen(s)
+
+/* 1 to 4; a maximum flow has the value 6. */
+static const char max[] = "p max 4 5\nn 1 s\nn 4 t\na 1 2 4\na 1 3 2\na 2 3 2\na 2 4 3\na 3 4 5\n";
+static const char flow[] = "s 6\nf 1 2 4\nf 1 3 2\nf 2 3 1\nf 2 4 3\nf 3 4 3\n";
+static const char slow[] = "s 5\nf 1 2 3\nf 1 3 2\nf 2 4 3\nf 3 4 2\n";
+static const char cut[] = "p cut 4 1\nu 1\n";
+
+/* Four units from 1 to 4 cost 14 at least. */
+static const char min[] = "p min 4 5\nn 1 4\nn 4 -4\na 1 2 0 4 2\na 1 3 0 2 2\na 2 3 0 2 1\na 2 4 0 3 3\na 3 4 0 5 1\n";
+static const char least[] = "s 14\nf 1 2 2\nf 1 3 2\nf 2 3 2\nf 3 4 4\n";
+static const char dear[] = "s 15\nf 1 2 2\nf 1 3 2\nf 2 3 1\nf 2 4 1\nf 3 4 3\n";
+static const char pot[] = "p pot 4 3\ny 1 4\ny 2 2\ny 3 1\n";
+
+static const char graph[] = "p sp 4 3\na 1 2 5\na 3 4 0\na 4 3 0\n";
+static const char pairs[] = "p aux sp p2p 2\nq 1 2\nq 1 4\n";
+static const char source[] = "p aux sp ss 1\ns 1\n";
+static const char dist[] = "p dist 4 1\nt 1 1\nd 2 5 1\n";
+static const char mutual[] = "p dist 4 1\nt 1 3\nd 2 5 1\nd 3 0 4\nd 4 0 3\n";
+
+static const char surplus[] = "p min 2 1\nn 1 1\na 1 2 0 5 1\n";
+static const char both[] = "p cut 2 2\nu 1\nu 2\n";
+
+static uint8_t out[400], shown[400];
+static size_t told, shown_told;
+
+static const struct {
+    const char *name;
+    uint32_t kind;
+    const char *instance, *claim, *certificate;
+    uint32_t status;
+    const char *said;
+} judged[] = {
+    {"maximum", DIMACS_MAX, max, flow, cut, 0, "v max 6\n"},
+    {"not at the cut", DIMACS_MAX, max, slow, cut, 1, "x arc 1 NotSaturated\n"},
+    {"no cut", DIMACS_MAX, max, flow, "p cut 4 0\n", 1, "x node 1 SourceOutside\n"},
+    {"least", DIMACS_MIN, min, least, pot, 0, "v min 14\n"},
+    {"not tight", DIMACS_MIN, min, dear, pot, 1, "x arc 4 NotTight\n"},
+    {"no flow", DIMACS_INFEASIBLE, surplus, "", both, 0, "v infeasible\n"},
+    {"a claim that isn't read", DIMACS_INFEASIBLE, surplus, "?", both, 0, "v infeasible\n"},
+    {"distances", DIMACS_PATHS, graph, source, dist, 0, "v sp ss 1\n"},
+    {"pairs", DIMACS_PATHS, graph, pairs, dist, 0, "v 1 2 5\nv 1 4 unreachable\n"},
+    {"labels in a circle", DIMACS_PATHS, graph, source, mutual, 1, "x certificate 4 0 PredUnknown\n"},
+    {"three empty texts", DIMACS_MAX, "", "", "", 1, "x instance 1 0 ProblemMissing\n"},
+    {"a claim with a fault", DIMACS_MAX, max, "s six\n", cut, 1, "x solution 1 2 BadNumber\n"},
+    {"a certificate with a fault", DIMACS_MAX, max, flow, "p cut 4 1\nu 0\n", 1, "x certificate 2 2 NumberRange\n"},
+    {"no kind", 4, max, flow, cut, 2, ""},
+    {"the greatest number, no kind", UINT32_MAX, max, flow, cut, 2, ""},
+};
+
+static void judges(void) {
+    for (size_t k = 0; k < sizeof judged / sizeof *judged; k++) {
+        told = 99;
+        uint32_t status = dimacs_judge(judged[k].kind, TEXT(judged[k].instance), TEXT(judged[k].claim),
+                                       TEXT(judged[k].certificate), out, sizeof out, &told);
+        check(judged[k].name, status, out, told, judged[k].status, judged[k].said);
+    }
+}
+
+static const struct {
+    const char *name;
+    uint32_t kind;
+    const char *instance, *solution;
+    uint32_t status;
+    const char *said, *shown;
+} certified[] = {
+    {"certified maximum", DIMACS_MAX, max, flow, 0, "v max 6\n", "p cut 4 1\nu 1\n"},
+    {"not maximum", DIMACS_MAX, max, slow, 1, "x solution 1 2 NotMaximum\n", "s 6\n"},
+    {"certified least", DIMACS_MIN, min, least, 0, "v min 14\n", "p pot 4 "},
+    {"not least", DIMACS_MIN, min, dear, 1, "x solution 1 2 NotLeast\n", "s 14\n"},
+    {"certified, with a fault", DIMACS_MIN, min, "s 14", 1, "x node 1 Balance\n", ""},
+    {"sets aren't certified", DIMACS_INFEASIBLE, surplus, "", 2, "", ""},
+};
+
+static void certifies(void) {
+    for (size_t k = 0; k < sizeof certified / sizeof *certified; k++) {
+        told = shown_told = 99;
+        uint32_t status = dimacs_certify(certified[k].kind, TEXT(certified[k].instance), TEXT(certified[k].solution), out,
+                                         sizeof out, &told, shown, sizeof shown, &shown_told);
+        check(certified[k].name, status, out, told, certified[k].status, certified[k].said);
+        size_t length = strlen(certified[k].shown);
+        check_that(certified[k].name, length == 0 ? shown_told == 0 : shown_told >= length && !memcmp(shown, certified[k].shown, length));
+    }
+}
+
+/* A certificate is judged by the judge, and so is a better flow. */
+static void accepts_its_own(void) {
+    size_t again;
+    dimacs_certify(DIMACS_MIN, TEXT(min), TEXT(dear), out, sizeof out, &told, shown, sizeof shown, &shown_told);
+    uint8_t better[400];
+    memcpy(better, shown, shown_told);
+    size_t length = shown_told;
+    uint32_t status = dimacs_certify(DIMACS_MIN, TEXT(min), better, length, out, sizeof out, &told, shown, sizeof shown, &shown_told);
+    check("the better flow is least", status, out, told, 0, "v min 14\n");
+    status = dimacs_judge(DIMACS_MIN, TEXT(min), better, length, shown, shown_told, out, sizeof out, &again);
+    check("its potentials are accepted", status, out, again, 0, "v min 14\n");
+}
+
+static const struct {
+    const char *name;
+    uint32_t kind;
+    const char *text;
+    uint32_t status;
+    const char *converted, *shown;
+} read[] = {
+    {"max", DIMACS_TEXT_MAX, max, 0, max, "i max 4 5 1 4\n"},
+    {"min", DIMACS_TEXT_MIN, min, 0, min, "i min 4 5 4 4\n"},
+    {"gr", DIMACS_TEXT_GR, "c x\n  p  sp 2 1\r\n\na 1 2 +007", 0, "p sp 2 1\na 1 2 7\n", "i sp 2 1\n"},
+    {"query", DIMACS_TEXT_QUERY, pairs, 0, pairs, "i p2p 2\n"},
+    {"solution", DIMACS_TEXT_SOLUTION, flow, 0, flow, "i solution 6 5\n"},
+    {"cut", DIMACS_TEXT_CUT, "p cut 4 2\nu 3\nu 1", 0, "p cut 4 2\nu 1\nu 3\n", "i cut 4 2\n"},
+    {"pot", DIMACS_TEXT_POT, pot, 0, pot, "i pot 4 3\n"},
+    {"dist", DIMACS_TEXT_DIST, dist, 0, dist, "i dist 4 1\n"},
+    {"a fault", DIMACS_TEXT_GR, "p sp 2 1\na 1 3 0\n", 1, "x instance 2 3 NodeRange\n", "x instance 2 3 NodeRange\n"},
+    {"no kind of text", 8, max, 2, "", ""},
+};
+
+static void converts_and_shows(void) {
+    for (size_t k = 0; k < sizeof read / sizeof *read; k++) {
+        uint32_t status = dimacs_convert(read[k].kind, TEXT(read[k].text), out, sizeof out, &told);
+        check(read[k].name, status, out, told, read[k].status, read[k].converted);
+        status = dimacs_show(read[k].kind, TEXT(read[k].text), out, sizeof out, &told);
+        check(read[k].name, status, out, told, read[k].status, read[k].shown);
+    }
+}
+
+/* Rooms of all lengths up to one more than is needed: the front is written, and nothing after it. */
+static void keeps_to_the_room(void) {
+    for (size_t room = 0; room <= 9; room++) {
+        uint8_t *exact = malloc(room ? room : 1), *other = malloc(room < 9 ? 9 - room : 1);
+        memset(exact, '#', room);
+        told = shown_told = 99;
+        uint32_t status = dimacs_judge(DIMACS_MAX, TEXT(max), TEXT(flow), TEXT(cut), exact, room, &told);
+        size_t front = room < 8 ? room : 8;
+        check_that("the front of a verdict", status == 0 && told == 8 && !memcmp(exact, "v max 6\n", front));
+        check_that("nothing after it", room < 9 || exact[8] == '#');
+        status = dimacs_certify(DIMACS_MAX, TEXT(max), TEXT(flow), exact, room, &told, other, 9 - room, &shown_told);
+        check_that("two rooms", status == 0 && told == 8 && shown_told == 14 && !memcmp(other, "p cut 4 1", 9 - room));
+        free(exact);
+        free(other);
+    }
+    uint32_t status = dimacs_show(DIMACS_TEXT_MAX, TEXT(max), NULL, 0, &told);
+    check_that("no room, and null", status == 0 && told == 14);
+    memset(out, '#', sizeof out);
+    status = dimacs_judge(9, TEXT(max), TEXT(flow), TEXT(cut), out, sizeof out, &told);
+    check_that("nothing is written where it is misused", status == 2 && told == 0 && out[0] == '#');
+}
+
+/* Texts in memory that is exactly theirs, so that a read beyond would be seen; with no UTF-8 and with 0 bytes. */
+static void reads_any_bytes(void) {
+    static const struct {
+        const char *name, *text;
+        size_t length;
+        const char *said;
+    } texts[] = {
+        {"null", NULL, 0, "x instance 1 0 ProblemMissing\n"},
+        {"no UTF-8", "p max 3 3\xff\xfe\n", 12, "x instance 1 4 BadNumber\n"},
+        {"a 0 byte", "p max\0 3 3\n", 11, "x instance 1 2 BadWord\n"},
+        {"a letter alone", "p", 1, "x instance 1 0 FieldCount\n"},
+    };
+    for (size_t k = 0; k < sizeof texts / sizeof *texts; k++) {
+        uint8_t *exact = texts[k].text ? malloc(texts[k].length) : NULL;
+        if (exact) {
+            memcpy(exact, texts[k].text, texts[k].length);
+        }
+        uint32_t status = dimacs_show(DIMACS_TEXT_MAX, exact, texts[k].length, out, sizeof out, &told);
+        check(texts[k].name, status, out, told, 1, texts[k].said);
+        free(exact);
+    }
+}
+
+int main(void) {
+    judges();
+    certifies();
+    accepts_its_own();
+    converts_and_shows();
+    keeps_to_the_room();
+    reads_any_bytes();
+    return count();
+}

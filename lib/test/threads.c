@@ -1,0 +1,101 @@
+/* Eight threads make all calls over texts at once, each over texts of its own, some of which have a fault. Each answer
+ * has to be that of a thread alone. Their stacks have 64 KB beside what the C library takes. */
+#include "check.h"
+#include "dimacs.h"
+#include <pthread.h>
+
+#define TEXT(s) (const uint8_t *)(s), strlen(s)
+enum { THREADS = 8, ROUNDS = 200, NODES = 300 };
+
+/* The texts of a path of NODES nodes, along which one unit flows. */
+static char max[16000], min[16000], flow[16000], least[16000], cut[64], pot[16000], bad[16000];
+
+static void write_texts(void) {
+    int a = sprintf(max, "p max %d %d\nn 1 s\nn %d t\n", NODES, NODES - 1, NODES);
+    int b = sprintf(min, "p min %d %d\nn 1 1\nn %d -1\n", NODES, NODES - 1, NODES);
+    int c = sprintf(flow, "s 1\n"), d = sprintf(least, "s %d\n", NODES - 1);
+    int e = sprintf(pot, "p pot %d %d\n", NODES, NODES);
+    for (int k = 1; k < NODES; k++) {
+        a += sprintf(max + a, "a %d %d 1\n", k, k + 1);
+        b += sprintf(min + b, "a %d %d 0 1 1\n", k, k + 1);
+        c += sprintf(flow + c, "f %d %d 1\n", k, k + 1);
+        d += sprintf(least + d, "f %d %d 1\n", k, k + 1);
+    }
+    for (int k = 1; k <= NODES; k++) {
+        e += sprintf(pot + e, "y %d %d\n", k, NODES - k);
+    }
+    sprintf(cut, "p cut %d 1\nu 1\n", NODES);
+    memcpy(bad, flow, sizeof bad);
+    bad[c / 2] = '%';
+}
+
+/* What the calls hand out, one after another. */
+typedef struct {
+    size_t length;
+    uint8_t bytes[70000];
+} Said;
+
+/* The room that is left, after a byte for the status. */
+#define ROOM said->bytes + said->length + 1, sizeof said->bytes - said->length - 1
+
+static void add(Said *said, uint32_t status, size_t told) {
+    said->bytes[said->length] = (uint8_t)status;
+    said->length += 1 + told;
+}
+
+static void call_all(Said *said, const char *claim) {
+    size_t told = 0, shown = 0;
+    uint8_t line[100];
+    said->length = 0;
+    uint32_t status = dimacs_judge(DIMACS_MAX, TEXT(max), TEXT(claim), TEXT(cut), ROOM, &told);
+    add(said, status, told);
+    status = dimacs_judge(DIMACS_MIN, TEXT(min), TEXT(least), TEXT(pot), ROOM, &told);
+    add(said, status, told);
+    status = dimacs_convert(DIMACS_TEXT_SOLUTION, TEXT(claim), ROOM, &told);
+    add(said, status, told);
+    status = dimacs_show(DIMACS_TEXT_MAX, TEXT(max), ROOM, &told);
+    add(said, status, told);
+    status = dimacs_certify(DIMACS_MAX, TEXT(max), TEXT(claim), line, sizeof line, &told, ROOM, &shown);
+    add(said, status, shown);
+    status = dimacs_certify(DIMACS_MIN, TEXT(min), TEXT(least), line, sizeof line, &told, ROOM, &shown);
+    add(said, status, shown);
+}
+
+static Said good_alone, bad_alone;
+
+static int is_same(const Said *a, const Said *b) { return a->length == b->length && !memcmp(a->bytes, b->bytes, a->length); }
+
+static void *run(void *number) {
+    Said *said = malloc(sizeof *said);
+    char *mine = malloc(sizeof flow);
+    long wrong = 0;
+    for (long k = 0; k < ROUNDS; k++) {
+        int is_bad = (k + (long)number) % 2;
+        memcpy(mine, is_bad ? bad : flow, sizeof flow);
+        call_all(said, mine);
+        wrong += !is_same(said, is_bad ? &bad_alone : &good_alone);
+    }
+    free(mine);
+    free(said);
+    return (void *)wrong;
+}
+
+int main(void) {
+    write_texts();
+    call_all(&good_alone, flow);
+    call_all(&bad_alone, bad);
+    check_that("good and bad claims are told apart", !is_same(&good_alone, &bad_alone));
+    pthread_t threads[THREADS];
+    pthread_attr_t attributes;
+    pthread_attr_init(&attributes);
+    pthread_attr_setstacksize(&attributes, 80 * 1024);
+    for (long k = 0; k < THREADS; k++) {
+        check_that("a thread starts", pthread_create(&threads[k], &attributes, run, (void *)k) == 0);
+    }
+    for (int k = 0; k < THREADS; k++) {
+        void *wrong;
+        pthread_join(threads[k], &wrong);
+        check_that("a thread beside others answers as one alone", wrong == 0);
+    }
+    return count();
+}
