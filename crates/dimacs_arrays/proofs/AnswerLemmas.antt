@@ -1,11 +1,11 @@
 -- What a call over arrays answers, by the part that fails.
-use Rattle.std.proofs.Common.{◌≡◌, ◌==◌, Bool, true, false, List, [], ◌∷◌, ◌++◌, Option, None, Some, Result, Ok, Err, cond, refl, sym, ◌∙◌}
+use Rattle.std.proofs.Common.{◌≡◌, ◌==◌, Bool, true, false, List, [], ◌∷◌, ◌++◌, Option, None, Some, Result, Ok, Err, cond, refl, subst, ◌∙◌}
 use Rattle.std.specs.Prelude.{IsErrAnd}
 use Rattle.std.proofs.lemmas.Bool.{eqb-true}
 use Rattle.std.proofs.lemmas.Result.{err_from_is_err_and}
 use Rattle.dimacs_judge.specs.declared.verdict.JudgeError.{JudgeError}
 use Rattle.dimacs_judge.specs.declared.verdict.JudgeError.TheVariants as judged
-use Rattle.dimacs_judge.specs.Tests.{Row, AllClear, First}
+use Rattle.dimacs_judge.specs.Tests.{Row, AllClear}
 use Rattle.dimacs_judge.proofs.Firsts.{AllOneWay, none_first, one_first}
 use Rattle.dimacs_arrays.specs.declared.error.Array.{Array}
 use Rattle.dimacs_arrays.specs.declared.error.ArrayError.{ArrayError}
@@ -74,3 +74,36 @@ module _ {X : Type 0} (lengths : List ArrayLength) (limits : List Row) (lawful :
         by_error : (error : JudgeError) → answers (Err error) → AnswersArrays lengths limits lawful answers (Err (of_judge error))
         by_error (judged.Refused place reason) told = (fit, law, told)
         by_error judged.Memory told = tt
+
+-- a call over arrays: the lengths that its instance wants, and its claim; the limits; the instance that is spelled, its law,
+-- and what is answered of it
+pub record Call (X M : Type 0) : Type 1 where
+  pub lengths : List ArrayLength
+  pub claim_lengths : List ArrayLength
+  pub limits : List Row
+  pub spelled : M
+  pub lawful : M → Type 0
+  pub answers : M → Result X JudgeError → Type 0
+
+-- what such a call may answer
+abbrev pub CallAnswers : {X M : Type 0} → Call X M → Result X ArrayError → Type 0
+CallAnswers call = AnswersArrays (call.lengths ++ call.claim_lengths) call.limits (call.lawful call.spelled) (call.answers call.spelled)
+
+module _ {X M : Type 0} (call : Call X M) (fit : first_misfit call.lengths ≡ None) (claim_fit : first_misfit call.claim_lengths ≡ None) where
+  all_lengths_fit : first_misfit (call.lengths ++ call.claim_lengths) ≡ None
+  all_lengths_fit = misfit_after call.lengths call.claim_lengths fit ∙ claim_fit
+
+  pub call_tells_limit : AllOneWay call.limits → (call.lawful call.spelled → AllClear call.limits) → (error : ArrayError) → Spells call.limits call.spelled (Err error)
+      → (result : Result X ArrayError) → IsErrAnd result (λ e. e ≡ error) → CallAnswers call result
+  call_tells_limit one needed error told result is =
+      tells_limit (call.lengths ++ call.claim_lengths) call.limits (call.lawful call.spelled) (call.answers call.spelled) all_lengths_fit call.spelled error one needed told result is
+
+  -- the instance that was made is the one that is spelled
+  module _ (made : M) (same : made ≡ call.spelled) (law : call.lawful made) where
+    pub call_tells_refusal : (error : JudgeError) → call.answers made (Err error) → (result : Result X ArrayError) → IsErrAnd result (λ e. e ≡ of_judge error) → CallAnswers call result
+    call_tells_refusal error told result is =
+        tells_refusal (call.lengths ++ call.claim_lengths) call.limits (call.lawful call.spelled) (call.answers call.spelled) all_lengths_fit (subst call.lawful same law) error
+        (subst (λ (m : M). call.answers m (Err error)) same told) result is
+
+    pub call_tells : (x : X) → call.answers made (Ok x) → CallAnswers call (Ok x)
+    call_tells x told = (all_lengths_fit, subst call.lawful same law, subst (λ (m : M). call.answers m (Ok x)) same told)

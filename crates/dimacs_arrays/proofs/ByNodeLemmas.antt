@@ -1,5 +1,5 @@
 -- One node more of what arrays say by node.
-use Rattle.std.proofs.Common.{◌≡◌, inl, inr, ℕ, zero, suc, ◌+◌, ◌<◌, ◌≤◌, ◌==◌, ◌||◌, List, [], ◌∷◌, ◌++◌, length, get_or, map, Option, Some, None, Bool, true, false, cond, refl, sym, ◌∙◌, ap, add-one, arith}
+use Rattle.std.proofs.Common.{◌≡◌, inl, inr, ℕ, zero, suc, ◌+◌, ◌<◌, ◌==◌, ◌||◌, List, length, get_or, map, Option, Some, None, Bool, true, false, cond, refl, sym, ◌∙◌, ap, add-one, arith}
 use Rattle.std.proofs.Math.Path.{fun_ext}
 use mir.Val.{bool_byte}
 use Rattle.std.specs.Prelude.{ℤ, pos, nat_lt, if◌then◌else◌, unwrap_or}

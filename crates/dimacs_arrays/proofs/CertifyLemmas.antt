@@ -1,12 +1,11 @@
 -- Flows that are certified over arrays.
-use Rattle.std.proofs.Common.{◌≡◌, ℕ, Bool, List, [], ◌∷◌, ◌++◌, All, ℤ, length, inl, inr, sym, subst, ◌∙◌, Result}
-use Rattle.std.specs.Prelude.{IsErrAnd, ◌<ℤ◌}
+use Rattle.std.proofs.Common.{◌≡◌, ℕ, Bool, List, [], ◌∷◌, All, ℤ, inl, sym, subst, ◌∙◌, Result}
+use Rattle.std.specs.Prelude.{IsErrAnd}
 use Rattle.std.specs.List.{AllZip}
 use Rattle.std.proofs.lemmas.List.Elements.{All-head, All-tail}
 use Rattle.dimacs_records.specs.Ranges.{IsNode}
 use Rattle.dimacs_records.specs.declared.reasons.Reason.{Reason}
-use Rattle.dimacs_claims.specs.Potentials.{PotentialsValue, potential_of}
-use Rattle.dimacs_claims.specs.Cuts.{CutValue}
+use Rattle.dimacs_claims.specs.Potentials.{PotentialsValue}
 use Rattle.dimacs_instance.specs.declared.network.ArcView.{ArcView}
 use Rattle.dimacs_instance.specs.Arcs.{JoinsNodes}
 use Rattle.dimacs_instance.specs.MaxFlows.{MaxValue, IsMax}
@@ -14,10 +13,10 @@ use Rattle.dimacs_instance.specs.MinFlows.{MinValue}
 use Rattle.dimacs_judge.specs.declared.verdict.JudgeError.{JudgeError}
 use Rattle.dimacs_judge.specs.declared.verdict.JudgeError.TheVariants.{Refused}
 use Rattle.dimacs_judge.specs.declared.verdict.Where.{Where}
-use Rattle.dimacs_judge.specs.Cuts.{CutTight, IsTightAt, members}
-use Rattle.dimacs_judge.specs.Feasible.{FeasibleMax, FeasibleMin, value}
+use Rattle.dimacs_judge.specs.Cuts.{CutTight, IsTightAt}
+use Rattle.dimacs_judge.specs.Feasible.{FeasibleMax, FeasibleMin}
 use Rattle.dimacs_judge.specs.Flows.{cost}
-use Rattle.dimacs_judge.specs.FlowTests.{cost_row, feasible_min_rows, feasible_max_rows, min_demand}
+use Rattle.dimacs_judge.specs.FlowTests.{cost_row, feasible_min_rows, min_demand}
 use Rattle.dimacs_judge.specs.Potentials.{Slack}
 use Rattle.dimacs_judge.specs.Tests.{AllClear, Clear, First, FirstOfRow, Refutes, Settles}
 use Rattle.dimacs_judge.specs.inside.Tests.{Refuses}
@@ -34,7 +33,6 @@ use Rattle.dimacs_arrays.specs.declared.certify_max.MaxCertified.{MaxCertified}
 use Rattle.dimacs_arrays.specs.declared.certify_max.MaxCertified.TheVariants as max_told
 use Rattle.dimacs_arrays.specs.declared.certify_min.MinCertified.{MinCertified}
 use Rattle.dimacs_arrays.specs.declared.certify_min.MinCertified.TheVariants as min_told
-use Rattle.dimacs_arrays.specs.ByNode.{marked, number_of}
 use Rattle.dimacs_arrays.specs.MaxArrays.{CertifiesMaxFlow}
 use Rattle.dimacs_arrays.specs.MinArrays.{CertifiesMinFlow, min_claimed_rows}
 use Rattle.dimacs_arrays.specs.inside.MinCertified.{IsLeastBy}

@@ -1,5 +1,5 @@
 -- The predecessors of labels that are decided to be right.
-use Rattle.std.proofs.Common.{◌≡◌, ◌≢◌, ◌==◌, inl, inr, ℕ, ◌+◌, ◌<◌, ◌≤◌, List, [], ◌∷◌, ◌++◌, All, length, get_or, Option, Some, None, IsSome, ℤ, true, false, refl, sym, ap, subst, ◌∙◌, arith}
+use Rattle.std.proofs.Common.{◌≡◌, ◌≢◌, inl, inr, ℕ, List, [], ◌∷◌, ◌++◌, All, length, get_or, Option, Some, None, IsSome, ℤ, refl, sym, ap, subst, ◌∙◌, arith}
 use Rattle.std.proofs.lemmas.Bool.Decides.{eqb_tells}
 use Rattle.std.proofs.lemmas.Bool.{cases_eq, ne_eqb}
 use Rattle.std.proofs.lemmas.List.{append_assoc}
@@ -11,7 +11,7 @@ use Rattle.dimacs_claims.specs.Labels.{BlockValue, EachAfter, IsBlock, IsFresh, 
 use Rattle.dimacs_judge.specs.Answers.{block_of}
 use Rattle.dimacs_judge.specs.QueryTests.{HasFullBlock}
 use Rattle.dimacs_decide.specs.Distances.{AreLabelsOf}
-use Rattle.dimacs_arrays.specs.Paths.{AreLabelsBy, ArePredecessors, IsDue, pred_by_node}
+use Rattle.dimacs_arrays.specs.Paths.{AreLabelsBy, IsDue, pred_by_node}
 use Rattle.dimacs_arrays.specs.inside.LabelTrees.{ArePredsOf}
 
 -- no label is that of the source

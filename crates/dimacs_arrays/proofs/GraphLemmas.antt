@@ -1,26 +1,23 @@
 -- The arrays of a graph, one arc after another.
-use Rattle.std.proofs.Common.{◌≡◌, inl, inr, ℕ, ◌+◌, ◌<◌, ◌≤◌, List, [], ◌∷◌, ◌++◌, All, length, map, refl, sym, ap, ◌∙◌, arith}
-use Rattle.std.specs.Prelude.{ℤ, pos, ◌≤ℤ◌}
+use Rattle.std.proofs.Common.{◌≡◌, inl, ℕ, ◌+◌, ◌<◌, List, [], ◌∷◌, ◌++◌, length, map, sym, ap, ◌∙◌, arith}
 use Rattle.std.specs.List.{range_with_len}
 use Rattle.std.proofs.lemmas.Int.{ints}
 use Rattle.std.proofs.lemmas.List.Elements.{All-weaker}
 use Rattle.std.proofs.lemmas.List.FromFn.{get_or-map-range_with_len, length-map-range_with_len, map-range_with_len_more}
-use Rattle.dimacs_records.specs.Ranges.{IsNode}
 use Rattle.dimacs_records.specs.declared.reasons.Reason.{Reason}
 use Rattle.dimacs_records.specs.declared.reasons.Reason.TheVariants.{NodeRange}
 use Rattle.dimacs_instance.specs.declared.network.ArcView.{ArcView}
 use Rattle.dimacs_instance.specs.Arcs.{NetworkValue}
-use Rattle.dimacs_instance.specs.Graph.{HasWeightAlone, IsGraph}
+use Rattle.dimacs_instance.specs.Graph.{HasWeightAlone}
 use Rattle.dimacs_judge.specs.declared.verdict.Where.TheVariants.{Arc, Node}
 use Rattle.dimacs_judge.specs.Rows.{arc_at, no_arc}
 use Rattle.dimacs_judge.specs.Tests.{AllClear, ClearBelow, First}
 use Rattle.dimacs_judge.proofs.Firsts.{AllOneWay, one_test_one_way}
 use Rattle.dimacs_judge.proofs.RowLemmas.{arc_clear_more, arc_first}
 use Rattle.dimacs_judge.proofs.RowLists.{first_after}
-use Rattle.dimacs_lines.specs.Limits.{most_count, most_nodes}
 use Rattle.dimacs_arrays.specs.declared.graph.GraphArrays.{GraphArrays}
 use Rattle.dimacs_arrays.specs.Limits.{ArcFails, count_rows, limit_row}
-use Rattle.dimacs_arrays.specs.GraphArrays.{IsGraphFrom, graph_limits, graph_spelled, source_rows, weighted_arc}
+use Rattle.dimacs_arrays.specs.GraphArrays.{IsGraphFrom, graph_limits, source_rows, weighted_arc}
 use Rattle.dimacs_arrays.proofs.LimitLemmas.{HasLawfulBounds, counts_clear, counts_one_way, limit_one_way, limits_clear, one_clear}
 
 module _ (a : GraphArrays) where

@@ -1,5 +1,5 @@
 -- A set of marked nodes that is judged as a set of the nodes of its instance.
-use Rattle.std.proofs.Common.{◌≡◌, inl, inr, ℕ, Bool, [], ◌∷◌, Result, Ok, Err}
+use Rattle.std.proofs.Common.{◌≡◌, inl, inr, [], ◌∷◌, Result, Ok, Err}
 use Rattle.dimacs_claims.specs.Cuts.{CutValue}
 use Rattle.dimacs_instance.specs.MinFlows.{MinValue}
 use Rattle.dimacs_records.specs.declared.reasons.Reason.{Reason}
@@ -14,7 +14,7 @@ use Rattle.dimacs_judge.specs.Cuts.{members}
 use Rattle.dimacs_judge.specs.InfeasibleJudge.{ShowsNoFlow, infeasible_rows}
 use Rattle.dimacs_judge.specs.Tests.{Clear, First, Judges}
 use Rattle.dimacs_judge.proofs.Passing.{nodes_clear}
-use Rattle.dimacs_arrays.specs.MinArrays.{ShowsInfeasible}
+use Rattle.dimacs_arrays.specs.MinArrays.{JudgesInfeasible}
 
 module _ (i : MinValue) (c : CutValue) (same : c.nodes ≡ i.nodes) where
   agreed : Clear (nodes_row i.nodes c.nodes)
@@ -25,7 +25,7 @@ module _ (i : MinValue) (c : CutValue) (same : c.nodes ≡ i.nodes) where
   after_nodes place reason (inr f) = f.1
 
   pub judged_alone : (result : Result Verdict JudgeError) → Judges (infeasible_rows i c) (ShowsNoFlow i c) (λ verdict. verdict ≡ Infeasible) result
-      → Judges (violated_row i (members c) ∷ []) (ShowsInfeasible i (members c)) (λ verdict. verdict ≡ Infeasible) result
+      → JudgesInfeasible i (members c) result
   judged_alone (Ok verdict) told = (told.0.1, (told.1.0.violated, told.1.1), told.2)
   judged_alone (Err (Refused place reason)) told = (
     (after_nodes place reason told.0.0, λ other why first. told.0.1 other why (inr (agreed, first))),

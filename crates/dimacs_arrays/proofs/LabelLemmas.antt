@@ -1,5 +1,5 @@
 -- Labels that distances and predecessors spell: that there are some, or that there are none.
-use Rattle.std.proofs.Common.{◌≡◌, ◌≢◌, ◌⊎◌, inl, inr, ℕ, suc, zero, ◌+◌, ◌<◌, ◌≤◌, ◌==◌, Bool, true, false, List, [], ◌∷◌, ◌++◌, All, Contains, Option, Some, None, IsSome, is_some, Result, Ok, Err, ℤ, pos, refl, sym, ap, subst, ◌∙◌, arith}
+use Rattle.std.proofs.Common.{◌≡◌, inl, inr, ℕ, suc, ◌==◌, Bool, true, false, List, [], ◌∷◌, ◌++◌, All, Contains, Option, Some, None, IsSome, is_some, Result, Ok, Err, ℤ, refl, sym, ap, subst, ◌∙◌, arith}
 use Rattle.std.specs.Result.{IsErrAnd}
 use Rattle.std.proofs.lemmas.Bool.{cases_Bool, cases_eq, ne_eqb}
 use Rattle.std.proofs.lemmas.Bool.Decides.{eqb_tells}
@@ -7,9 +7,9 @@ use Rattle.std.proofs.lemmas.List.{append_assoc, append-nil}
 use Rattle.std.proofs.lemmas.List.Elements.{All-cons, All-nil, All-push, All-head, All-tail, All-contains, Contains-append_right}
 use Rattle.dimacs_records.specs.Ranges.{IsNode}
 use Rattle.dimacs_records.specs.declared.reasons.Reason.{Reason}
-use Rattle.dimacs_records.specs.declared.reasons.Reason.TheVariants.{NodeRange, NotShortest, PredUnknown}
+use Rattle.dimacs_records.specs.declared.reasons.Reason.TheVariants.{NodeRange, NotShortest}
 use Rattle.dimacs_claims.specs.declared.block.Label.{Label}
-use Rattle.dimacs_claims.specs.Labels.{BlockValue, EachAfter, HasPred, IsBlock, IsLabel, LabelsValue, distance_in, label}
+use Rattle.dimacs_claims.specs.Labels.{BlockValue, EachAfter, HasPred, IsLabel, LabelsValue, distance_in, label}
 use Rattle.dimacs_judge.specs.declared.verdict.Verdict.{Verdict}
 use Rattle.dimacs_instance.specs.Arcs.{NetworkValue}
 use Rattle.dimacs_judge.specs.declared.verdict.Where.{Where}

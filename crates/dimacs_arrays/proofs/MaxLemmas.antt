@@ -1,6 +1,5 @@
 -- The arrays of a maximum flow instance, one arc after another.
-use Rattle.std.proofs.Common.{◌≡◌, ◌≢◌, inl, inr, ℕ, ◌+◌, ◌<◌, ◌≤◌, List, [], ◌∷◌, ◌++◌, All, length, map, get_or, refl, sym, subst, ap, ◌∙◌, arith}
-use Rattle.std.specs.Prelude.{ℤ, pos, ◌≤ℤ◌}
+use Rattle.std.proofs.Common.{◌≡◌, ◌≢◌, inl, ℕ, ◌+◌, ◌<◌, List, [], ◌∷◌, ◌++◌, length, map, sym, ap, ◌∙◌, arith}
 use Rattle.std.specs.List.{range_with_len}
 use Rattle.std.proofs.lemmas.Int.{ints}
 use Rattle.std.proofs.lemmas.List.Elements.{All-weaker}
@@ -10,15 +9,12 @@ use Rattle.dimacs_records.specs.declared.reasons.Reason.{Reason}
 use Rattle.dimacs_records.specs.declared.reasons.Reason.TheVariants.{NodeRange, NodeTwice}
 use Rattle.dimacs_instance.specs.declared.network.ArcView.{ArcView}
 use Rattle.dimacs_instance.specs.MaxFlows.{MaxValue, IsMax, HasCapacityAlone}
-use Rattle.dimacs_instance.specs.Plain.{capacity_arc}
-use Rattle.dimacs_judge.specs.declared.verdict.Where.{Where}
 use Rattle.dimacs_judge.specs.declared.verdict.Where.TheVariants.{Arc, Node}
 use Rattle.dimacs_judge.specs.Rows.{arc_at, no_arc}
 use Rattle.dimacs_judge.specs.Tests.{AllClear, ClearBelow, First}
 use Rattle.dimacs_judge.proofs.Firsts.{AllOneWay, one_test_one_way}
 use Rattle.dimacs_judge.proofs.RowLemmas.{arc_clear_more, arc_first}
 use Rattle.dimacs_judge.proofs.RowLists.{first_after}
-use Rattle.dimacs_lines.specs.Limits.{most_count, most_nodes}
 use Rattle.dimacs_arrays.specs.declared.max.MaxArrays.{MaxArrays}
 use Rattle.dimacs_arrays.specs.Limits.{ArcFails, count_rows, limit_row}
 use Rattle.dimacs_arrays.specs.MaxArrays.{end_rows, max_arc, max_limits, max_spelled}

@@ -1,5 +1,5 @@
 -- Labels of nodes that lead back to the source, and one more.
-use Rattle.std.proofs.Common.{◌≡◌, ◌≢◌, inl, inr, ℕ, suc, zero, ◌+◌, ◌<◌, ◌≤◌, ◌==◌, Bool, true, false, not, cond, List, [], ◌∷◌, ◌++◌, All, length, Option, Some, None, IsSome, is_some, ℤ, pos, refl, sym, ap, subst, ◌∙◌, arith}
+use Rattle.std.proofs.Common.{◌≡◌, ◌≢◌, inl, inr, ℕ, suc, ◌+◌, ◌<◌, ◌≤◌, ◌==◌, Bool, true, false, not, cond, [], ◌∷◌, length, Option, Some, None, IsSome, is_some, ℤ, pos, refl, sym, ap, subst, ◌∙◌, arith}
 use Rattle.std.proofs.lemmas.Bool.{cases_eq, ne_eqb}
 use Rattle.std.proofs.lemmas.Bool.Decides.{eqb_tells}
 use Rattle.std.proofs.lemmas.List.{length-append}
@@ -11,7 +11,7 @@ use Rattle.dimacs_claims.specs.Labels.{BlockValue, IsBlock, distance_in, label, 
 use Rattle.dimacs_claims.proofs.BlockLemmas.{each_after_nil, each_after_push}
 use Rattle.dimacs_decide.specs.inside.TightTrees.{absent}
 use Rattle.dimacs_decide.proofs.CountLemmas.{count_all, one_fewer}
-use Rattle.dimacs_arrays.specs.Paths.{IsDue, IsNext, LeadsBack}
+use Rattle.dimacs_arrays.specs.Paths.{IsNext, LeadsBack}
 use Rattle.dimacs_arrays.specs.inside.LabelTrees.{AreLedBelow, IsLabelTree, Keeps, Places}
 
 one_led : (led after : ℕ → Bool) (at : ℕ) → ((v : ℕ) → v ≢ at → after v ≡ led v) → (n : ℕ) → at < n → led at ≡ false → after at ≡ true → absent after n + 1 ≡ absent led n

@@ -1,17 +1,20 @@
 -- The arrays of maximum flow instances, and what they spell.
-use Rattle.std.specs.Prelude.{ℕ, ◌≡◌, List, [], ◌∷◌, ◌++◌, length, get_or, map, ℤ, pos, ◌<ℤ◌}
+use Rattle.std.specs.Prelude.{ℕ, ◌≡◌, Bool, List, [], ◌∷◌, ◌++◌, length, get_or, map, ℤ, pos, ◌<ℤ◌, Result}
 use Rattle.std.specs.List.{range_with_len}
 use Rattle.dimacs_records.specs.Ranges.{IsNode}
 use Rattle.dimacs_records.specs.declared.reasons.Reason.TheVariants.{NodeRange, NodeTwice}
 use Rattle.dimacs_instance.specs.declared.network.ArcView.{ArcView}
 use Rattle.dimacs_instance.specs.MaxFlows.{MaxValue}
 use Rattle.dimacs_instance.specs.Plain.{capacity_arc}
+use Rattle.dimacs_judge.specs.declared.verdict.JudgeError.{JudgeError}
+use Rattle.dimacs_judge.specs.declared.verdict.Verdict.{Verdict}
+use Rattle.dimacs_judge.specs.declared.verdict.Verdict.TheVariants.{Max}
 use Rattle.dimacs_judge.specs.declared.verdict.Where.TheVariants.{Node}
 use Rattle.dimacs_judge.specs.Feasible.{FeasibleMax, value}
-use Rattle.dimacs_judge.specs.FlowJudges.{ShowsMaxFlow}
+use Rattle.dimacs_judge.specs.FlowJudges.{ShowsMaxFlow, max_flow_rows}
 use Rattle.dimacs_judge.specs.Optimum.{Maximum}
 use Rattle.dimacs_judge.specs.Rows.{one_test}
-use Rattle.dimacs_judge.specs.Tests.{Row}
+use Rattle.dimacs_judge.specs.Tests.{Judges, Row}
 use Rattle.dimacs_arrays.specs.declared.error.Array.TheVariants as arrays
 use Rattle.dimacs_arrays.specs.declared.lengths.ArrayLength.{ArrayLength}
 use Rattle.dimacs_arrays.specs.declared.max.MaxArrays.{MaxArrays}
@@ -51,6 +54,10 @@ end_rows nodes source sink =
 -- the limits of the counts, of the ends, and of each arc, in order
 abbrev pub max_limits : MaxArrays → List Row
 max_limits a = count_rows a.nodes (length a.tails.now) ++ (end_rows a.nodes a.source a.sink ++ limit_row a.nodes (max_spelled a).arcs ∷ [])
+
+-- the judge's answer of a flow and of the nodes inside: a yes, with the flow's value, or the first test that fails
+abbrev pub JudgesMaxFlow : MaxValue → List ℤ → (ℕ → Bool) → Result Verdict JudgeError → Type 0
+JudgesMaxFlow i x inside = Judges (max_flow_rows i x inside) (ShowsMaxFlow i x inside) (λ verdict. verdict ≡ Max (value i x))
 
 -- the flow is feasible and isn't maximum, and the other is feasible and has greater value
 pub record IsMaxFlowImproved (i : MaxValue) (x y : List ℤ) : Type 0 where

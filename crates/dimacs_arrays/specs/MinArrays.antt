@@ -1,5 +1,5 @@
 -- The arrays of minimum cost flow instances, and what they spell.
-use Rattle.std.specs.Prelude.{ℕ, ◌≡◌, ◌<◌, Bool, List, [], ◌∷◌, ◌++◌, length, get_or, map, ℤ, pos, ◌<ℤ◌}
+use Rattle.std.specs.Prelude.{ℕ, ◌≡◌, ◌<◌, Bool, List, [], ◌∷◌, ◌++◌, length, get_or, map, ℤ, pos, ◌<ℤ◌, Result}
 use Rattle.std.specs.List.{range_with_len, zip}
 use Rattle.std.specs.Ordering.{nat_cmp}
 use Rattle.std.specs.FinMap.{FinMap, from_entries}
@@ -9,12 +9,16 @@ use Rattle.dimacs_claims.specs.Potentials.{PotentialsValue, potential_of}
 use Rattle.dimacs_instance.specs.declared.network.ArcView.{ArcView}
 use Rattle.dimacs_instance.specs.MinFlows.{MinValue}
 use Rattle.dimacs_instance.specs.Plain.{cost_arc}
+use Rattle.dimacs_judge.specs.declared.verdict.JudgeError.{JudgeError}
+use Rattle.dimacs_judge.specs.declared.verdict.Verdict.{Verdict}
+use Rattle.dimacs_judge.specs.declared.verdict.Verdict.TheVariants.{Infeasible, Min}
+use Rattle.dimacs_judge.specs.CertificateTests.{violated_row}
 use Rattle.dimacs_judge.specs.Feasible.{FeasibleMin}
 use Rattle.dimacs_judge.specs.Flows.{cost}
 use Rattle.dimacs_judge.specs.FlowTests.{feasible_min_rows, cost_row, cost_through}
 use Rattle.dimacs_judge.specs.Optimum.{Least, NoFlow}
-use Rattle.dimacs_judge.specs.FlowJudges.{ShowsMinFlow}
-use Rattle.dimacs_judge.specs.Tests.{Row}
+use Rattle.dimacs_judge.specs.FlowJudges.{ShowsMinFlow, min_flow_rows}
+use Rattle.dimacs_judge.specs.Tests.{Judges, Row}
 use Rattle.dimacs_judge.specs.ViolatedSets.{Violated}
 use Rattle.dimacs_arrays.specs.declared.error.Array.TheVariants as arrays
 use Rattle.dimacs_arrays.specs.declared.lengths.ArrayLength.{ArrayLength}
@@ -60,6 +64,10 @@ infeasible_lengths a inside = min_lengths a ++ length_of arrays.Inside (length i
 abbrev pub min_limits : MinArrays → List Row
 min_limits a = count_rows a.nodes (length a.tails.now) ++ limit_row a.nodes (min_spelled a).arcs ∷ []
 
+-- the judge's answer of a flow and of potentials: a yes, with the flow's cost, or the first test that fails
+abbrev pub JudgesMinFlow : MinValue → List ℤ → (ℕ → ℤ) → Result Verdict JudgeError → Type 0
+JudgesMinFlow i x p = Judges (min_flow_rows i x p) (ShowsMinFlow i x p) (λ verdict. verdict ≡ Min (cost i.arcs x))
+
 -- the flow is feasible, with a cost that stays in its range arc by arc, and isn't least; and the other is feasible and costs less
 pub record IsMinFlowImproved (i : MinValue) (x y : List ℤ) : Type 0 where
   pub claimed : FeasibleMin i x
@@ -85,3 +93,7 @@ min_claimed_rows i x = feasible_min_rows i x ++ cost_row i.arcs x ∷ []
 -- the set is violated, and no flow is feasible
 abbrev pub ShowsInfeasible : MinValue → (ℕ → Bool) → Type 0
 ShowsInfeasible i set = Violated i set × NoFlow i
+
+-- the judge's answer of a set of nodes: a yes, or the test that fails
+abbrev pub JudgesInfeasible : MinValue → (ℕ → Bool) → Result Verdict JudgeError → Type 0
+JudgesInfeasible i set = Judges (violated_row i set ∷ []) (ShowsInfeasible i set) (λ verdict. verdict ≡ Infeasible)

@@ -1,13 +1,10 @@
 //! Judging that an instance has no feasible flow, over arrays.
 
-ghost use Rattle.std.specs.Prelude.{◌≡◌, ◌∷◌, [], length};
+ghost use Rattle.std.specs.Prelude.{◌≡◌, length};
 ghost use Rattle.dimacs_instance.specs.MinFlows.{IsMin};
-ghost use Rattle.dimacs_judge.specs.declared.verdict.Verdict.TheVariants.{Infeasible};
-ghost use Rattle.dimacs_judge.specs.CertificateTests.{violated_row};
-ghost use Rattle.dimacs_judge.specs.Tests.{Judges};
 ghost use Rattle.dimacs_arrays.specs.Answers.{AnswersArrays};
 ghost use Rattle.dimacs_arrays.specs.ByNode.{marked};
-ghost use Rattle.dimacs_arrays.specs.MinArrays.{ShowsInfeasible, infeasible_lengths, min_limits, min_spelled};
+ghost use Rattle.dimacs_arrays.specs.MinArrays.{JudgesInfeasible, infeasible_lengths, min_limits, min_spelled};
 
 use crate::by_node::cut_of;
 use crate::error::{Array, ArrayError};
@@ -28,7 +25,7 @@ pub fn judge_infeasible_arrays(
     inside: &[u8],
 ) -> Result<Verdict, ArrayError>
     ensures { AnswersArrays (infeasible_lengths arrays.now inside.now) (min_limits arrays.now) (IsMin (min_spelled arrays.now))
-        (Judges (violated_row (min_spelled arrays.now) (marked inside.now) ∷ []) (ShowsInfeasible (min_spelled arrays.now) (marked inside.now)) (λ verdict. verdict ≡ Infeasible)) result }
+        (JudgesInfeasible (min_spelled arrays.now) (marked inside.now)) result }
 {
     arrays.lengths_hold()?;
     lengths_hold(&[ArrayLength::of(Array::Inside, inside.len(), arrays.nodes as usize)])?;
@@ -43,8 +40,7 @@ fn judge_over<N: Network>(
     inside: &[u8],
 ) -> Result<Verdict, JudgeError>
     requires { length inside.now ≡ instance.now.nodes }
-    ensures { Judges (violated_row instance.now (marked inside.now) ∷ [])
-        (ShowsInfeasible instance.now (marked inside.now)) (λ verdict. verdict ≡ Infeasible) result }
+    ensures { JudgesInfeasible instance.now (marked inside.now) result }
 {
     let set = cut_of(alloc, instance.network().nodes(), inside)?;
     judge_infeasible(instance, &set)

@@ -2,13 +2,9 @@
 
 ghost use Rattle.std.specs.Prelude.{◌≡◌, length};
 ghost use Rattle.dimacs_instance.specs.MaxFlows.{IsMax};
-ghost use Rattle.dimacs_judge.specs.declared.verdict.Verdict.TheVariants.{Max};
-ghost use Rattle.dimacs_judge.specs.Feasible.{value};
-ghost use Rattle.dimacs_judge.specs.FlowJudges.{ShowsMaxFlow, max_flow_rows};
-ghost use Rattle.dimacs_judge.specs.Tests.{Judges};
 ghost use Rattle.dimacs_arrays.specs.Answers.{AnswersArrays};
 ghost use Rattle.dimacs_arrays.specs.ByNode.{marked};
-ghost use Rattle.dimacs_arrays.specs.MaxArrays.{max_judge_lengths, max_limits, max_spelled};
+ghost use Rattle.dimacs_arrays.specs.MaxArrays.{JudgesMaxFlow, max_judge_lengths, max_limits, max_spelled};
 
 use crate::by_node::cut_of;
 use crate::error::{Array, ArrayError};
@@ -32,7 +28,7 @@ pub fn judge_max_arrays(
     inside: &[u8],
 ) -> Result<Verdict, ArrayError>
     ensures { AnswersArrays (max_judge_lengths arrays.now flows.now inside.now) (max_limits arrays.now) (IsMax (max_spelled arrays.now))
-        (Judges (max_flow_rows (max_spelled arrays.now) flows.now (marked inside.now)) (ShowsMaxFlow (max_spelled arrays.now) flows.now (marked inside.now)) (λ verdict. verdict ≡ Max (value (max_spelled arrays.now) flows.now))) result }
+        (JudgesMaxFlow (max_spelled arrays.now) flows.now (marked inside.now)) result }
 {
     arrays.lengths_hold()?;
     lengths_hold(&[
@@ -52,9 +48,7 @@ fn judge_over<N: Network>(
 ) -> Result<Verdict, JudgeError>
     requires flows { length flows.now ≡ length instance.now.arcs }
     requires inside { length inside.now ≡ instance.now.nodes }
-    ensures { Judges (max_flow_rows instance.now flows.now (marked inside.now))
-        (ShowsMaxFlow instance.now flows.now (marked inside.now))
-        (λ verdict. verdict ≡ Max (value instance.now flows.now)) result }
+    ensures { JudgesMaxFlow instance.now flows.now (marked inside.now) result }
 {
     let flow = Flow::of(alloc, flows)?;
     let cut = cut_of(alloc, instance.network().nodes(), inside)?;

@@ -2,13 +2,9 @@
 
 ghost use Rattle.std.specs.Prelude.{◌≡◌, length};
 ghost use Rattle.dimacs_instance.specs.MinFlows.{IsMin};
-ghost use Rattle.dimacs_judge.specs.declared.verdict.Verdict.TheVariants.{Min};
-ghost use Rattle.dimacs_judge.specs.Flows.{cost};
-ghost use Rattle.dimacs_judge.specs.FlowJudges.{ShowsMinFlow, min_flow_rows};
-ghost use Rattle.dimacs_judge.specs.Tests.{Judges};
 ghost use Rattle.dimacs_arrays.specs.Answers.{AnswersArrays};
 ghost use Rattle.dimacs_arrays.specs.ByNode.{number_of};
-ghost use Rattle.dimacs_arrays.specs.MinArrays.{min_judge_lengths, min_limits, min_spelled};
+ghost use Rattle.dimacs_arrays.specs.MinArrays.{JudgesMinFlow, min_judge_lengths, min_limits, min_spelled};
 
 use crate::by_node::potentials_of;
 use crate::error::{Array, ArrayError};
@@ -31,7 +27,7 @@ pub fn judge_min_arrays(
     potentials: &[i64],
 ) -> Result<Verdict, ArrayError>
     ensures { AnswersArrays (min_judge_lengths arrays.now flows.now potentials.now) (min_limits arrays.now) (IsMin (min_spelled arrays.now))
-        (Judges (min_flow_rows (min_spelled arrays.now) flows.now (number_of potentials.now)) (ShowsMinFlow (min_spelled arrays.now) flows.now (number_of potentials.now)) (λ verdict. verdict ≡ Min (cost (min_spelled arrays.now).arcs flows.now))) result }
+        (JudgesMinFlow (min_spelled arrays.now) flows.now (number_of potentials.now)) result }
 {
     arrays.lengths_hold()?;
     lengths_hold(&[
@@ -51,9 +47,7 @@ fn judge_over<N: Network>(
 ) -> Result<Verdict, JudgeError>
     requires flows { length flows.now ≡ length instance.now.arcs }
     requires potentials { length potentials.now ≡ instance.now.nodes }
-    ensures { Judges (min_flow_rows instance.now flows.now (number_of potentials.now))
-        (ShowsMinFlow instance.now flows.now (number_of potentials.now))
-        (λ verdict. verdict ≡ Min (cost instance.now.arcs flows.now)) result }
+    ensures { JudgesMinFlow instance.now flows.now (number_of potentials.now) result }
 {
     let flow = Flow::of(alloc, flows)?;
     let potentials = potentials_of(alloc, instance.network().nodes(), potentials)?;

@@ -1,5 +1,5 @@
 -- Inside: what the parts of a call over arrays answer.
-use Rattle.std.specs.Prelude.{◌≡◌, List, Option, None, Some, Result, Ok, Err}
+use Rattle.std.specs.Prelude.{◌≡◌, List, None, Some, Result, Ok, Err}
 use Rattle.dimacs_arrays.specs.declared.error.ArrayError.{ArrayError}
 use Rattle.dimacs_arrays.specs.declared.error.ArrayError.TheVariants.{Length, Limit, Memory}
 use Rattle.dimacs_arrays.specs.declared.lengths.ArrayLength.{ArrayLength}

@@ -1,4 +1,4 @@
-use Rattle.std.proofs.Common.{◌≡◌, ◌∙◌, ap, List, ℤ, subst, rules, SFits}
+use Rattle.std.proofs.Common.{◌∙◌, ap, List, ℤ, subst, rules, SFits}
 use Rattle.std.specs.Int.{w128}
 use Rattle.std.proofs.lemmas.Int.{to_z-of_z}
 use Rattle.dimacs_judge.specs.Cuts.{members}

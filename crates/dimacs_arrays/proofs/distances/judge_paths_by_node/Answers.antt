@@ -1,4 +1,4 @@
-use Rattle.std.proofs.Common.{inl, length}
+use Rattle.std.proofs.Common.{inl}
 use Rattle.dimacs_decide.specs.Claims.{claimed_by_node}
 use Rattle.dimacs_arrays.specs.Paths.{pred_by_node}
 use Rattle.dimacs_arrays.proofs.LabelLemmas.{unlabelled}

@@ -1,4 +1,3 @@
-use Rattle.std.proofs.Common.{◌≡◌, ◌∙◌, length, ap}
 use Rattle.dimacs_arrays.proofs.judge_max.judge_over.Goals as goal
 
 pub returns : goal.returns

@@ -1,4 +1,4 @@
-use Rattle.std.proofs.Common.{◌≡◌, ◌∙◌, ◌<◌, IsSome, inl, inr, true, length, refl, sym, ap, subst, arith}
+use Rattle.std.proofs.Common.{◌∙◌, IsSome, inl, inr, length, refl, sym, ap, subst, arith}
 use Rattle.std.proofs.lemmas.Bool.{cases_order}
 use Rattle.dimacs_records.specs.declared.reasons.Reason.TheVariants.{PredUnknown}
 use Rattle.dimacs_judge.proofs.RowLemmas.{node_first}

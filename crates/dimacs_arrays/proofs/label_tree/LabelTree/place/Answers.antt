@@ -1,4 +1,4 @@
-use Rattle.std.proofs.Common.{rules, ◌≡◌, ◌∙◌, true, false, length, SFits, sym, subst, Some, refl}
+use Rattle.std.proofs.Common.{rules, ◌≡◌, ◌∙◌, false, length, SFits, sym, subst, Some, refl}
 use Rattle.std.specs.Int.{w128}
 use Rattle.std.proofs.lemmas.Int.{to_z-of_z}
 use Rattle.dimacs_records.specs.Ranges.{IsNode}

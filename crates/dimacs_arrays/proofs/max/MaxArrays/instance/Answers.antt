@@ -1,4 +1,4 @@
-use Rattle.std.proofs.Common.{◌≡◌, ◌∙◌, arith}
+use Rattle.std.proofs.Common.{◌∙◌, arith}
 use Rattle.std.proofs.lemmas.List.FromFn.{length-map-range_with_len}
 use Rattle.dimacs_arrays.specs.MaxArrays.{max_arc}
 use Rattle.dimacs_arrays.proofs.MaxLemmas.{arc_limit, arc_passes, arc_pushed}

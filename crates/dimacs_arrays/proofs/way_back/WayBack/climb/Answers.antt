@@ -1,4 +1,4 @@
-use Rattle.std.proofs.Common.{◌≡◌, ◌≢◌, ◌∙◌, ◌+◌, ◌++◌, ◌∷◌, [], false, IsSome, length, refl, sym, arith}
+use Rattle.std.proofs.Common.{◌≡◌, ◌+◌, ◌++◌, ◌∷◌, [], length, refl, arith}
 use Rattle.dimacs_nodes.specs.Tables.{value_of}
 use Rattle.dimacs_decide.specs.Claims.{claimed_by_node}
 use Rattle.dimacs_arrays.specs.Paths.{pred_by_node}
