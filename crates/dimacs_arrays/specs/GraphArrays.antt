@@ -1,5 +1,6 @@
 -- The arrays of graphs, and what they spell.
-use Rattle.std.specs.Prelude.{ℕ, List, [], ◌∷◌, ◌++◌, length, get_or, map, ℤ, pos}
+use Rattle.std.specs.Prelude.{ℕ, List, [], ◌∷◌, ◌++◌, length, get_or, map, ℤ, pos, Result}
+use Rattle.std.specs.Global.{Vec}
 use Rattle.std.specs.List.{range_with_len}
 use Rattle.dimacs_records.specs.Ranges.{IsNode}
 use Rattle.dimacs_records.specs.declared.reasons.Reason.TheVariants.{NodeRange}
@@ -7,14 +8,18 @@ use Rattle.dimacs_instance.specs.declared.network.ArcView.{ArcView}
 use Rattle.dimacs_instance.specs.Arcs.{NetworkValue}
 use Rattle.dimacs_instance.specs.Graph.{IsGraph}
 use Rattle.dimacs_instance.specs.Plain.{weight_arc}
+use Rattle.dimacs_judge.specs.declared.verdict.Verdict.{Verdict}
 use Rattle.dimacs_judge.specs.declared.verdict.Where.TheVariants.{Node}
 use Rattle.dimacs_judge.specs.Rows.{one_test}
 use Rattle.dimacs_judge.specs.Tests.{Row}
+use Rattle.dimacs_decide.specs.Claims.{claimed_by_node}
 use Rattle.dimacs_arrays.specs.declared.error.Array.TheVariants as arrays
+use Rattle.dimacs_arrays.specs.declared.error.ArrayError.{ArrayError}
 use Rattle.dimacs_arrays.specs.declared.lengths.ArrayLength.{ArrayLength}
 use Rattle.dimacs_arrays.specs.declared.graph.GraphArrays.{GraphArrays}
-use Rattle.dimacs_arrays.specs.Answers.{length_of}
+use Rattle.dimacs_arrays.specs.Answers.{AnswersArrays, length_of}
 use Rattle.dimacs_arrays.specs.Limits.{count_rows, limit_row}
+use Rattle.dimacs_arrays.specs.Paths.{CertifiesByNode, JudgesByNode, pred_by_node}
 
 -- the arc of this index
 abbrev pub weighted_arc : GraphArrays → ℕ → ArcView
@@ -48,3 +53,13 @@ graph_limits a s = count_rows a.nodes (length a.tails.now) ++ (source_rows a.nod
 -- the arrays spell a graph, and the source is one of its nodes
 abbrev pub IsGraphFrom : GraphArrays → ℕ → Type 0
 IsGraphFrom a s = IsGraph (graph_spelled a) × IsNode a.nodes s
+
+-- what judging and certifying over the arrays may answer
+abbrev pub JudgesPathsArrays : GraphArrays → ℕ → List ℤ → List ℕ → Result Verdict ArrayError → Type 0
+JudgesPathsArrays a s distances preds =
+    AnswersArrays (paths_judge_lengths a distances preds) (graph_limits a s) (IsGraphFrom a s)
+    (JudgesByNode (graph_spelled a) s (claimed_by_node distances) (pred_by_node preds))
+
+abbrev pub CertifiesPathsArrays : GraphArrays → ℕ → List ℤ → Result (Vec ℕ) ArrayError → Type 0
+CertifiesPathsArrays a s distances =
+    AnswersArrays (paths_lengths a distances) (graph_limits a s) (IsGraphFrom a s) (CertifiesByNode (graph_spelled a) s (claimed_by_node distances))

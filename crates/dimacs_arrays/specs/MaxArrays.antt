@@ -4,7 +4,7 @@ use Rattle.std.specs.List.{range_with_len}
 use Rattle.dimacs_records.specs.Ranges.{IsNode}
 use Rattle.dimacs_records.specs.declared.reasons.Reason.TheVariants.{NodeRange, NodeTwice}
 use Rattle.dimacs_instance.specs.declared.network.ArcView.{ArcView}
-use Rattle.dimacs_instance.specs.MaxFlows.{MaxValue}
+use Rattle.dimacs_instance.specs.MaxFlows.{MaxValue, IsMax}
 use Rattle.dimacs_instance.specs.Plain.{capacity_arc}
 use Rattle.dimacs_judge.specs.declared.verdict.JudgeError.{JudgeError}
 use Rattle.dimacs_judge.specs.declared.verdict.Verdict.{Verdict}
@@ -12,15 +12,17 @@ use Rattle.dimacs_judge.specs.declared.verdict.Verdict.TheVariants.{Max}
 use Rattle.dimacs_judge.specs.declared.verdict.Where.TheVariants.{Node}
 use Rattle.dimacs_judge.specs.Feasible.{FeasibleMax, value}
 use Rattle.dimacs_judge.specs.FlowJudges.{ShowsMaxFlow, max_flow_rows}
+use Rattle.dimacs_judge.specs.FlowTests.{feasible_max_rows}
 use Rattle.dimacs_judge.specs.Optimum.{Maximum}
 use Rattle.dimacs_judge.specs.Rows.{one_test}
-use Rattle.dimacs_judge.specs.Tests.{Judges, Row}
+use Rattle.dimacs_judge.specs.Tests.{Judges, Row, Settles}
 use Rattle.dimacs_arrays.specs.declared.error.Array.TheVariants as arrays
+use Rattle.dimacs_arrays.specs.declared.error.ArrayError.{ArrayError}
 use Rattle.dimacs_arrays.specs.declared.lengths.ArrayLength.{ArrayLength}
 use Rattle.dimacs_arrays.specs.declared.max.MaxArrays.{MaxArrays}
 use Rattle.dimacs_arrays.specs.declared.certify_max.MaxCertified.{MaxCertified}
 use Rattle.dimacs_arrays.specs.declared.certify_max.MaxCertified.TheVariants.{Optimal, Better}
-use Rattle.dimacs_arrays.specs.Answers.{length_of}
+use Rattle.dimacs_arrays.specs.Answers.{AnswersArrays, length_of}
 use Rattle.dimacs_arrays.specs.ByNode.{marked}
 use Rattle.dimacs_arrays.specs.Limits.{count_rows, limit_row}
 
@@ -70,3 +72,13 @@ pub record IsMaxFlowImproved (i : MaxValue) (x y : List ℤ) : Type 0 where
 abbrev pub CertifiesMaxFlow : MaxValue → List ℤ → MaxCertified → Type 0
 CertifiesMaxFlow i x (Optimal total inside) = ShowsMaxFlow i x (marked inside.items) × (total ≡ value i x) × (length inside.items ≡ i.nodes)
 CertifiesMaxFlow i x (Better y) = IsMaxFlowImproved i x y
+
+-- what judging and certifying over the arrays may answer
+abbrev pub JudgesMaxArrays : MaxArrays → List ℤ → List ℕ → Result Verdict ArrayError → Type 0
+JudgesMaxArrays a flows inside =
+    AnswersArrays (max_judge_lengths a flows inside) (max_limits a) (IsMax (max_spelled a)) (JudgesMaxFlow (max_spelled a) flows (marked inside))
+
+abbrev pub CertifiesMaxArrays : MaxArrays → List ℤ → Result MaxCertified ArrayError → Type 0
+CertifiesMaxArrays a flows =
+    AnswersArrays (max_flow_lengths a flows) (max_limits a) (IsMax (max_spelled a))
+    (Settles (CertifiesMaxFlow (max_spelled a) flows) (feasible_max_rows (max_spelled a) flows))

@@ -7,7 +7,7 @@ use Rattle.dimacs_records.specs.NodeValues.{without_zeros}
 use Rattle.dimacs_records.specs.Ranges.{IsNode, IsWhole, IsWide}
 use Rattle.dimacs_claims.specs.Potentials.{PotentialsValue, potential_of}
 use Rattle.dimacs_instance.specs.declared.network.ArcView.{ArcView}
-use Rattle.dimacs_instance.specs.MinFlows.{MinValue}
+use Rattle.dimacs_instance.specs.MinFlows.{MinValue, IsMin}
 use Rattle.dimacs_instance.specs.Plain.{cost_arc}
 use Rattle.dimacs_judge.specs.declared.verdict.JudgeError.{JudgeError}
 use Rattle.dimacs_judge.specs.declared.verdict.Verdict.{Verdict}
@@ -18,15 +18,16 @@ use Rattle.dimacs_judge.specs.Flows.{cost}
 use Rattle.dimacs_judge.specs.FlowTests.{feasible_min_rows, cost_row, cost_through}
 use Rattle.dimacs_judge.specs.Optimum.{Least, NoFlow}
 use Rattle.dimacs_judge.specs.FlowJudges.{ShowsMinFlow, min_flow_rows}
-use Rattle.dimacs_judge.specs.Tests.{Judges, Row}
+use Rattle.dimacs_judge.specs.Tests.{Judges, Row, Settles}
 use Rattle.dimacs_judge.specs.ViolatedSets.{Violated}
 use Rattle.dimacs_arrays.specs.declared.error.Array.TheVariants as arrays
+use Rattle.dimacs_arrays.specs.declared.error.ArrayError.{ArrayError}
 use Rattle.dimacs_arrays.specs.declared.lengths.ArrayLength.{ArrayLength}
 use Rattle.dimacs_arrays.specs.declared.min.MinArrays.{MinArrays}
 use Rattle.dimacs_arrays.specs.declared.certify_min.MinCertified.{MinCertified}
 use Rattle.dimacs_arrays.specs.declared.certify_min.MinCertified.TheVariants.{Optimal, Wide, Better}
-use Rattle.dimacs_arrays.specs.Answers.{length_of}
-use Rattle.dimacs_arrays.specs.ByNode.{number_of}
+use Rattle.dimacs_arrays.specs.Answers.{AnswersArrays, length_of}
+use Rattle.dimacs_arrays.specs.ByNode.{marked, number_of}
 use Rattle.dimacs_arrays.specs.Limits.{count_rows, limit_row}
 
 -- the arc of this index
@@ -97,3 +98,17 @@ ShowsInfeasible i set = Violated i set × NoFlow i
 -- the judge's answer of a set of nodes: a yes, or the test that fails
 abbrev pub JudgesInfeasible : MinValue → (ℕ → Bool) → Result Verdict JudgeError → Type 0
 JudgesInfeasible i set = Judges (violated_row i set ∷ []) (ShowsInfeasible i set) (λ verdict. verdict ≡ Infeasible)
+
+-- what judging and certifying over the arrays may answer
+abbrev pub JudgesMinArrays : MinArrays → List ℤ → List ℤ → Result Verdict ArrayError → Type 0
+JudgesMinArrays a flows potentials =
+    AnswersArrays (min_judge_lengths a flows potentials) (min_limits a) (IsMin (min_spelled a)) (JudgesMinFlow (min_spelled a) flows (number_of potentials))
+
+abbrev pub JudgesInfeasibleArrays : MinArrays → List ℕ → Result Verdict ArrayError → Type 0
+JudgesInfeasibleArrays a inside =
+    AnswersArrays (infeasible_lengths a inside) (min_limits a) (IsMin (min_spelled a)) (JudgesInfeasible (min_spelled a) (marked inside))
+
+abbrev pub CertifiesMinArrays : MinArrays → List ℤ → Result MinCertified ArrayError → Type 0
+CertifiesMinArrays a flows =
+    AnswersArrays (min_flow_lengths a flows) (min_limits a) (IsMin (min_spelled a))
+    (Settles (CertifiesMinFlow (min_spelled a) flows) (min_claimed_rows (min_spelled a) flows))

@@ -1,11 +1,9 @@
 //! Certifying that a flow is maximum, over arrays.
 
 ghost use Rattle.std.specs.Prelude.{◌≡◌, length};
-ghost use Rattle.dimacs_instance.specs.MaxFlows.{IsMax};
 ghost use Rattle.dimacs_judge.specs.FlowTests.{feasible_max_rows};
 ghost use Rattle.dimacs_judge.specs.Tests.{Settles};
-ghost use Rattle.dimacs_arrays.specs.Answers.{AnswersArrays};
-ghost use Rattle.dimacs_arrays.specs.MaxArrays.{CertifiesMaxFlow, max_flow_lengths, max_limits, max_spelled};
+ghost use Rattle.dimacs_arrays.specs.MaxArrays.{CertifiesMaxArrays, CertifiesMaxFlow};
 
 use crate::by_node::bytes_of;
 use crate::error::{Array, ArrayError};
@@ -33,8 +31,7 @@ pub fn certify_max_arrays(
     arrays: &MaxArrays<'_>,
     flows: &[i64],
 ) -> Result<MaxCertified, ArrayError>
-    ensures { AnswersArrays (max_flow_lengths arrays.now flows.now) (max_limits arrays.now) (IsMax (max_spelled arrays.now))
-        (Settles (CertifiesMaxFlow (max_spelled arrays.now) flows.now) (feasible_max_rows (max_spelled arrays.now) flows.now)) result }
+    ensures { CertifiesMaxArrays arrays.now flows.now result }
 {
     arrays.lengths_hold()?;
     lengths_hold(&[ArrayLength::of(Array::Flows, flows.len(), arrays.tails.len())])?;

@@ -1,10 +1,8 @@
 //! Certifying that a flow is least, over arrays.
 
 ghost use Rattle.std.specs.Prelude.{◌≡◌, length, IfOk};
-ghost use Rattle.dimacs_instance.specs.MinFlows.{IsMin};
 ghost use Rattle.dimacs_judge.specs.Tests.{Settles};
-ghost use Rattle.dimacs_arrays.specs.Answers.{AnswersArrays};
-ghost use Rattle.dimacs_arrays.specs.MinArrays.{CertifiesMinFlow, min_claimed_rows, min_flow_lengths, min_limits, min_spelled};
+ghost use Rattle.dimacs_arrays.specs.MinArrays.{CertifiesMinArrays, CertifiesMinFlow, min_claimed_rows};
 ghost use Rattle.dimacs_arrays.specs.inside.MinCertified.{IsLeastBy};
 
 use crate::by_node::numbers_of;
@@ -37,8 +35,7 @@ pub fn certify_min_arrays(
     arrays: &MinArrays<'_>,
     flows: &[i64],
 ) -> Result<MinCertified, ArrayError>
-    ensures { AnswersArrays (min_flow_lengths arrays.now flows.now) (min_limits arrays.now) (IsMin (min_spelled arrays.now))
-        (Settles (CertifiesMinFlow (min_spelled arrays.now) flows.now) (min_claimed_rows (min_spelled arrays.now) flows.now)) result }
+    ensures { CertifiesMinArrays arrays.now flows.now result }
 {
     arrays.lengths_hold()?;
     lengths_hold(&[ArrayLength::of(Array::Flows, flows.len(), arrays.tails.len())])?;

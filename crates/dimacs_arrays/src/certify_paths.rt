@@ -1,9 +1,6 @@
 //! Certifying distances over arrays.
 
-ghost use Rattle.dimacs_decide.specs.Claims.{claimed_by_node};
-ghost use Rattle.dimacs_arrays.specs.Answers.{AnswersArrays};
-ghost use Rattle.dimacs_arrays.specs.GraphArrays.{IsGraphFrom, graph_limits, graph_spelled, paths_lengths};
-ghost use Rattle.dimacs_arrays.specs.Paths.{CertifiesByNode};
+ghost use Rattle.dimacs_arrays.specs.GraphArrays.{CertifiesPathsArrays};
 
 use crate::distances::certify_paths_by_node;
 use crate::error::{Array, ArrayError};
@@ -21,8 +18,7 @@ pub fn certify_paths_arrays(
     source: u32,
     distances: &[i64],
 ) -> Result<Vec<u32>, ArrayError>
-    ensures { AnswersArrays (paths_lengths arrays.now distances.now) (graph_limits arrays.now source) (IsGraphFrom arrays.now source)
-        (CertifiesByNode (graph_spelled arrays.now) source (claimed_by_node distances.now)) result }
+    ensures { CertifiesPathsArrays arrays.now source distances.now result }
 {
     arrays.lengths_hold()?;
     lengths_hold(&[ArrayLength::of(Array::Distances, distances.len(), arrays.nodes as usize)])?;

@@ -1,10 +1,8 @@
 //! Judging that an instance has no feasible flow, over arrays.
 
 ghost use Rattle.std.specs.Prelude.{◌≡◌, length};
-ghost use Rattle.dimacs_instance.specs.MinFlows.{IsMin};
-ghost use Rattle.dimacs_arrays.specs.Answers.{AnswersArrays};
 ghost use Rattle.dimacs_arrays.specs.ByNode.{marked};
-ghost use Rattle.dimacs_arrays.specs.MinArrays.{JudgesInfeasible, infeasible_lengths, min_limits, min_spelled};
+ghost use Rattle.dimacs_arrays.specs.MinArrays.{JudgesInfeasible, JudgesInfeasibleArrays};
 
 use crate::by_node::cut_of;
 use crate::error::{Array, ArrayError};
@@ -24,8 +22,7 @@ pub fn judge_infeasible_arrays(
     arrays: &MinArrays<'_>,
     inside: &[u8],
 ) -> Result<Verdict, ArrayError>
-    ensures { AnswersArrays (infeasible_lengths arrays.now inside.now) (min_limits arrays.now) (IsMin (min_spelled arrays.now))
-        (JudgesInfeasible (min_spelled arrays.now) (marked inside.now)) result }
+    ensures { JudgesInfeasibleArrays arrays.now inside.now result }
 {
     arrays.lengths_hold()?;
     lengths_hold(&[ArrayLength::of(Array::Inside, inside.len(), arrays.nodes as usize)])?;

@@ -1,10 +1,8 @@
 //! Judging that a flow is maximum, over arrays.
 
 ghost use Rattle.std.specs.Prelude.{◌≡◌, length};
-ghost use Rattle.dimacs_instance.specs.MaxFlows.{IsMax};
-ghost use Rattle.dimacs_arrays.specs.Answers.{AnswersArrays};
 ghost use Rattle.dimacs_arrays.specs.ByNode.{marked};
-ghost use Rattle.dimacs_arrays.specs.MaxArrays.{JudgesMaxFlow, max_judge_lengths, max_limits, max_spelled};
+ghost use Rattle.dimacs_arrays.specs.MaxArrays.{JudgesMaxArrays, JudgesMaxFlow};
 
 use crate::by_node::cut_of;
 use crate::error::{Array, ArrayError};
@@ -27,8 +25,7 @@ pub fn judge_max_arrays(
     flows: &[i64],
     inside: &[u8],
 ) -> Result<Verdict, ArrayError>
-    ensures { AnswersArrays (max_judge_lengths arrays.now flows.now inside.now) (max_limits arrays.now) (IsMax (max_spelled arrays.now))
-        (JudgesMaxFlow (max_spelled arrays.now) flows.now (marked inside.now)) result }
+    ensures { JudgesMaxArrays arrays.now flows.now inside.now result }
 {
     arrays.lengths_hold()?;
     lengths_hold(&[

@@ -1,10 +1,8 @@
 //! Judging that a flow is least, over arrays.
 
 ghost use Rattle.std.specs.Prelude.{◌≡◌, length};
-ghost use Rattle.dimacs_instance.specs.MinFlows.{IsMin};
-ghost use Rattle.dimacs_arrays.specs.Answers.{AnswersArrays};
 ghost use Rattle.dimacs_arrays.specs.ByNode.{number_of};
-ghost use Rattle.dimacs_arrays.specs.MinArrays.{JudgesMinFlow, min_judge_lengths, min_limits, min_spelled};
+ghost use Rattle.dimacs_arrays.specs.MinArrays.{JudgesMinArrays, JudgesMinFlow};
 
 use crate::by_node::potentials_of;
 use crate::error::{Array, ArrayError};
@@ -26,8 +24,7 @@ pub fn judge_min_arrays(
     flows: &[i64],
     potentials: &[i64],
 ) -> Result<Verdict, ArrayError>
-    ensures { AnswersArrays (min_judge_lengths arrays.now flows.now potentials.now) (min_limits arrays.now) (IsMin (min_spelled arrays.now))
-        (JudgesMinFlow (min_spelled arrays.now) flows.now (number_of potentials.now)) result }
+    ensures { JudgesMinArrays arrays.now flows.now potentials.now result }
 {
     arrays.lengths_hold()?;
     lengths_hold(&[

@@ -1,9 +1,6 @@
 //! Judging that distances are true, over arrays.
 
-ghost use Rattle.dimacs_decide.specs.Claims.{claimed_by_node};
-ghost use Rattle.dimacs_arrays.specs.Answers.{AnswersArrays};
-ghost use Rattle.dimacs_arrays.specs.GraphArrays.{IsGraphFrom, graph_limits, graph_spelled, paths_judge_lengths};
-ghost use Rattle.dimacs_arrays.specs.Paths.{JudgesByNode, pred_by_node};
+ghost use Rattle.dimacs_arrays.specs.GraphArrays.{JudgesPathsArrays};
 
 use crate::distances::judge_paths_by_node;
 use crate::error::{Array, ArrayError};
@@ -27,8 +24,7 @@ pub fn judge_paths_arrays(
     distances: &[i64],
     predecessors: &[u32],
 ) -> Result<Verdict, ArrayError>
-    ensures { AnswersArrays (paths_judge_lengths arrays.now distances.now predecessors.now) (graph_limits arrays.now source) (IsGraphFrom arrays.now source)
-        (JudgesByNode (graph_spelled arrays.now) source (claimed_by_node distances.now) (pred_by_node predecessors.now)) result }
+    ensures { JudgesPathsArrays arrays.now source distances.now predecessors.now result }
 {
     arrays.lengths_hold()?;
     lengths_hold(&[

@@ -4,7 +4,6 @@ use Rattle.std.specs.Prelude.{unwrap_or}
 use Rattle.dimacs_runs.specs.declared.jobs.CertifyKind.{CertifyKind}
 use Rattle.dimacs_runs.specs.declared.jobs.CertifyKind.TheVariants as claims
 use Rattle.dimacs_runs.specs.declared.jobs.JudgeKind.{JudgeKind}
-use Rattle.dimacs_runs.specs.declared.jobs.JudgeKind.TheVariants.{Max, Min, Infeasible, Paths}
 use Rattle.dimacs_runs.specs.declared.outcome.RunError.{RunError}
 use Rattle.dimacs_runs.specs.declared.outcome.Status.{Status}
 use Rattle.dimacs_runs.specs.declared.outcome.Status.TheVariants.{Done, Refused, GaveUp}
@@ -22,11 +21,11 @@ use Rattle.dimacs_c.specs.inside.Calls.{Ends}
 pub is_claim : (k : JudgeKind) (coming : Option (List ℕ)) (b : List ℕ) → coming ≡ Some b → IsClaim k coming b
 is_claim kind coming b is = λ some. is
 
-bytes_of : {a b : List ℕ} → Some a ≡ Some b → a ≡ b
+pub bytes_of : {a b : List ℕ} → Some a ≡ Some b → a ≡ b
 bytes_of is = ap (λ (held : Option (List ℕ)). unwrap_or held []) is
 
 -- one sink was empty, and what it has now was handed out
-pub answered : (tells : Status → List ℕ → Type 0) (ended : Result Status RunError) (start bytes : List ℕ) (answer : ℕ) (h : Handed) → start ≡ []
+pub answered : (tells : Status → List ℕ → Type 0) (ended : Result Status RunError) (start bytes : List ℕ) (answer : ℕ) (h : Handed ℕ) → start ≡ []
     → Reports tells ended (Some start) (Some bytes) → Ends ended bytes answer h → Answers tells answer h
 answered tells (Ok s) start bytes answer h empty reports ends =
     let whole : bytes ≡ reports.0 = bytes_of reports.2 ∙ ap (λ front. front ++ reports.0) empty in
@@ -52,7 +51,7 @@ certified_pair claims.Min a b Refused out (inr (i, spelled, inr (v, also, inr h)
 certified_pair claims.Min a b GaveUp out (inr (i, spelled, inr (v, also, h))) = absurd h
 
 -- two sinks were empty, and what they have now was handed out
-pub answered_pair : (tells : Status → List (List ℕ) → Type 0) (ended : Result Status RunError) (start1 start2 text report : List ℕ) (first answer : ℕ) (shown said : Handed)
+pub answered_pair : (tells : Status → List (List ℕ) → Type 0) (ended : Result Status RunError) (start1 start2 text report : List ℕ) (first answer : ℕ) (shown said : Handed ℕ)
     → ((s : Status) (out : List (List ℕ)) → tells s out → IsPair out) → start1 ≡ [] → start2 ≡ []
     → ReportsAll (TellsAlike tells) ended (Some start1 ∷ Some start2 ∷ []) (Some text ∷ Some report ∷ []) → Ends ended text first shown → Ends ended report answer said → AnswersPair tells answer shown said
 answered_pair tells (Ok s) start1 start2 text report first answer shown said pair empty1 empty2 reports shows ends =

@@ -1,16 +1,16 @@
 //! How a call ends.
 
 ghost use Rattle.std.specs.Prelude.{◌≡◌};
-ghost use Rattle.dimacs_c.specs.Calls.{HandsOut, handed};
+ghost use Rattle.dimacs_c.specs.Calls.{HandsNothing, HandsOut, handed};
 ghost use Rattle.dimacs_c.specs.inside.Calls.{Ends};
 
 use dimacs_runs::{RunError, Status, exit_status};
 
 /// The status of a misused call. Others are the command's.
-const MISUSED: u32 = 2;
+pub(crate) const MISUSED: u32 = 2;
 
 /// That of a call for which there was no memory.
-const NO_MEMORY: u32 = 4;
+pub(crate) const NO_MEMORY: u32 = 4;
 
 /// Ends a call whose run ended so, and put these bytes. The one device that can fail is memory that has to grow.
 pub(crate) fn end(
@@ -43,10 +43,10 @@ pub(crate) fn misuse(told: &mut usize) -> u32
 }
 
 /// Copies as much as there is room for.
-fn hand_out(bytes: &[u8], out: &mut [u8], told: &mut usize)
-    ensures { HandsOut bytes.now (handed out.old out.new told.new) }
+pub(crate) fn hand_out<T: Copy>(items: &[T], room: &mut [T], told: &mut usize)
+    ensures { HandsOut items.now (handed room.old room.new told.new) }
 {
-    let count = bytes.len().min(out.len());
-    out[..count].copy_from_slice(&bytes[..count]);
-    *told = bytes.len();
+    let count = items.len().min(room.len());
+    room[..count].copy_from_slice(&items[..count]);
+    *told = items.len();
 }

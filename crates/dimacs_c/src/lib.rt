@@ -8,4 +8,8 @@ mod answer;
 mod certify;
 mod judge;
 mod kinds;
+mod lines;
+mod max;
+mod min;
+mod paths;
 mod texts;

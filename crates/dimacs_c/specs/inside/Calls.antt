@@ -6,6 +6,6 @@ use Rattle.dimacs_runs.specs.Outcomes.{status_number}
 use Rattle.dimacs_c.specs.Calls.{Handed, HandsNothing, HandsOut}
 
 -- how a call ends whose run ended so, and put this text
-abbrev pub Ends : Result Status RunError → List ℕ → ℕ → Handed → Type 0
+abbrev pub Ends : Result Status RunError → List ℕ → ℕ → Handed ℕ → Type 0
 Ends (Ok s) text answer h = (answer ≡ status_number (Ok s)) × HandsOut text h
 Ends (Err error) text answer h = (answer ≡ 4) × HandsNothing h

@@ -2,7 +2,6 @@ use Rattle.std.proofs.Common.{Some, ap}
 use Rattle.dimacs_lines.specs.Devices.{InMemory}
 use Rattle.dimacs_runs.specs.Judged.{Judged}
 use Rattle.dimacs_c.specs.Calls.{handed}
-use Rattle.dimacs_c.specs.inside.Calls.{Ends}
 use Rattle.dimacs_c.proofs.CallLemmas.{answered, is_claim}
 use Rattle.dimacs_c.proofs.judge.judge.Goals as goal
 

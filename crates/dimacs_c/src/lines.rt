@@ -1,0 +1,111 @@
+//! The lines of answers over arrays, and the statuses that go with them.
+
+ghost use Rattle.std.specs.Prelude.{◌≡◌, ℕ, List, Option, IfOk};
+ghost use Rattle.dimacs_lines.specs.Puts.{Puts};
+ghost use Rattle.dimacs_runs.specs.Verdicts.{failure_line, gave_up_line, verdict_lines};
+ghost use Rattle.dimacs_c.specs.Arrays.{error_line, error_status, said, verdict_said};
+ghost use Rattle.dimacs_c.specs.Calls.{handed};
+ghost use Rattle.dimacs_c.specs.inside.Arrays.{EndsLine};
+
+use crate::answer::{MISUSED, NO_MEMORY, hand_out};
+use dimacs_arrays::ArrayError;
+use dimacs_judge::{Verdict, Where};
+use dimacs_lines::{DeviceFault, MemorySink, Sink};
+use dimacs_records::Reason;
+use dimacs_runs::{put_failure, put_gave_up, put_verdict};
+use std::alloc::Global;
+
+/// The status of a yes.
+const YES: u32 = 0;
+
+/// That of a test that fails.
+const NO: u32 = 1;
+
+/// That of an answer that can't be spelled.
+const GAVE_UP: u32 = 5;
+
+/// The place of a refusal that finds fault with a flow, and with no arc or node of it.
+pub(crate) const WHOLE_FLOW: Where = Where::Solution { line: 0, field: 0 };
+
+/// Hands out the line of a judge's answer.
+pub(crate) fn hand_judged(
+    alloc: Global,
+    answer: Result<Verdict, ArrayError>,
+    out: &mut [u8],
+    told: &mut usize,
+) -> u32
+    ensures { EndsLine (said verdict_said answer) result (handed out.old out.new told.new) }
+{
+    let mut line = MemorySink::new(alloc);
+    match put_judged(&mut line, answer) {
+        Ok(status) => {
+            hand_out(line.bytes(), out, told);
+            status
+        }
+        Err(_) => {
+            *told = 0;
+            NO_MEMORY
+        }
+    }
+}
+
+/// Puts the line of a judge's answer, and answers its status.
+fn put_judged<K: Sink>(
+    sink: &mut K,
+    answer: Result<Verdict, ArrayError>,
+) -> Result<u32, DeviceFault>
+    ensures status { IfOk result (λ status. status ≡ (said verdict_said answer).status) }
+    ensures line { Puts result (K.accepted sink.old) (said verdict_said answer).line (K.accepted sink.new) }
+{
+    match answer {
+        Ok(verdict) => put_yes(sink, &verdict),
+        Err(error) => put_error(sink, error),
+    }
+}
+
+/// Puts the line of a verdict.
+pub(crate) fn put_yes<K: Sink>(sink: &mut K, verdict: &Verdict) -> Result<u32, DeviceFault>
+    ensures status { IfOk result (λ status. status ≡ 0) }
+    ensures line { Puts result (K.accepted sink.old) (verdict_lines verdict.now) (K.accepted sink.new) }
+{
+    put_verdict(sink, verdict)?;
+    Ok(YES)
+}
+
+/// Puts the line of a test that fails.
+pub(crate) fn put_no<K: Sink>(
+    sink: &mut K,
+    place: Where,
+    reason: Reason,
+) -> Result<u32, DeviceFault>
+    ensures status { IfOk result (λ status. status ≡ 1) }
+    ensures line { Puts result (K.accepted sink.old) (failure_line place reason) (K.accepted sink.new) }
+{
+    put_failure(sink, place, reason)?;
+    Ok(NO)
+}
+
+/// Puts the line that tells that a limit was reached.
+pub(crate) fn put_wide<K: Sink>(sink: &mut K) -> Result<u32, DeviceFault>
+    ensures status { IfOk result (λ status. status ≡ 5) }
+    ensures line { Puts result (K.accepted sink.old) gave_up_line (K.accepted sink.new) }
+{
+    put_gave_up(sink)?;
+    Ok(GAVE_UP)
+}
+
+/// Puts the line of an error, where it has one.
+pub(crate) fn put_error<K: Sink>(sink: &mut K, error: ArrayError) -> Result<u32, DeviceFault>
+    ensures status { IfOk result (λ status. status ≡ error_status error) }
+    ensures line { Puts result (K.accepted sink.old) (error_line error) (K.accepted sink.new) }
+{
+    match error {
+        ArrayError::Refused(place, reason) => put_no(sink, place, reason),
+        ArrayError::Limit(place, reason) => {
+            put_failure(sink, place, reason)?;
+            Ok(MISUSED)
+        }
+        ArrayError::Length(_) => Ok(MISUSED),
+        ArrayError::Memory => Ok(NO_MEMORY),
+    }
+}
