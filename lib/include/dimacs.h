@@ -13,8 +13,10 @@
  *   - A pointer is of memory that has the length that stands beside it; with the length 0 it may be null. A `told`
  *     is never null.
  *   - What a call writes (`out`, `told` and their like) overlaps neither what it reads nor another room.
- *   - Calls may run side by side in several threads, also over the same texts, where none of them writes what another
- *     one reads or writes. None is made from a signal handler, nor in the forked child of a process with threads.
+ *   - So it is with each array of an instance. Its length is a number of items, as are the lengths of rooms for items,
+ *     and the memory holds so many, each at a multiple of its size. A pointer to an instance is never null.
+ *   - Calls may run side by side in several threads, also over the same texts and arrays, where none of them writes what
+ *     another one reads or writes. None is made from a signal handler, nor in the forked child of a process with threads.
  *   - A thread that calls has 64 KB of stack left.
  */
 #ifndef DIMACS_H
@@ -31,13 +33,17 @@ extern "C" {
 enum {
     DIMACS_DONE = 0,      /* done, or a yes */
     DIMACS_REFUSED = 1,   /* a no: a text has a fault, or a test fails */
-    DIMACS_MISUSED = 2,   /* nothing was done: a number names no kind. Nothing is handed out */
+    DIMACS_MISUSED = 2,   /* nothing was judged: a number names no kind, or an array has a wrong length, and nothing is
+                             handed out; or a number of an instance in arrays is past its limit, and the line says where */
     DIMACS_NO_MEMORY = 4, /* there was not enough memory, and nothing is said of the claim. Nothing is handed out */
-    DIMACS_GAVE_UP = 5    /* an answer can't be spelled: `g limit` is handed out */
+    DIMACS_GAVE_UP = 5    /* a flow costs least, by potentials that take more than 64 bits: `g limit` is handed out */
 };
 
 /* What is judged; the first two are what is certified. */
 enum { DIMACS_MAX = 0, DIMACS_MIN = 1, DIMACS_INFEASIBLE = 2, DIMACS_PATHS = 3 };
+
+/* The distance of a node that isn't reached, in arrays. */
+#define DIMACS_UNREACHED INT64_MAX
 
 /* Kinds of text. */
 enum {
@@ -76,6 +82,108 @@ uint32_t dimacs_convert(uint32_t kind, const uint8_t *text, size_t length, uint8
 
 /* A line that says what a text of this kind is, or the line of its fault. */
 uint32_t dimacs_show(uint32_t kind, const uint8_t *text, size_t length, uint8_t *out, size_t room, size_t *told);
+
+/* ---- Arrays in memory ----
+ *
+ * Nodes and arcs count from 1. The k-th items of the arrays by arc say what the k-th arc is, and the k-th item of an
+ * array by node belongs to node k. There are as many arcs as tails, and each other array has to have as many items as
+ * there are arcs, or nodes; else a call answers DIMACS_MISUSED and hands out nothing. So does a call with the line
+ * `x node ID REASON` or `x arc K REASON` for the first number past its limit: there are at most 2^27 nodes
+ * (`x node 134217729 NumberRange`) and 2^28 arcs, the ends are nodes (NodeRange), the sink isn't the source (NodeTwice),
+ * a lower bound is at least 0 and at most the capacity (BoundOrder).
+ *
+ * No line has over 100 bytes. A no of a call is the line of the first test that fails, `x arc K REASON` or
+ * `x node ID REASON`. The rooms for items follow the rule of `out`, counted in items; where a call has none for them,
+ * 0 is told. */
+
+/* Where an array begins, and how many items it has. */
+typedef struct {
+    const uint32_t *at;
+    size_t length;
+} dimacs_nodes;
+
+typedef struct {
+    const int64_t *at;
+    size_t length;
+} dimacs_numbers;
+
+/* A maximum flow instance: an arc goes from its tail to its head, and carries from 0 to its capacity. */
+typedef struct {
+    uint32_t nodes, source, sink;
+    dimacs_nodes tails, heads;
+    dimacs_numbers caps;
+} dimacs_max;
+
+/* A minimum cost flow instance: an arc carries from its lower bound to its capacity, at a cost for each unit. What
+ * leaves a node less what enters it is its supply, which is negative where it demands. */
+typedef struct {
+    uint32_t nodes;
+    dimacs_nodes tails, heads;
+    dimacs_numbers lows, caps, costs, supplies;
+} dimacs_min;
+
+/* A graph: an arc goes from its tail to its head, and has a weight, which may be negative. */
+typedef struct {
+    uint32_t nodes;
+    dimacs_nodes tails, heads;
+    dimacs_numbers weights;
+} dimacs_graph;
+
+/* Judges that a flow, by arc, is maximum, as the cut shows of the nodes whose byte in `inside` isn't 0.
+ * Hands out `v max VALUE`; of a no the first test that fails: each arc, BelowLow or AboveCap; each node but the source
+ * and the sink, Balance; the source, SourceOutside; the sink, SinkInside; each arc, NotSaturated or BackFlow. Of the last
+ * four the flow may be maximum all the same, by another cut. */
+uint32_t dimacs_judge_max_arrays(const dimacs_max *instance, const int64_t *flows, size_t flows_length,
+                                 const uint8_t *inside, size_t inside_length, uint8_t *out, size_t room, size_t *told);
+
+/* Judges that a flow, by arc, costs least, as the potentials show, by node: the reduced cost of an arc is its cost, less
+ * the potential of its tail, and with that of its head. Hands out `v min COST`; of a no the first test that fails: each
+ * arc, BelowLow or AboveCap; each node, Balance; each arc, CostRange where the sum up to it is past 10^30; each arc,
+ * NotTight where its reduced cost is above 0 and it carries more than its lower bound, or below 0 and less than its
+ * capacity. Of NotTight the flow may cost least all the same, by other potentials. */
+uint32_t dimacs_judge_min_arrays(const dimacs_min *instance, const int64_t *flows, size_t flows_length,
+                                 const int64_t *potentials, size_t potentials_length, uint8_t *out, size_t room,
+                                 size_t *told);
+
+/* Judges that an instance has no feasible flow, as the set shows of the nodes whose byte in `inside` isn't 0: what they
+ * supply together can't flow out of it. Hands out `v infeasible`; of a no `x certificate 0 0 NotViolated`, and there may
+ * be no flow all the same, by another set. */
+uint32_t dimacs_judge_infeasible_arrays(const dimacs_min *instance, const uint8_t *inside, size_t inside_length,
+                                        uint8_t *out, size_t room, size_t *told);
+
+/* Judges that the distances from the source, by node, are the least weights of walks, as the predecessors show, by node.
+ * A node that isn't reached has the distance DIMACS_UNREACHED and the predecessor 0, as the source has. Hands out
+ * `v sp ss 1`; of a no the first test that fails: the source, NotShortest; each node, NodeRange of its predecessor; each
+ * node, PredUnknown where the predecessors don't lead back to the source; each node, NoTightArc where no arc from its
+ * predecessor gives its distance; each arc, Escapes where its head isn't reached, or NotShortest. */
+uint32_t dimacs_judge_paths_arrays(const dimacs_graph *graph, uint32_t source, const int64_t *distances,
+                                   size_t distances_length, const uint32_t *predecessors, size_t predecessors_length,
+                                   uint8_t *out, size_t room, size_t *told);
+
+/* Certifies a flow, by arc, that has no certificate. Hands out what dimacs_judge_max_arrays does, but its tests of the
+ * cut, and with a yes a byte for each node to `inside`, 1 or 0: a cut by which that judge says yes too. Where the flow is
+ * feasible and isn't maximum: `x solution 0 0 NotMaximum`, and a feasible flow of greater value to `better`, an amount
+ * for each arc. The time that it takes isn't bounded by the number of arcs. */
+uint32_t dimacs_certify_max_arrays(const dimacs_max *instance, const int64_t *flows, size_t flows_length, uint8_t *out,
+                                   size_t room, size_t *told, uint8_t *inside, size_t inside_room, size_t *inside_told,
+                                   int64_t *better, size_t better_room, size_t *better_told);
+
+/* The same of a flow that is to cost least. Hands out what dimacs_judge_min_arrays does, but its last test, and with a
+ * yes potentials, by node, by which that judge says yes too; DIMACS_GAVE_UP where the flow costs least and the potentials
+ * that were found take more than 64 bits. Where the flow is feasible and another costs less: `x solution 0 0 NotLeast`,
+ * and such a flow to `better`. */
+uint32_t dimacs_certify_min_arrays(const dimacs_min *instance, const int64_t *flows, size_t flows_length, uint8_t *out,
+                                   size_t room, size_t *told, int64_t *potentials, size_t potentials_room,
+                                   size_t *potentials_told, int64_t *better, size_t better_room, size_t *better_told);
+
+/* Certifies distances from the source, by node, that have no predecessors, in time by the number of arcs and nodes.
+ * Hands out `v sp ss 1`, and predecessors, by node, by which dimacs_judge_paths_arrays says yes too, exactly where they
+ * are the least weights of walks; of a no the first test that fails: the source, NotShortest; each arc whose tail is
+ * reached, Escapes where its head isn't, or NotShortest; each node, NoTightArc where it is reached and no arcs that give
+ * the distances lead to it. */
+uint32_t dimacs_certify_paths_arrays(const dimacs_graph *graph, uint32_t source, const int64_t *distances,
+                                     size_t distances_length, uint8_t *out, size_t room, size_t *told,
+                                     uint32_t *predecessors, size_t predecessors_room, size_t *predecessors_told);
 
 #ifdef __cplusplus
 }

@@ -1,9 +1,26 @@
 """Claims about flows and distances, judged and certified in this process by functions that are proved.
 
 A yes is returned, and a no is raised as Refused. Nothing is written to files or printed, and other threads run meanwhile.
+Claims are texts (certify_max, ..), arrays (certify_max_arrays, ..) or those of networkx (certify_networkx_max, ..).
 """
 
-from .answers import UNREACHED, Beyond, Certified, NotOptimal, Pair, Refused, Verdict
+from .answers import UNREACHED, Beyond, Certified, NotOptimal, Pair, PastLimit, Refused, Verdict
+from .arrays import (
+    certify_max_arrays,
+    certify_min_arrays,
+    certify_paths_arrays,
+    judge_infeasible_arrays,
+    judge_max_arrays,
+    judge_min_arrays,
+    judge_paths_arrays,
+)
+from .graphs import (
+    certify_networkx_max,
+    certify_networkx_min,
+    certify_networkx_paths,
+    judge_networkx_max,
+    judge_networkx_min,
+)
 from .texts import certify_max, certify_min, convert, judge_infeasible, judge_max, judge_min, judge_paths, show
 
 __all__ = [
@@ -12,14 +29,27 @@ __all__ = [
     "Certified",
     "NotOptimal",
     "Pair",
+    "PastLimit",
     "Refused",
     "Verdict",
     "certify_max",
+    "certify_max_arrays",
     "certify_min",
+    "certify_min_arrays",
+    "certify_networkx_max",
+    "certify_networkx_min",
+    "certify_networkx_paths",
+    "certify_paths_arrays",
     "convert",
     "judge_infeasible",
+    "judge_infeasible_arrays",
     "judge_max",
+    "judge_max_arrays",
     "judge_min",
+    "judge_min_arrays",
+    "judge_networkx_max",
+    "judge_networkx_min",
     "judge_paths",
+    "judge_paths_arrays",
     "show",
 ]

@@ -65,6 +65,10 @@ class Certified(NamedTuple):
         return self.certificate
 
 
+def _at(arc: Any, node: Any, reason: str) -> str:
+    return f"arc {arc} {reason}" if arc is not None else f"node {node} {reason}"
+
+
 class Refused(Exception):
     """A no: the fault of a text, or the first test that fails.
 
@@ -83,14 +87,34 @@ class Refused(Exception):
         arc: Any = None,
         node: Any = None,
     ) -> None:
-        place = [text, line, field] if text else ["arc", arc] if arc is not None else ["node", node]
-        super().__init__(" ".join(str(word) for word in (*place, reason)))
+        super().__init__(reason)
         self.reason = reason
         self.text = text
         self.line = line
         self.field = field
         self.arc = arc
         self.node = node
+
+    def __str__(self) -> str:
+        if self.text:
+            return f"{self.text} {self.line} {self.field} {self.reason}"
+        return _at(self.arc, self.node, self.reason)
+
+
+class PastLimit(ValueError):
+    """The first number of an instance in arrays, or of a graph, that is past its limit: nothing was judged.
+
+    arc is the number of an arc or node the ID of a node, as in Refused, and reason says why a text would be refused.
+    """
+
+    def __init__(self, reason: str, *, arc: Any = None, node: Any = None) -> None:
+        super().__init__(reason)
+        self.reason = reason
+        self.arc = arc
+        self.node = node
+
+    def __str__(self) -> str:
+        return _at(self.arc, self.node, self.reason)
 
 
 class NotOptimal(Refused):
@@ -99,6 +123,6 @@ class NotOptimal(Refused):
     better is such a flow, in the form of the one that came; None where its cost is out of the range of solutions.
     """
 
-    def __init__(self, reason: str, better: Any, **place: Any) -> None:
+    def __init__(self, reason: str, better: Any = None, **place: Any) -> None:
         super().__init__(reason, **place)
         self.better = better

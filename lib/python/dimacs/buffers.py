@@ -170,12 +170,39 @@ def array_of(numbers: Any, items: Items, name: str) -> Buffer:
         raise ValueError(f"{name} has {view.ndim} dimensions, and not one")
     if view.format not in _SAME[items.code] or view.itemsize != items.width or not view.c_contiguous:
         return _from_numbers(view.tolist(), items, name)
+    if isinstance(numbers, array.array):
+        return Buffer(view, *numbers.buffer_info())
     return Buffer(view, _address_of(view) if len(view) else 0, len(view))
 
 
 def number_of(number: Any, items: Items, name: str) -> int:
     """A single number."""
-    whole = _whole(number, items, name)
+    whole = number if type(number) is int else _whole(number, items, name)
     if not items.least <= whole <= items.greatest:
         raise _refuse(name, number)
     return whole
+
+
+class Room:
+    """Memory for items that a call hands out."""
+
+    __slots__ = ("_items", "_kept", "_told")
+
+    def __init__(self, items: Items, length: int) -> None:
+        self._items = items
+        self._kept = array.array(items.code, (0,)) * length
+        self._told = ctypes.c_size_t()
+
+    def words(self) -> tuple[int, int, Any]:
+        """Where the memory lies, for how many items there is room, and where to tell how many there are."""
+        address, length = self._kept.buffer_info()
+        return address, length, ctypes.byref(self._told)
+
+    def in_form_of(self, came: Any) -> Any:
+        """All items: a numpy array where what came is one, array.array where it is that, else a list. Marks are bools."""
+        numpy = sys.modules.get("numpy")
+        if numpy is not None and isinstance(came, numpy.ndarray):
+            return numpy.frombuffer(self._kept, bool if self._items is MARKS else self._items.code)
+        if isinstance(came, array.array):
+            return self._kept
+        return list(map(bool, self._kept)) if self._items is MARKS else self._kept.tolist()

@@ -7,7 +7,8 @@ import os
 from pathlib import Path
 from typing import Any, Callable
 
-from .answers import Beyond, NotOptimal, Pair, Refused, Verdict
+from .answers import Beyond, NotOptimal, Pair, PastLimit, Refused, Verdict
+from .buffers import Room
 
 DONE, REFUSED, MISUSED, NO_MEMORY, GAVE_UP = 0, 1, 2, 4, 5
 
@@ -36,7 +37,7 @@ _room = [_address, _size, ctypes.POINTER(_size)]
 _library = ctypes.CDLL(str(_find()))
 
 
-def export(name: str, *words: Any, texts: int = 0, rooms: int = 1) -> Callable[..., int]:
+def _export(name: str, *words: Any, texts: int = 0, rooms: int = 1) -> Callable[..., int]:
     """The function of the library that takes these words, so many texts or arrays, and rooms for what it hands out."""
     function = getattr(_library, name)
     function.argtypes = [*words, *[_address, _size] * texts, *_room * rooms]
@@ -44,20 +45,33 @@ def export(name: str, *words: Any, texts: int = 0, rooms: int = 1) -> Callable[.
     return function
 
 
-judge = export("dimacs_judge", _number, texts=3)
-certify = export("dimacs_certify", _number, texts=2, rooms=2)
-convert = export("dimacs_convert", _number, texts=1)
-show = export("dimacs_show", _number, texts=1)
+judge = _export("dimacs_judge", _number, texts=3)
+certify = _export("dimacs_certify", _number, texts=2, rooms=2)
+convert = _export("dimacs_convert", _number, texts=1)
+show = _export("dimacs_show", _number, texts=1)
+
+judge_max_arrays = _export("dimacs_judge_max_arrays", _address, texts=2)
+judge_min_arrays = _export("dimacs_judge_min_arrays", _address, texts=2)
+judge_infeasible_arrays = _export("dimacs_judge_infeasible_arrays", _address, texts=1)
+judge_paths_arrays = _export("dimacs_judge_paths_arrays", _address, _number, texts=2)
+certify_max_arrays = _export("dimacs_certify_max_arrays", _address, texts=1, rooms=3)
+certify_min_arrays = _export("dimacs_certify_min_arrays", _address, texts=1, rooms=3)
+certify_paths_arrays = _export("dimacs_certify_paths_arrays", _address, _number, texts=1, rooms=2)
 
 _Line = ctypes.c_char * LINE
 
 
 def _raise_for(status: int, said: bytes) -> None:
-    """Raises what a status means that says nothing of the claim."""
+    """Raises what a status means that says nothing of the claim, or that its certificate can't be told."""
     if status == NO_MEMORY:
         raise MemoryError("there was not enough memory to judge")
+    if status == MISUSED and said:
+        _, place, number, reason = said.decode("ascii").split()
+        raise PastLimit(reason, **{place: int(number)})
     if status == MISUSED:
-        raise ValueError(said.decode("ascii").strip() or "the library doesn't take these words")
+        raise ValueError("the library doesn't take these words")
+    if status == GAVE_UP:
+        raise OverflowError("the flow costs least, but the potentials that show it take more than 64 bits")
 
 
 def call(function: Callable[..., int], *words: Any) -> tuple[int, bytes]:
@@ -87,6 +101,15 @@ def call_for_text(function: Callable[..., int], *words: Any, room: int, has_line
         if told.value <= room:
             return status, said, ctypes.string_at(text, told.value)
         room = told.value
+
+
+def call_with_rooms(function: Callable[..., int], words: list[Any], rooms: list[Room]) -> tuple[int, bytes]:
+    """Makes a call that hands out items to rooms that are large enough; its status, and the line."""
+    line, told = _Line(), _size()
+    status = function(*words, line, LINE, ctypes.byref(told), *(word for room in rooms for word in room.words()))
+    said = line[: told.value]
+    _raise_for(status, said)
+    return status, said
 
 
 def refusal(line: bytes, **more: Any) -> Refused:

@@ -1,0 +1,202 @@
+"""The calls over arrays.
+
+Nodes and arcs count from 1. The first items of tails, heads, caps, .. are of arc 1, the first items of supplies, inside,
+distances, .. of node 1. An array is a list, array.array, numpy array, or whatever else has a buffer or can be gone
+through. One whose items have the width that the library takes isn't copied: uint32 for tails, heads and predecessors,
+uint8 or bool for inside, int64 for all others; no other thread may write to it meanwhile. Else each number is converted.
+
+ValueError is raised where a number doesn't fit or isn't whole, or where an array is longer or shorter than the others
+want it; and PastLimit, which is a ValueError, where a number is past a limit of instances.
+"""
+
+from __future__ import annotations
+
+import ctypes
+from typing import Any, Callable, NamedTuple
+
+from . import library
+from .answers import Certified, Verdict
+from .buffers import DISTANCES, IDS, MARKS, NUMBERS, Buffer, Items, Room, array_of, number_of
+
+#: There may be no more nodes than these.
+MOST_NODES = 2**27
+
+
+class _Array(NamedTuple):
+    """What an array is called, what its items are, and of what it has one each."""
+
+    name: str
+    items: Items
+    each: str
+
+
+_TAILS, _HEADS = (_Array(name, IDS, "arcs") for name in ("tails", "heads"))
+_LOWS, _CAPS, _COSTS = (_Array(name, NUMBERS, "arcs") for name in ("lows", "caps", "costs"))
+_WEIGHTS, _FLOWS = (_Array(name, NUMBERS, "arcs") for name in ("weights", "flows"))
+_SUPPLIES, _POTENTIALS = (_Array(name, NUMBERS, "nodes") for name in ("supplies", "potentials"))
+_INSIDE, _DISTANCES = _Array("inside", MARKS, "nodes"), _Array("distances", DISTANCES, "nodes")
+_PREDECESSORS = _Array("predecessors", IDS, "nodes")
+
+
+class _Instance:
+    """How an instance lies in memory: its numbers, and then where each array is and how many items it has."""
+
+    def __init__(self, numbers: str, *arrays: _Array) -> None:
+        self.numbers = numbers.split()
+        self.arrays = arrays
+        fields: list[tuple[str, Any]] = [(name, ctypes.c_uint32) for name in self.numbers]
+        for it in arrays:
+            fields += [(it.name, ctypes.c_void_p), (f"{it.name}_length", ctypes.c_size_t)]
+        self.structure = type("Instance", (ctypes.Structure,), {"_fields_": fields})
+
+
+_MAX = _Instance("nodes source sink", _TAILS, _HEADS, _CAPS)
+_MIN = _Instance("nodes", _TAILS, _HEADS, _LOWS, _CAPS, _COSTS, _SUPPLIES)
+_GRAPH = _Instance("nodes", _TAILS, _HEADS, _WEIGHTS)
+
+
+class _Given:
+    """The words of a call: an instance, and what is added to it. Keeps the memory of all arrays."""
+
+    def __init__(self, form: _Instance, *given: Any) -> None:
+        count = len(form.numbers)
+        self._arrays: list[tuple[_Array, Buffer]] = []
+        fields: list[Any] = [number_of(number, IDS, name) for name, number in zip(form.numbers, given)]
+        self.nodes = fields[0]
+        for form_of_it, numbers in zip(form.arrays, given[count:]):
+            fields += self._keep(form_of_it, numbers)
+        self.arcs = self._arrays[0][1].length  # one for each tail
+        self._instance = form.structure(*fields)
+        self.words: list[Any] = [ctypes.byref(self._instance)]
+
+    def _keep(self, form: _Array, numbers: Any) -> tuple[Any, int]:
+        buffer = array_of(numbers, form.items, form.name)
+        self._arrays.append((form, buffer))
+        return buffer.words()
+
+    def add_number(self, name: str, number: Any) -> None:
+        self.words.append(number_of(number, IDS, name))
+
+    def add(self, form: _Array, numbers: Any) -> None:
+        self.words += self._keep(form, numbers)
+
+    def length(self, form: _Array) -> int:
+        """How many items an array has to have."""
+        return self.arcs if form.each == "arcs" else self.nodes
+
+    def test_lengths(self) -> None:
+        """The library tests the lengths too, but doesn't tell which one is wrong."""
+        for form, buffer in self._arrays:
+            if buffer.length != self.length(form):
+                raise ValueError(f"{form.name} has {buffer.length} items, and there are {self.length(form)} {form.each}")
+
+
+def _judge(function: Callable[..., int], given: _Given) -> Verdict:
+    given.test_lengths()
+    status, said = library.call(function, *given.words)
+    if status == library.REFUSED:
+        raise library.refusal(said)
+    return library.verdict(said)
+
+
+def _certify(function: Callable[..., int], given: _Given, came: Any, *handed: _Array) -> Certified:
+    """Certifies what came. The first array that is handed out is the certificate, the second one a better flow."""
+    given.test_lengths()
+    # Of more nodes than there may be the library says so, and hands out nothing.
+    rooms = [Room(form.items, min(given.length(form), MOST_NODES)) for form in handed]
+    status, said = library.call_with_rooms(function, given.words, rooms)
+    if status == library.DONE:
+        return Certified(library.verdict(said).value, rooms[0].in_form_of(came))
+    if said.rstrip().endswith(library.BETTER):
+        raise library.refusal(said, better=rooms[1].in_form_of(came))
+    raise library.refusal(said)
+
+
+def judge_max_arrays(
+    nodes: int, source: int, sink: int, tails: Any, heads: Any, caps: Any, flows: Any, inside: Any
+) -> Verdict:
+    """Judges that a flow is maximum, as the cut shows of the nodes inside. Raises Refused where it doesn't.
+
+    flows has an amount for each arc, inside a byte or bool for each node, which isn't 0 on the source's side.
+    """
+    given = _Given(_MAX, nodes, source, sink, tails, heads, caps)
+    given.add(_FLOWS, flows)
+    given.add(_INSIDE, inside)
+    return _judge(library.judge_max_arrays, given)
+
+
+def judge_min_arrays(
+    nodes: int, tails: Any, heads: Any, lows: Any, caps: Any, costs: Any, supplies: Any, flows: Any, potentials: Any
+) -> Verdict:
+    """Judges that a flow costs least, as the potentials show. Raises Refused where they don't.
+
+    A supply is what leaves a node less what enters it. The reduced cost of an arc is its cost, less the potential of its
+    tail, and with that of its head.
+    """
+    given = _Given(_MIN, nodes, tails, heads, lows, caps, costs, supplies)
+    given.add(_FLOWS, flows)
+    given.add(_POTENTIALS, potentials)
+    return _judge(library.judge_min_arrays, given)
+
+
+def judge_infeasible_arrays(
+    nodes: int, tails: Any, heads: Any, lows: Any, caps: Any, costs: Any, supplies: Any, inside: Any
+) -> Verdict:
+    """Judges that no flow is feasible, as the set of the nodes inside shows. Raises Refused where it doesn't."""
+    given = _Given(_MIN, nodes, tails, heads, lows, caps, costs, supplies)
+    given.add(_INSIDE, inside)
+    return _judge(library.judge_infeasible_arrays, given)
+
+
+def judge_paths_arrays(
+    nodes: int, tails: Any, heads: Any, weights: Any, source: int, distances: Any, predecessors: Any
+) -> Verdict:
+    """Judges that these are the distances from the source, as the predecessors show. Raises Refused where they don't.
+
+    A node that isn't reached has the distance UNREACHED, or inf in floats, and the predecessor 0, as the source has.
+    """
+    given = _Given(_GRAPH, nodes, tails, heads, weights)
+    given.add_number("source", source)
+    given.add(_DISTANCES, distances)
+    given.add(_PREDECESSORS, predecessors)
+    return _judge(library.judge_paths_arrays, given)
+
+
+def certify_max_arrays(
+    nodes: int, source: int, sink: int, tails: Any, heads: Any, caps: Any, flows: Any
+) -> Certified:
+    """Decides whether a flow is maximum; its value, and for each node whether it is inside a cut that shows it.
+
+    Raises NotOptimal where the flow is feasible, but there is one of greater value, which it has; Refused where the flow
+    isn't feasible. What is handed out is a numpy array where flows is one, array.array where it is that, else a list.
+    """
+    given = _Given(_MAX, nodes, source, sink, tails, heads, caps)
+    given.add(_FLOWS, flows)
+    return _certify(library.certify_max_arrays, given, flows, _INSIDE, _FLOWS)
+
+
+def certify_min_arrays(
+    nodes: int, tails: Any, heads: Any, lows: Any, caps: Any, costs: Any, supplies: Any, flows: Any
+) -> Certified:
+    """Decides whether a flow costs least; its cost, and for each node a potential, which show it.
+
+    Raises NotOptimal where the flow is feasible, but another costs less, which it has, and Refused, as
+    certify_max_arrays; OverflowError where the flow costs least, by potentials that take more than 64 bits.
+    """
+    given = _Given(_MIN, nodes, tails, heads, lows, caps, costs, supplies)
+    given.add(_FLOWS, flows)
+    return _certify(library.certify_min_arrays, given, flows, _POTENTIALS, _FLOWS)
+
+
+def certify_paths_arrays(
+    nodes: int, tails: Any, heads: Any, weights: Any, source: int, distances: Any
+) -> Certified:
+    """Decides whether these are the distances from the source; no value, and for each node a predecessor, which show it.
+
+    Raises Refused where they aren't. What is handed out has the form of distances, as in certify_max_arrays.
+    """
+    given = _Given(_GRAPH, nodes, tails, heads, weights)
+    given.add_number("source", source)
+    given.add(_DISTANCES, distances)
+    certified = _certify(library.certify_paths_arrays, given, distances, _PREDECESSORS)
+    return certified._replace(value=None)

@@ -1,0 +1,190 @@
+"""The calls over graphs of networkx, which need not be installed: a DiGraph or MultiDiGraph, whose nodes may be anything.
+
+The attributes of edges and nodes have the names that networkx gives them, and what is missing means what it means there:
+without a capacity, or with inf, an edge carries any amount; without a weight it costs 0, but is 1 long; without a demand
+a node has 0. Flows are dicts, as networkx answers them: flow[u][v], of a MultiDiGraph flow[u][v][key]; an edge without an
+entry carries 0. Numbers may be floats that are whole.
+
+Refused and PastLimit name nodes and edges as the graph does: an edge is (u, v), of a MultiDiGraph (u, v, key). ValueError
+is raised where an argument doesn't belong to the graph.
+"""
+
+from __future__ import annotations
+
+import math
+from contextlib import contextmanager
+from typing import Any, Iterator, Mapping
+
+from . import arrays
+from .answers import UNREACHED, Certified, NotOptimal, PastLimit, Refused, Verdict
+
+#: The capacity of an edge without one. A flow has to stay below it there: then the same edges have room left as if
+#: there were no limit, and so it is as good as it would be then.
+_UNLIMITED = 2**63 - 1
+
+
+def _count(flow: Any, depth: int) -> int:
+    """How many entries a flow has that aren't 0."""
+    if depth == 0:
+        return int(flow != 0)
+    return sum(_count(it, depth - 1) for it in flow.values())
+
+
+class _Graph:
+    """The nodes and edges of a graph by the numbers that they have in arrays."""
+
+    def __init__(self, graph: Any) -> None:
+        if not graph.is_directed():
+            raise ValueError("the graph isn't directed")
+        self.nodes = list(graph)
+        self._number = {node: number for number, node in enumerate(self.nodes, 1)}
+        self._is_multigraph = graph.is_multigraph()
+        keys = {"keys": True} if self._is_multigraph else {}
+        listed = list(graph.edges(data=True, **keys))
+        self.edges = [tuple(words) for *words, _ in listed]
+        self._data = [data for *_, data in listed]
+        self._node_data = [graph.nodes[node] for node in self.nodes]
+        self.tails = [self._number[edge[0]] for edge in self.edges]
+        self.heads = [self._number[edge[1]] for edge in self.edges]
+
+    def number(self, node: Any) -> int:
+        if node not in self._number:
+            raise ValueError(f"{node!r} is no node of the graph")
+        return self._number[node]
+
+    def by_edge(self, attribute: str, missing: float) -> list[Any]:
+        return [data.get(attribute, missing) for data in self._data]
+
+    def capacities(self) -> list[Any]:
+        return [_UNLIMITED if it == math.inf else it for it in self.by_edge("capacity", math.inf)]
+
+    def supplies(self) -> list[Any]:
+        return [-data.get("demand", 0) for data in self._node_data]
+
+    def by_node(self, values: Mapping[Any, Any], missing: int) -> list[Any]:
+        """The value of each node."""
+        for node in values:
+            self.number(node)
+        return [values.get(node, missing) for node in self.nodes]
+
+    def flows(self, flow: Mapping[Any, Any]) -> list[Any]:
+        """The flow of each edge."""
+        flows = [self._flow_of(flow, edge) for edge in self.edges]
+        depth = 3 if self._is_multigraph else 2
+        if _count(flow, depth) != sum(it != 0 for it in flows):
+            raise ValueError("the flow has an entry of no edge of the graph")
+        for edge, amount, capacity in zip(self.edges, flows, self.by_edge("capacity", math.inf)):
+            if capacity == math.inf and amount >= _UNLIMITED:
+                raise ValueError(f"the flow of {edge} is out of its range")
+        return flows
+
+    @staticmethod
+    def _flow_of(flow: Any, edge: tuple[Any, ...]) -> Any:
+        for word in edge:
+            flow = flow.get(word, {})
+        return flow if flow != {} else 0
+
+    def flow_dict(self, flows: list[int]) -> dict[Any, Any]:
+        """The flow as networkx has it."""
+        made: dict[Any, Any] = {node: {} for node in self.nodes}
+        for (tail, head, *key), amount in zip(self.edges, flows):
+            if key:
+                made[tail].setdefault(head, {})[key[0]] = amount
+            else:
+                made[tail][head] = amount
+        return made
+
+    @contextmanager
+    def names(self) -> Iterator[None]:
+        """Has what is raised inside name nodes and edges as the graph does."""
+        try:
+            yield
+        except NotOptimal as it:
+            better = self.flow_dict(it.better)
+            raise NotOptimal(it.reason, better, text=it.text, line=it.line, field=it.field) from None
+        except (Refused, PastLimit) as it:
+            raise type(it)(it.reason, **self._place(it)) from None
+
+    def _place(self, it: Any) -> dict[str, Any]:
+        if it.arc is not None:
+            return {"arc": self.edges[it.arc - 1]}
+        return {"node": self.nodes[it.node - 1]}
+
+
+def _max_words(graph: _Graph, source: Any, sink: Any, flow: Any) -> tuple[Any, ...]:
+    """The words of a call about a maximum flow."""
+    ends = graph.number(source), graph.number(sink)
+    return len(graph.nodes), *ends, graph.tails, graph.heads, graph.capacities(), graph.flows(flow)
+
+
+def _min_words(graph: _Graph, flow: Any) -> tuple[Any, ...]:
+    """The words of a call about a flow of least cost."""
+    lows, costs = [0] * len(graph.edges), graph.by_edge("weight", 0)
+    words = graph.tails, graph.heads, lows, graph.capacities(), costs, graph.supplies()
+    return len(graph.nodes), *words, graph.flows(flow)
+
+
+def judge_networkx_max(graph: Any, source: Any, sink: Any, flow: Any, side: Any) -> Verdict:
+    """Judges what maximum_flow says of a graph, as the source's side of a cut shows: the first set of minimum_cut.
+
+    Raises Refused where it doesn't show it.
+    """
+    given = _Graph(graph)
+    inside = given.by_node(dict.fromkeys(side, 1), 0)
+    with given.names():
+        return arrays.judge_max_arrays(*_max_words(given, source, sink, flow), inside)
+
+
+def judge_networkx_min(graph: Any, flow: Any, potentials: Any = None) -> Verdict:
+    """Judges what network_simplex or max_flow_min_cost says of a graph, as the potentials of the nodes show, a dict.
+
+    The reduced cost of an edge is its weight, less the potential of its tail, and with that of its head; a node that isn't
+    in the dict has the potential 0. Raises Refused where they don't show it. Without potentials it is decided, and
+    NotOptimal raised, as by certify_networkx_min.
+    """
+    if potentials is None:
+        return Verdict("min", certify_networkx_min(graph, flow).value)
+    given = _Graph(graph)
+    prices = given.by_node(potentials, 0)
+    with given.names():
+        return arrays.judge_min_arrays(*_min_words(given, flow), prices)
+
+
+def certify_networkx_max(graph: Any, source: Any, sink: Any, flow: Any) -> Certified:
+    """Decides whether a flow is maximum; its value, and the set of the nodes on the source's side of a cut that shows it.
+
+    Raises NotOptimal where the flow is feasible, but there is one of greater value, which it has as a dict; Refused where
+    the flow isn't feasible.
+    """
+    given = _Graph(graph)
+    with given.names():
+        value, inside = arrays.certify_max_arrays(*_max_words(given, source, sink, flow))
+    return Certified(value, {node for node, is_inside in zip(given.nodes, inside) if is_inside})
+
+
+def certify_networkx_min(graph: Any, flow: Any) -> Certified:
+    """Decides whether a flow costs least; its cost, and a dict of potentials by node, which show it.
+
+    Raises NotOptimal where the flow is feasible, but another costs less, which it has as a dict, and Refused, as
+    certify_networkx_max; OverflowError where the flow costs least, by potentials that take more than 64 bits.
+    """
+    given = _Graph(graph)
+    with given.names():
+        cost, potentials = arrays.certify_min_arrays(*_min_words(given, flow))
+    return Certified(cost, dict(zip(given.nodes, potentials)))
+
+
+def certify_networkx_paths(graph: Any, source: Any, distances: Any) -> Certified:
+    """Decides whether these are the distances from a source, a dict by node; no value, and a dict of predecessors.
+
+    A node that isn't in the dict, or has inf there, is to be one that can't be reached. Each node that is reached has a
+    predecessor on a shortest path, which the source has not: None. Raises Refused where a distance isn't true.
+    """
+    given = _Graph(graph)
+    weights = given.by_edge("weight", 1)
+    by_node = given.by_node(distances, UNREACHED)
+    with given.names():
+        words = len(given.nodes), given.tails, given.heads, weights, given.number(source), by_node
+        predecessors = arrays.certify_paths_arrays(*words).predecessors
+    found = {given.nodes[k]: given.nodes[it - 1] for k, it in enumerate(predecessors) if it != 0}
+    return Certified(None, {source: None, **found})
