@@ -46,50 +46,115 @@ static const char graph[] = "p sp 4 3\na 1 2 5\na 3 4 0\na 4 3 0\n";
 static const char pairs[] = "p aux sp p2p 2\nq 1 2\nq 1 4\n";
 static const char dist[] = "p dist 4 1\nt 1 1\nd 2 5 1\n";
 
-static uint8_t out[400], shown[400];
-static size_t told, shown_told;
+/* The same in arrays. */
+static const uint32_t tails[] = {1, 1, 2, 2, 3}, heads[] = {2, 3, 3, 4, 4};
+static const int64_t caps[] = {4, 2, 2, 3, 5}, lows[5], costs[] = {2, 2, 1, 3, 1}, supplies[] = {4, 0, 0, -4};
+static const int64_t flows[] = {4, 2, 1, 3, 3}, slow_flows[] = {3, 2, 0, 3, 2};
+static const int64_t least_flows[] = {2, 2, 2, 0, 4}, dear_flows[] = {2, 2, 1, 1, 3}, potentials[] = {4, 2, 1, 0};
+static const uint8_t inside[] = {1, 0, 0, 0};
+static const int64_t weights[] = {5, 1, 0, 2, 3}, distances[] = {0, 5, 1, 4};
+static const uint32_t predecessors[] = {0, 1, 1, 3};
+static const dimacs_max max_arrays = {4, 1, 4, {tails, 5}, {heads, 5}, {caps, 5}};
+static const dimacs_min min_arrays = {4, {tails, 5}, {heads, 5}, {lows, 5}, {caps, 5}, {costs, 5}, {supplies, 4}};
+static const dimacs_graph graph_arrays = {4, {tails, 5}, {heads, 5}, {weights, 5}};
 
-static uint32_t judge_max(void) { return dimacs_judge(DIMACS_MAX, TEXT(max), TEXT(flow), TEXT(cut), out, 400, &told); }
-static uint32_t judge_min(void) { return dimacs_judge(DIMACS_MIN, TEXT(min), TEXT(least), TEXT(pot), out, 400, &told); }
-static uint32_t judge_paths(void) { return dimacs_judge(DIMACS_PATHS, TEXT(graph), TEXT(pairs), TEXT(dist), out, 400, &told); }
-static uint32_t certify(uint32_t kind, const char *instance, const char *claim) {
-    return dimacs_certify(kind, TEXT(instance), TEXT(claim), out, 400, &told, shown, 400, &shown_told);
+/* What calls hand out; a room that a call hasn't is told as 99. */
+typedef struct {
+    uint8_t out[400];
+    int64_t shown[50], better[50];
+    size_t told, shown_told, better_told;
+} Handed;
+
+static Handed to;
+
+#define OUT to.out, 400, &to.told
+#define SHOWN (uint8_t *)to.shown, 400, &to.shown_told
+
+static uint32_t judge_max(void) { return dimacs_judge(DIMACS_MAX, TEXT(max), TEXT(flow), TEXT(cut), OUT); }
+static uint32_t judge_min(void) { return dimacs_judge(DIMACS_MIN, TEXT(min), TEXT(least), TEXT(pot), OUT); }
+static uint32_t judge_paths(void) { return dimacs_judge(DIMACS_PATHS, TEXT(graph), TEXT(pairs), TEXT(dist), OUT); }
+static uint32_t certify_max(void) { return dimacs_certify(DIMACS_MAX, TEXT(max), TEXT(flow), OUT, SHOWN); }
+static uint32_t certify_slow(void) { return dimacs_certify(DIMACS_MAX, TEXT(max), TEXT(slow), OUT, SHOWN); }
+static uint32_t certify_min(void) { return dimacs_certify(DIMACS_MIN, TEXT(min), TEXT(least), OUT, SHOWN); }
+static uint32_t certify_dear(void) { return dimacs_certify(DIMACS_MIN, TEXT(min), TEXT(dear), OUT, SHOWN); }
+static uint32_t convert(void) { return dimacs_convert(DIMACS_TEXT_MIN, TEXT(min), OUT); }
+static uint32_t show(void) { return dimacs_show(DIMACS_TEXT_POT, TEXT(pot), OUT); }
+
+static uint32_t judge_max_arrays(void) { return dimacs_judge_max_arrays(&max_arrays, flows, 5, inside, 4, OUT); }
+static uint32_t judge_min_arrays(void) { return dimacs_judge_min_arrays(&min_arrays, least_flows, 5, potentials, 4, OUT); }
+static uint32_t judge_infeasible_arrays(void) { return dimacs_judge_infeasible_arrays(&min_arrays, inside, 4, OUT); }
+static uint32_t judge_paths_arrays(void) {
+    return dimacs_judge_paths_arrays(&graph_arrays, 1, distances, 4, predecessors, 4, OUT);
 }
-static uint32_t certify_max(void) { return certify(DIMACS_MAX, max, flow); }
-static uint32_t certify_slow(void) { return certify(DIMACS_MAX, max, slow); }
-static uint32_t certify_min(void) { return certify(DIMACS_MIN, min, least); }
-static uint32_t certify_dear(void) { return certify(DIMACS_MIN, min, dear); }
-static uint32_t convert(void) { return dimacs_convert(DIMACS_TEXT_MIN, TEXT(min), out, 400, &told); }
-static uint32_t show(void) { return dimacs_show(DIMACS_TEXT_POT, TEXT(pot), out, 400, &told); }
+static uint32_t misused_arrays(void) { return dimacs_judge_paths_arrays(&graph_arrays, 5, distances, 4, predecessors, 4, OUT); }
+static uint32_t certify_max_by(const int64_t *by_arc) {
+    return dimacs_certify_max_arrays(&max_arrays, by_arc, 5, OUT, SHOWN, to.better, 50, &to.better_told);
+}
+static uint32_t certify_min_by(const int64_t *by_arc) {
+    return dimacs_certify_min_arrays(&min_arrays, by_arc, 5, OUT, to.shown, 50, &to.shown_told, to.better, 50, &to.better_told);
+}
+static uint32_t certify_max_arrays(void) { return certify_max_by(flows); }
+static uint32_t certify_slow_arrays(void) { return certify_max_by(slow_flows); }
+static uint32_t certify_min_arrays(void) { return certify_min_by(least_flows); }
+static uint32_t certify_dear_arrays(void) { return certify_min_by(dear_flows); }
+static uint32_t certify_paths_arrays(void) {
+    return dimacs_certify_paths_arrays(&graph_arrays, 1, distances, 4, OUT, (uint32_t *)to.shown, 100, &to.shown_told);
+}
 
 static const struct {
     const char *name;
     uint32_t (*call)(void);
+    uint32_t status;
 } calls[] = {
-    {"judge max", judge_max},       {"judge min", judge_min},         {"judge paths", judge_paths},
-    {"certify max", certify_max},   {"certify a slow flow", certify_slow}, {"certify min", certify_min},
-    {"certify a dear flow", certify_dear}, {"convert", convert},      {"show", show},
+    {"judge max", judge_max, 0},
+    {"judge min", judge_min, 0},
+    {"judge paths", judge_paths, 0},
+    {"certify max", certify_max, 0},
+    {"certify a slow flow", certify_slow, 1},
+    {"certify min", certify_min, 0},
+    {"certify a dear flow", certify_dear, 1},
+    {"convert", convert, 0},
+    {"show", show, 0},
+    {"judge max in arrays", judge_max_arrays, 0},
+    {"judge min in arrays", judge_min_arrays, 0},
+    {"judge a set in arrays", judge_infeasible_arrays, 1},
+    {"judge paths in arrays", judge_paths_arrays, 0},
+    {"no source", misused_arrays, 2},
+    {"certify max in arrays", certify_max_arrays, 0},
+    {"certify a slow flow in arrays", certify_slow_arrays, 1},
+    {"certify min in arrays", certify_min_arrays, 0},
+    {"certify a dear flow in arrays", certify_dear_arrays, 1},
+    {"certify paths in arrays", certify_paths_arrays, 0},
 };
 
+/* Whatever was handed out before is gone. */
+static void clear(Handed *it) {
+    memset(it, '#', sizeof *it);
+    it->told = it->shown_told = it->better_told = 99;
+}
+
+/* Whether nothing is handed out. */
+static int is_nothing(const Handed *it) {
+    Handed nothing;
+    clear(&nothing);
+    nothing.told = 0;
+    nothing.shown_told = it->shown_told ? 99 : 0;
+    nothing.better_told = it->better_told ? 99 : 0;
+    return !memcmp(it, &nothing, sizeof nothing);
+}
+
 /* Calls with nothing refused, and then with each growth refused in turn until a call meets no refusal. */
-static void refuse_each(const char *name, uint32_t (*call)(void)) {
-    uint8_t whole[400], whole_shown[400];
+static void refuse_each(const char *name, uint32_t (*call)(void), uint32_t wanted) {
     refused = 0;
-    memset(shown, 0, 400);
-    uint32_t status = call();
-    size_t length = told, shown_length = shown_told;
-    memcpy(whole, out, 400);
-    memcpy(whole_shown, shown, 400);
+    clear(&to);
+    check_that(name, call() == wanted && to.told > 0);
+    Handed whole = to;
     for (refused = 1;; refused++) {
         asked = held = 0;
-        memset(out, '#', 400);
-        memset(shown, '#', 400);
-        told = shown_told = 99;
-        uint32_t again = call();
-        int is_same = again == status && told == length && !memcmp(out, whole, length);
-        is_same = is_same && (shown_told == 99 || (shown_told == shown_length && !memcmp(shown, whole_shown, shown_length)));
-        int is_none = again == DIMACS_NO_MEMORY && told == 0 && (shown_told == 0 || shown_told == 99);
-        is_none = is_none && out[0] == '#' && shown[0] == '#';
+        clear(&to);
+        uint32_t status = call();
+        int is_same = status == wanted && !memcmp(&to, &whole, sizeof to);
+        int is_none = status == DIMACS_NO_MEMORY && is_nothing(&to);
         check_that(name, is_same || (is_none && asked >= refused));
         check_that("what was taken is given back", held == 0);
         if (asked < refused) {
@@ -101,7 +166,7 @@ static void refuse_each(const char *name, uint32_t (*call)(void)) {
 
 int main(void) {
     for (size_t k = 0; k < sizeof calls / sizeof *calls; k++) {
-        refuse_each(calls[k].name, calls[k].call);
+        refuse_each(calls[k].name, calls[k].call, calls[k].status);
     }
     return count();
 }

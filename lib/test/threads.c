@@ -1,5 +1,6 @@
-/* Eight threads make all calls over texts at once, each over texts of its own, some of which have a fault. Each answer
- * has to be that of a thread alone. Their stacks have 64 KB beside what the C library takes. */
+/* Eight threads make all calls at once, over texts and arrays, each over claims of its own, some of which are wrong, and
+ * over instances that all share. Each answer has to be that of a thread alone. Their stacks have 64 KB beside what the C
+ * library takes. */
 #include "check.h"
 #include "dimacs.h"
 #include <pthread.h>
@@ -9,6 +10,29 @@ enum { THREADS = 8, ROUNDS = 200, NODES = 300 };
 
 /* The texts of a path of NODES nodes, along which one unit flows. */
 static char max[16000], min[16000], flow[16000], least[16000], cut[64], pot[16000], bad[16000];
+
+/* The same in arrays: each arc has the capacity, the cost and the weight 1. */
+static uint32_t tails[NODES - 1], heads[NODES - 1], predecessors[NODES];
+static int64_t zeros[NODES - 1], ones[NODES - 1], supplies[NODES], potentials[NODES], distances[NODES];
+static uint8_t inside[NODES];
+static const dimacs_max max_arrays = {NODES, 1, NODES, {tails, NODES - 1}, {heads, NODES - 1}, {ones, NODES - 1}};
+static const dimacs_graph graph = {NODES, {tails, NODES - 1}, {heads, NODES - 1}, {ones, NODES - 1}};
+static const dimacs_min min_arrays = {NODES,           {tails, NODES - 1}, {heads, NODES - 1}, {zeros, NODES - 1},
+                                      {ones, NODES - 1}, {ones, NODES - 1},  {supplies, NODES}};
+
+static void fill_arrays(void) {
+    for (int k = 0; k < NODES - 1; k++) {
+        tails[k] = predecessors[k + 1] = k + 1;
+        heads[k] = k + 2;
+        ones[k] = 1;
+    }
+    for (int k = 0; k < NODES; k++) {
+        distances[k] = k;
+        potentials[k] = NODES - k;
+    }
+    supplies[0] = inside[0] = 1;
+    supplies[NODES - 1] = -1;
+}
 
 static void write_texts(void) {
     int a = sprintf(max, "p max %d %d\nn 1 s\nn %d t\n", NODES, NODES - 1, NODES);
@@ -43,7 +67,41 @@ static void add(Said *said, uint32_t status, size_t told) {
     said->length += 1 + told;
 }
 
-static void call_all(Said *said, const char *claim) {
+/* A claim of a thread's own, and what is handed out for it. They would take too much of its stack. */
+typedef struct {
+    int64_t flows[NODES - 1], far[NODES], better[NODES - 1], potentials[NODES];
+    uint32_t predecessors[NODES];
+} Claim;
+
+/* Calls with a flow that carries `first` on its first arc, and with distances that make this arc as long. */
+static void call_over_arrays(Said *said, int64_t first) {
+    Claim *claim = malloc(sizeof *claim);
+    size_t told = 0, shown = 0, better = 0, arcs = NODES - 1;
+    memcpy(claim->flows, ones, sizeof ones);
+    memcpy(claim->far, distances, sizeof distances);
+    claim->flows[0] = claim->far[1] = first;
+    uint32_t status = dimacs_judge_max_arrays(&max_arrays, claim->flows, arcs, inside, NODES, ROOM, &told);
+    add(said, status, told);
+    status = dimacs_judge_min_arrays(&min_arrays, claim->flows, arcs, potentials, NODES, ROOM, &told);
+    add(said, status, told);
+    status = dimacs_judge_infeasible_arrays(&min_arrays, inside, NODES, ROOM, &told);
+    add(said, status, told);
+    status = dimacs_judge_paths_arrays(&graph, 1, claim->far, NODES, predecessors, NODES, ROOM, &told);
+    add(said, status, told);
+    uint8_t line[100];
+    status = dimacs_certify_max_arrays(&max_arrays, claim->flows, arcs, line, sizeof line, &told, ROOM, &shown,
+                                       claim->better, arcs, &better);
+    add(said, status, shown);
+    status = dimacs_certify_min_arrays(&min_arrays, claim->flows, arcs, ROOM, &told, claim->potentials, NODES, &shown,
+                                       claim->better, arcs, &better);
+    add(said, status + 10 * (shown == NODES), told);
+    status = dimacs_certify_paths_arrays(&graph, 1, claim->far, NODES, ROOM, &told, claim->predecessors, NODES, &shown);
+    int are_those = shown == NODES && !memcmp(claim->predecessors, predecessors, sizeof predecessors);
+    add(said, status + 10 * are_those, told);
+    free(claim);
+}
+
+static void call_all(Said *said, const char *claim, int64_t first) {
     size_t told = 0, shown = 0;
     uint8_t line[100];
     said->length = 0;
@@ -59,6 +117,7 @@ static void call_all(Said *said, const char *claim) {
     add(said, status, shown);
     status = dimacs_certify(DIMACS_MIN, TEXT(min), TEXT(least), line, sizeof line, &told, ROOM, &shown);
     add(said, status, shown);
+    call_over_arrays(said, first);
 }
 
 static Said good_alone, bad_alone;
@@ -72,7 +131,7 @@ static void *run(void *number) {
     for (long k = 0; k < ROUNDS; k++) {
         int is_bad = (k + (long)number) % 2;
         memcpy(mine, is_bad ? bad : flow, sizeof flow);
-        call_all(said, mine);
+        call_all(said, mine, is_bad ? 2 : 1);
         wrong += !is_same(said, is_bad ? &bad_alone : &good_alone);
     }
     free(mine);
@@ -82,8 +141,9 @@ static void *run(void *number) {
 
 int main(void) {
     write_texts();
-    call_all(&good_alone, flow);
-    call_all(&bad_alone, bad);
+    fill_arrays();
+    call_all(&good_alone, flow, 1);
+    call_all(&bad_alone, bad, 2);
     check_that("good and bad claims are told apart", !is_same(&good_alone, &bad_alone));
     pthread_t threads[THREADS];
     pthread_attr_t attributes;

@@ -1,0 +1,300 @@
+"""The calls over arrays, from Python."""
+
+import array
+import pickle
+import unittest
+
+import dimacs
+
+try:
+    import numpy
+except ImportError:
+    numpy = None
+
+LAST = 2**63 - 1
+
+# 1 to 4; a maximum flow has the value 6.
+ENDS = ([1, 1, 2, 2, 3], [2, 3, 3, 4, 4])
+MAX = (4, 1, 4, *ENDS, [4, 2, 2, 3, 5])
+FLOW, SLOW = [4, 2, 1, 3, 3], [3, 2, 0, 3, 2]
+CUT = [True, False, False, False]
+
+# Four units from 1 to 4 cost 14 at least.
+MIN = (4, *ENDS, [0] * 5, [4, 2, 2, 3, 5], [2, 2, 1, 3, 1], [4, 0, 0, -4])
+LEAST, DEAR = [2, 2, 2, 0, 4], [2, 2, 1, 1, 3]
+POTENTIALS = [4, 2, 1, 0]
+
+GRAPH = (4, [1, 3, 4], [2, 4, 3], [5, 0, 0])
+DISTANCES, PREDECESSORS = [0, 5, dimacs.UNREACHED, dimacs.UNREACHED], [0, 1, 0, 0]
+
+
+def improved(certify, *words):
+    """What is certified of a flow in the end, where each better one is asked of again."""
+    *instance, flow = words
+    while True:
+        try:
+            return certify(*instance, flow)
+        except dimacs.NotOptimal as it:
+            flow = it.better
+
+
+class Judges(unittest.TestCase):
+    def test_yes(self):
+        surplus = (2, [1], [2], [0], [5], [1], [1, 0])
+        cases = [
+            (dimacs.judge_max_arrays(*MAX, FLOW, CUT), dimacs.Verdict("max", 6)),
+            (dimacs.judge_min_arrays(*MIN, LEAST, POTENTIALS), dimacs.Verdict("min", 14)),
+            (dimacs.judge_infeasible_arrays(*surplus, [1, 1]), dimacs.Verdict("infeasible")),
+            (dimacs.judge_paths_arrays(*GRAPH, 1, DISTANCES, PREDECESSORS), dimacs.Verdict("sp", 1)),
+            (dimacs.judge_max_arrays(2, 1, 2, [], [], [], [], [1, 0]), dimacs.Verdict("max", 0)),
+            (dimacs.judge_min_arrays(0, [], [], [], [], [], [], [], []), dimacs.Verdict("min", 0)),
+            (dimacs.judge_max_arrays(2, 1, 2, [1], [2], [LAST], [LAST], [9, 0]), dimacs.Verdict("max", LAST)),
+        ]
+        for got, wanted in cases:
+            self.assertEqual(got, wanted)
+
+    def test_values_past_64_bits(self):
+        ends = [1, 1, 1], [2, 2, 2]
+        self.assertEqual(dimacs.judge_max_arrays(2, 1, 2, *ends, [LAST] * 3, [LAST] * 3, [1, 0]).value, 3 * LAST)
+        costs, supplies = [10**9] * 3, [3 * 10**12, -3 * 10**12]
+        it = dimacs.judge_min_arrays(2, *ends, [0] * 3, [LAST] * 3, costs, supplies, [10**12] * 3, [10**9, 0])
+        self.assertEqual(it.value, 3 * 10**21)
+
+    def test_refused(self):
+        cases = [
+            (dimacs.judge_max_arrays, (*MAX, SLOW, CUT), (1, None, "NotSaturated")),
+            (dimacs.judge_max_arrays, (*MAX, [4, 2, 2, 3, 3], CUT), (None, 2, "Balance")),
+            (dimacs.judge_max_arrays, (*MAX, [4, 2, 3, 3, 3], CUT), (3, None, "AboveCap")),
+            (dimacs.judge_max_arrays, (*MAX, [4, 2, -1, 3, 3], CUT), (3, None, "BelowLow")),
+            (dimacs.judge_max_arrays, (*MAX, FLOW, [0, 0, 0, 0]), (None, 1, "SourceOutside")),
+            (dimacs.judge_max_arrays, (*MAX, FLOW, [1, 0, 0, 1]), (None, 4, "SinkInside")),
+            (dimacs.judge_max_arrays, (*MAX, FLOW, [1, 0, 1, 0]), (3, None, "BackFlow")),
+            (dimacs.judge_min_arrays, (*MIN, DEAR, POTENTIALS), (4, None, "NotTight")),
+            (dimacs.judge_min_arrays, (*MIN, [0] * 5, POTENTIALS), (None, 1, "Balance")),
+            (dimacs.judge_paths_arrays, (*GRAPH, 1, [1, *DISTANCES[1:]], PREDECESSORS), (None, 1, "NotShortest")),
+            (dimacs.judge_paths_arrays, (*GRAPH, 1, DISTANCES, [0, 5, 0, 0]), (None, 2, "NodeRange")),
+            (dimacs.judge_paths_arrays, (*GRAPH, 1, [0, 5, 0, 0], [0, 1, 4, 3]), (None, 3, "PredUnknown")),
+            (dimacs.judge_paths_arrays, (*GRAPH, 1, [0, 6, LAST, LAST], PREDECESSORS), (None, 2, "NoTightArc")),
+            (dimacs.judge_paths_arrays, (*GRAPH, 1, [0] + [LAST] * 3, [0] * 4), (1, None, "Escapes")),
+            (dimacs.certify_paths_arrays, (*GRAPH, 1, [0, 6, LAST, LAST]), (1, None, "NotShortest")),
+            (dimacs.certify_max_arrays, (*MAX, [0, 1, 0, 0, 0]), (None, 3, "Balance")),
+            (dimacs.certify_min_arrays, (*MIN, [0] * 5), (None, 1, "Balance")),
+        ]
+        for call, words, wanted in cases:
+            with self.subTest(wanted), self.assertRaises(dimacs.Refused) as caught:
+                call(*words)
+            it = caught.exception
+            self.assertEqual((it.arc, it.node, it.reason), wanted)
+            self.assertEqual((it.text, it.line, it.field), (None, None, None))
+            self.assertNotIsInstance(it, dimacs.NotOptimal)
+
+    def test_set_that_shows_nothing(self):
+        with self.assertRaises(dimacs.Refused) as caught:
+            dimacs.judge_infeasible_arrays(*MIN, [1, 0, 0, 0])
+        it = caught.exception
+        self.assertEqual((it.text, it.line, it.field, it.reason), ("certificate", 0, 0, "NotViolated"))
+
+
+class Certifies(unittest.TestCase):
+    def test_yes(self):
+        self.assertEqual(dimacs.certify_max_arrays(*MAX, FLOW), dimacs.Certified(6, CUT))
+        cost, potentials = dimacs.certify_min_arrays(*MIN, LEAST)
+        self.assertEqual(cost, 14)
+        self.assertEqual(dimacs.judge_min_arrays(*MIN, LEAST, potentials).value, 14)
+        found = dimacs.certify_paths_arrays(*GRAPH, 1, DISTANCES)
+        self.assertEqual(found, dimacs.Certified(None, PREDECESSORS))
+        self.assertEqual((found.predecessors, found.value), (PREDECESSORS, None))
+
+    def test_better(self):
+        for certify, instance, claim, reason, best in [
+            (dimacs.certify_max_arrays, MAX, SLOW, "NotMaximum", 6),
+            (dimacs.certify_min_arrays, MIN, DEAR, "NotLeast", 14),
+        ]:
+            with self.assertRaises(dimacs.NotOptimal) as caught:
+                certify(*instance, claim)
+            it = caught.exception
+            self.assertEqual((it.text, it.line, it.field, it.reason), ("solution", 0, 0, reason))
+            self.assertEqual((it.arc, it.node), (None, None))
+            self.assertEqual(improved(certify, *instance, it.better).value, best)
+
+    def test_forms(self):
+        as_array = array.array("q", SLOW)
+        with self.assertRaises(dimacs.NotOptimal) as caught:
+            dimacs.certify_max_arrays(*MAX, as_array)
+        self.assertIsInstance(caught.exception.better, array.array)
+        self.assertEqual(len(caught.exception.better), 5)
+        inside = dimacs.certify_max_arrays(*MAX, array.array("q", FLOW)).inside
+        self.assertEqual(inside, array.array("B", CUT))
+
+    def test_potentials_past_64_bits(self):
+        ends = [1, 2, 3], [2, 3, 4]
+        words = (4, *ends, [0] * 3, [2] * 3, [LAST] * 3, [1, 0, 0, -1])
+        with self.assertRaises(OverflowError):
+            dimacs.certify_min_arrays(*words, [1] * 3)
+
+    def test_exceptions_are_pickled(self):
+        for call, words in [
+            (dimacs.certify_max_arrays, (*MAX, SLOW)),
+            (dimacs.judge_max_arrays, (*MAX, SLOW, CUT)),
+            (dimacs.judge_max_arrays, (0, *MAX[1:], SLOW, [])),
+        ]:
+            with self.assertRaises((dimacs.Refused, dimacs.PastLimit)) as caught:
+                call(*words)
+            it = caught.exception
+            again = pickle.loads(pickle.dumps(it))
+            self.assertEqual((type(again), str(again), vars(again)), (type(it), str(it), vars(it)))
+
+
+class Misuse(unittest.TestCase):
+    def test_lengths(self):
+        cases = [
+            (dimacs.judge_max_arrays, (4, 1, 4, [1], [2, 3], [1], [0], CUT), "heads has 2 items, and there are 1 arcs"),
+            (dimacs.judge_max_arrays, (*MAX, FLOW[1:], CUT), "flows has 4 items, and there are 5 arcs"),
+            (dimacs.judge_max_arrays, (*MAX, FLOW, CUT[1:]), "inside has 3 items, and there are 4 nodes"),
+            (dimacs.judge_min_arrays, (5, *MIN[1:], LEAST, POTENTIALS), "supplies has 4 items, and there are 5 nodes"),
+            (dimacs.judge_paths_arrays, (*GRAPH, 1, [], PREDECESSORS), "distances has 0 items, and there are 4 nodes"),
+            (dimacs.certify_paths_arrays, (*GRAPH, 1, [0] * 5), "distances has 5 items, and there are 4 nodes"),
+        ]
+        for call, words, said in cases:
+            with self.subTest(said), self.assertRaises(ValueError) as caught:
+                call(*words)
+            self.assertEqual(str(caught.exception), said)
+
+    def test_limits(self):
+        cases = [
+            (dimacs.judge_max_arrays, (4, 0, *MAX[2:], FLOW, CUT), "node 0 NodeRange"),
+            (dimacs.judge_max_arrays, (4, 1, 5, *MAX[3:], FLOW, CUT), "node 5 NodeRange"),
+            (dimacs.judge_max_arrays, (4, 1, 1, *MAX[3:], FLOW, CUT), "node 1 NodeTwice"),
+            (dimacs.judge_max_arrays, (4, 1, 4, [1, 5], [2, 1], [1, 1], [0, 0], CUT), "arc 2 NodeRange"),
+            (dimacs.judge_max_arrays, (4, 1, 4, [1, 0], [2, 1], [1, 1], [0, 0], CUT), "arc 2 NodeRange"),
+            (dimacs.judge_max_arrays, (4, 1, 4, [1], [2], [-1], [0], CUT), "arc 1 BoundOrder"),
+            (dimacs.certify_min_arrays, (2, [1], [2], [3], [2], [0], [0, 0], [0]), "arc 1 BoundOrder"),
+            (dimacs.certify_min_arrays, (2, [1], [2], [-3], [2], [0], [0, 0], [0]), "arc 1 BoundOrder"),
+            (dimacs.judge_paths_arrays, (*GRAPH, 5, DISTANCES, PREDECESSORS), "node 5 NodeRange"),
+            (dimacs.certify_max_arrays, (2**32 - 1, *MAX[1:], FLOW), "node 134217729 NumberRange"),
+        ]
+        for call, words, said in cases:
+            with self.subTest(said), self.assertRaises(dimacs.PastLimit) as caught:
+                call(*words)
+            self.assertEqual(str(caught.exception), said)
+            self.assertIsInstance(caught.exception, ValueError)
+
+    def test_numbers_that_do_not_fit(self):
+        for flows in ([2**63] * 5, [-(2**63) - 1] * 5, [0.5] * 5, [float("nan")] * 5, [float("inf")] * 5, [1e30] * 5):
+            with self.subTest(flows[0]), self.assertRaises(ValueError):
+                dimacs.judge_max_arrays(*MAX, flows, CUT)
+        for nodes in (-1, 2**32, 4.5):
+            with self.subTest(nodes), self.assertRaises(ValueError):
+                dimacs.judge_max_arrays(nodes, *MAX[1:], FLOW, CUT)
+        for tails in ([2**32 + 1, 1, 2, 2, 3], [-1, 1, 2, 2, 3]):
+            with self.subTest(tails), self.assertRaises(ValueError):
+                dimacs.judge_max_arrays(4, 1, 4, tails, *MAX[4:], FLOW, CUT)
+        with self.assertRaises(ValueError):
+            dimacs.judge_max_arrays(*MAX, FLOW, [256, 0, 0, 0])
+        with self.assertRaises(TypeError):
+            dimacs.judge_max_arrays(*MAX, ["4"] * 5, CUT)
+        with self.assertRaises(TypeError):
+            dimacs.judge_max_arrays(*MAX, None, CUT)
+
+
+class Forms(unittest.TestCase):
+    """The same arrays in other forms."""
+
+    def judged(self, numbers, ids, marks):
+        tails, heads = map(ids, ENDS)
+        words = 4, 1, 4, tails, heads, numbers(MAX[5]), numbers(FLOW), marks(CUT)
+        self.assertEqual(dimacs.judge_max_arrays(*words).value, 6)
+
+    def test_lists_and_buffers(self):
+        def of(code):
+            return lambda items: array.array(code, items)
+
+        def read_only(code):
+            return lambda items: memoryview(of(code)(items)).toreadonly()
+
+        def spread(code):
+            return lambda items: memoryview(of(code)([it for item in items for it in (item, 77)]))[::2]
+
+        for numbers, ids, marks in [
+            (list, list, list),
+            (tuple, iter, bytes),
+            (of("q"), of("I"), of("B")),
+            (of("l"), of("L"), bytearray),
+            (of("i"), of("h"), of("b")),
+            (of("d"), of("d"), of("q")),
+            (read_only("q"), read_only("I"), read_only("B")),
+            (spread("q"), spread("I"), spread("B")),
+            (lambda items: map(float, items), lambda items: (it for it in items), one_by_one),
+        ]:
+            self.judged(numbers, ids, marks)
+
+    @unittest.skipUnless(numpy, "numpy isn't there")
+    def test_numpy(self):
+        def of(kind):
+            return lambda items: numpy.array(items, kind)
+
+        def spread(kind):
+            return lambda items: numpy.repeat(numpy.array(items, kind), 2)[::2]
+
+        for numbers, ids, marks in [
+            (of("int64"), of("uint32"), of("uint8")),
+            (of("int64"), of("uint32"), of("bool")),
+            (of("int32"), of("int32"), of("int32")),
+            (of("uint64"), of("int64"), of("int8")),
+            (of("float64"), of("float32"), of("float64")),
+            (of(">i8"), of(">u4"), of("uint16")),
+            (of("object"), of("object"), of("object")),
+            (spread("int64"), spread("uint32"), spread("bool")),
+        ]:
+            self.judged(numbers, ids, marks)
+
+    @unittest.skipUnless(numpy, "numpy isn't there")
+    def test_numpy_comes_back(self):
+        inside = dimacs.certify_max_arrays(*MAX, numpy.array(FLOW)).inside
+        self.assertEqual((inside.dtype, inside.tolist()), (numpy.dtype(bool), CUT))
+        potentials = dimacs.certify_min_arrays(*MIN, numpy.array(LEAST)).potentials
+        self.assertEqual(dimacs.judge_min_arrays(*MIN, LEAST, potentials).value, 14)
+        with self.assertRaises(dimacs.NotOptimal) as caught:
+            dimacs.certify_min_arrays(*MIN, numpy.array(DEAR, "int32"))
+        self.assertEqual(improved(dimacs.certify_min_arrays, *MIN, caught.exception.better).value, 14)
+        self.assertEqual(caught.exception.better.dtype, numpy.dtype("int64"))
+        distances = numpy.array([0, 5, numpy.inf, numpy.inf])
+        predecessors = dimacs.certify_paths_arrays(*GRAPH, 1, distances).predecessors
+        self.assertEqual((predecessors.dtype, predecessors.tolist()), (numpy.dtype("uint32"), PREDECESSORS))
+        self.assertEqual(dimacs.judge_paths_arrays(*GRAPH, 1, distances, predecessors), dimacs.Verdict("sp", 1))
+        nothing = numpy.zeros(0, "int64")
+        self.assertEqual(dimacs.certify_min_arrays(0, *[nothing] * 6, nothing).potentials.tolist(), [])
+
+    @unittest.skipUnless(numpy, "numpy isn't there")
+    def test_numpy_that_does_not_fit(self):
+        for flows in (
+            numpy.array(FLOW, "uint64") + numpy.uint64(2**63),
+            numpy.array(FLOW) + 0.5,
+            numpy.full(5, numpy.nan),
+            numpy.full(5, numpy.inf),
+            numpy.full(5, 2.0**63),
+            numpy.array([2**63] * 5, "object"),
+            numpy.zeros((5, 1), "int64"),
+        ):
+            with self.subTest(flows.dtype), self.assertRaises(ValueError):
+                dimacs.judge_max_arrays(*MAX, flows, CUT)
+        for tails in (numpy.array([2**32 + 1, 1, 2, 2, 3]), numpy.array([-1, 1, 2, 2, 3], "int8")):
+            with self.subTest(tails.dtype), self.assertRaises(ValueError):
+                dimacs.judge_max_arrays(4, 1, 4, tails, *MAX[4:], FLOW, CUT)
+        with self.assertRaises(TypeError):
+            dimacs.judge_max_arrays(*MAX, numpy.array(FLOW, "complex128"), CUT)
+
+    def test_infinite_distances(self):
+        for distances in ([0, 5.0, float("inf"), float("inf")], [0, 5, LAST, float("inf")]):
+            self.assertEqual(dimacs.certify_paths_arrays(*GRAPH, 1, distances).predecessors, PREDECESSORS)
+        with self.assertRaises(ValueError):
+            dimacs.certify_paths_arrays(*GRAPH, 1, [0, 5, float("-inf"), 0])
+
+
+def one_by_one(items):
+    """The items one by one, and not at once."""
+    yield from items
+
+
+if __name__ == "__main__":
+    unittest.main()

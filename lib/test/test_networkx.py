@@ -1,0 +1,239 @@
+"""The calls over graphs of networkx, with what its solvers answer."""
+
+import random
+import unittest
+
+import dimacs
+
+try:
+    import networkx
+except ImportError:
+    networkx = None
+
+
+def pipes():
+    """A network from "spring" to "town"; a maximum flow has the value 12, and the cut has the first three nodes."""
+    graph = networkx.DiGraph()
+    for tail, head, capacity in [
+        ("spring", "mill", 6),
+        ("spring", "farm", 8),
+        ("mill", "farm", 3),
+        ("mill", "fort", 4),
+        ("farm", "town", 8),
+        ("fort", "farm", 2),
+        ("fort", "town", 9),
+    ]:
+        graph.add_edge(tail, head, capacity=capacity)
+    return graph
+
+
+def shipping():
+    """Two edges between "a" and "b"; three units cost 9 at least."""
+    graph = networkx.MultiDiGraph()
+    graph.add_node("a", demand=-3)
+    graph.add_node("c", demand=3)
+    graph.add_edge("a", "b", key="rail", capacity=2, weight=1)
+    graph.add_edge("a", "b", key="road", capacity=9, weight=4)
+    graph.add_edge("b", "c", weight=1)
+    graph.add_edge("a", "c", capacity=1, weight=6)
+    return graph
+
+
+def random_graph(kind, nodes, edges, seed):
+    """A graph with capacities, weights and demands that have a feasible flow."""
+    chance = random.Random(seed)
+    graph = kind()
+    graph.add_nodes_from(f"n{k}" for k in range(nodes))
+    for _ in range(edges):
+        tail, head = chance.sample(range(nodes), 2)
+        graph.add_edge(f"n{tail}", f"n{head}", capacity=chance.randrange(20), weight=chance.randrange(-2, 20))
+    for tail, head, data in graph.edges(data=True):
+        amount = chance.randrange(data["capacity"] + 1)
+        for node, units in ((tail, -amount), (head, amount)):
+            graph.nodes[node]["demand"] = graph.nodes[node].get("demand", 0) + units
+    return graph
+
+
+def improved(certify, *words):
+    """What is certified of a flow in the end, where each better one is asked of again."""
+    *graph, flow = words
+    while True:
+        try:
+            return certify(*graph, flow)
+        except dimacs.NotOptimal as it:
+            flow = it.better
+
+
+class Networkx(unittest.TestCase):
+    def refused(self, kind, call, *words):
+        with self.assertRaises(kind) as caught:
+            call(*words)
+        return caught.exception
+
+    def setUp(self):
+        if networkx is None:
+            self.skipTest("networkx isn't there")
+
+
+class MaximumFlow(Networkx):
+    def test_what_networkx_finds(self):
+        for seed in range(10):
+            graph = random_graph(networkx.DiGraph, 30, 200, seed)
+            value, flow = networkx.maximum_flow(graph, "n0", "n1")
+            _, (side, _) = networkx.minimum_cut(graph, "n0", "n1")
+            self.assertEqual(dimacs.judge_networkx_max(graph, "n0", "n1", flow, side), dimacs.Verdict("max", value))
+            found, inside = dimacs.certify_networkx_max(graph, "n0", "n1", flow)
+            self.assertEqual(found, value)
+            self.assertEqual(dimacs.judge_networkx_max(graph, "n0", "n1", flow, inside).value, value)
+
+    def test_edges_without_capacity(self):
+        graph = pipes()
+        graph.add_edge("mill", "moat", capacity=float("inf"))
+        graph.add_edge("moat", "town")
+        value, flow = networkx.maximum_flow(graph, "spring", "town")
+        self.assertEqual(dimacs.certify_networkx_max(graph, "spring", "town", flow).value, value)
+        del graph["spring"]["mill"]["capacity"]
+        it = self.refused(dimacs.NotOptimal, dimacs.certify_networkx_max, graph, "spring", "town", flow)
+        self.assertGreater(sum(it.better["spring"].values()), value)
+        it = self.refused(dimacs.Refused, dimacs.judge_networkx_max, graph, "spring", "town", flow, {"spring"})
+        self.assertEqual((it.arc, it.reason), (("spring", "mill"), "NotSaturated"))
+        flow["spring"]["mill"] = 2**63 - 1
+        self.refused(ValueError, dimacs.certify_networkx_max, graph, "spring", "town", flow)
+
+    def test_refused(self):
+        graph = pipes()
+        ends = "spring", "town"
+        _, flow = networkx.maximum_flow(graph, *ends)
+        it = self.refused(dimacs.Refused, dimacs.judge_networkx_max, graph, *ends, flow, {"spring"})
+        self.assertEqual((it.arc[0], it.node, it.reason), ("spring", None, "NotSaturated"))
+        it = self.refused(dimacs.Refused, dimacs.judge_networkx_max, graph, *ends, flow, ["town"])
+        self.assertEqual((it.arc, it.node, str(it)), (None, "spring", "node spring SourceOutside"))
+        flow["mill"]["farm"] += 1
+        it = self.refused(dimacs.Refused, dimacs.certify_networkx_max, graph, *ends, flow)
+        self.assertIn((it.node, it.arc), [("mill", None), (None, ("mill", "farm"))])
+
+    def test_better(self):
+        graph = pipes()
+        none = {node: dict.fromkeys(graph[node], 0) for node in graph}
+        for flow in (none, {}):
+            it = self.refused(dimacs.NotOptimal, dimacs.certify_networkx_max, graph, "spring", "town", flow)
+            self.assertEqual((it.reason, it.text, it.line, it.field), ("NotMaximum", "solution", 0, 0))
+            self.assertEqual({node: set(it.better[node]) for node in graph}, {node: set(graph[node]) for node in graph})
+            found = improved(dimacs.certify_networkx_max, graph, "spring", "town", it.better)
+            self.assertEqual(found, (12, {"spring", "mill", "farm"}))
+
+    def test_several_edges_between_two_nodes(self):
+        graph = networkx.MultiDiGraph([("s", "t", {"capacity": 2}), ("s", "t", {"capacity": 3})])
+        flow = {"s": {"t": {0: 2, 1: 3}}}
+        self.assertEqual(dimacs.certify_networkx_max(graph, "s", "t", flow).value, 5)
+        it = self.refused(dimacs.NotOptimal, dimacs.certify_networkx_max, graph, "s", "t", {"s": {"t": {1: 3}}})
+        self.assertEqual(it.better, {"s": {"t": flow["s"]["t"]}, "t": {}})
+        it = self.refused(dimacs.Refused, dimacs.certify_networkx_max, graph, "s", "t", {"s": {"t": {0: 3}}})
+        self.assertEqual((it.arc, it.reason), (("s", "t", 0), "AboveCap"))
+
+
+class LeastCost(Networkx):
+    def test_what_networkx_finds(self):
+        for seed in range(10):
+            for kind in (networkx.DiGraph, networkx.MultiDiGraph):
+                graph = random_graph(kind, 30, 150, seed)
+                cost, flow = networkx.network_simplex(graph)
+                self.assertEqual(dimacs.judge_networkx_min(graph, flow), dimacs.Verdict("min", cost))
+                found, potentials = dimacs.certify_networkx_min(graph, flow)
+                self.assertEqual(found, cost)
+                self.assertEqual(dimacs.judge_networkx_min(graph, flow, potentials).value, cost)
+
+    def test_attributes_that_are_missing(self):
+        cost, flow = networkx.network_simplex(shipping())
+        self.assertEqual((cost, dimacs.judge_networkx_min(shipping(), flow).value), (9, 9))
+
+    def test_better(self):
+        graph = shipping()
+        flow = {"a": {"b": {"road": 3}}, "b": {"c": {0: 3}}}
+        for call in (dimacs.judge_networkx_min, dimacs.certify_networkx_min):
+            it = self.refused(dimacs.NotOptimal, call, graph, flow)
+            self.assertEqual(it.reason, "NotLeast")
+            cost, _ = improved(dimacs.certify_networkx_min, graph, it.better)
+            self.assertEqual(cost, 9)
+        it = self.refused(dimacs.Refused, dimacs.judge_networkx_min, graph, flow, {})
+        self.assertEqual((it.arc, it.reason), (("a", "b", "road"), "NotTight"))
+
+    def test_a_circle_that_pays_without_end(self):
+        graph = networkx.DiGraph()
+        graph.add_edge("a", "b", weight=-1)
+        graph.add_edge("b", "a")
+        it = self.refused(dimacs.NotOptimal, dimacs.certify_networkx_min, graph, {"a": {"b": 5}, "b": {"a": 5}})
+        self.assertGreater(it.better["a"]["b"], 5)
+
+    def test_floats_that_are_whole(self):
+        graph = shipping()
+        graph.nodes["a"]["demand"], graph["b"]["c"][0]["weight"] = -3.0, 1.0
+        _, flow = networkx.network_simplex(shipping())
+        flow["b"]["c"][0] = float(flow["b"]["c"][0])
+        self.assertEqual(dimacs.certify_networkx_min(graph, flow).value, 9)
+        graph["b"]["c"][0]["weight"] = 1.5
+        self.refused(ValueError, dimacs.certify_networkx_min, graph, flow)
+
+
+class Distances(Networkx):
+    def test_what_networkx_finds(self):
+        for seed in range(10):
+            for kind in (networkx.DiGraph, networkx.MultiDiGraph):
+                graph = random_graph(kind, 40, 60, seed)
+                for *_, data in graph.edges(data=True):
+                    data["weight"] = abs(data["weight"])
+                distances = networkx.single_source_dijkstra_path_length(graph, "n0")
+                found = dimacs.certify_networkx_paths(graph, "n0", distances)
+                self.assertIsNone(found.value)
+                self.assertEqual(set(found.predecessors), set(distances))
+                for node, before in found.predecessors.items():
+                    self.assertIn(before, [None] if node == "n0" else graph.predecessors(node))
+
+    def test_weights(self):
+        graph = networkx.DiGraph([("a", "b"), ("b", "c")])
+        graph.add_edge("a", "c", weight=3)
+        graph.add_node("alone")
+        for distances in ({"a": 0, "b": 1, "c": 2}, {"a": 0, "b": 1.0, "c": 2, "alone": float("inf")}):
+            found = dimacs.certify_networkx_paths(graph, "a", distances)
+            self.assertEqual(found.predecessors, {"a": None, "b": "a", "c": "b"})
+
+    def test_refused(self):
+        graph = networkx.DiGraph([("a", "b"), ("b", "c")])
+        for distances, wanted in [
+            ({"a": 0, "b": 1, "c": 3}, (("b", "c"), None, "NotShortest")),
+            ({"a": 0, "b": 1}, (("b", "c"), None, "Escapes")),
+            ({"a": 0, "b": 1, "c": 1}, (None, "c", "NoTightArc")),
+            ({"b": 1, "c": 2}, (None, "a", "NotShortest")),
+        ]:
+            it = self.refused(dimacs.Refused, dimacs.certify_networkx_paths, graph, "a", distances)
+            self.assertEqual((it.arc, it.node, it.reason), wanted)
+
+
+class Misuse(Networkx):
+    def test_what_does_not_belong_to_the_graph(self):
+        graph = pipes()
+        _, flow = networkx.maximum_flow(graph, "spring", "town")
+        for call, words in [
+            (dimacs.certify_networkx_max, (graph, "well", "town", flow)),
+            (dimacs.judge_networkx_max, (graph, "spring", "town", flow, {"spring", "well"})),
+            (dimacs.certify_networkx_max, (graph, "spring", "town", {**flow, "well": {"town": 1}})),
+            (dimacs.certify_networkx_max, (graph, "spring", "town", {**flow, "town": {"spring": 1}})),
+            (dimacs.certify_networkx_paths, (graph, "well", {})),
+            (dimacs.certify_networkx_paths, (graph, "spring", {"well": 3})),
+            (dimacs.judge_networkx_min, (graph, flow, {"well": 3})),
+            (dimacs.certify_networkx_min, (networkx.Graph(graph), flow)),
+        ]:
+            it = self.refused(ValueError, call, *words)
+            self.assertNotIsInstance(it, dimacs.PastLimit)
+
+    def test_limits(self):
+        graph = pipes()
+        graph["mill"]["farm"]["capacity"] = -1
+        it = self.refused(dimacs.PastLimit, dimacs.certify_networkx_max, graph, "spring", "town", {})
+        self.assertEqual((it.arc, it.node, it.reason), (("mill", "farm"), None, "BoundOrder"))
+        it = self.refused(dimacs.PastLimit, dimacs.certify_networkx_max, pipes(), "town", "town", {})
+        self.assertEqual((it.arc, it.node, it.reason), (None, "town", "NodeTwice"))
+
+
+if __name__ == "__main__":
+    unittest.main()
