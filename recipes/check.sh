@@ -4,7 +4,8 @@
 #
 #   recipes/check.sh [BINARY]
 #
-# BINARY is the built `dimacs`; without it the variable DIMACS, or else crates/dimacs/out/dimacs.
+# BINARY is the built `dimacs`; without it the variable DIMACS, or else crates/dimacs/out/dimacs. The recipes that judge
+# in their own process need lib/out too, which `make -C lib` builds.
 #
 # Environment:
 #   PYTHON   the Python that has the packages; python3
@@ -16,6 +17,7 @@ set -eu
 
 here=$(cd "$(dirname "$0")" && pwd)
 examples=$here/../examples
+lib=$here/../lib
 DIMACS=$(realpath "${1:-${DIMACS:-$here/../crates/dimacs/out/dimacs}}")
 export DIMACS
 PYTHON=${PYTHON:-python3}
@@ -43,6 +45,9 @@ networkx_paths.py       judge-paths       module networkx
 scipy_paths.py          judge-paths       module scipy
 igraph_paths.py         judge-paths       module igraph
 lemon_paths.cpp         judge-paths       header lemon/dijkstra.h
+networkx_library.py     judge-max         module networkx
+lemon_library.cpp       judge-min         header lemon/network_simplex.h
+scipy_library.py        judge-paths       module scipy
 '
 
 # Each instance: the run, its texts, and the verdict, with its lines joined by '; '. Where none stands, all recipes are
@@ -87,6 +92,9 @@ fail() {
     failed=$((failed + 1))
 }
 
+# Whether a recipe judges in its own process, and so writes no texts.
+is_in_process() { [[ $1 == *_library.* ]]; }
+
 # Whether a recipe's need is there: is_there module|header|program NAME
 is_there() {
     case $1 in
@@ -96,18 +104,29 @@ is_there() {
     esac
 }
 
+# What a recipe needs and isn't there, if anything: lacks RECIPE module|header|program NAME
+lacks() {
+    if ! is_there "$2" "$3"; then
+        echo "$2 $3"
+    elif is_in_process "$1" && [ ! -e "$lib/out/libdimacs.so" ]; then
+        echo "lib/out"
+    fi
+}
+
 # Builds a recipe in C++. lemon_scaling is lemon_min with its other solver.
 build() {
+    local linked=()
+    ! is_in_process "$1" || linked=(-x none "$lib/out/libdimacs.a")
     case $1 in
         lemon_scaling.cpp) sed 's/NetworkSimplex</CostScaling</' "$here/lemon_min.cpp" ;;
         *) cat "$here/$1" ;;
-    esac | "${CXX:-g++}" -O2 -std=c++17 -o "$dir/${1%.cpp}" -x c++ -
+    esac | "${CXX:-g++}" -O2 -std=c++17 -I"$lib/include" -o "$dir/${1%.cpp}" -x c++ - "${linked[@]}"
 }
 
 # The same with a program to run it: solve RECIPE TEXT..
 solve() {
     case $1 in
-        *.py) "$PYTHON" "$here/$1" "${@:2}" ;;
+        *.py) PYTHONPATH=$lib/python "$PYTHON" -B "$here/$1" "${@:2}" ;;
         *.cpp) "$dir/${1%.cpp}" "${@:2}" ;;
         *.sh) sh "$here/$1" "${@:2}" ;;
     esac
@@ -118,12 +137,14 @@ try() {
     local recipe=$1 run=$2 wanted=$3 claim=("${@:4}") found count name seen
     name=$(basename "$4")
     seen=$dir/verdict:$name:$(basename "${5:-}")
-    mkdir -p "$dir/answers/$name"
-    case $run in
-        judge-max) claim+=("$dir/answers/$name/$recipe.solution" "$dir/answers/$name/$recipe.cut") ;;
-        judge-min) claim+=("$dir/answers/$name/$recipe.solution" "$dir/answers/$name/$recipe.pot") ;;
-        *) claim+=("$dir/answers/$name/$recipe.certificate") ;;
-    esac
+    if ! is_in_process "$recipe"; then
+        mkdir -p "$dir/answers/$name"
+        case $run in
+            judge-max) claim+=("$dir/answers/$name/$recipe.solution" "$dir/answers/$name/$recipe.cut") ;;
+            judge-min) claim+=("$dir/answers/$name/$recipe.solution" "$dir/answers/$name/$recipe.pot") ;;
+            *) claim+=("$dir/answers/$name/$recipe.certificate") ;;
+        esac
+    fi
     found=$(solve "$recipe" "${claim[@]}" 2>"$dir/log") || found="$found (status $?)"
     found=${found//$'\n'/; }
     [ -n "$wanted" ] || wanted=$(cat "$seen" 2>"$dir/none" || echo "${found:-a verdict}")
@@ -133,6 +154,9 @@ try() {
     fi
     echo "$found" >"$seen"
     accepted=$((accepted + 1))
+    if is_in_process "$recipe"; then
+        return
+    fi
     if count=$("$PYTHON" "$here/check/wrong.py" "$run" "${claim[@]}"); then
         refused=$((refused + count))
     else
@@ -175,8 +199,8 @@ left_out=
 while read -r recipe run kind need; do
     if [ -z "$recipe" ] || ! [[ $recipe =~ ${ONLY:-.} ]]; then
         continue
-    elif ! is_there "$kind" "$need"; then
-        left_out+="  $recipe: no $kind $need"$'\n'
+    elif lacking=$(lacks "$recipe" "$kind" "$need") && [ -n "$lacking" ]; then
+        left_out+="  $recipe: no $lacking"$'\n'
     elif [[ $recipe == *.cpp ]] && ! build "$recipe"; then
         fail "$recipe: it isn't built"
     else
