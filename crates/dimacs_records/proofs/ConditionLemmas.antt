@@ -30,6 +30,10 @@ at_place f g b h = eqb-true f g (left (f == g) b h)
     left true y e = refl
     left false y e = e
 
+no_condition : (b : Bool) → (b && false) ≡ true → ⊥
+no_condition true h = absurd (cc)
+no_condition false h = absurd (cc)
+
 chosen : (f g : ℕ) (b a : Bool) → (if f == g then a else b) ≡ true → (f ≡ g) ⊎ (b ≡ true)
 chosen f g b a h = by_test (f == g) refl h
   where
@@ -82,7 +86,7 @@ listed earlier r f TooFew h = (12, omega arith, ap (λ g. at g TooFew) (sym (at_
 listed earlier r f SolutionTwice h = (13, omega arith, ap (λ g. at g SolutionTwice) (sym (at_place f 0 _ h)))
 listed earlier r f PredUnknown h = (14, omega arith, ap (λ g. at g PredUnknown) (sym (at_place f 0 _ h)))
 listed earlier r f PastRadius h = (15, omega arith, ap (λ g. at g PastRadius) (sym (at_place f 3 _ h)))
-listed earlier r f reason h = absurd (cc)
+listed earlier r f reason h = absurd (no_condition (f == 0) h)
 
 listed_at_end : (kind : TextKind) (all : List Record) (reason : Reason) → IsTrue (end_condition kind all reason) → Contains end_reasons reason
 listed_at_end kind all ProblemMissing h = (0, omega arith, refl)

@@ -8,13 +8,13 @@ use Rattle.dimacs_records.specs.declared.records.Record.TheVariants.{CutProblem,
 use Rattle.dimacs_records.specs.declared.reasons.Reason.{Reason}
 use Rattle.dimacs_records.specs.declared.reasons.Reason.TheVariants.{ProblemMissing, ProblemTwice, RecordOrder, NodeRange, NodeTwice, EndTwice, EndMissing, BoundOrder, TooMany, TooFew, SolutionMissing, SolutionTwice, PredUnknown, PastRadius}
 use Rattle.dimacs_records.specs.declared.faults.LineFault.{LineFault}
-use Rattle.dimacs_records.specs.Conditions.{bounded_ids, is_above_at, is_bound_wrong, is_too_many, needs_problem, needs_value}
+use Rattle.dimacs_records.specs.Conditions.{bounded_ids, is_above_at, is_bound_wrong, is_refused_for, needs_problem}
 use Rattle.dimacs_records.specs.Earlier.{is_counted, is_full, is_problem, is_short}
 use Rattle.dimacs_records.specs.Faults.{FirstAtEnd}
 use Rattle.dimacs_records.specs.Order.{Place, at}
 use Rattle.dimacs_records.specs.Readings.{IsAllowed, IsComplete, IsFirstCondition}
 use Rattle.dimacs_records.specs.Spelling.{kind_of}
-use Rattle.dimacs_records.specs.Tests.{Passes, PassesEnd, IsToldOf, TellsEnd, is_too_many_told, problem_told}
+use Rattle.dimacs_records.specs.Tests.{Passes, PassesEnd, IsToldOf, TellsEnd, is_too_many_told, needs_value, problem_told}
 use Rattle.dimacs_records.proofs.ConditionLemmas.{first_place, first_reason_at_end, is_allowed, is_complete, is_first_at_end, is_first_condition}
 
 abbrev pub by_tests : Bool → Bool → Bool → Bool → Bool → Bool → Bool → Bool → Bool → Bool → Bool → Bool → Bool → Bool → Bool → Bool → Option Place
@@ -34,7 +34,7 @@ place_told e r =
     (is_above_at 2 p (bounded_ids r)) (is_above_at 3 p (bounded_ids r)) (is_above_at 4 p (bounded_ids r))
     e.named e.end_named e.lacks_end (is_bound_wrong 4 r) (is_bound_wrong 5 r) (is_too_many_told e r) e.block_short e.valued e.pred_unknown e.past_radius
 
-too_many : (e : Earlier) (earlier : List Record) (r : Record) → IsToldOf e earlier r → is_too_many earlier r ≡ is_too_many_told e r
+too_many : (e : Earlier) (earlier : List Record) (r : Record) → IsToldOf e earlier r → is_refused_for TooMany earlier r ≡ is_too_many_told e r
 too_many e earlier (LabelsNode id dist pred) t = t.block_full
 too_many e earlier r t = ap₂ (λ p n. is_counted r && is_full p n) t.counts.problem_is t.counts.counted_is
 

@@ -24,21 +24,6 @@ abbrev pub needs_problem : TextKind → Bool
 needs_problem Solution = false
 needs_problem kind = true
 
-abbrev pub is_without_problem : List Record → Record → Bool
-is_without_problem earlier r = (needs_problem (kind_of r) && not (is_problem r)) && is_none (problem_in earlier)
-
-abbrev pub is_problem_twice : List Record → Record → Bool
-is_problem_twice earlier r = is_problem r && is_some (problem_in earlier)
-
--- a node line after an arc line; a query that its text does not ask; a label outside any block
-abbrev pub is_out_of_order : List Record → Record → Bool
-is_out_of_order earlier (MaxNode id end) = list_any is_flow_arc earlier
-is_out_of_order earlier (MinNode id supply) = list_any is_flow_arc earlier
-is_out_of_order earlier (SourceQuery id) = list_any (asks_for Pairs) earlier
-is_out_of_order earlier (PairQuery from to) = list_any (asks_for Sources) earlier
-is_out_of_order earlier (LabelsNode id dist pred) = is_none (block_in earlier)
-is_out_of_order earlier r = false
-
 -- the IDs of a line that NODES bounds, each with its field
 abbrev pub bounded_ids : Record → List (ℕ × ℕ)
 bounded_ids (MaxNode id end) = (2, id) ∷ []
@@ -57,26 +42,9 @@ abbrev pub is_above_at : ℕ → Option Problem → List (ℕ × ℕ) → Bool
 is_above_at f p [] = false
 is_above_at f p ((g, id) ∷ more) = if f == g then is_above p id else is_above_at f p more
 
-abbrev pub is_named_twice : List Record → Record → Bool
-is_named_twice earlier (MaxNode id end) = list_any (names id) earlier
-is_named_twice earlier (MinNode id supply) = list_any (names id) earlier
-is_named_twice earlier (CutNode id) = list_any (names id) earlier
-is_named_twice earlier (PotentialsNode id value) = list_any (names id) earlier
-is_named_twice earlier (LabelsBlock source count radius) = list_any (names source) earlier
-is_named_twice earlier (LabelsNode id dist pred) = is_labelled (block_in earlier) id
-is_named_twice earlier r = false
-
-abbrev pub is_end_twice : List Record → Record → Bool
-is_end_twice earlier (MaxNode id end) = list_any (is_end_node end) earlier
-is_end_twice earlier r = false
-
 -- fewer than two node lines
 abbrev pub lacks_end : List Record → Bool
 lacks_end rs = nat_lt (count_by is_max_node rs) 2
-
-abbrev pub is_without_ends : List Record → Record → Bool
-is_without_ends earlier (MaxArc tail head cap) = lacks_end earlier
-is_without_ends earlier r = false
 
 -- the bound in field f is out of order: a negative one, or CAP below LOW
 abbrev pub is_bound_wrong : ℕ → Record → Bool
@@ -84,62 +52,45 @@ is_bound_wrong f (MaxArc tail head cap) = (f == 4) && int_lt cap (pos 0)
 is_bound_wrong f (MinArc tail head low cap cost) = if f == 4 then int_lt low (pos 0) else (f == 5) && int_lt cap low
 is_bound_wrong f r = false
 
--- one more than the declared count, for a label that of its block
-abbrev pub is_too_many : List Record → Record → Bool
-is_too_many earlier (LabelsNode id dist pred) = is_full_block (block_in earlier)
-is_too_many earlier r = is_counted r && is_full (problem_in earlier) (counted_in earlier)
-
--- a block after one that is short of labels
-abbrev pub is_too_few : List Record → Record → Bool
-is_too_few earlier (LabelsBlock source count radius) = is_short_block (block_in earlier)
-is_too_few earlier r = false
-
-abbrev pub is_value_twice : List Record → Record → Bool
-is_value_twice earlier (SolutionValue value) = list_any is_value earlier
-is_value_twice earlier r = false
-
-abbrev pub is_pred_unknown : List Record → Record → Bool
-is_pred_unknown earlier (LabelsNode id dist pred) = not (is_labelled (block_in earlier) pred)
-is_pred_unknown earlier r = false
-
-abbrev pub is_past_radius : List Record → Record → Bool
-is_past_radius earlier (LabelsNode id dist pred) = is_past_block (block_in earlier) dist
-is_past_radius earlier r = false
+-- record r is refused after the earlier ones for this reason, which tells of one field alone
+abbrev pub is_refused_for : Reason → List Record → Record → Bool
+is_refused_for ProblemMissing earlier r = (needs_problem (kind_of r) && not (is_problem r)) && is_none (problem_in earlier)
+is_refused_for ProblemTwice earlier r = is_problem r && is_some (problem_in earlier)
+is_refused_for RecordOrder earlier (MaxNode id end) = list_any is_flow_arc earlier
+is_refused_for RecordOrder earlier (MinNode id supply) = list_any is_flow_arc earlier
+is_refused_for RecordOrder earlier (SourceQuery id) = list_any (asks_for Pairs) earlier
+is_refused_for RecordOrder earlier (PairQuery from to) = list_any (asks_for Sources) earlier
+is_refused_for RecordOrder earlier (LabelsNode id dist pred) = is_none (block_in earlier)
+is_refused_for NodeTwice earlier (MaxNode id end) = list_any (names id) earlier
+is_refused_for NodeTwice earlier (MinNode id supply) = list_any (names id) earlier
+is_refused_for NodeTwice earlier (CutNode id) = list_any (names id) earlier
+is_refused_for NodeTwice earlier (PotentialsNode id value) = list_any (names id) earlier
+is_refused_for NodeTwice earlier (LabelsBlock source count radius) = list_any (names source) earlier
+is_refused_for NodeTwice earlier (LabelsNode id dist pred) = is_labelled (block_in earlier) id
+is_refused_for EndTwice earlier (MaxNode id end) = list_any (is_end_node end) earlier
+is_refused_for EndMissing earlier (MaxArc tail head cap) = lacks_end earlier
+is_refused_for TooMany earlier (LabelsNode id dist pred) = is_full_block (block_in earlier)
+is_refused_for TooMany earlier r = is_counted r && is_full (problem_in earlier) (counted_in earlier)
+is_refused_for TooFew earlier (LabelsBlock source count radius) = is_short_block (block_in earlier)
+is_refused_for SolutionTwice earlier (SolutionValue value) = list_any is_value earlier
+is_refused_for PredUnknown earlier (LabelsNode id dist pred) = not (is_labelled (block_in earlier) pred)
+is_refused_for PastRadius earlier (LabelsNode id dist pred) = is_past_block (block_in earlier) dist
+is_refused_for reason earlier r = false
 
 -- at field f of record r, after the earlier records, the condition of a reason holds
 abbrev pub condition : List Record → Record → ℕ → Reason → Bool
-condition earlier r f ProblemMissing = (f == 0) && is_without_problem earlier r
-condition earlier r f ProblemTwice = (f == 0) && is_problem_twice earlier r
-condition earlier r f RecordOrder = (f == 0) && is_out_of_order earlier r
 condition earlier r f NodeRange = is_above_at f (problem_in earlier) (bounded_ids r)
-condition earlier r f NodeTwice = (f == 2) && is_named_twice earlier r
-condition earlier r f EndTwice = (f == 3) && is_end_twice earlier r
-condition earlier r f EndMissing = (f == 0) && is_without_ends earlier r
 condition earlier r f BoundOrder = is_bound_wrong f r
-condition earlier r f TooMany = (f == 0) && is_too_many earlier r
-condition earlier r f TooFew = (f == 0) && is_too_few earlier r
-condition earlier r f SolutionTwice = (f == 0) && is_value_twice earlier r
-condition earlier r f PredUnknown = (f == 0) && is_pred_unknown earlier r
-condition earlier r f PastRadius = (f == 3) && is_past_radius earlier r
-condition earlier r f reason = false
+condition earlier r f NodeTwice = (f == 2) && is_refused_for NodeTwice earlier r
+condition earlier r f EndTwice = (f == 3) && is_refused_for EndTwice earlier r
+condition earlier r f PastRadius = (f == 3) && is_refused_for PastRadius earlier r
+condition earlier r f reason = (f == 0) && is_refused_for reason earlier r
 
-abbrev pub needs_ends : TextKind → Bool
-needs_ends Max = true
-needs_ends kind = false
-
-abbrev pub needs_value : TextKind → Bool
-needs_value Solution = true
-needs_value kind = false
-
--- fewer lines than declared, or fewer labels in the last block
-abbrev pub is_unfinished : TextKind → List Record → Bool
-is_unfinished Labels all = is_short (problem_in all) (counted_in all) || is_short_block (block_in all)
-is_unfinished kind all = is_short (problem_in all) (counted_in all)
-
--- at the end of a text of these records the condition of a reason holds
+-- at the end of a text of these records the condition of a reason holds: in the last block there may be fewer labels than declared
 abbrev pub end_condition : TextKind → List Record → Reason → Bool
 end_condition kind all ProblemMissing = needs_problem kind && is_none (problem_in all)
-end_condition kind all EndMissing = needs_ends kind && lacks_end all
-end_condition kind all TooFew = is_unfinished kind all
-end_condition kind all SolutionMissing = needs_value kind && not (list_any is_value all)
+end_condition Max all EndMissing = lacks_end all
+end_condition Labels all TooFew = is_short (problem_in all) (counted_in all) || is_short_block (block_in all)
+end_condition kind all TooFew = is_short (problem_in all) (counted_in all)
+end_condition Solution all SolutionMissing = not (list_any is_value all)
 end_condition kind all reason = false

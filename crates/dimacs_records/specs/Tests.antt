@@ -1,14 +1,15 @@
 -- What is told of the earlier records, and what a record has that passes the tests.
-use Rattle.std.specs.Prelude.{ℕ, ◌≡◌, ◌&&◌, ◌||◌, Bool, false, List, Option, Some, None, is_some, is_none, not}
-use Rattle.std.specs.List.{list_any}
+use Rattle.std.specs.Prelude.{ℕ, ◌≡◌, ◌&&◌, ◌||◌, Bool, true, false, List, Option, Some, None, is_some, is_none, not}
 use Rattle.dimacs_records.specs.declared.kinds.TextKind.{TextKind}
+use Rattle.dimacs_records.specs.declared.kinds.TextKind.TheVariants.{Solution}
 use Rattle.dimacs_records.specs.declared.order.Declared.{Declared}
 use Rattle.dimacs_records.specs.declared.order.Earlier.{Earlier}
+use Rattle.dimacs_records.specs.declared.reasons.Reason.TheVariants.{RecordOrder, NodeTwice, EndTwice, EndMissing, TooFew, SolutionMissing, SolutionTwice, PredUnknown, PastRadius}
 use Rattle.dimacs_records.specs.declared.records.Record.{Record}
 use Rattle.dimacs_records.specs.declared.records.Record.TheVariants.{LabelsNode}
 use Rattle.dimacs_records.specs.Blocks.{block_in, is_full_block}
-use Rattle.dimacs_records.specs.Conditions.{bounded_ids, is_above_at, is_bound_wrong, is_end_twice, is_named_twice, is_out_of_order, is_past_radius, is_pred_unknown, is_too_few, is_unfinished, is_value_twice, is_without_ends, lacks_end, needs_ends, needs_problem, needs_value}
-use Rattle.dimacs_records.specs.Earlier.{Problem, counted_in, is_counted, is_full, is_problem, is_short, is_value, problem_in}
+use Rattle.dimacs_records.specs.Conditions.{bounded_ids, end_condition, is_above_at, is_bound_wrong, is_refused_for, needs_problem}
+use Rattle.dimacs_records.specs.Earlier.{Problem, counted_in, is_counted, is_full, is_problem, is_short, problem_in}
 use Rattle.dimacs_records.specs.Spelling.{kind_of}
 
 -- the problem line that is told
@@ -37,15 +38,15 @@ pub record Counts (problem : Option Declared) (counted : ℕ) (rs : List Record)
 -- this is so of the earlier records, as far as record r asks for it
 pub record IsToldOf (e : Earlier) (earlier : List Record) (r : Record) : Type 0 where
   pub counts : Counts e.problem e.counted earlier
-  pub misplaced : is_out_of_order earlier r ≡ e.misplaced
-  pub named : is_named_twice earlier r ≡ e.named
-  pub end_named : is_end_twice earlier r ≡ e.end_named
-  pub lacks_end : is_without_ends earlier r ≡ e.lacks_end
+  pub misplaced : is_refused_for RecordOrder earlier r ≡ e.misplaced
+  pub named : is_refused_for NodeTwice earlier r ≡ e.named
+  pub end_named : is_refused_for EndTwice earlier r ≡ e.end_named
+  pub lacks_end : is_refused_for EndMissing earlier r ≡ e.lacks_end
   pub block_full : is_full_label earlier r ≡ e.block_full
-  pub block_short : is_too_few earlier r ≡ e.block_short
-  pub valued : is_value_twice earlier r ≡ e.valued
-  pub pred_unknown : is_pred_unknown earlier r ≡ e.pred_unknown
-  pub past_radius : is_past_radius earlier r ≡ e.past_radius
+  pub block_short : is_refused_for TooFew earlier r ≡ e.block_short
+  pub valued : is_refused_for SolutionTwice earlier r ≡ e.valued
+  pub pred_unknown : is_refused_for PredUnknown earlier r ≡ e.pred_unknown
+  pub past_radius : is_refused_for PastRadius earlier r ≡ e.past_radius
 
 -- no test of record r fails
 pub record Passes (e : Earlier) (r : Record) : Type 0 where
@@ -66,12 +67,16 @@ pub record Passes (e : Earlier) (r : Record) : Type 0 where
   pub pred_known : e.pred_unknown ≡ false
   pub near : e.past_radius ≡ false
 
+abbrev pub needs_value : TextKind → Bool
+needs_value Solution = true
+needs_value kind = false
+
 -- this is so of all records of a text
 pub record TellsEnd (kind : TextKind) (e : Earlier) (all : List Record) : Type 0 where
   pub counts : Counts e.problem e.counted all
-  pub lacks_end : (needs_ends kind && lacks_end all) ≡ e.lacks_end
-  pub unfinished : is_unfinished kind all ≡ (e.block_short || is_short (problem_told e.problem) e.counted)
-  pub valued : (needs_value kind && not (list_any is_value all)) ≡ (needs_value kind && not e.valued)
+  pub lacks_end : end_condition kind all EndMissing ≡ e.lacks_end
+  pub unfinished : end_condition kind all TooFew ≡ (e.block_short || is_short (problem_told e.problem) e.counted)
+  pub valued : end_condition kind all SolutionMissing ≡ (needs_value kind && not e.valued)
 
 -- no test of the end fails
 pub record PassesEnd (kind : TextKind) (e : Earlier) : Type 0 where

@@ -4,11 +4,11 @@ ghost use Rattle.std.specs.Prelude.{◌≡◌, ◌&&◌, ◌||◌, not, false, t
 ghost use Rattle.dimacs_records.specs.declared.faults.TakeError.TheVariants.{Refused};
 ghost use Rattle.dimacs_records.specs.declared.kinds.TextKind.{TextKind};
 ghost use Rattle.dimacs_records.specs.declared.records.Record.{Record};
-ghost use Rattle.dimacs_records.specs.Conditions.{is_above_at, bounded_ids, is_bound_wrong, needs_problem, needs_value};
+ghost use Rattle.dimacs_records.specs.Conditions.{is_above_at, bounded_ids, is_bound_wrong, needs_problem};
 ghost use Rattle.dimacs_records.specs.Earlier.{Problem, is_above, is_counted, is_full, is_problem, is_short, is_so};
 ghost use Rattle.dimacs_records.specs.Readings.{RefusesRecord, RefusesEnd};
 ghost use Rattle.dimacs_records.specs.Spelling.{kind_of};
-ghost use Rattle.dimacs_records.specs.Tests.{Passes, PassesEnd, IsToldOf, TellsEnd, earlier_of, is_too_many_told, problem_told};
+ghost use Rattle.dimacs_records.specs.Tests.{Passes, PassesEnd, IsToldOf, TellsEnd, earlier_of, is_too_many_told, needs_value, problem_told};
 
 use crate::faults::TakeError;
 use crate::kinds::TextKind;
