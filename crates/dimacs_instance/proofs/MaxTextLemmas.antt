@@ -26,7 +26,7 @@ use Rattle.dimacs_instance.specs.Arcs.{JoinsNodes}
 use Rattle.dimacs_instance.specs.MaxFlows.{MaxValue, IsMax, HasCapacityAlone}
 use Rattle.dimacs_records.specs.Ranges.{IsNode}
 use Rattle.dimacs_instance.specs.Plain.{capacity_arc}
-use Rattle.dimacs_instance.specs.MaxTexts.{max_arc, source_node, sink_node, max_records, canonical_max, GivesMax, SpellsMax}
+use Rattle.dimacs_instance.specs.MaxTexts.{max_arc, max_records, canonical_max, GivesMax, SpellsMax}
 use Rattle.dimacs_instance.specs.MaxReading.{MaxBegun, IsMaxBegun, max_node, max_begun_records}
 use Rattle.dimacs_instance.proofs.MaxLemmas.{first_problem, one_more_node, one_more_arc, all_arcs, lacking}
 use Rattle.dimacs_instance.proofs.ArcLemmas.{take_next}
@@ -167,16 +167,16 @@ max_faultless rs m h = elim h.0 [
 pub max_round_trip : (m : MaxValue) → IsMax m → SpellsMax (canonical_max m) m
 max_round_trip m is = by_order (nat_lt m.source m.sink)
   where
-    by_order : (below : Bool) → SpellsMax (canonical_text (max_records m (if below then (source_node m.source, sink_node m.sink) else (sink_node m.sink, source_node m.source)))) m
+    by_order : (below : Bool) → SpellsMax (canonical_text (max_records m (if below then (MaxNode m.source Source, MaxNode m.sink Sink) else (MaxNode m.sink Sink, MaxNode m.source Source)))) m
     by_order true = record {
-      said = map (λ (r : Record). Some r) (max_records m (source_node m.source, sink_node m.sink));
+      said = map (λ (r : Record). Some r) (max_records m (MaxNode m.source Source, MaxNode m.sink Sink));
       spelled = all_spelled m.nodes (source_line m) (sink_line m) m.arcs (source_first m is);
-      given = (inl (numbered_all (max_records m (source_node m.source, sink_node m.sink))), is);
+      given = (inl (numbered_all (max_records m (MaxNode m.source Source, MaxNode m.sink Sink))), is);
     }
     by_order false = record {
-      said = map (λ (r : Record). Some r) (max_records m (sink_node m.sink, source_node m.source));
+      said = map (λ (r : Record). Some r) (max_records m (MaxNode m.sink Sink, MaxNode m.source Source));
       spelled = all_spelled m.nodes (sink_line m) (source_line m) m.arcs (sink_first m is);
-      given = (inr (numbered_all (max_records m (sink_node m.sink, source_node m.source))), is);
+      given = (inr (numbered_all (max_records m (MaxNode m.sink Sink, MaxNode m.source Source))), is);
     }
 
 -- the arc that a record names, and the instance of a problem line, node lines and arcs
@@ -197,11 +197,11 @@ arcs_of-max_arcs : (arcs : List ArcView) → All HasCapacityAlone arcs → map a
 arcs_of-max_arcs [] alone = refl
 arcs_of-max_arcs (a ∷ arcs) alone = ap₂ (λ x xs. x ∷ xs) (arc_of-max_arc a (All-head HasCapacityAlone a arcs alone)) (arcs_of-max_arcs arcs (All-tail HasCapacityAlone a arcs alone))
 
-by_source_first : (m : MaxValue) → IsMax m → max_of (max_records m (source_node m.source, sink_node m.sink)) ≡ m
+by_source_first : (m : MaxValue) → IsMax m → max_of (max_records m (MaxNode m.source Source, MaxNode m.sink Sink)) ≡ m
 unfolding max_of
 by_source_first m is = ap (λ arcs. record { nodes = m.nodes; source = m.source; sink = m.sink; arcs = arcs }) (arcs_of-max_arcs m.arcs is.capacities)
 
-by_sink_first : (m : MaxValue) → IsMax m → max_of (max_records m (sink_node m.sink, source_node m.source)) ≡ m
+by_sink_first : (m : MaxValue) → IsMax m → max_of (max_records m (MaxNode m.sink Sink, MaxNode m.source Source)) ≡ m
 unfolding max_of
 by_sink_first m is = ap (λ arcs. record { nodes = m.nodes; source = m.source; sink = m.sink; arcs = arcs }) (arcs_of-max_arcs m.arcs is.capacities)
 

@@ -16,19 +16,13 @@ use Rattle.dimacs_instance.specs.MaxFlows.{MaxValue, IsMax}
 abbrev pub max_arc : ArcView → Record
 max_arc a = MaxArc a.tail a.head a.cap
 
-abbrev pub source_node : ℕ → Record
-source_node id = MaxNode id Source
-
-abbrev pub sink_node : ℕ → Record
-sink_node id = MaxNode id Sink
-
 -- the problem line, two node lines, and then the arcs
 abbrev pub max_records : MaxValue → Record × Record → List Record
 max_records m ends = MaxProblem m.nodes (length m.arcs) ∷ ends.0 ∷ ends.1 ∷ map max_arc m.arcs
 
 -- the node lines stand in either order
 abbrev pub GivesMax : List LineRecord → MaxValue → Type 0
-GivesMax rs m = ((records_of rs ≡ max_records m (source_node m.source, sink_node m.sink)) ⊎ (records_of rs ≡ max_records m (sink_node m.sink, source_node m.source))) × IsMax m
+GivesMax rs m = ((records_of rs ≡ max_records m (MaxNode m.source Source, MaxNode m.sink Sink)) ⊎ (records_of rs ≡ max_records m (MaxNode m.sink Sink, MaxNode m.source Source))) × IsMax m
 
 -- the text spells this instance
 abbrev pub SpellsMax : List ℕ → MaxValue → Type 0
@@ -36,7 +30,7 @@ SpellsMax text m = SpellsValue Max GivesMax (lines text) m
 
 -- the node lines by ID
 abbrev pub nodes_by_id : ℕ → ℕ → Record × Record
-nodes_by_id source sink = if nat_lt source sink then (source_node source, sink_node sink) else (sink_node sink, source_node source)
+nodes_by_id source sink = if nat_lt source sink then (MaxNode source Source, MaxNode sink Sink) else (MaxNode sink Sink, MaxNode source Source)
 
 abbrev pub canonical_max : MaxValue → List ℕ
 canonical_max m = canonical_text (max_records m (nodes_by_id m.source m.sink))

@@ -46,9 +46,9 @@ negative_part (pos n) = 0
 negative_part (negsuc n) = suc n
 
 -- the sum of the positive supplies
-abbrev pub supplied : MinValue → ℕ
-supplied m = sum_by positive_part (values m.supplies)
+abbrev pub supply_sum : MinValue → ℕ
+supply_sum m = sum_by positive_part (values m.supplies)
 
 -- the sum of the negative supplies, without sign
-abbrev pub demanded : MinValue → ℕ
-demanded m = sum_by negative_part (values m.supplies)
+abbrev pub demand_sum : MinValue → ℕ
+demand_sum m = sum_by negative_part (values m.supplies)

@@ -12,7 +12,7 @@ use Rattle.dimacs_records.specs.Printed.{shown}
 use Rattle.dimacs_records.specs.Readings.{LineRecord, records_of}
 use Rattle.dimacs_records.specs.Texts.{SpellsValue}
 use Rattle.dimacs_instance.specs.declared.network.ArcView.{ArcView}
-use Rattle.dimacs_instance.specs.MinFlows.{MinValue, IsMin, supplied, demanded}
+use Rattle.dimacs_instance.specs.MinFlows.{MinValue, IsMin, supply_sum, demand_sum}
 use Rattle.dimacs_records.specs.NodeValues.{NameNodes, has_value}
 
 -- the line of a node and its supply
@@ -47,4 +47,4 @@ canonical_min m = canonical_text (canonical_min_records m)
 
 -- the supplies that are positive, and those that are negative, each as a sum without its sign
 abbrev pub shown_min : MinValue → List ℕ
-shown_min m = shown (codes "min" ∷ decimal m.nodes ∷ decimal (length m.arcs) ∷ decimal (supplied m) ∷ decimal (demanded m) ∷ [])
+shown_min m = shown (codes "min" ∷ decimal m.nodes ∷ decimal (length m.arcs) ∷ decimal (supply_sum m) ∷ decimal (demand_sum m) ∷ [])

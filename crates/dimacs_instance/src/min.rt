@@ -13,7 +13,7 @@ ghost use Rattle.dimacs_records.specs.Canonical.{canonical_text};
 ghost use Rattle.dimacs_records.specs.Readings.{CountsRead};
 ghost use Rattle.dimacs_records.specs.Faults.{Fault};
 ghost use Rattle.dimacs_records.specs.Texts.{Reads};
-ghost use Rattle.dimacs_instance.specs.MinFlows.{MinValue, IsMin, supply_of, positive_part, negative_part, supplied, demanded};
+ghost use Rattle.dimacs_instance.specs.MinFlows.{MinValue, IsMin, supply_of, positive_part, negative_part, supply_sum, demand_sum};
 ghost use Rattle.dimacs_instance.specs.MinTexts.{GivesMin, SpellsMin, canonical_min, min_node, min_arc};
 ghost use Rattle.dimacs_records.specs.NodeValues.{has_value};
 ghost use Rattle.dimacs_instance.specs.MinReading.{IsMinBegunBy, after_lines, before};
@@ -106,8 +106,8 @@ impl<N: Network> MinInstance<N> {
 
     /// The sums of the positive supplies and of the negative ones, without sign.
     pub fn supply_sums(&self) -> SupplySums
-        ensures supplied { result.supplied ≡ pos (supplied self.now) }
-        ensures demanded { result.demanded ≡ pos (demanded self.now) }
+        ensures supplied { result.supplied ≡ pos (supply_sum self.now) }
+        ensures demanded { result.demanded ≡ pos (demand_sum self.now) }
     {
         let mut sums = SupplySums {
             supplied: 0,
