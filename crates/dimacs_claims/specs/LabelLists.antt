@@ -1,7 +1,11 @@
 -- The labels of a block as they are kept.
 use Rattle.dimacs_claims.specs.declared.block.Label.{Label}
-use Rattle.dimacs_claims.specs.declared.label_list.ShortLabel.{ShortLabel}
+use Rattle.dimacs_claims.specs.declared.far_list.ShortLabel.{ShortLabel}
+use Rattle.dimacs_claims.specs.declared.label_list.NearLabel.{NearLabel}
 
 -- the same label
-abbrev pub widened : ShortLabel → Label
+abbrev pub widened : NearLabel → Label
 widened l = record { dist = l.dist; id = l.id; pred = l.pred }
+
+abbrev pub lengthened : ShortLabel → Label
+lengthened l = record { dist = l.dist; id = l.id; pred = l.pred }

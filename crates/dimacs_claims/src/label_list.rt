@@ -5,16 +5,17 @@ ghost use Rattle.dimacs_claims.specs.Labels.{distance_in, no_label};
 ghost use Rattle.dimacs_claims.specs.LabelLists.{widened};
 
 use crate::block::Label;
+use crate::far_list::FarList;
 use dimacs_lines::Memory;
 use std::alloc::Global;
 use std::marker::Model;
 
-/// Labels in the order in which they were added. As long as 64 bits take all distances a label takes 16 bytes, else 32.
+/// Labels in the order in which they were added. As long as 32 bits take all distances a label takes 12 bytes.
 #[derive(Drop)]
 pub struct LabelList {
-    short: Vec<ShortLabel>,
-    /// All labels, where 64 bits don't take all distances.
-    long: Vec<Label>,
+    near: Vec<NearLabel>,
+    /// All labels, where 32 bits don't take all distances.
+    far: FarList,
 }
 
 impl Model for LabelList {
@@ -24,20 +25,20 @@ impl Model for LabelList {
 
     ghost Value = { List Label };
 
-    ghost view = { λ l. map widened l.short.items ++ l.long.items };
+    ghost view = { λ l. map widened l.near.items ++ l.far };
 
-    ghost invariant = { λ l. (l.short.items ≡ []) ⊎ (l.long.items ≡ []) };
+    ghost invariant = { λ l. (l.near.items ≡ []) ⊎ (l.far ≡ []) };
 }
 
-/// A label whose distance takes 64 bits at most.
+/// A label whose distance takes 32 bits at most.
 #[derive(Clone, Copy)]
-pub(crate) struct ShortLabel {
-    dist: i64,
+pub(crate) struct NearLabel {
+    dist: i32,
     id: u32,
     pred: u32,
 }
 
-impl ShortLabel {
+impl NearLabel {
     #[inline(always)]
     fn label(self) -> Label
         ensures { result ≡ widened self }
@@ -56,8 +57,8 @@ impl LabelList {
         ensures { result ≡ [] }
     {
         LabelList {
-            short: Vec::new(alloc),
-            long: Vec::new(alloc),
+            near: Vec::new(alloc),
+            far: FarList::new(alloc),
         }
     }
 
@@ -67,27 +68,26 @@ impl LabelList {
         ensures pushed { OnOk result (self.new ≡ self.old ++ label ∷ []) }
         ensures unchanged { OnErr result (self.new ≡ self.old) }
     {
-        if self.long.is_empty() {
+        if self.far.is_empty() {
             let Label { id, pred, .. } = label;
-            if let Ok(dist) = i64::try_from(label.dist) {
-                self.short.push(ShortLabel { dist, id, pred })?;
+            if let Ok(dist) = i32::try_from(label.dist) {
+                self.near.push(NearLabel { dist, id, pred })?;
                 return Ok(());
             }
-            let alloc = *self.short.allocator();
-            self.long = long_labels(alloc, &self.short)?;
-            self.short = Vec::new(alloc);
+            let alloc = *self.near.allocator();
+            self.far = far_labels(alloc, &self.near)?;
+            self.near = Vec::new(alloc);
         }
-        self.long.push(label)?;
-        Ok(())
+        self.far.push(label)
     }
 
     pub fn len(&self) -> usize
         ensures { result ≡ length self.now }
     {
-        if self.long.is_empty() {
-            self.short.len()
+        if self.far.is_empty() {
+            self.near.len()
         } else {
-            self.long.len()
+            self.far.len()
         }
     }
 
@@ -97,10 +97,10 @@ impl LabelList {
         requires { place < length self.now }
         ensures { result ≡ slice_index_or self.now place no_label }
     {
-        if self.long.is_empty() {
-            self.short[place].label()
+        if self.far.is_empty() {
+            self.near[place].label()
         } else {
-            self.long[place]
+            self.far.at(place)
         }
     }
 
@@ -119,12 +119,14 @@ impl LabelList {
 }
 
 /// The same labels, in more memory.
-fn long_labels(alloc: Global, short: &[ShortLabel]) -> Result<Vec<Label>, Memory>
-    ensures { IfOk result (λ long. long.items ≡ map widened short.now) }
+#[cold]
+#[inline(never)]
+fn far_labels(alloc: Global, near: &[NearLabel]) -> Result<FarList, Memory>
+    ensures { IfOk result (λ far. far ≡ map widened near.now) }
 {
-    let mut long = Vec::with_capacity(alloc, short.len())?;
-    for label in short {
-        long.push(label.label())?;
+    let mut far = FarList::new(alloc);
+    for label in near {
+        far.push(label.label())?;
     }
-    Ok(long)
+    Ok(far)
 }

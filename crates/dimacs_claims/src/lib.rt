@@ -4,6 +4,7 @@
 mod block;
 mod by_id;
 mod cut;
+mod far_list;
 mod label_list;
 mod labels;
 mod place;

@@ -6,8 +6,6 @@ use Rattle.std.proofs.lemmas.List.{get_or_default, get_or-map, length-map}
 use Rattle.std.specs.Option.{is_some}
 use Rattle.std.specs.Result.{is_err, result_err}
 use Rattle.std.specs.Prelude.{Result, Ok, Err}
-use Rattle.dimacs_nodes.specs.declared.node_table.NodeTable.{NodeTable}
-use Rattle.dimacs_nodes.specs.Tables.{value_of}
 use Rattle.dimacs_records.specs.declared.reasons.Reason.{Reason}
 use Rattle.dimacs_records.specs.declared.reasons.Reason.TheVariants.{NotShortest}
 use Rattle.dimacs_instance.specs.declared.network.ArcView.{ArcView}
@@ -16,10 +14,9 @@ use Rattle.dimacs_instance.specs.Links.{IsLast}
 use Rattle.dimacs_claims.specs.declared.block.Label.{Label}
 use Rattle.dimacs_claims.specs.Labels.{BlockValue, IsBlock, IsNear, label, no_label}
 use Rattle.dimacs_claims.proofs.BlockLemmas.{has_pred}
-use Rattle.dimacs_judge.specs.declared.mark.Mark.{Mark}
 use Rattle.dimacs_judge.specs.CertificateTests.{RelaxFails, relax_row}
 use Rattle.dimacs_judge.specs.inside.Leaving.{AreCovering, ArePassedFrom, Covers, IsPassed, WeightsFall, arcs_in}
-use Rattle.dimacs_judge.specs.inside.Marks.{AreMade, AreMadeAlone, IsMarked, MarksArc, marked_dist}
+use Rattle.dimacs_judge.specs.inside.Marks.{AreMade, IsKnown, Known, MarksArc}
 use Rattle.dimacs_judge.specs.Rows.{arc_at, no_arc}
 use Rattle.dimacs_judge.specs.Tests.{Clear}
 use Rattle.dimacs_judge.specs.inside.Tests.{TellsReason}
@@ -42,8 +39,8 @@ same_sum : (d x y e : ℤ) → x ≤ℤ y → (d +ℤ y) ≡ e → (¬ ((d +ℤ 
 same_sum d x y e less sum near = by_lt_z (d +ℤ x) e (λ l. absurd (near l)) (λ m. omega (arith, ints, m, less, sum))
 
 -- an arc that this arc covers
-pub passed_covered : (number : ℕ) (b : BlockValue) (marks own : NodeTable Mark) (one other : ArcView) → IsMarked number b own → Covers one other → IsPassed b marks one → IsPassed b marks other
-passed_covered number b marks own one other are covers is = record {
+pub passed_covered : (arcs : List ArcView) (b : BlockValue) (at : ℕ → Known) (one other : ArcView) → IsKnown arcs b at → Covers one other → IsPassed b at one → IsPassed b at other
+passed_covered arcs b at one other are covers is = record {
   holds = λ reason fails.
       let (d, tail, why) = fails in
       let from : label b one.tail ≡ Some d = ap (label b) covers.tail ∙ tail in
@@ -64,8 +61,8 @@ passed_covered number b marks own one other are covers is = record {
 }
 
 -- an arc that leads past the radius
-pub passed_beyond : (number nodes : ℕ) (b : BlockValue) (marks own : NodeTable Mark) (a : ArcView) (d : ℤ) → IsBlock nodes b → IsMarked number b own → label b a.tail ≡ Some d → (¬ IsNear b.radius (d +ℤ a.cost)) → IsPassed b marks a
-passed_beyond number nodes b marks own a d is are tail beyond = record {
+pub passed_beyond : (nodes : ℕ) (arcs : List ArcView) (b : BlockValue) (at : ℕ → Known) (a : ArcView) (d : ℤ) → IsBlock nodes b → IsKnown arcs b at → label b a.tail ≡ Some d → (¬ IsNear b.radius (d +ℤ a.cost)) → IsPassed b at a
+passed_beyond nodes arcs b at a d is are tail beyond = record {
   holds = λ reason fails.
       let (e, from, why) = fails in
       let both : Some e ≡ Some d = sym from ∙ tail in
@@ -91,47 +88,47 @@ no_reason fails (Ok x) none tells = tells
 no_reason fails (Err why) none tells = absurd (cc)
 
 -- after an arc
-module _ (number : ℕ) (a : ArcView) (old new : NodeTable Mark) (b : BlockValue) (passes : MarksArc b.labels number a old new) where
+module _ (a : ArcView) (old new : ℕ → Known) (b : BlockValue) (passes : MarksArc a old new) where
   pub passed_still : (c : ArcView) → IsPassed b old c → IsPassed b new c
-  passed_still c is = record { holds = is.holds; marked = marks_still number a old new b passes c is.marked }
+  passed_still c is = record { holds = is.holds; marked = marks_still a old new b passes c is.marked }
 
-  pub passed_this : (arcs : List ArcView) (i : ℕ) → slice_get arcs i ≡ Some a → IsMarked number b old → ((reason : Reason) → ¬ RelaxFails b.radius (marked_dist b.labels number (value_of old a.tail)) (marked_dist b.labels number (value_of old a.head)) a.cost reason) → IsPassed b new a
+  pub passed_this : (arcs : List ArcView) (i : ℕ) → slice_get arcs i ≡ Some a → IsKnown arcs b old → ((reason : Reason) → ¬ RelaxFails b.radius (old a.tail).dist (old a.head).dist a.cost reason) → IsPassed b new a
   passed_this arcs i here are holds = record {
     holds = rw (← are.labels a.tail, ← are.labels a.head) holds;
-    marked = marks_this number a old new b passes arcs i here are;
+    marked = marks_this a old new b passes arcs are i here;
   }
 
 -- ---- the arcs of a node
 pub at_place : (arcs : List ArcView) (order : List ℕ) (p : ℕ) → p < length order → arc_at (arcs_in arcs order) p ≡ arc_at arcs (get_or order p 0)
 at_place arcs order p inside = get_or-map (arc_at arcs) order p 0 no_arc inside
 
-module _ (arcs : List ArcView) (order : List ℕ) (number : ℕ) (b : BlockValue) (marks : NodeTable Mark) (node : ℕ) where
+module _ (arcs : List ArcView) (order : List ℕ) (b : BlockValue) (at : ℕ → Known) (node : ℕ) where
   -- the arcs at the places from this one on, so far as they leave the node
   abbrev pub ArePassedOn : ℕ → Type 0
-  ArePassedOn next = (p : ℕ) → next ≤ p → p < length order → (arc_at (arcs_in arcs order) p).tail ≡ node → IsPassed b marks (arc_at (arcs_in arcs order) p)
+  ArePassedOn next = (p : ℕ) → next ≤ p → p < length order → (arc_at (arcs_in arcs order) p).tail ≡ node → IsPassed b at (arc_at (arcs_in arcs order) p)
 
-  pub node_more : (place before : ℕ) → IsLast Tail (arcs_in arcs order) place node before → IsPassed b marks (arc_at (arcs_in arcs order) place) → ArePassedOn (place + 1) → ArePassedOn before
+  pub node_more : (place before : ℕ) → IsLast Tail (arcs_in arcs order) place node before → IsPassed b at (arc_at (arcs_in arcs order) place) → ArePassedOn (place + 1) → ArePassedOn before
   node_more place before last this passed p after there here = elim (cases_order p place) [
-    | inl same ↦ subst (λ q. IsPassed b marks (arc_at (arcs_in arcs order) q)) (sym same) this
+    | inl same ↦ subst (λ q. IsPassed b at (arc_at (arcs_in arcs order) q)) (sym same) this
     | inr apart ↦ elim apart [
       | inl less ↦ absurd (last.none_after p after less here)
       | inr more ↦ passed p (omega (arith, more)) there here
     ]
   ]
 
-  pub node_done : IsMarked number b marks → AreCovering arcs order → ArePassedOn 0 → ArePassedFrom arcs b marks node
+  pub node_done : IsKnown arcs b at → AreCovering arcs order → ArePassedOn 0 → ArePassedFrom arcs b at node
   node_done are covering passed k inside here =
-      let (i, (p, there, at), covers) = covering.all k inside in
-      let same : arc_at (arcs_in arcs order) p ≡ arc_at arcs i = at_place arcs order p there ∙ ap (arc_at arcs) (get_or_default order p 0 i there ∙ at) in
+      let (i, (p, there, place), covers) = covering.all k inside in
+      let same : arc_at (arcs_in arcs order) p ≡ arc_at arcs i = at_place arcs order p there ∙ ap (arc_at arcs) (get_or_default order p 0 i there ∙ place) in
       let tail : (arc_at (arcs_in arcs order) p).tail ≡ node = ap (λ (c : ArcView). c.tail) same ∙ (covers.tail ∙ here) in
-      passed_covered number b marks marks (arc_at arcs i) (arc_at arcs k) are covers (subst (IsPassed b marks) same (passed p (omega arith) there tail))
+      passed_covered arcs b at (arc_at arcs i) (arc_at arcs k) are covers (subst (IsPassed b at) same (passed p (omega arith) there tail))
 
-  pub node_beyond : (nodes : ℕ) (d : ℤ) (next : ℕ) → IsBlock nodes b → IsMarked number b marks → label b node ≡ Some d → WeightsFall (arcs_in arcs order) → next < length order → (¬ IsNear b.radius (d +ℤ (arc_at (arcs_in arcs order) next).cost))
+  pub node_beyond : (nodes : ℕ) (d : ℤ) (next : ℕ) → IsBlock nodes b → IsKnown arcs b at → label b node ≡ Some d → WeightsFall (arcs_in arcs order) → next < length order → (¬ IsNear b.radius (d +ℤ (arc_at (arcs_in arcs order) next).cost))
       → ArePassedOn (next + 1) → ArePassedOn 0
   node_beyond nodes d next is are from fall inside beyond passed p after there here = elim (cases_lt next p) [
     | inl more ↦ passed p (omega (arith, more)) there here
     | inr less ↦
-        passed_beyond number nodes b marks marks (arc_at (arcs_in arcs order) p) d is are (ap (label b) here ∙ from)
+        passed_beyond nodes arcs b at (arc_at (arcs_in arcs order) p) d is are (ap (label b) here ∙ from)
         (λ near. beyond (near_less b.radius (d +ℤ (arc_at (arcs_in arcs order) next).cost) (d +ℤ (arc_at (arcs_in arcs order) p).cost) (less_sum d _ _ (falls p less)) near))
   ]
     where
@@ -142,10 +139,10 @@ module _ (arcs : List ArcView) (order : List ℕ) (number : ℕ) (b : BlockValue
       ]
 
 -- ---- the nodes of a block
-pub from_still : (arcs : List ArcView) (b : BlockValue) (old new : NodeTable Mark) (v : ℕ) → ((a : ArcView) → IsPassed b old a → IsPassed b new a) → ArePassedFrom arcs b old v → ArePassedFrom arcs b new v
+pub from_still : (arcs : List ArcView) (b : BlockValue) (old new : ℕ → Known) (v : ℕ) → ((a : ArcView) → IsPassed b old a → IsPassed b new a) → ArePassedFrom arcs b old v → ArePassedFrom arcs b new v
 from_still arcs b old new v still passed k inside here = still (arc_at arcs k) (passed k inside here)
 
-pub labels_more : (arcs : List ArcView) (b : BlockValue) (old new : NodeTable Mark) (n : ℕ) → ((a : ArcView) → IsPassed b old a → IsPassed b new a) → ((k : ℕ) → k < n → ArePassedFrom arcs b old (get_or b.labels k no_label).id)
+pub labels_more : (arcs : List ArcView) (b : BlockValue) (old new : ℕ → Known) (n : ℕ) → ((a : ArcView) → IsPassed b old a → IsPassed b new a) → ((k : ℕ) → k < n → ArePassedFrom arcs b old (get_or b.labels k no_label).id)
     → ArePassedFrom arcs b new (get_or b.labels n no_label).id → (k : ℕ) → k < n + 1 → ArePassedFrom arcs b new (get_or b.labels k no_label).id
 labels_more arcs b old new n still passed this k below = elim (cases_lt k n) [
   | inl less ↦ from_still arcs b old new (get_or b.labels k no_label).id still (passed k less)
@@ -153,27 +150,26 @@ labels_more arcs b old new n still passed this k below = elim (cases_lt k n) [
 ]
 
 -- the arcs that leave the source and the nodes of the first n labels are passed
-pub record ArePassedFirst (arcs : List ArcView) (number : ℕ) (b : BlockValue) (n : ℕ) (marks : NodeTable Mark) : Type 0 where
-  pub marked : IsMarked number b marks
-  pub sound : AreMadeAlone arcs b marks
-  pub source : ArePassedFrom arcs b marks b.source
-  pub labels : (k : ℕ) → k < n → ArePassedFrom arcs b marks (get_or b.labels k no_label).id
+pub record ArePassedFirst (arcs : List ArcView) (b : BlockValue) (n : ℕ) (at : ℕ → Known) : Type 0 where
+  pub known : IsKnown arcs b at
+  pub source : ArePassedFrom arcs b at b.source
+  pub labels : (k : ℕ) → k < n → ArePassedFrom arcs b at (get_or b.labels k no_label).id
 
-module _ (arcs : List ArcView) (number : ℕ) (b : BlockValue) (n : ℕ) (marks : NodeTable Mark) (all : length b.labels ≤ n) (are : ArePassedFirst arcs number b n marks) where
-  labelled_passed : (v : ℕ) (d : ℤ) → label b v ≡ Some d → ArePassedFrom arcs b marks v
+module _ (arcs : List ArcView) (b : BlockValue) (n : ℕ) (at : ℕ → Known) (all : length b.labels ≤ n) (are : ArePassedFirst arcs b n at) where
+  labelled_passed : (v : ℕ) (d : ℤ) → label b v ≡ Some d → ArePassedFrom arcs b at v
   labelled_passed v d is = elim (has_pred b (record { dist = d; id = v; pred = v }) (ap is_some is)) [
-    | inl source ↦ subst (ArePassedFrom arcs b marks) (sym source) are.source
+    | inl source ↦ subst (ArePassedFrom arcs b at) (sym source) are.source
     | inr named ↦
-        let (m, (k, inside, at), same) = named in
-        subst (ArePassedFrom arcs b marks) (ap (λ (l : Label). l.id) (get_or_default b.labels k no_label m inside ∙ at) ∙ same) (are.labels k (omega (arith, inside, all)))
+        let (m, (k, inside, here), same) = named in
+        subst (ArePassedFrom arcs b at) (ap (λ (l : Label). l.id) (get_or_default b.labels k no_label m inside ∙ here) ∙ same) (are.labels k (omega (arith, inside, all)))
   ]
 
   pub all_clear : Clear (relax_row arcs b)
   all_clear k place reason f = (labelled_passed (arc_at arcs k).tail f.2.0 f.2.1 k f.0 refl).holds reason f.2
 
-  pub all_made : AreMade arcs b marks
+  pub all_made : AreMade arcs b at
   all_made l has = (
-    are.sound l has,
+    are.known.sound l has,
     λ tight.
         let (k, inside, makes) = some_makes arcs b l tight in
         (labelled_passed l.pred makes.base makes.known k inside makes.from).marked l has makes,

@@ -25,6 +25,7 @@ pub mod MaxJudge
 pub mod MinJudge
 pub mod FlowJudges
 mod SolutionLemmas
+mod DistanceLemmas
 mod MarkLemmas
 mod LeavingLemmas
 mod LeastLemmas

@@ -1,4 +1,5 @@
 pub mod CertificateTests
+pub mod Distances
 pub mod FlowTests
 pub mod Labels
 pub mod Leaving

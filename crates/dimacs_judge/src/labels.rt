@@ -177,9 +177,23 @@ fn relax_fault(labels: &Labels, block: usize, radius: Option<i128>, arc: ArcView
     ensures { TellsReason (RelaxFails radius (label_at labels.now.blocks block arc.tail) (label_at labels.now.blocks block arc.head) arc.cost) result }
 {
     let from = labels.label(block, arc.tail)?;
-    match labels.label(block, arc.head) {
-        None => escape_fault(radius, from, arc.cost),
-        Some(to) if is_beyond(to, from, arc.cost) => Some(Reason::NotShortest),
+    relax_fault_from(from, labels.label(block, arc.head), radius, arc.cost)
+}
+
+/// Why an arc of this weight fails that leads from the one distance to the other, or to a node without a label.
+#[inline(always)]
+pub(crate) fn relax_fault_from(
+    from: i128,
+    to: Option<i128>,
+    radius: Option<i128>,
+    weight: i64,
+) -> Option<Reason>
+    requires { IsWide from }
+    ensures { TellsReason (RelaxFails radius (Some from) to weight) result }
+{
+    match to {
+        None => escape_fault(radius, from, weight),
+        Some(to) if is_beyond(to, from, weight) => Some(Reason::NotShortest),
         Some(_) => None,
     }
 }
@@ -198,7 +212,7 @@ pub(crate) fn escape_fault(radius: Option<i128>, from: i128, weight: i64) -> Opt
 
 /// Whether `to` is further than the weight leads from `from`.
 #[inline(always)]
-pub(crate) fn is_beyond(to: i128, from: i128, weight: i64) -> bool
+fn is_beyond(to: i128, from: i128, weight: i64) -> bool
     requires { IsWide from }
     ensures { IsTrue result ↔ ((from +ℤ weight) <ℤ to) }
 {

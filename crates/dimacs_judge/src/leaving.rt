@@ -6,9 +6,10 @@ ghost use Rattle.dimacs_claims.specs.Labels.{IsBlock, IsNear, label};
 ghost use Rattle.dimacs_records.specs.Ranges.{IsWide};
 ghost use Rattle.dimacs_judge.specs.CertificateTests.{relax_row};
 ghost use Rattle.dimacs_judge.specs.inside.Leaving.{AreLeast, ArePassedFrom, IsPassed};
-ghost use Rattle.dimacs_judge.specs.inside.Marks.{AreMade, AreMadeAlone, IsMarked};
+ghost use Rattle.dimacs_judge.specs.inside.Marks.{AreMade, IsMarked, known};
 ghost use Rattle.dimacs_judge.specs.Tests.{Clear};
 
+use crate::distance::Distance;
 use crate::labels::escape_fault;
 use crate::least_arcs::LeastArcs;
 use crate::mark::Mark;
@@ -27,30 +28,26 @@ pub(crate) fn labels_few<N: Network>(block: &Block, network: &N) -> bool {
 
 /// Marks the labels that arcs make, and tells whether no arc fails, by the least arcs that leave labelled nodes alone:
 /// where none of them fails, no other does, or makes a label that they don't. Ends at one that fails.
-pub(crate) fn leaving_passed<N: Network>(
+pub(crate) fn leaving_passed<N: Network, D: Distance>(
     network: &N,
     block: &Block,
-    number: u32,
     least: &LeastArcs,
-    marks: &mut NodeTable<Mark>,
+    marks: &mut NodeTable<Mark<D>>,
 ) -> bool
     requires lawful { (nodes : ℕ) × IsBlock nodes block.now }
-    requires number { 1 ≤ number }
     requires least { AreLeast (N.list network.now) least.now }
-    requires marked { IsMarked number block.now marks.old }
-    requires sound { AreMadeAlone (N.list network.now) block.now marks.old }
-    ensures marked { IsMarked number block.now marks.new }
-    ensures sound { AreMadeAlone (N.list network.now) block.now marks.new }
-    ensures made { IsTrue result → AreMade (N.list network.now) block.now marks.new }
+    requires marked { IsMarked D.value (N.list network.now) block.now marks.old }
+    ensures marked { IsMarked D.value (N.list network.now) block.now marks.new }
+    ensures made { IsTrue result → AreMade (N.list network.now) block.now (known D.value marks.new) }
     ensures clear { IsTrue result → Clear (relax_row (N.list network.now) block.now) }
 {
-    if !node_passed(network, block, block.source(), 0, number, least, marks) {
+    if !node_passed(network, block, block.source(), 0, least, marks) {
         return false;
     }
     let labels = block.labels();
     for i in 0..labels.len() {
         let label = labels.at(i);
-        if !node_passed(network, block, label.id, label.dist, number, least, marks) {
+        if !node_passed(network, block, label.id, label.dist, least, marks) {
             return false;
         }
     }
@@ -59,28 +56,23 @@ pub(crate) fn leaving_passed<N: Network>(
 
 /// Passes the least arcs that leave a node with this label, up to the first that fails. Those by rising weight only up to
 /// the radius: past it no arc fails, or makes a label.
-fn node_passed<N: Network>(
+fn node_passed<N: Network, D: Distance>(
     network: &N,
     block: &Block,
     node: u32,
     from: i128,
-    number: u32,
     least: &LeastArcs,
-    marks: &mut NodeTable<Mark>,
+    marks: &mut NodeTable<Mark<D>>,
 ) -> bool
     requires lawful { (nodes : ℕ) × IsBlock nodes block.now }
-    requires number { 1 ≤ number }
     requires least { AreLeast (N.list network.now) least.now }
     requires label { label block.now node ≡ Some from }
-    requires marked { IsMarked number block.now marks.old }
-    requires sound { AreMadeAlone (N.list network.now) block.now marks.old }
-    ensures marked { IsMarked number block.now marks.new }
-    ensures sound { AreMadeAlone (N.list network.now) block.now marks.new }
-    ensures kept { (a : ArcView) → IsPassed block.now marks.old a → IsPassed block.now marks.new a }
-    ensures passed { IsTrue result → ArePassedFrom (N.list network.now) block.now marks.new node }
+    requires marked { IsMarked D.value (N.list network.now) block.now marks.old }
+    ensures marked { IsMarked D.value (N.list network.now) block.now marks.new }
+    ensures kept { (a : ArcView) → IsPassed block.now (known D.value marks.old) a → IsPassed block.now (known D.value marks.new) a }
+    ensures passed { IsTrue result → ArePassedFrom (N.list network.now) block.now (known D.value marks.new) node }
 {
     let radius = block.radius();
-    let labels = block.labels();
     let mut next = least.last(node);
     while next > 0 {
         let place = next - 1;
@@ -88,7 +80,7 @@ fn node_passed<N: Network>(
         if least.by_weight() && leads_past(radius, from, arc.cost) {
             return true;
         }
-        if pass_arc(arc, radius, number, labels, marks).is_err() {
+        if pass_arc(arc, radius, marks).is_err() {
             return false;
         }
         next = least.before(place);

@@ -10,6 +10,7 @@ mod balances;
 mod costs;
 mod crossing;
 mod cuts;
+mod distance;
 mod entries;
 mod feasible;
 mod flow;

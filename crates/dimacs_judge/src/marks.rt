@@ -1,22 +1,23 @@
 //! Whether the labels of blocks are distances, by one pass over the arcs for each block, or over those that leave its
 //! nodes.
 
-ghost use Rattle.std.specs.Prelude.{◌≡◌, ◌≢◌, ◌<◌, ◌≤◌, ◌+◌, ◌↔◌, ◌+ℤ◌, ℕ, List, IfNone, IfSome, IfOk, OnOk, IsTrue, false};
+ghost use Rattle.std.specs.Prelude.{◌≡◌, ◌<◌, ◌≤◌, ◌↔◌, ℕ, List, All, Option, IfOk, IfSome, OnOk, IsTrue, ℤ};
 ghost use Rattle.std.specs.Result.{result_err};
 ghost use Rattle.dimacs_lines.specs.Limits.{most_nodes};
 ghost use Rattle.dimacs_instance.specs.declared.network.ArcView.{ArcView};
 ghost use Rattle.dimacs_claims.specs.declared.block.Label.{Label};
 ghost use Rattle.dimacs_claims.specs.Labels.{AreLabels, BlockValue, IsBlock};
-ghost use Rattle.dimacs_nodes.specs.Tables.{HasPlace, blank_of, value_of};
-ghost use Rattle.dimacs_records.specs.Ranges.{IsWide};
+ghost use Rattle.dimacs_nodes.specs.Tables.{blank_of};
 ghost use Rattle.dimacs_judge.specs.CertificateTests.{RelaxFails, label_rows, relax_row, support_row, weight_row};
 ghost use Rattle.dimacs_judge.specs.inside.CertificateTests.{distance_rows};
+ghost use Rattle.dimacs_judge.specs.inside.Distances.{Fits, LeadsAside};
 ghost use Rattle.dimacs_judge.specs.inside.Leaving.{AreLeast};
-ghost use Rattle.dimacs_judge.specs.inside.Marks.{AreAsTested, AreEarlier, AreMade, AreMadeAlone, AreMadeBelow, ArePassedBelow, AreUnmade, AreWide, IsMarked, IsTight, MarksArc, PassesArc, is_made, marked_dist};
+ghost use Rattle.dimacs_judge.specs.inside.Marks.{AllBlank, AreAsTested, AreBlank, AreMade, AreMadeBelow, AreWide, IsBlank, IsMarked, IsTight, MarksArc, known};
 ghost use Rattle.dimacs_judge.specs.Tests.{Clear, TellsRow};
 ghost use Rattle.dimacs_judge.specs.inside.Tests.{Tells, TellsAll, TellsReason};
 
-use crate::labels::{escape_fault, is_beyond, weights_hold};
+use crate::distance::{Distance, distance_in, leads_aside, leads_to};
+use crate::labels::{relax_fault_from, weights_hold};
 use crate::least_arcs::LeastArcs;
 use crate::leaving::{labels_few, leaving_passed};
 use crate::mark::Mark;
@@ -28,6 +29,28 @@ use dimacs_nodes::NodeTable;
 use dimacs_records::Reason;
 use std::alloc::Global;
 
+/// Marks of the nodes, by three sorts of number. A block is judged by the narrowest that takes all its distances, and
+/// without a block no node is marked.
+#[derive(Drop)]
+pub(crate) struct Tables {
+    near: NodeTable<Mark<i32>>,
+    middle: NodeTable<Mark<i64>>,
+    far: NodeTable<Mark<i128>>,
+}
+
+impl Tables {
+    /// Takes no memory.
+    fn new(alloc: Global) -> Tables
+        ensures { AllBlank result }
+    {
+        Tables {
+            near: NodeTable::new(alloc, Mark::none()),
+            middle: NodeTable::new(alloc, Mark::none()),
+            far: NodeTable::new(alloc, Mark::none()),
+        }
+    }
+}
+
 /// What is known of the weights of the arcs: nothing, or that none is negative.
 #[derive(Clone, Copy)]
 pub(crate) enum Weights {
@@ -35,7 +58,7 @@ pub(crate) enum Weights {
     NotNegative,
 }
 
-/// The first test that fails, block by block. One table of the nodes serves all blocks.
+/// The first test that fails, block by block. The same tables of the nodes serve all blocks.
 pub(crate) fn marked_blocks_hold<N: Network>(
     alloc: Global,
     network: &N,
@@ -44,7 +67,7 @@ pub(crate) fn marked_blocks_hold<N: Network>(
     ensures tests { TellsAll (label_rows (N.list network.now) labels.now.blocks) result }
     ensures lawful { AreLabels labels.now }
 {
-    let mut marks = NodeTable::new(alloc, Mark::none());
+    let mut tables = Tables::new(alloc);
     let mut weights = Weights::Untested;
     let mut least = None;
     let blocks = labels.blocks();
@@ -52,7 +75,7 @@ pub(crate) fn marked_blocks_hold<N: Network>(
         let block = &blocks[i];
         test_weights_for(network, block, &mut weights)?;
         link_for(alloc, network, labels, block, &mut least)?;
-        marked_block_holds(network, block, i as u32 + 1, &least, &mut marks)?;
+        marked_block_holds(network, block, &least, &mut tables)?;
     }
     Ok(())
 }
@@ -106,88 +129,130 @@ fn count(labels: &Labels) -> usize {
     count
 }
 
-/// The tests of one block but that of the weights: first its labels, then the arcs.
+/// The tests of one block but that of the weights.
 fn marked_block_holds<N: Network>(
     network: &N,
     block: &Block,
-    number: u32,
     least: &Option<LeastArcs>,
-    marks: &mut NodeTable<Mark>,
+    tables: &mut Tables,
 ) -> Result<(), JudgeError>
     requires lawful { (nodes : ℕ) × (nodes ≤ most_nodes) × IsBlock nodes block.now }
-    requires number { 1 ≤ number }
     requires least { IfSome least.now (AreLeast (N.list network.now)) }
-    requires earlier { AreEarlier number marks.old }
+    requires blank { AllBlank tables.old }
     ensures tests { TellsAll (distance_rows (N.list network.now) block.now) result }
-    ensures earlier { OnOk result (AreEarlier (number + 1) marks.new) }
+    ensures blank { OnOk result (AllBlank tables.new) }
 {
-    mark_labels(block, number, marks)?;
-    block_passed(network, block, number, least, marks)?;
+    let labels = block.labels();
+    if lie_within(labels, i64::from(i32::MIN), i64::from(i32::MAX)) {
+        return block_holds_by(network, block, least, &mut tables.near);
+    }
+    if lie_within(labels, i64::MIN, i64::MAX) {
+        return block_holds_by(network, block, least, &mut tables.middle);
+    }
+    block_holds_by(network, block, least, &mut tables.far)
+}
+
+/// Whether all distances lie between these ends, the second of which isn't one of them.
+fn lie_within(labels: &LabelList, low: i64, end: i64) -> bool
+    ensures { IsTrue result → All (λ (l : Label). Fits low end l.dist) labels.now }
+{
+    let low = i128::from(low);
+    let end = i128::from(end);
+    for i in 0..labels.len() {
+        let dist = labels.at(i).dist;
+        if dist < low || end <= dist {
+            return false;
+        }
+    }
+    true
+}
+
+/// The tests of a block by numbers that take its distances: first its labels, then the arcs.
+fn block_holds_by<N: Network, D: Distance>(
+    network: &N,
+    block: &Block,
+    least: &Option<LeastArcs>,
+    marks: &mut NodeTable<Mark<D>>,
+) -> Result<(), JudgeError>
+    requires lawful { (nodes : ℕ) × (nodes ≤ most_nodes) × IsBlock nodes block.now }
+    requires fits { All (λ (l : Label). Fits D.low D.end l.dist) block.now.labels }
+    requires least { IfSome least.now (AreLeast (N.list network.now)) }
+    requires blank { AreBlank D.value marks.old }
+    ensures tests { TellsAll (distance_rows (N.list network.now) block.now) result }
+    ensures blank { OnOk result (AreBlank D.value marks.new) }
+{
+    mark_labels(block, marks)?;
+    block_passed(network, block, least, marks)?;
+    blank_labels(block, marks)?;
     Ok(())
 }
 
 /// Marks the nodes that a block labels.
 #[inline(never)]
-fn mark_labels(block: &Block, number: u32, marks: &mut NodeTable<Mark>) -> Result<(), Memory>
+fn mark_labels<D: Distance>(block: &Block, marks: &mut NodeTable<Mark<D>>) -> Result<(), Memory>
     requires lawful { (nodes : ℕ) × (nodes ≤ most_nodes) × IsBlock nodes block.now }
-    requires earlier { AreEarlier number marks.old }
-    ensures marked { OnOk result (IsMarked number block.now marks.new) }
-    ensures unmade { OnOk result (AreUnmade block.now marks.new) }
+    requires fits { All (λ (l : Label). Fits D.low D.end l.dist) block.now.labels }
+    requires blank { AreBlank D.value marks.old }
+    ensures { OnOk result ((arcs : List ArcView) → IsMarked D.value arcs block.now marks.new) }
 {
-    marks.set(block.source(), Mark::of_source(number))?;
+    marks.set(block.source(), Mark::of_source())?;
     let labels = block.labels();
     for i in 0..labels.len() {
         let label = labels.at(i);
-        marks.set(label.id, Mark::of(label, i, number))?;
+        marks.set(label.id, Mark::of(label))?;
+    }
+    Ok(())
+}
+
+/// Takes the marks of a block away. Their memory is kept.
+fn blank_labels<D: Distance>(block: &Block, marks: &mut NodeTable<Mark<D>>) -> Result<(), Memory>
+    requires { (arcs : List ArcView) × IsMarked D.value arcs block.now marks.old }
+    ensures { OnOk result (AreBlank D.value marks.new) }
+{
+    marks.set(block.source(), Mark::none())?;
+    let labels = block.labels();
+    for i in 0..labels.len() {
+        marks.set(labels.at(i).id, Mark::none())?;
     }
     Ok(())
 }
 
 /// Marks the labels that arcs make, and makes the tests: by the least arcs that leave labelled nodes where the block labels
 /// few and none fails, else by all.
-fn block_passed<N: Network>(
+fn block_passed<N: Network, D: Distance>(
     network: &N,
     block: &Block,
-    number: u32,
     least: &Option<LeastArcs>,
-    marks: &mut NodeTable<Mark>,
+    marks: &mut NodeTable<Mark<D>>,
 ) -> Result<(), (Where, Reason)>
     requires lawful { (nodes : ℕ) × IsBlock nodes block.now }
-    requires number { 1 ≤ number }
     requires least { IfSome least.now (AreLeast (N.list network.now)) }
-    requires marked { IsMarked number block.now marks.old }
-    requires unmade { AreUnmade block.now marks.old }
-    ensures marked { IsMarked number block.now marks.new }
+    requires marked { IsMarked D.value (N.list network.now) block.now marks.old }
+    ensures marked { IsMarked D.value (N.list network.now) block.now marks.new }
     ensures tests { Tells (distance_rows (N.list network.now) block.now) result }
 {
-    if few_passed(network, block, number, least, marks) {
+    if few_passed(network, block, least, marks) {
         return labels_made(block.labels(), marks);
     }
-    arcs_passed(network, block, number, marks)
+    arcs_passed(network, block, marks)
 }
 
 /// Whether the block labels few nodes, and none of the least arcs that leave them fails.
-fn few_passed<N: Network>(
+fn few_passed<N: Network, D: Distance>(
     network: &N,
     block: &Block,
-    number: u32,
     least: &Option<LeastArcs>,
-    marks: &mut NodeTable<Mark>,
+    marks: &mut NodeTable<Mark<D>>,
 ) -> bool
     requires lawful { (nodes : ℕ) × IsBlock nodes block.now }
-    requires number { 1 ≤ number }
     requires least { IfSome least.now (AreLeast (N.list network.now)) }
-    requires marked { IsMarked number block.now marks.old }
-    requires sound { AreMadeAlone (N.list network.now) block.now marks.old }
-    ensures marked { IsMarked number block.now marks.new }
-    ensures sound { AreMadeAlone (N.list network.now) block.now marks.new }
-    ensures made { IsTrue result → AreMade (N.list network.now) block.now marks.new }
+    requires marked { IsMarked D.value (N.list network.now) block.now marks.old }
+    ensures marked { IsMarked D.value (N.list network.now) block.now marks.new }
+    ensures made { IsTrue result → AreMade (N.list network.now) block.now (known D.value marks.new) }
     ensures clear { IsTrue result → Clear (relax_row (N.list network.now) block.now) }
 {
     match least {
-        Some(least) if labels_few(block, network) => {
-            leaving_passed(network, block, number, least, marks)
-        }
+        Some(least) if labels_few(block, network) => leaving_passed(network, block, least, marks),
         _ => false,
     }
 }
@@ -196,57 +261,24 @@ fn few_passed<N: Network>(
 /// head has no label, and isn't past the radius, or a label that is too great. The labels are looked up again only where
 /// one of them wasn't counted as made.
 #[inline(never)]
-fn arcs_passed<N: Network>(
+fn arcs_passed<N: Network, D: Distance>(
     network: &N,
     block: &Block,
-    number: u32,
-    marks: &mut NodeTable<Mark>,
+    marks: &mut NodeTable<Mark<D>>,
 ) -> Result<(), (Where, Reason)>
     requires lawful { (nodes : ℕ) × IsBlock nodes block.now }
-    requires number { 1 ≤ number }
-    requires marked { IsMarked number block.now marks.old }
-    requires sound { AreMadeAlone (N.list network.now) block.now marks.old }
-    ensures marked { IsMarked number block.now marks.new }
-    ensures tests { Tells (distance_rows (N.list network.now) block.now) result }
-{
-    let labels = block.labels();
-    let mut count = 0usize;
-    for i in 0..network.arcs() {
-        match pass_clear(network.arc(i), number, marks) {
-            Some(made) => count += usize::from(made),
-            None => return others_passed(network, block, i, number, count, marks),
-        }
-    }
-    if count < labels.len() {
-        return labels_made(labels, marks);
-    }
-    Ok(())
-}
-
-/// The same from the first arc on of which the marks leave a doubt, after so many labels were counted.
-#[inline(never)]
-fn others_passed<N: Network>(
-    network: &N,
-    block: &Block,
-    from: u32,
-    number: u32,
-    counted: usize,
-    marks: &mut NodeTable<Mark>,
-) -> Result<(), (Where, Reason)>
-    requires lawful { (nodes : ℕ) × IsBlock nodes block.now }
-    requires number { 1 ≤ number }
-    requires passed { ArePassedBelow (N.list network.now) block.now number from counted marks.old }
-    ensures marked { IsMarked number block.now marks.new }
+    requires marked { IsMarked D.value (N.list network.now) block.now marks.old }
+    ensures marked { IsMarked D.value (N.list network.now) block.now marks.new }
     ensures tests { Tells (distance_rows (N.list network.now) block.now) result }
 {
     let radius = block.radius();
     let labels = block.labels();
-    let mut count = counted;
-    for i in from..network.arcs() {
-        match pass_arc(network.arc(i), radius, number, labels, marks) {
+    let mut count = 0usize;
+    for i in 0..network.arcs() {
+        match pass_arc(network.arc(i), radius, marks) {
             Ok(made) => count += usize::from(made),
             Err(reason) => {
-                rest_passed(network, block, i + 1, number, marks);
+                rest_passed(network, block, i + 1, marks);
                 return labels_made(labels, marks).and(Err((Where::Arc(i + 1), reason)));
             }
         }
@@ -260,136 +292,103 @@ fn others_passed<N: Network>(
 /// Marks the labels that the arcs from this one on make, after an arc that fails.
 #[cold]
 #[inline(never)]
-fn rest_passed<N: Network>(
+fn rest_passed<N: Network, D: Distance>(
     network: &N,
     block: &Block,
     from: u32,
-    number: u32,
-    marks: &mut NodeTable<Mark>,
+    marks: &mut NodeTable<Mark<D>>,
 )
     requires lawful { (nodes : ℕ) × IsBlock nodes block.now }
-    requires number { 1 ≤ number }
-    requires marked { IsMarked number block.now marks.old }
-    requires sound { AreMadeAlone (N.list network.now) block.now marks.old }
-    requires made { AreMadeBelow (N.list network.now) block.now from marks.old }
-    ensures marked { IsMarked number block.now marks.new }
-    ensures made { AreMade (N.list network.now) block.now marks.new }
+    requires marked { IsMarked D.value (N.list network.now) block.now marks.old }
+    requires made { AreMadeBelow (N.list network.now) block.now from (known D.value marks.old) }
+    ensures marked { IsMarked D.value (N.list network.now) block.now marks.new }
+    ensures made { AreMade (N.list network.now) block.now (known D.value marks.new) }
 {
     let radius = block.radius();
-    let labels = block.labels();
     for i in from..network.arcs() {
-        let _passed = pass_arc(network.arc(i), radius, number, labels, marks);
+        let _passed = pass_arc(network.arc(i), radius, marks);
     }
 }
 
-/// Marks the head where the arc makes its label. Tells whether it did, as no arc before it.
+/// Marks the head where the arc makes its label. Tells whether it did, as no arc before it, or why the arc fails.
 #[inline(always)]
-pub(crate) fn pass_arc(
+pub(crate) fn pass_arc<D: Distance>(
     arc: ArcView,
     radius: Option<i128>,
-    number: u32,
-    labels: &LabelList,
-    marks: &mut NodeTable<Mark>,
+    marks: &mut NodeTable<Mark<D>>,
 ) -> Result<bool, Reason>
-    requires blank { (blank_of marks.old).block < number }
-    requires wide { AreWide labels.now number marks.old }
-    ensures told { TellsReason (RelaxFails radius (marked_dist labels.now number (value_of marks.old arc.tail))
-        (marked_dist labels.now number (value_of marks.old arc.head)) arc.cost) (result_err result) }
-    ensures marks { MarksArc labels.now number arc marks.old marks.new }
-    ensures made { IfOk result (λ made. IsTrue made → IsTight labels.now number arc marks.old) }
+    requires blank { IsBlank D.value marks.old }
+    requires wide { AreWide (known D.value marks.old) }
+    ensures told { TellsReason (RelaxFails radius (known D.value marks.old arc.tail).dist (known D.value marks.old arc.head).dist arc.cost) (result_err result) }
+    ensures marks { MarksArc arc (known D.value marks.old) (known D.value marks.new) }
+    ensures made { IfOk result (λ made. IsTrue made → IsTight arc (known D.value marks.old)) }
+    ensures blank { IsBlank D.value marks.new }
 {
-    match pass_clear(arc, number, marks) {
-        Some(made) => Ok(made),
-        None => pass_doubtful(arc, radius, number, labels, marks),
+    let passed = mark_arc(arc, marks);
+    // The one branch, which is foretold rightly as long as the labels hold.
+    if passed.is_doubtful {
+        if let Some(reason) = arc_fault(arc, radius, marks) {
+            return Err(reason);
+        }
     }
+    Ok(passed.made)
 }
 
-/// The same where the marks of the arc's ends leave no doubt that it holds; else does nothing.
+/// What one arc told.
+#[derive(Clone, Copy)]
+struct Passed {
+    /// The tail has a label, and the head has none or a greater one than that of the tail and the weight.
+    is_doubtful: bool,
+    /// The arc makes the head's label, as none before it.
+    made: bool,
+}
+
+/// Marks the head where the arc makes its label.
 #[inline(always)]
-fn pass_clear(arc: ArcView, number: u32, marks: &mut NodeTable<Mark>) -> Option<bool>
-    ensures unchanged { IfNone result (marks.new ≡ marks.old) }
-    ensures passed { IfSome result (λ made. (labels : List Label) → PassesArc labels number arc made marks.old marks.new) }
+fn mark_arc<D: Distance>(arc: ArcView, marks: &mut NodeTable<Mark<D>>) -> Passed
+    requires blank { IsBlank D.value marks.old }
+    ensures doubtful { IsTrue result.is_doubtful ↔ LeadsAside (known D.value marks.old arc.tail).dist (known D.value marks.old arc.head).dist arc.cost }
+    ensures made { IsTrue result.made ↔ IsTight arc (known D.value marks.old) }
+    ensures marks { MarksArc arc (known D.value marks.old) (known D.value marks.new) }
+    ensures blank { IsBlank D.value marks.new }
 {
-    let from = marks.get(arc.tail);
-    let to = marks.get_placed(arc.head)?;
-    // One branch, which is foretold rightly as long as the labels hold.
-    if from.is_doubtful(arc, to, number) {
-        return None;
-    }
-    let made = from.makes(arc, to, number);
-    marks.put(arc.head, to.made_if(made));
-    Some(made)
-}
-
-/// The same, whatever the marks say.
-#[cold]
-#[inline(never)]
-fn pass_doubtful(
-    arc: ArcView,
-    radius: Option<i128>,
-    number: u32,
-    labels: &LabelList,
-    marks: &mut NodeTable<Mark>,
-) -> Result<bool, Reason>
-    requires blank { (blank_of marks.old).block < number }
-    requires wide { AreWide labels.now number marks.old }
-    ensures told { TellsReason (RelaxFails radius (marked_dist labels.now number (value_of marks.old arc.tail))
-        (marked_dist labels.now number (value_of marks.old arc.head)) arc.cost) (result_err result) }
-    ensures marks { MarksArc labels.now number arc marks.old marks.new }
-    ensures made { IfOk result (λ made. IsTrue made → IsTight labels.now number arc marks.old) }
-{
-    let Some(from) = distance_by(marks.get(arc.tail), number, labels) else {
-        return Ok(false);
-    };
-    let Some(head) = mark_by(marks, arc.head, number) else {
-        return match escape_fault(radius, from, arc.cost) {
-            Some(reason) => Err(reason),
-            None => Ok(false),
+    let from = marks.get(arc.tail).dist;
+    let Some(head) = marks.get_placed(arc.head) else {
+        return Passed {
+            is_doubtful: from.is_some(),
+            made: false,
         };
     };
-    let to = head.dist(labels);
-    if is_beyond(to, from, arc.cost) {
-        return Err(Reason::NotShortest);
-    }
-    let made = leads_to(arc, from, to, head);
+    let made = leads_to(from, head.dist, arc.cost) & head.waits_for(arc.tail);
     marks.put(arc.head, head.made_if(made));
-    Ok(made)
-}
-
-/// Whether the arc leads from the one distance to the other, and from the predecessor, as none before it.
-fn leads_to(arc: ArcView, from: i128, to: i128, head: Mark) -> bool
-    requires { IsWide from }
-    ensures { IsTrue result ↔ (((from +ℤ arc.cost) ≡ to) × (head.pred ≡ arc.tail) × (is_made head ≡ false)) }
-{
-    from + i128::from(arc.cost) == to && head.waits_for(arc.tail)
-}
-
-/// The mark of a node, where it is that of the block of this number.
-fn mark_by(marks: &NodeTable<Mark>, node: u32, number: u32) -> Option<Mark>
-    requires { (blank_of marks.now).block < number }
-    ensures none { IfNone result ((value_of marks.now node).block ≢ number) }
-    ensures mark { IfSome result (λ mark. (mark ≡ value_of marks.now node) × (mark.block ≡ number) × HasPlace marks.now node) }
-{
-    match marks.get_placed(node) {
-        Some(mark) if mark.block == number => Some(mark),
-        _ => None,
+    Passed {
+        is_doubtful: leads_aside(from, head.dist, arc.cost),
+        made,
     }
 }
 
-/// What the block of this number and these labels says of a node by its mark.
-fn distance_by(mark: Mark, number: u32, labels: &LabelList) -> Option<i128>
-    ensures { result ≡ marked_dist labels.now number mark }
+/// Why the arc fails, if it does.
+#[cold]
+#[inline(never)]
+fn arc_fault<D: Distance>(
+    arc: ArcView,
+    radius: Option<i128>,
+    marks: &NodeTable<Mark<D>>,
+) -> Option<Reason>
+    requires { AreWide (known D.value marks.now) }
+    ensures { TellsReason (RelaxFails radius (known D.value marks.now arc.tail).dist (known D.value marks.now arc.head).dist arc.cost) result }
 {
-    if mark.block == number {
-        Some(mark.dist(labels))
-    } else {
-        None
-    }
+    let from = distance_in(marks.get(arc.tail).dist)?;
+    let to = distance_in(marks.get(arc.head).dist);
+    relax_fault_from(from, to, radius, arc.cost)
 }
 
 /// The first label that no arc makes, by the marks.
-fn labels_made(labels: &LabelList, marks: &NodeTable<Mark>) -> Result<(), (Where, Reason)>
-    ensures { (arcs : List ArcView) (b : BlockValue) → b.labels ≡ labels.now → AreMade arcs b marks.now → TellsRow (support_row arcs b) result }
+fn labels_made<D: Distance>(
+    labels: &LabelList,
+    marks: &NodeTable<Mark<D>>,
+) -> Result<(), (Where, Reason)>
+    ensures { (arcs : List ArcView) (b : BlockValue) → b.labels ≡ labels.now → AreMade arcs b (known D.value marks.now) → TellsRow (support_row arcs b) result }
 {
     for i in 0..labels.len() {
         let id = labels.at(i).id;

@@ -3,7 +3,6 @@ use Rattle.std.specs.Int.{w64, w128}
 use Rattle.std.specs.Result.{result_err}
 use Rattle.std.proofs.lemmas.Int.{to_z-of_z}
 use Rattle.std.proofs.lemmas.Option.{get_or_from_slice_get}
-use Rattle.dimacs_nodes.specs.Tables.{value_of}
 use Rattle.dimacs_records.specs.Ranges.{IsWide}
 use Rattle.dimacs_instance.specs.declared.network.ArcView.{ArcView}
 use Rattle.dimacs_instance.specs.declared.links.Side.TheVariants.{Tail}
@@ -11,11 +10,11 @@ use Rattle.dimacs_instance.specs.Links.{IsLast}
 use Rattle.dimacs_claims.specs.Labels.{IsNear}
 use Rattle.dimacs_judge.specs.CertificateTests.{RelaxFails}
 use Rattle.dimacs_judge.specs.inside.Leaving.{IsPassed, WeightsFall, arcs_in}
-use Rattle.dimacs_judge.specs.inside.Marks.{marked_dist}
+use Rattle.dimacs_judge.specs.inside.Marks.{known}
 use Rattle.dimacs_judge.specs.Rows.{arc_at, no_arc}
 use Rattle.dimacs_judge.specs.inside.Tests.{TellsReason}
 use Rattle.dimacs_judge.proofs.LeavingLemmas.{ArePassedOn, at_place, no_reason, node_beyond, node_done, node_more, passed_still, passed_this}
-use Rattle.dimacs_judge.proofs.MarkLemmas.{alone_after, label_wide, marked_after, marked_wide}
+use Rattle.dimacs_judge.proofs.MarkLemmas.{known_after, known_wide, label_wide}
 use Rattle.dimacs_judge.proofs.leaving.node_passed.Goals as goal
 
 pub loop-next-init : goal.loop-next-init
@@ -25,11 +24,10 @@ loop-next-init g c =
     subst (IsLast Tail chosen (length c.args.least.now.order.items) c.args.node) (sym c.last-next.ensures) (c.requires.least.linked.last_at c.args.node) in
     record {
       marked = c.requires.marked;
-      sound = c.requires.sound;
       kept = λ a is. is;
       within = last.within;
       found = last.found;
-      passed = λ p after there here. absurd {A = IsPassed c.args.block.now c.args.marks.now (arc_at chosen p)} (last.none_after p after there here);
+      passed = λ p after there here. absurd {A = IsPassed c.args.block.now (known g.D.Distance.value c.args.marks.now) (arc_at chosen p)} (last.none_after p after there here);
     }
 
 pub leads_past-requires : goal.leads_past-requires
@@ -41,10 +39,9 @@ pub returns-then-leads_past-clause-passed : goal.returns-then-leads_past-clause-
 returns-then-leads_past-clause-passed g c = λ yes.
     let arcs = g.N.Network.list c.args.network.now in
     let order = c.args.least.now.order.items in
-    let number = c.args.number in
     let b = c.args.block.now in
     let is = c.loop-next.invariant in
-    let marks = c.loop-next.marks in
+    let at = known g.D.Distance.value c.loop-next.marks in
     let node = c.args.node in
     let place = c.loop-next.next - 1 in
     let a = c.arc-arc.result in
@@ -56,34 +53,38 @@ returns-then-leads_past-clause-passed g c = λ yes.
     let far : ¬ IsNear c.radius-radius.result (c.args.from +ℤ a.cost) = rw (to_z-of_z w128 c.args.from c.ranges.from, to_z-of_z w64 a.cost cost) at (c.leads_past.ensures c.if-leads_past.true) in
     let beyond : ¬ IsNear b.radius (c.args.from +ℤ (arc_at (arcs_in arcs order) place).cost) =
     subst (λ (z : ℤ). ¬ IsNear b.radius (c.args.from +ℤ z)) (ap (λ (c : ArcView). c.cost) (sym same)) (subst (λ (radius : Option ℤ). ¬ IsNear radius (c.args.from +ℤ a.cost)) c.radius-radius.ensures far) in
-    let on : ArePassedOn arcs order number b marks node (place + 1) = subst (ArePassedOn arcs order number b marks node) next_is is.passed in
-    node_done arcs order number b marks node is.marked c.requires.least.covering (node_beyond arcs order number b marks node c.requires.lawful.0 c.args.from place c.requires.lawful.1 is.marked c.requires.label fall inside beyond on)
+    let on : ArePassedOn arcs order b at node (place + 1) = subst (ArePassedOn arcs order b at node) next_is is.passed in
+    node_done arcs order b at node is.marked.known c.requires.least.covering (node_beyond arcs order b at node c.requires.lawful.0 c.args.from place c.requires.lawful.1 is.marked.known c.requires.label fall inside beyond on)
+
+pub pass_arc-requires-clause-blank : goal.pass_arc-requires-clause-blank
+pass_arc-requires-clause-blank g c = c.loop-next.invariant.marked.blank
 
 pub pass_arc-requires-clause-wide : goal.pass_arc-requires-clause-wide
-pass_arc-requires-clause-wide g c = rw c.labels-labels.ensures (marked_wide c.args.number c.requires.lawful.0 c.args.block.now c.loop-next.marks c.requires.lawful.1 c.loop-next.invariant.marked)
+pass_arc-requires-clause-wide g c = known_wide c.requires.lawful.0 (g.N.Network.list c.args.network.now) c.args.block.now (known g.D.Distance.value c.loop-next.marks) c.requires.lawful.1 c.loop-next.invariant.marked.known
 
 pub returns-then-is_err-clause-marked : goal.returns-then-is_err-clause-marked
-returns-then-is_err-clause-marked g c = marked_after c.args.number c.arc-arc.result c.loop-next.marks c.pass_arc.new.marks c.args.block.now (rw c.labels-labels.ensures at c.pass_arc.ensures.marks) c.loop-next.invariant.marked
-
-pub returns-then-is_err-clause-sound : goal.returns-then-is_err-clause-sound
-returns-then-is_err-clause-sound g c =
-    let is = c.loop-next.invariant in
-    alone_after c.args.number c.arc-arc.result c.loop-next.marks c.pass_arc.new.marks c.args.block.now (rw c.labels-labels.ensures at c.pass_arc.ensures.marks) (g.N.Network.list c.args.network.now) c.arc_at.result c.arc-arc.ensures is.marked is.sound
+returns-then-is_err-clause-marked g c =
+    let value = g.D.Distance.value in
+    record {
+      blank = c.pass_arc.ensures.blank;
+      known = known_after c.arc-arc.result (known value c.loop-next.marks) (known value c.pass_arc.new.marks) c.args.block.now c.pass_arc.ensures.marks (g.N.Network.list c.args.network.now) c.loop-next.invariant.marked.known c.arc_at.result c.arc-arc.ensures;
+    }
 
 pub returns-then-is_err-clause-kept : goal.returns-then-is_err-clause-kept
-returns-then-is_err-clause-kept g c = λ a passed. passed_still c.args.number c.arc-arc.result c.loop-next.marks c.pass_arc.new.marks c.args.block.now (rw c.labels-labels.ensures at c.pass_arc.ensures.marks) a (c.loop-next.invariant.kept a passed)
+returns-then-is_err-clause-kept g c = λ a passed.
+    let value = g.D.Distance.value in
+    passed_still c.arc-arc.result (known value c.loop-next.marks) (known value c.pass_arc.new.marks) c.args.block.now c.pass_arc.ensures.marks a (c.loop-next.invariant.kept a passed)
 
 pub loop-next-preserved : goal.loop-next-preserved
 loop-next-preserved g c =
     let arcs = g.N.Network.list c.args.network.now in
     let order = c.args.least.now.order.items in
     let chosen = arcs_in arcs order in
-    let number = c.args.number in
     let b = c.args.block.now in
     let is = c.loop-next.invariant in
-    let old = c.loop-next.marks in
-    let new = c.pass_arc.new.marks in
-    let passes = rw c.labels-labels.ensures at c.pass_arc.ensures.marks in
+    let old = known g.D.Distance.value c.loop-next.marks in
+    let new = known g.D.Distance.value c.pass_arc.new.marks in
+    let passes = c.pass_arc.ensures.marks in
     let node = c.args.node in
     let place = c.loop-next.next - 1 in
     let i = c.arc_at.result in
@@ -93,16 +94,15 @@ loop-next-preserved g c =
     let same : arc_at chosen place ≡ a = at_place arcs order place inside ∙ (ap (arc_at arcs) (sym c.arc_at.ensures) ∙ get_or_from_slice_get arcs i a no_arc c.arc-arc.ensures) in
     let here : (arc_at chosen place).tail ≡ node = is.found c.loop-next-test.true in
     let last : IsLast Tail chosen place node c.before-next.result = subst (IsLast Tail chosen place node) (sym c.before-next.ensures) (subst (λ v. IsLast Tail chosen place v (slice_index c.args.least.now.before.items place)) here (c.requires.least.linked.last_before place inside)) in
-    let told = subst (λ (radius : Option ℤ). TellsReason (RelaxFails radius (marked_dist b.labels number (value_of old a.tail)) (marked_dist b.labels number (value_of old a.head)) a.cost) (result_err c.pass_arc.result)) c.radius-radius.ensures (rw c.labels-labels.ensures at c.pass_arc.ensures.told) in
-    let this = passed_this number a old new b passes arcs i c.arc-arc.ensures is.marked (no_reason _ c.pass_arc.result (sym c.is_err.ensures.value ∙ c.if-is_err.false) told) in
-    let on : ArePassedOn arcs order number b old node (place + 1) = subst (ArePassedOn arcs order number b old node) next_is is.passed in
+    let told = subst (λ (radius : Option ℤ). TellsReason (RelaxFails radius (old a.tail).dist (old a.head).dist a.cost) (result_err c.pass_arc.result)) c.radius-radius.ensures c.pass_arc.ensures.told in
+    let this = passed_this a old new b passes arcs i c.arc-arc.ensures is.marked.known (no_reason _ c.pass_arc.result (sym c.is_err.ensures.value ∙ c.if-is_err.false) told) in
+    let on : ArePassedOn arcs order b old node (place + 1) = subst (ArePassedOn arcs order b old node) next_is is.passed in
     record {
-      marked = marked_after number a old new b passes is.marked;
-      sound = alone_after number a old new b passes arcs i c.arc-arc.ensures is.marked is.sound;
-      kept = λ d passed. passed_still number a old new b passes d (is.kept d passed);
+      marked = record { blank = c.pass_arc.ensures.blank; known = known_after a old new b passes arcs is.marked.known i c.arc-arc.ensures };
+      kept = λ d passed. passed_still a old new b passes d (is.kept d passed);
       within = omega (arith, last.within, inside);
       found = last.found;
-      passed = node_more arcs order number b new node place c.before-next.result last (subst (IsPassed b new) (sym same) this) (λ p after there at. passed_still number a old new b passes (arc_at chosen p) (on p after there at));
+      passed = node_more arcs order b new node place c.before-next.result last (subst (IsPassed b new) (sym same) this) (λ p after there at. passed_still a old new b passes (arc_at chosen p) (on p after there at));
     }
 
 pub returns-clause-passed : goal.returns-clause-passed
@@ -111,4 +111,5 @@ returns-clause-passed g c = λ yes.
     let order = c.args.least.now.order.items in
     let is = c.loop-next.invariant in
     let none : c.loop-next.next ≡ 0 = omega (arith, c.loop-next-test.false) in
-    node_done arcs order c.args.number c.args.block.now c.loop-next.marks c.args.node is.marked c.requires.least.covering (subst (ArePassedOn arcs order c.args.number c.args.block.now c.loop-next.marks c.args.node) none is.passed)
+    let at = known g.D.Distance.value c.loop-next.marks in
+    node_done arcs order c.args.block.now at c.args.node is.marked.known c.requires.least.covering (subst (ArePassedOn arcs order c.args.block.now at c.args.node) none is.passed)

@@ -1,7 +1,7 @@
 use Rattle.std.proofs.Common.{◌≡◌, ◌<◌, ◌≤◌, ◌-◌, length}
 use Rattle.dimacs_instance.specs.declared.network.ArcView.{ArcView}
 use Rattle.dimacs_judge.specs.inside.Leaving.{IsPassed, arcs_in}
-use Rattle.dimacs_judge.specs.inside.Marks.{AreMadeAlone, IsMarked}
+use Rattle.dimacs_judge.specs.inside.Marks.{IsMarked, known}
 use Rattle.dimacs_judge.specs.Rows.{arc_at}
 use Rattle.dimacs_judge.proofs.LeavingLemmas.{ArePassedOn}
 use Rattle.dimacs_judge.proofs.leaving.node_passed.Given as goal
@@ -9,12 +9,11 @@ use Rattle.dimacs_judge.proofs.leaving.node_passed.Given as goal
 -- the arcs of the node from `next` on are passed
 abbrev pub invariant-loop-next : goal.invariant-loop-next
 invariant-loop-next g l = record {
-  marked : IsMarked l.number l.block l.marks;
-  sound : AreMadeAlone (g.N.Network.list l.network) l.block l.marks;
-  kept : (a : ArcView) → IsPassed l.block l.fn.marks a → IsPassed l.block l.marks a;
+  marked : IsMarked g.D.Distance.value (g.N.Network.list l.network) l.block l.marks;
+  kept : (a : ArcView) → IsPassed l.block (known g.D.Distance.value l.fn.marks) a → IsPassed l.block (known g.D.Distance.value l.marks) a;
   within : l.next ≤ length l.least.order.items;
   found : 0 < l.next → (arc_at (arcs_in (g.N.Network.list l.network) l.least.order.items) (l.next - 1)).tail ≡ l.node;
-  passed : ArePassedOn (g.N.Network.list l.network) l.least.order.items l.number l.block l.marks l.node l.next;
+  passed : ArePassedOn (g.N.Network.list l.network) l.least.order.items l.block (known g.D.Distance.value l.marks) l.node l.next;
 }
 
 abbrev pub decreases-loop-next : goal.decreases-loop-next

@@ -1,9 +1,6 @@
 use Rattle.std.proofs.Common.{refl, sym}
-use Rattle.dimacs_judge.proofs.MarkLemmas.{alone_unmade, labels_told}
+use Rattle.dimacs_judge.proofs.MarkLemmas.{labels_told}
 use Rattle.dimacs_judge.proofs.marks.block_passed.Goals as goal
-
-pub few_passed-requires-clause-sound : goal.few_passed-requires-clause-sound
-few_passed-requires-clause-sound g c = alone_unmade (g.N.Network.list c.args.network.now) c.args.block.now c.args.marks.now c.requires.unmade
 
 pub returns-then-few_passed-clause-tests : goal.returns-then-few_passed-clause-tests
 returns-then-few_passed-clause-tests g c =

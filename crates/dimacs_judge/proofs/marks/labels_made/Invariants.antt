@@ -2,9 +2,9 @@ use Rattle.std.proofs.Common.{◌≡◌, List}
 use Rattle.dimacs_instance.specs.declared.network.ArcView.{ArcView}
 use Rattle.dimacs_claims.specs.Labels.{BlockValue}
 use Rattle.dimacs_judge.specs.CertificateTests.{support_row}
-use Rattle.dimacs_judge.specs.inside.Marks.{AreMade}
+use Rattle.dimacs_judge.specs.inside.Marks.{AreMade, known}
 use Rattle.dimacs_judge.specs.Tests.{ClearBelow}
 use Rattle.dimacs_judge.proofs.marks.labels_made.Given as goal
 
 abbrev pub invariant-loop-i : goal.invariant-loop-i
-invariant-loop-i l = (arcs : List ArcView) (b : BlockValue) → b.labels ≡ l.labels → AreMade arcs b l.marks → ClearBelow (support_row arcs b) l.i
+invariant-loop-i g l = (arcs : List ArcView) (b : BlockValue) → b.labels ≡ l.labels → AreMade arcs b (known g.D.Distance.value l.marks) → ClearBelow (support_row arcs b) l.i

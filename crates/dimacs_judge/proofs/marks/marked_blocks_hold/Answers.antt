@@ -43,7 +43,7 @@ loop-i-preserved g c =
     let distances = subst (λ (d : BlockValue). AllClear (distance_rows arcs d)) b c.in_ok-marked_block_holds.ensures.tests in
     record {
       clear = blocks_more arcs blocks c.loop-i.i inside c.loop-i.invariant.clear (weights, distances);
-      earlier = c.in_ok-marked_block_holds.ensures.earlier;
+      blank = c.in_ok-marked_block_holds.ensures.blank;
       tested = c.in_ok-test_weights_for.ensures.tested;
       least = c.in_ok-link_for.ensures;
     }

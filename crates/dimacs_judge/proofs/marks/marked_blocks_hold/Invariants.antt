@@ -1,7 +1,7 @@
-use Rattle.std.proofs.Common.{◌+◌, IfSome, take}
+use Rattle.std.proofs.Common.{IfSome, take}
 use Rattle.dimacs_judge.specs.CertificateTests.{label_rows}
 use Rattle.dimacs_judge.specs.inside.Leaving.{AreLeast}
-use Rattle.dimacs_judge.specs.inside.Marks.{AreAsTested, AreEarlier}
+use Rattle.dimacs_judge.specs.inside.Marks.{AllBlank, AreAsTested}
 use Rattle.dimacs_judge.specs.Tests.{AllClear}
 use Rattle.dimacs_judge.proofs.marks.marked_blocks_hold.Given as goal
 
@@ -9,7 +9,7 @@ use Rattle.dimacs_judge.proofs.marks.marked_blocks_hold.Given as goal
 abbrev pub invariant-loop-i : goal.invariant-loop-i
 invariant-loop-i g l = record {
   clear : AllClear (label_rows (g.N.Network.list l.network) (take l.i l.labels.blocks));
-  earlier : AreEarlier (l.i + 1) l.marks;
+  blank : AllBlank l.tables;
   tested : AreAsTested (g.N.Network.list l.network) l.weights;
   least : IfSome l.least (AreLeast (g.N.Network.list l.network));
 }

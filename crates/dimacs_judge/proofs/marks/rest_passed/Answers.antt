@@ -1,16 +1,16 @@
-use Rattle.std.proofs.Common.{◌≤◌, ap, arith, length}
-use Rattle.dimacs_judge.specs.declared.mark.Mark.{Mark}
-use Rattle.dimacs_judge.proofs.MarkLemmas.{alone_after, made_after, made_all, marked_after, marked_wide, wide_after}
+use Rattle.std.proofs.Common.{◌≤◌, arith, length}
+use Rattle.dimacs_judge.specs.inside.Marks.{known}
+use Rattle.dimacs_judge.proofs.MarkLemmas.{known_after, known_wide, made_after, made_all}
 use Rattle.dimacs_judge.proofs.marks.rest_passed.Goals as goal
 
 pub loop-i-init : goal.loop-i-init
-loop-i-init g c = record {
-  blank = omega (arith, c.requires.marked.early.blank, c.requires.number);
-  wide = marked_wide c.args.number c.requires.lawful.0 c.args.block.now c.args.marks.now c.requires.lawful.1 c.requires.marked;
-  marked = c.requires.marked;
-  sound = c.requires.sound;
-  made = c.requires.made;
-}
+loop-i-init g c = record { marked = c.requires.marked; made = c.requires.made }
+
+pub pass_arc-passed-requires-clause-blank : goal.pass_arc-passed-requires-clause-blank
+pass_arc-passed-requires-clause-blank g c = c.loop-i.invariant.marked.blank
+
+pub pass_arc-passed-requires-clause-wide : goal.pass_arc-passed-requires-clause-wide
+pass_arc-passed-requires-clause-wide g c = known_wide c.requires.lawful.0 (g.N.Network.list c.args.network.now) c.args.block.now (known g.D.Distance.value c.loop-i.marks) c.requires.lawful.1 c.loop-i.invariant.marked.known
 
 pub loop-i-preserved : goal.loop-i-preserved
 loop-i-preserved g c =
@@ -18,16 +18,13 @@ loop-i-preserved g c =
     let b = c.args.block.now in
     let is = c.loop-i.invariant in
     let a = c.arc.result in
-    let old = c.loop-i.marks in
-    let new = c.pass_arc-passed.new.marks in
-    let passes = rw c.labels-labels.ensures at c.pass_arc-passed.ensures.marks in
-    let number = c.args.number in
+    let value = g.D.Distance.value in
+    let old = known value c.loop-i.marks in
+    let new = known value c.pass_arc-passed.new.marks in
+    let passes = c.pass_arc-passed.ensures.marks in
     record {
-      blank = omega (arith, is.blank, ap (λ (m : Mark). m.block) passes.blank);
-      wide = wide_after number a old new b passes is.wide;
-      marked = marked_after number a old new b passes is.marked;
-      sound = alone_after number a old new b passes arcs c.loop-i.i c.arc.ensures is.marked is.sound;
-      made = made_after number a old new b passes arcs c.loop-i.i c.arc.ensures is.marked is.made;
+      marked = record { blank = c.pass_arc-passed.ensures.blank; known = known_after a old new b passes arcs is.marked.known c.loop-i.i c.arc.ensures };
+      made = made_after a old new b passes arcs is.marked.known c.loop-i.i c.arc.ensures is.made;
     }
 
 pub returns-clause-marked : goal.returns-clause-marked
@@ -37,4 +34,5 @@ pub returns-clause-made : goal.returns-clause-made
 returns-clause-made g c =
     let arcs = g.N.Network.list c.args.network.now in
     let all : length arcs ≤ c.loop-i.i = omega (arith, c.loop-i-test.false, c.arcs-i-end.ensures) in
-    made_all arcs c.args.block.now c.loop-i.marks c.loop-i.invariant.sound (λ k inside. c.loop-i.invariant.made k (omega (arith, inside, all)))
+    let is = c.loop-i.invariant in
+    made_all arcs c.args.block.now (known g.D.Distance.value c.loop-i.marks) is.marked.known.sound (λ k inside. is.made k (omega (arith, inside, all)))

@@ -1,5 +1,5 @@
 use Rattle.std.proofs.lemmas.Result.{err_from_is_err_and}
-use Rattle.dimacs_judge.proofs.marks.marked_block_holds.Goals as goal
+use Rattle.dimacs_judge.proofs.marks.block_holds_by.Goals as goal
 
 pub returns-in_err-block_passed-clause-tests : goal.returns-in_err-block_passed-clause-tests
 returns-in_err-block_passed-clause-tests g c =
