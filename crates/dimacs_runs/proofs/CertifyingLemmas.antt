@@ -33,7 +33,7 @@ use Rattle.dimacs_runs.specs.declared.produced.Produced.{Produced}
 use Rattle.dimacs_runs.specs.declared.told.Told.TheVariants as told
 use Rattle.dimacs_runs.specs.declared.texts_in_turn.Unread.{Unread}
 use Rattle.dimacs_runs.specs.Certified.{CertificateOr, CertifiesLeast, CertifiesMaximum, SaysCheaper, SaysCut, SaysGreater, SaysPotentials, uncertified, value_refused}
-use Rattle.dimacs_runs.specs.Judgings.{TextSays}
+use Rattle.dimacs_runs.specs.Runs.{TextSays}
 use Rattle.dimacs_runs.specs.Outputs.{AcceptAll, AcceptInTurn, ReportsAll, TellsAlike, report_of}
 use Rattle.dimacs_runs.specs.Refusals.{refusal_line}
 use Rattle.dimacs_runs.specs.Solved.{FaultAloneOr}

@@ -22,7 +22,8 @@ use Rattle.dimacs_runs.specs.declared.outcome.Status.TheVariants.{Done, Refused,
 use Rattle.dimacs_runs.specs.declared.outcome.RunError.{RunError}
 use Rattle.dimacs_runs.specs.declared.told.Told.{Told}
 use Rattle.dimacs_runs.specs.declared.texts_in_turn.Unread.{Unread}
-use Rattle.dimacs_runs.specs.Judgings.{TextSays, FaultOr, VerdictOr}
+use Rattle.dimacs_runs.specs.Judgings.{FaultOr, VerdictOr}
+use Rattle.dimacs_runs.specs.Runs.{TextSays}
 use Rattle.dimacs_runs.specs.inside.Judgings.{ReadsIn, StopsAt, answer_told, error_told}
 use Rattle.dimacs_runs.specs.Refusals.{refusal_line}
 use Rattle.dimacs_runs.specs.Runs.{TellsAlone, Reports}

@@ -15,6 +15,7 @@ use Rattle.dimacs_runs.specs.declared.outcome.Status.TheVariants.{Done, Refused,
 use Rattle.dimacs_runs.specs.declared.outcome.RunError.{RunError}
 use Rattle.dimacs_runs.specs.Refusals.{refusal_line}
 use Rattle.dimacs_runs.specs.Runs.{TellsText, TellsAlone, Reports, text_word}
+use Rattle.dimacs_runs.specs.inside.Judgings.{text_says}
 use Rattle.dimacs_runs.specs.inside.Runs.{done_after, EndsWith}
 
 module _ {V : Type 0} (kind : TextKind) (spells : List ℕ → V → Type 0) (told : V → List ℕ) (bytes : List ℕ) where
@@ -25,7 +26,7 @@ module _ {V : Type 0} (kind : TextKind) (spells : List ℕ → V → Type 0) (to
   text = text_word kind
 
   abbrev tells : Status → List ℕ → Type 0
-  tells = TellsText kind spells told bytes
+  tells = TellsText (text_says kind spells bytes) told
 
   value_told : (v : V) → Reads (spells bytes) fault (Ok v) → TellsAlone tells Done (told v)
   value_told v read = ((v, read.0, refl), alone)

@@ -33,7 +33,8 @@ use Rattle.dimacs_runs.specs.declared.outcome.RunError.{RunError}
 use Rattle.dimacs_runs.specs.declared.outcome.RunError.TheVariants.{Device, Memory}
 use Rattle.dimacs_runs.specs.declared.produced.Produced.{Produced}
 use Rattle.dimacs_runs.specs.declared.texts_in_turn.Unread.{Unread}
-use Rattle.dimacs_runs.specs.Judgings.{CountsDevices, TextSays}
+use Rattle.dimacs_runs.specs.Judgings.{CountsDevices}
+use Rattle.dimacs_runs.specs.Runs.{TextSays}
 use Rattle.dimacs_runs.specs.inside.Judgings.{ReadsIn, StopsAt, error_told}
 use Rattle.dimacs_runs.specs.Outputs.{MayTell, ReportsAll}
 use Rattle.dimacs_runs.specs.inside.Produced.{EndsProducing, MayProduce, least_produced, maximum_produced, produced_texts, refused, reported}

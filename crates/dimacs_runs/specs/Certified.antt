@@ -6,11 +6,11 @@ use Rattle.dimacs_records.specs.declared.reasons.Reason.{Reason}
 use Rattle.dimacs_records.specs.declared.reasons.Reason.TheVariants.{NotLeast, NotMaximum}
 use Rattle.dimacs_claims.specs.Cuts.{CutValue, canonical_cut}
 use Rattle.dimacs_claims.specs.Potentials.{PotentialsValue, canonical_potentials}
-use Rattle.dimacs_claims.specs.SolutionTexts.{SolutionValue, SpellsSolution, canonical_solution}
+use Rattle.dimacs_claims.specs.SolutionTexts.{SolutionValue, GivesSolution, canonical_solution}
 use Rattle.dimacs_instance.specs.MaxFlows.{MaxValue}
-use Rattle.dimacs_instance.specs.MaxTexts.{SpellsMax}
+use Rattle.dimacs_instance.specs.MaxTexts.{GivesMax}
 use Rattle.dimacs_instance.specs.MinFlows.{MinValue}
-use Rattle.dimacs_instance.specs.MinTexts.{SpellsMin}
+use Rattle.dimacs_instance.specs.MinTexts.{GivesMin}
 use Rattle.dimacs_judge.specs.declared.verdict.Where.{Where}
 use Rattle.dimacs_judge.specs.declared.verdict.Where.TheVariants.{Solution}
 use Rattle.dimacs_judge.specs.Entries.{IsMaxSolutionOf, IsMinSolutionOf}
@@ -24,8 +24,8 @@ use Rattle.dimacs_runs.specs.declared.jobs.CertifyKind.{CertifyKind}
 use Rattle.dimacs_runs.specs.declared.jobs.CertifyKind.TheVariants.{Max, Min}
 use Rattle.dimacs_runs.specs.declared.outcome.Status.{Status}
 use Rattle.dimacs_runs.specs.declared.outcome.Status.TheVariants.{Done, Refused, GaveUp}
-use Rattle.dimacs_runs.specs.Judgings.{says}
 use Rattle.dimacs_runs.specs.Solved.{FaultAloneOr}
+use Rattle.dimacs_runs.specs.Runs.{says}
 use Rattle.dimacs_runs.specs.Verdicts.{failure_line, max_line, min_line}
 
 -- a report, without a certificate
@@ -72,12 +72,12 @@ CertifiesLeast i s = CertificateOr (SaysPotentials i s) (min_line s.value) (min_
 -- what is told of an instance and of a claimed flow
 abbrev pub Certified : CertifyKind → List ℕ → List ℕ → Status → List (List ℕ) → Type 0
 Certified Max instance solution =
-    FaultAloneOr uncertified (says kinds.Max SpellsMax instance) (λ i.
-    FaultAloneOr uncertified (says kinds.Solution SpellsSolution solution) (λ s.
+    FaultAloneOr uncertified (says kinds.Max GivesMax instance) (λ i.
+    FaultAloneOr uncertified (says kinds.Solution GivesSolution solution) (λ s.
     CertifiesMaximum i s))
 Certified Min instance solution =
-    FaultAloneOr uncertified (says kinds.Min SpellsMin instance) (λ i.
-    FaultAloneOr uncertified (says kinds.Solution SpellsSolution solution) (λ s.
+    FaultAloneOr uncertified (says kinds.Min GivesMin instance) (λ i.
+    FaultAloneOr uncertified (says kinds.Solution GivesSolution solution) (λ s.
     CertifiesLeast i s))
 
 abbrev pub certified_kind : CertifyKind → TextKind

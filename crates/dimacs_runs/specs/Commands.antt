@@ -56,9 +56,8 @@ reads_first count names = record { opened = take count names; created = drop cou
 
 -- a graph and queries, or an instance alone
 abbrev pub read_count : SolveJob → ℕ
-read_count (solves.Max limit) = 1
-read_count (solves.Min limit) = 1
 read_count solves.Paths = 2
+read_count job = 1
 
 abbrev pub plan_of : Job → Plan
 plan_of (Convert kind file) = reads (file.now ∷ [])

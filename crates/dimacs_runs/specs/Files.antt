@@ -5,7 +5,7 @@ use Rattle.dimacs_lines.specs.Devices.{one_more}
 use Rattle.dimacs_runs.specs.declared.failure.FileCall.{FileCall}
 use Rattle.dimacs_runs.specs.declared.failure.FileCall.TheVariants as calls
 use Rattle.dimacs_runs.specs.declared.outcome.RunError.{RunError}
-use Rattle.dimacs_runs.specs.declared.outcome.RunError.TheVariants.{Device, Memory}
+use Rattle.dimacs_runs.specs.declared.outcome.RunError.TheVariants.{Device}
 
 -- a file that was closed after it was read, with its faults
 pub record ReadFile : Type 0 where
@@ -45,14 +45,11 @@ closed_written name accepted faults = Wrote (record { name = name; accepted = ac
 
 -- the call that failed, and the name of the file, where a file with faults was closed, or a device refused one
 abbrev pub failures : FileEvent → List (FileCall × List ℕ)
-failures (Opened name) = []
 failures (NotOpened name Device) = (calls.Open, name) ∷ []
-failures (NotOpened name Memory) = []
-failures (Created name) = []
 failures (NotCreated name Device) = (calls.Create, name) ∷ []
-failures (NotCreated name Memory) = []
 failures (Read file) = if file.faults == 0 then [] else (calls.Read, file.name) ∷ []
 failures (Wrote file) = if file.faults == 0 then [] else (calls.Write, file.name) ∷ []
+failures event = []
 
 -- what was done with files, where that is told, and how often one failed: a `u64` that wraps
 pub record FilesSeen : Type 0 where

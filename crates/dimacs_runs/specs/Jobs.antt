@@ -31,10 +31,8 @@ judge_word judges.Paths = codes "judge-paths"
 
 -- an instance, a claim and a certificate; nothing is claimed where no flow is feasible
 abbrev pub file_count : JudgeKind → ℕ
-file_count judges.Max = 3
-file_count judges.Min = 3
 file_count judges.Infeasible = 2
-file_count judges.Paths = 3
+file_count kind = 3
 
 abbrev pub certify_word : CertifyKind → List ℕ
 certify_word certifies.Max = codes "certify-max"

@@ -3,15 +3,15 @@ use Rattle.std.specs.Prelude.{ℕ, ◌≡◌, List, Option, None, Some, IsSome, 
 use Rattle.std.specs.List.{flat_map}
 use Rattle.dimacs_records.specs.declared.kinds.TextKind.{TextKind}
 use Rattle.dimacs_records.specs.declared.kinds.TextKind.TheVariants as kinds
-use Rattle.dimacs_claims.specs.Cuts.{SpellsCut}
-use Rattle.dimacs_claims.specs.LabelTexts.{SpellsLabels}
+use Rattle.dimacs_claims.specs.Cuts.{GivesCut}
+use Rattle.dimacs_claims.specs.LabelTexts.{GivesLabels}
 use Rattle.dimacs_claims.specs.Labels.{BlockValue}
-use Rattle.dimacs_claims.specs.Potentials.{SpellsPotentials}
-use Rattle.dimacs_claims.specs.SolutionTexts.{SpellsSolution}
-use Rattle.dimacs_instance.specs.Graph.{SpellsGraph}
-use Rattle.dimacs_instance.specs.MaxTexts.{SpellsMax}
-use Rattle.dimacs_instance.specs.MinTexts.{SpellsMin}
-use Rattle.dimacs_instance.specs.QueryTexts.{QueriesValue, SpellsQueries, Sources, Pairs}
+use Rattle.dimacs_claims.specs.Potentials.{GivesPotentials}
+use Rattle.dimacs_claims.specs.SolutionTexts.{GivesSolution}
+use Rattle.dimacs_instance.specs.Graph.{GivesGraph}
+use Rattle.dimacs_instance.specs.MaxTexts.{GivesMax}
+use Rattle.dimacs_instance.specs.MinTexts.{GivesMin}
+use Rattle.dimacs_instance.specs.QueryTexts.{QueriesValue, GivesQueries, Sources, Pairs}
 use Rattle.dimacs_judge.specs.Answers.{answer_to}
 use Rattle.dimacs_judge.specs.InfeasibleJudge.{ShowsNoFlow, infeasible_rows}
 use Rattle.dimacs_judge.specs.MaxJudge.{ShowsMaximum, max_rows}
@@ -20,7 +20,8 @@ use Rattle.dimacs_judge.specs.PathsJudge.{ShowsDistances, paths_rows}
 use Rattle.dimacs_runs.specs.declared.jobs.JudgeKind.{JudgeKind}
 use Rattle.dimacs_runs.specs.declared.jobs.JudgeKind.TheVariants.{Max, Min, Infeasible, Paths}
 use Rattle.dimacs_runs.specs.declared.outcome.Status.{Status}
-use Rattle.dimacs_runs.specs.Judgings.{FaultOr, VerdictOr, says}
+use Rattle.dimacs_runs.specs.Judgings.{FaultOr, VerdictOr}
+use Rattle.dimacs_runs.specs.Runs.{says}
 use Rattle.dimacs_runs.specs.Verdicts.{max_line, min_line, infeasible_line, sources_line, answer_line}
 
 -- the number of sources, or the line of each pair
@@ -31,36 +32,34 @@ paths_lines blocks (Pairs pairs) = flat_map answer_line (map (answer_to blocks) 
 -- the report on three texts: a flow with its cut or with potentials, or queries with labels; and on a set of nodes whose supply can't be met, where nothing is claimed
 abbrev pub Judged : JudgeKind → List ℕ → List ℕ → List ℕ → Status → List ℕ → Type 0
 Judged Max instance claim certificate =
-    FaultOr (says kinds.Max SpellsMax instance) (λ i.
-    FaultOr (says kinds.Solution SpellsSolution claim) (λ s.
-    FaultOr (says kinds.Cut SpellsCut certificate) (λ c.
+    FaultOr (says kinds.Max GivesMax instance) (λ i.
+    FaultOr (says kinds.Solution GivesSolution claim) (λ s.
+    FaultOr (says kinds.Cut GivesCut certificate) (λ c.
     VerdictOr (ShowsMaximum i s c) (max_rows i s c) (max_line s.value))))
 Judged Min instance claim certificate =
-    FaultOr (says kinds.Min SpellsMin instance) (λ i.
-    FaultOr (says kinds.Solution SpellsSolution claim) (λ s.
-    FaultOr (says kinds.Potentials SpellsPotentials certificate) (λ p.
+    FaultOr (says kinds.Min GivesMin instance) (λ i.
+    FaultOr (says kinds.Solution GivesSolution claim) (λ s.
+    FaultOr (says kinds.Potentials GivesPotentials certificate) (λ p.
     VerdictOr (ShowsLeast i s p) (min_rows i s p) (min_line s.value))))
 Judged Infeasible instance claim certificate =
-    FaultOr (says kinds.Min SpellsMin instance) (λ i.
-    FaultOr (says kinds.Cut SpellsCut certificate) (λ c.
+    FaultOr (says kinds.Min GivesMin instance) (λ i.
+    FaultOr (says kinds.Cut GivesCut certificate) (λ c.
     VerdictOr (ShowsNoFlow i c) (infeasible_rows i c) infeasible_line))
 Judged Paths instance claim certificate =
-    FaultOr (says kinds.Graph SpellsGraph instance) (λ g.
-    FaultOr (says kinds.Queries SpellsQueries claim) (λ q.
-    FaultOr (says kinds.Labels SpellsLabels certificate) (λ l.
+    FaultOr (says kinds.Graph GivesGraph instance) (λ g.
+    FaultOr (says kinds.Queries GivesQueries claim) (λ q.
+    FaultOr (says kinds.Labels GivesLabels certificate) (λ l.
     VerdictOr (ShowsDistances g q l) (paths_rows g q l) (paths_lines l.blocks q))))
 
 abbrev pub instance_kind : JudgeKind → TextKind
 instance_kind Max = kinds.Max
-instance_kind Min = kinds.Min
-instance_kind Infeasible = kinds.Min
 instance_kind Paths = kinds.Graph
+instance_kind kind = kinds.Min
 
 abbrev pub claim_kind : JudgeKind → Option TextKind
-claim_kind Max = Some kinds.Solution
-claim_kind Min = Some kinds.Solution
 claim_kind Infeasible = None
 claim_kind Paths = Some kinds.Queries
+claim_kind kind = Some kinds.Solution
 
 -- the bytes of the claim, where there is one
 abbrev pub IsClaim : JudgeKind → Option (List ℕ) → List ℕ → Type 0

@@ -1,10 +1,7 @@
 -- What is told of an instance, a claim and a certificate.
 use Rattle.std.specs.Prelude.{ℕ, ◌≡◌, ◌⊎◌, List, [], ◌∷◌, Result, Ok, Err}
 use Rattle.dimacs_lines.specs.Devices.{one_more}
-use Rattle.dimacs_lines.specs.Lines.{lines}
-use Rattle.dimacs_records.specs.declared.kinds.TextKind.{TextKind}
 use Rattle.dimacs_records.specs.declared.reasons.Reason.{Reason}
-use Rattle.dimacs_records.specs.Faults.{Fault}
 use Rattle.dimacs_judge.specs.declared.verdict.Where.{Where}
 use Rattle.dimacs_judge.specs.Tests.{Row, First}
 use Rattle.dimacs_runs.specs.declared.outcome.Status.{Status}
@@ -12,18 +9,8 @@ use Rattle.dimacs_runs.specs.declared.outcome.Status.TheVariants.{Done, Refused,
 use Rattle.dimacs_runs.specs.declared.outcome.RunError.{RunError}
 use Rattle.dimacs_runs.specs.declared.outcome.RunError.TheVariants.{Device, Memory}
 use Rattle.dimacs_runs.specs.Refusals.{refusal_line}
-use Rattle.dimacs_runs.specs.Runs.{text_word}
+use Rattle.dimacs_runs.specs.Runs.{TextSays}
 use Rattle.dimacs_runs.specs.Verdicts.{failure_line}
-
--- a text: its name in refusals, which value it spells, and its fault
-pub record TextSays (V : Type 0) : Type 1 where
-  pub name : List ℕ
-  pub spells : V → Type 0
-  pub fault : ℕ → ℕ → Reason → Type 0
-
--- what the bytes of a text of this kind say
-abbrev pub says : {V : Type 0} → TextKind → (List ℕ → V → Type 0) → List ℕ → TextSays V
-says kind spells bytes = record { name = text_word kind; spells = spells bytes; fault = Fault kind (lines bytes) }
 
 -- the line of the text's fault is told; or the text spells a value, and what follows from it is told
 abbrev pub FaultOr : {V : Type 0} → TextSays V → (V → Status → List ℕ → Type 0) → Status → List ℕ → Type 0

@@ -7,14 +7,16 @@ use Rattle.dimacs_records.specs.declared.kinds.TextKind.{TextKind}
 use Rattle.dimacs_records.specs.declared.kinds.TextKind.TheVariants.{Max, Min, Graph, Queries, Solution, Cut, Potentials, Labels}
 use Rattle.dimacs_records.specs.declared.reasons.Reason.{Reason}
 use Rattle.dimacs_records.specs.Faults.{Fault}
-use Rattle.dimacs_claims.specs.Cuts.{SpellsCut, canonical_cut, shown_cut}
-use Rattle.dimacs_claims.specs.LabelTexts.{SpellsLabels, canonical_labels, shown_labels}
-use Rattle.dimacs_claims.specs.Potentials.{SpellsPotentials, canonical_potentials, shown_potentials}
-use Rattle.dimacs_claims.specs.SolutionTexts.{SpellsSolution, canonical_solution, shown_solution}
-use Rattle.dimacs_instance.specs.Graph.{SpellsGraph, canonical_graph, shown_graph}
-use Rattle.dimacs_instance.specs.MaxTexts.{SpellsMax, canonical_max, shown_max}
-use Rattle.dimacs_instance.specs.MinTexts.{SpellsMin, canonical_min, shown_min}
-use Rattle.dimacs_instance.specs.QueryTexts.{SpellsQueries, canonical_queries, shown_queries}
+use Rattle.dimacs_records.specs.Readings.{LineRecord}
+use Rattle.dimacs_records.specs.Texts.{SpellsValue}
+use Rattle.dimacs_claims.specs.Cuts.{GivesCut, canonical_cut, shown_cut}
+use Rattle.dimacs_claims.specs.LabelTexts.{GivesLabels, canonical_labels, shown_labels}
+use Rattle.dimacs_claims.specs.Potentials.{GivesPotentials, canonical_potentials, shown_potentials}
+use Rattle.dimacs_claims.specs.SolutionTexts.{GivesSolution, canonical_solution, shown_solution}
+use Rattle.dimacs_instance.specs.Graph.{GivesGraph, canonical_graph, shown_graph}
+use Rattle.dimacs_instance.specs.MaxTexts.{GivesMax, canonical_max, shown_max}
+use Rattle.dimacs_instance.specs.MinTexts.{GivesMin, canonical_min, shown_min}
+use Rattle.dimacs_instance.specs.QueryTexts.{GivesQueries, canonical_queries, shown_queries}
 use Rattle.dimacs_runs.specs.declared.outcome.Status.{Status}
 use Rattle.dimacs_runs.specs.declared.outcome.Status.TheVariants.{Done, Refused, GaveUp}
 use Rattle.dimacs_runs.specs.declared.text.TextForm.{TextForm}
@@ -30,11 +32,21 @@ text_word Potentials = codes "certificate"
 text_word Labels = codes "certificate"
 text_word instance = codes "instance"
 
+-- a text: its name in refusals, which value it spells, and its fault
+pub record TextSays (V : Type 0) : Type 1 where
+  pub name : List ℕ
+  pub spells : V → Type 0
+  pub fault : ℕ → ℕ → Reason → Type 0
+
+-- what the bytes of a text of this kind say, whose records give a value
+abbrev pub says : {V : Type 0} → TextKind → (List LineRecord → V → Type 0) → List ℕ → TextSays V
+says kind gives bytes = record { name = text_word kind; spells = SpellsValue kind gives (lines bytes); fault = Fault kind (lines bytes) }
+
 -- of a text that spells a value, that value in other words; of any other, the line of its fault
-abbrev pub TellsText : {V : Type 0} → TextKind → (List ℕ → V → Type 0) → (V → List ℕ) → List ℕ → Status → List ℕ → Type 0
-TellsText kind spells told bytes Done out = (v : _) × spells bytes v × (out ≡ told v)
-TellsText kind spells told bytes Refused out = (l : ℕ) × (f : ℕ) × (r : Reason) × Fault kind (lines bytes) l f r × (out ≡ refusal_line (text_word kind) l f r)
-TellsText kind spells told bytes GaveUp out = ⊥
+abbrev pub TellsText : {V : Type 0} → TextSays V → (V → List ℕ) → Status → List ℕ → Type 0
+TellsText text told Done out = (v : _) × text.spells v × (out ≡ told v)
+TellsText text told Refused out = (l : ℕ) × (f : ℕ) × (r : Reason) × text.fault l f r × (out ≡ refusal_line text.name l f r)
+TellsText text told GaveUp out = ⊥
 
 -- what is told of a value in a form: its canonical text, or the line about it
 abbrev pub in_form : {V : Type 0} → TextForm → (V → List ℕ) → (V → List ℕ) → V → List ℕ
@@ -43,14 +55,14 @@ in_form Summary canonical shown = shown
 
 -- what is told of a text in a form, or the line of its fault
 abbrev pub Told : TextForm → TextKind → List ℕ → Status → List ℕ → Type 0
-Told form Max = TellsText Max SpellsMax (in_form form canonical_max shown_max)
-Told form Min = TellsText Min SpellsMin (in_form form canonical_min shown_min)
-Told form Graph = TellsText Graph SpellsGraph (in_form form canonical_graph shown_graph)
-Told form Queries = TellsText Queries SpellsQueries (in_form form canonical_queries shown_queries)
-Told form Solution = TellsText Solution SpellsSolution (in_form form canonical_solution shown_solution)
-Told form Cut = TellsText Cut SpellsCut (in_form form canonical_cut shown_cut)
-Told form Potentials = TellsText Potentials SpellsPotentials (in_form form canonical_potentials shown_potentials)
-Told form Labels = TellsText Labels SpellsLabels (in_form form canonical_labels shown_labels)
+Told form Max bytes = TellsText (says Max GivesMax bytes) (in_form form canonical_max shown_max)
+Told form Min bytes = TellsText (says Min GivesMin bytes) (in_form form canonical_min shown_min)
+Told form Graph bytes = TellsText (says Graph GivesGraph bytes) (in_form form canonical_graph shown_graph)
+Told form Queries bytes = TellsText (says Queries GivesQueries bytes) (in_form form canonical_queries shown_queries)
+Told form Solution bytes = TellsText (says Solution GivesSolution bytes) (in_form form canonical_solution shown_solution)
+Told form Cut bytes = TellsText (says Cut GivesCut bytes) (in_form form canonical_cut shown_cut)
+Told form Potentials bytes = TellsText (says Potentials GivesPotentials bytes) (in_form form canonical_potentials shown_potentials)
+Told form Labels bytes = TellsText (says Labels GivesLabels bytes) (in_form form canonical_labels shown_labels)
 
 -- this is told, and nothing else
 abbrev pub TellsAlone : (Status → List ℕ → Type 0) → Status → List ℕ → Type 0

@@ -1,5 +1,6 @@
 -- What a producer tells of the bytes of an instance, and of queries: the text of a claim, that of its certificate, and a report. A text that isn't put is empty here.
-use Rattle.std.specs.Prelude.{ℕ, ◌≡◌, ◌<◌, ◌⊎◌, List, [], ◌∷◌, Option, Some, Ok}
+use Rattle.std.specs.Prelude.{ℕ, ◌≡◌, ◌<◌, ◌⊎◌, List, [], ◌∷◌, Option, Some}
+use Rattle.std.specs.List.{All}
 use Rattle.dimacs_records.specs.declared.kinds.TextKind.{TextKind}
 use Rattle.dimacs_records.specs.declared.kinds.TextKind.TheVariants as kinds
 use Rattle.dimacs_records.specs.declared.reasons.Reason.{Reason}
@@ -10,12 +11,12 @@ use Rattle.dimacs_claims.specs.Labels.{LabelsValue}
 use Rattle.dimacs_claims.specs.Potentials.{PotentialsValue, canonical_potentials}
 use Rattle.dimacs_claims.specs.SolutionTexts.{SolutionValue, canonical_solution}
 use Rattle.dimacs_instance.specs.Arcs.{NetworkValue}
-use Rattle.dimacs_instance.specs.Graph.{SpellsGraph}
+use Rattle.dimacs_instance.specs.Graph.{GivesGraph}
 use Rattle.dimacs_instance.specs.MaxFlows.{MaxValue}
-use Rattle.dimacs_instance.specs.MaxTexts.{SpellsMax}
+use Rattle.dimacs_instance.specs.MaxTexts.{GivesMax}
 use Rattle.dimacs_instance.specs.MinFlows.{MinValue}
-use Rattle.dimacs_instance.specs.MinTexts.{SpellsMin}
-use Rattle.dimacs_instance.specs.QueryTexts.{QueriesValue, SpellsQueries}
+use Rattle.dimacs_instance.specs.MinTexts.{GivesMin}
+use Rattle.dimacs_instance.specs.QueryTexts.{QueriesValue, GivesQueries}
 use Rattle.dimacs_judge.specs.declared.verdict.Where.{Where}
 use Rattle.dimacs_judge.specs.declared.verdict.Where.TheVariants.{Arc}
 use Rattle.dimacs_judge.specs.InfeasibleJudge.{ShowsNoFlow}
@@ -23,7 +24,7 @@ use Rattle.dimacs_judge.specs.QueryTests.{query_node_row}
 use Rattle.dimacs_judge.specs.Tests.{Clear, FirstOfRow}
 use Rattle.dimacs_solve.specs.Climbing.{GivesUp}
 use Rattle.dimacs_solve.specs.Descending.{GivesUpMin}
-use Rattle.dimacs_solve.specs.Paths.{IsFirstNegative, SolvesPaths}
+use Rattle.dimacs_solve.specs.Paths.{AreProduced, HasNoNegativeWeight, IsFirstNegative}
 use Rattle.dimacs_solve.specs.SolveMax.{IsOptimal}
 use Rattle.dimacs_solve.specs.SolveMin.{IsLeastAnswer}
 use Rattle.dimacs_runs.specs.declared.jobs.SolveJob.{SolveJob}
@@ -31,8 +32,8 @@ use Rattle.dimacs_runs.specs.declared.jobs.SolveJob.TheVariants.{Max, Min, Paths
 use Rattle.dimacs_runs.specs.declared.outcome.Status.{Status}
 use Rattle.dimacs_runs.specs.declared.outcome.Status.TheVariants.{Done, Refused, GaveUp}
 use Rattle.dimacs_runs.specs.Judged.{paths_lines}
-use Rattle.dimacs_runs.specs.Judgings.{TextSays, says}
 use Rattle.dimacs_runs.specs.Refusals.{refusal_line}
+use Rattle.dimacs_runs.specs.Runs.{TextSays, says}
 use Rattle.dimacs_runs.specs.Verdicts.{failure_line, gave_up_line, infeasible_line, max_line, min_line}
 
 -- a report, with neither claim nor certificate
@@ -63,17 +64,18 @@ RefusesPaths g q place reason = FirstOfRow (query_node_row g.nodes q) place reas
 
 -- labels that are distances, and the verdict on them; or the line of a refusal
 abbrev pub FindsPaths : NetworkValue → QueriesValue → Status → List (List ℕ) → Type 0
-FindsPaths g q Done out = (l : LabelsValue) × SolvesPaths g q (Ok l) × (out ≡ [] ∷ canonical_labels l ∷ paths_lines l.blocks q ∷ [])
+FindsPaths g q Done out =
+    (l : LabelsValue) × (Clear (query_node_row g.nodes q) × All HasNoNegativeWeight g.arcs × AreProduced g q l) × (out ≡ [] ∷ canonical_labels l ∷ paths_lines l.blocks q ∷ [])
 FindsPaths g q Refused out = (place : Where) × (reason : Reason) × RefusesPaths g q place reason × (out ≡ report_alone (failure_line place reason))
 FindsPaths g q GaveUp out = ⊥
 
 -- what is told of an instance, and of queries where paths are asked for
 abbrev pub Solved : SolveJob → List ℕ → List ℕ → Status → List (List ℕ) → Type 0
-Solved (Max limit) instance queries = FaultAloneOr report_alone (says kinds.Max SpellsMax instance) (λ i. FindsMaximum i limit)
-Solved (Min limit) instance queries = FaultAloneOr report_alone (says kinds.Min SpellsMin instance) (λ i. FindsLeast i limit)
+Solved (Max limit) instance queries = FaultAloneOr report_alone (says kinds.Max GivesMax instance) (λ i. FindsMaximum i limit)
+Solved (Min limit) instance queries = FaultAloneOr report_alone (says kinds.Min GivesMin instance) (λ i. FindsLeast i limit)
 Solved Paths instance queries =
-    FaultAloneOr report_alone (says kinds.Graph SpellsGraph instance) (λ g.
-    FaultAloneOr report_alone (says kinds.Queries SpellsQueries queries) (λ q.
+    FaultAloneOr report_alone (says kinds.Graph GivesGraph instance) (λ g.
+    FaultAloneOr report_alone (says kinds.Queries GivesQueries queries) (λ q.
     FindsPaths g q))
 
 -- the bytes of the queries, where there are any

@@ -7,6 +7,7 @@ ghost use Rattle.dimacs_runs.specs.declared.outcome.RunError.TheVariants.{Memory
 ghost use Rattle.dimacs_runs.specs.declared.text.TextForm.TheVariants.{Canonical, Summary};
 ghost use Rattle.dimacs_runs.specs.Judgings.{CountsDevices};
 ghost use Rattle.dimacs_runs.specs.Runs.{Reports, TellsText, Told, in_form};
+ghost use Rattle.dimacs_runs.specs.inside.Judgings.{text_says};
 
 use crate::ending::{done, refuse};
 use crate::outcome::{RunError, Status};
@@ -91,7 +92,7 @@ fn tell<T: Text, S: Source, K: Sink>(
     sink: &mut K,
 ) -> Result<Status, RunError>
     ensures reports { (bytes : List ℕ) → S.coming text.old ≡ Some bytes
-        → Reports (TellsText T.kind T.spells (in_form form T.canonical T.shown) bytes) result (K.accepted sink.old)
+        → Reports (TellsText (text_says T.kind T.spells bytes) (in_form form T.canonical T.shown)) result (K.accepted sink.old)
         (K.accepted sink.new) }
     ensures faults { CountsDevices result (S.faults text.old ∷ K.faults sink.old ∷ []) (S.faults text.new ∷ K.faults sink.new ∷ []) }
     ensures nothing_written { S.faults text.new ≢ S.faults text.old → K.accepted sink.new ≡ K.accepted sink.old }

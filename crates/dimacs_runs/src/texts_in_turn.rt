@@ -6,9 +6,9 @@ ghost use Rattle.dimacs_records.specs.declared.reasons.Reason.{Reason};
 ghost use Rattle.dimacs_records.specs.Faults.{Fault};
 ghost use Rattle.dimacs_records.specs.declared.kinds.TextKind.TheVariants as kinds;
 ghost use Rattle.dimacs_claims.specs.SolutionReading.{IsPlaced, IsPlacedLawful};
-ghost use Rattle.dimacs_claims.specs.SolutionTexts.{SpellsSolution};
-ghost use Rattle.dimacs_runs.specs.Judgings.{says};
-ghost use Rattle.dimacs_runs.specs.inside.Judgings.{CountsUnread, PlacesOne, ReadsOne, ReadsPlaced, ReadsTwo, ReadsThree, error_told};
+ghost use Rattle.dimacs_claims.specs.SolutionTexts.{GivesSolution};
+ghost use Rattle.dimacs_runs.specs.Runs.{says};
+ghost use Rattle.dimacs_runs.specs.inside.Judgings.{CountsUnread, PlacesOne, ReadsOne, ReadsPlaced, ReadsTwo, ReadsThree, error_told, text_says};
 
 use crate::outcome::RunError;
 use crate::refusal::text_name;
@@ -40,7 +40,7 @@ impl Unread {
 
 /// Reads one text.
 pub(crate) fn read<V: Text, P: Source>(alloc: Global, source: &mut P) -> Result<V, Unread>
-    ensures reads { (a : List ℕ) → P.coming source.old ≡ Some a → ReadsOne V.said (says V.kind V.spells a) result }
+    ensures reads { (a : List ℕ) → P.coming source.old ≡ Some a → ReadsOne V.said (text_says V.kind V.spells a) result }
     ensures faults { CountsUnread result (P.faults source.old ∷ []) (P.faults source.new ∷ []) }
     ensures lawful { IfOk result (λ value. V.lawful (V.said value)) }
 {
@@ -60,7 +60,7 @@ pub(crate) fn read_two<V: Text, W: Text, P: Source, Q: Source>(
     second: &mut Q,
 ) -> Result<(V, W), Unread>
     ensures reads { (a b : List ℕ) → P.coming first.old ≡ Some a → Q.coming second.old ≡ Some b
-        → ReadsTwo V.said W.said (says V.kind V.spells a) (says W.kind W.spells b) result }
+        → ReadsTwo V.said W.said (text_says V.kind V.spells a) (text_says W.kind W.spells b) result }
     ensures faults { CountsUnread result (P.faults first.old ∷ Q.faults second.old ∷ []) (P.faults first.new ∷ Q.faults second.new ∷ []) }
     ensures stops_at_first { (a : List ℕ) (l f : ℕ) (r : Reason) → P.coming first.old ≡ Some a → Fault V.kind (lines a) l f r → second.new ≡ second.old }
     ensures lawful { IfOk result (λ values. V.lawful (V.said values.0) × W.lawful (W.said values.1)) }
@@ -79,8 +79,8 @@ pub(crate) fn read_three<V: Text, W: Text, X: Text, P: Source, Q: Source, R: Sou
 ) -> Result<(V, W, X), Unread>
     ensures reads { (a b c : List ℕ) → P.coming first.old ≡ Some a → Q.coming second.old ≡ Some b
         → R.coming third.old ≡ Some c
-        → ReadsThree V.said W.said X.said (says V.kind V.spells a) (says W.kind W.spells b)
-        (says X.kind X.spells c) result }
+        → ReadsThree V.said W.said X.said (text_says V.kind V.spells a) (text_says W.kind W.spells b)
+        (text_says X.kind X.spells c) result }
     ensures faults { CountsUnread result (P.faults first.old ∷ Q.faults second.old ∷ R.faults third.old ∷ [])
         (P.faults first.new ∷ Q.faults second.new ∷ R.faults third.new ∷ []) }
     ensures stops_at_first { (a : List ℕ) (l f : ℕ) (r : Reason) → P.coming first.old ≡ Some a
@@ -104,7 +104,7 @@ pub(crate) fn read_placed<E: Place, W: Text, P: Source, Q: Source>(
     requires empty { E.stands_for place [] }
     ensures reads { (a b : List ℕ) → P.coming first.old ≡ Some a → Q.coming second.old ≡ Some b
         → ReadsPlaced (λ solution placed. IsPlaced placed.value placed.value_line (E.stands_for placed.place) solution)
-        W.said (says kinds.Solution SpellsSolution a) (says W.kind W.spells b) result }
+        W.said (says kinds.Solution GivesSolution a) (text_says W.kind W.spells b) result }
     ensures fixed { IfOk result (λ values. E.fixed values.0.place ≡ E.fixed place) }
     ensures faults { CountsUnread result (P.faults first.old ∷ Q.faults second.old ∷ []) (P.faults first.new ∷ Q.faults second.new ∷ []) }
     ensures stops_at_first { (a : List ℕ) (l f : ℕ) (r : Reason) → P.coming first.old ≡ Some a
@@ -125,7 +125,7 @@ pub(crate) fn place_solution<E: Place, P: Source>(
     requires empty { E.stands_for place [] }
     ensures reads { (a : List ℕ) → P.coming source.old ≡ Some a
         → PlacesOne (λ solution placed. IsPlaced placed.value placed.value_line (E.stands_for placed.place) solution)
-        (says kinds.Solution SpellsSolution a) result }
+        (says kinds.Solution GivesSolution a) result }
     ensures lawful { IfOk result (λ placed. IsPlacedLawful placed.value placed.value_line (E.stands_for placed.place)) }
     ensures fixed { IfOk result (λ placed. E.fixed placed.place ≡ E.fixed place) }
     ensures faults { CountsUnread result (P.faults source.old ∷ []) (P.faults source.new ∷ []) }

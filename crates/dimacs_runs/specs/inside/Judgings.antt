@@ -1,7 +1,10 @@
 -- Inside: what is told of an instance, a claim and a certificate.
 use Rattle.std.specs.Prelude.{ℕ, ◌≡◌, ◌⊎◌, List, Result, Ok, Err}
+use Rattle.dimacs_lines.specs.Lines.{lines}
 use Rattle.dimacs_records.specs.declared.faults.ReadError.{ReadError}
 use Rattle.dimacs_records.specs.declared.faults.ReadError.TheVariants as read_errors
+use Rattle.dimacs_records.specs.declared.kinds.TextKind.{TextKind}
+use Rattle.dimacs_records.specs.Faults.{Fault}
 use Rattle.dimacs_records.specs.Texts.{Reads}
 use Rattle.dimacs_judge.specs.declared.verdict.JudgeError.{JudgeError}
 use Rattle.dimacs_judge.specs.declared.verdict.JudgeError.TheVariants as judge_errors
@@ -11,7 +14,8 @@ use Rattle.dimacs_runs.specs.declared.outcome.RunError.TheVariants.{Device, Memo
 use Rattle.dimacs_runs.specs.declared.told.Told.{Told}
 use Rattle.dimacs_runs.specs.declared.told.Told.TheVariants as told
 use Rattle.dimacs_runs.specs.declared.texts_in_turn.Unread.{Unread}
-use Rattle.dimacs_runs.specs.Judgings.{TextSays, OneMore}
+use Rattle.dimacs_runs.specs.Judgings.{OneMore}
+use Rattle.dimacs_runs.specs.Runs.{TextSays, text_word}
 
 -- what is told of a judge's answer
 abbrev pub answer_told : Result Verdict JudgeError → Result Told RunError
@@ -24,6 +28,10 @@ abbrev pub error_told : Unread → ReadError → Result Told RunError
 error_told unread (read_errors.Refused place reason) = Ok (told.Fault unread.text place reason)
 error_told unread read_errors.Device = Err Device
 error_told unread read_errors.Memory = Err Memory
+
+-- what the bytes of a text of this kind say, which spells values so
+abbrev pub text_says : {V : Type 0} → TextKind → (List ℕ → V → Type 0) → List ℕ → TextSays V
+text_says kind spells bytes = record { name = text_word kind; spells = spells bytes; fault = Fault kind (lines bytes) }
 
 abbrev pub ReadsIn : {V : Type 0} → TextSays V → Result V ReadError → Type 0
 ReadsIn text answer = Reads text.spells text.fault answer
