@@ -26,7 +26,8 @@ line_answered judges memory r holds answer h (inr ends) = (Err Memory, memory, e
 module _ {X C : Type 0} (says : X → Said C) (certifies : Result X ArrayError → Type 0) where
   -- a line was put after nothing, and all was handed out
   pub all_answered : (r : Result X ArrayError) → certifies r → (answer : ℕ) (all : Rooms C) (start line : List ℕ) (certificate : List C) (better : List ℤ)
-      → answer ≡ (said says r).status → start ≡ [] → Some line ≡ after_piece (Some start) (said says r).line → certificate ≡ (said says r).certificate → better ≡ (said says r).better
+      → answer ≡ (said says r).status → start ≡ [] → Some line ≡ after_piece (Some start) (said says r).line
+      → certificate ≡ (said says r).certificate → better ≡ (said says r).better
       → HandsOut line all.line → HandsOut certificate all.certificate → HandsOut better all.better → AnswersCertified says certifies answer all
   all_answered r holds answer all start line certificate better status empty put shows improves line_out certificate_out better_out =
       let line_is : line ≡ (said says r).line = bytes_of put ∙ ap (λ front. front ++ (said says r).line) empty in (

@@ -54,6 +54,7 @@ error_line (Limit place reason) = failure_line place reason
 error_line (Length array) = []
 error_line Memory = []
 
+-- what an answer says
 abbrev pub said : {X C : Type 0} → (X → Said C) → Result X ArrayError → Said C
 said says (Ok x) = says x
 said says (Err error) = only (error_status error) (error_line error)
@@ -74,7 +75,7 @@ min_said (min_certified.Better y) = record { status = 1; line = failure_line (So
 abbrev pub paths_said : Vec ℕ → Said ℕ
 paths_said preds = record { status = 0; line = sources_line 1; certificate = preds.items; better = [] }
 
--- the line of an answer that the judge may give is handed out, with its status
+-- the line of an answer that the judge may give is handed out, with its status; want of memory is one, and has no line
 abbrev pub AnswersLine : (Result Verdict ArrayError → Type 0) → ℕ → Handed ℕ → Type 0
 AnswersLine judges answer h =
     (r : Result Verdict ArrayError) × judges r × (answer ≡ (said verdict_said r).status) × HandsOut (said verdict_said r).line h
@@ -100,5 +101,5 @@ pub record HandsOutAll {C : Type 0} (s : Said C) (r : Rooms C) : Type 0 where
 
 -- what an answer that the certifier may give says is handed out, with its status
 abbrev pub AnswersCertified : {X C : Type 0} → (X → Said C) → (Result X ArrayError → Type 0) → ℕ → Rooms C → Type 0
-AnswersCertified {X} says certifies answer rooms =
-    (r : Result X ArrayError) × certifies r × (answer ≡ (said says r).status) × HandsOutAll (said says r) rooms
+AnswersCertified {X} says certifies answer given =
+    (r : Result X ArrayError) × certifies r × (answer ≡ (said says r).status) × HandsOutAll (said says r) given

@@ -38,7 +38,8 @@ AnswersKind (Some kind) tells answer h = Answers (tells kind) answer h
 -- a text and a report that may be told are handed out, and any other that may be told has this report and this status; or there was no memory
 abbrev pub AnswersPair : (Status → List (List ℕ) → Type 0) → ℕ → Handed ℕ → Handed ℕ → Type 0
 AnswersPair tells answer shown said =
-    ((s : Status) × (text : List ℕ) × (report : List ℕ) × TellsAlike tells s (text ∷ report ∷ []) × (answer ≡ status_number (Ok s)) × HandsOut text shown × HandsOut report said)
+    ((s : Status) × (text : List ℕ) × (report : List ℕ) × TellsAlike tells s (text ∷ report ∷ []) × (answer ≡ status_number (Ok s))
+    × HandsOut text shown × HandsOut report said)
     ⊎ ((answer ≡ 4) × HandsNothing shown × HandsNothing said)
 
 abbrev pub AnswersPairKind : {K : Type 0} → Option K → (K → Status → List (List ℕ) → Type 0) → ℕ → Handed ℕ → Handed ℕ → Type 0
