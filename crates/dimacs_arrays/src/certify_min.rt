@@ -21,7 +21,7 @@ use std::alloc::Global;
 pub enum MinCertified {
     /// It is least, of this cost, by these potentials, with which `judge_min_arrays` says yes; that of node 1 comes first.
     Optimal { cost: i128, potentials: Vec<i64> },
-    /// It is least, of this cost, by potentials some of which take more than 64 bits, so that no array can have them.
+    /// It is least, of this cost, by potentials some of which take more than 64 bits; others might take less.
     Wide { cost: i128, potentials: Potentials },
     /// It isn't: this flow is feasible and costs less.
     Better(Flow),
