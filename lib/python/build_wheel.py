@@ -20,7 +20,7 @@ METADATA = f"""Metadata-Version: 2.1
 Name: {NAME}
 Version: {VERSION}
 Summary: Judges and certifies claims about flows and distances, by functions that are proved
-Requires-Python: >=3.9
+Requires-Python: >=3.10
 """
 
 # The library is for x86-64 Linux, and calls nothing but the C library.

@@ -1,8 +1,13 @@
 """The calls over arrays, from Python."""
 
 import array
+import collections
+import ctypes
+import decimal
+import fractions
 import pickle
 import unittest
+from pathlib import Path
 
 import dimacs
 
@@ -196,6 +201,45 @@ class Misuse(unittest.TestCase):
         with self.assertRaises(TypeError):
             dimacs.judge_max_arrays(*MAX, None, CUT)
 
+    def test_the_number_is_named(self):
+        for flows, said in [
+            ([4, 2, 1, 3, 2**63], "flows has 9223372036854775808, which isn't a whole number in its range"),
+            ([4, 2, 1, 3.0, -(2**63) - 1], "flows has -9223372036854775809, which isn't a whole number in its range"),
+            ([4, 2, 1, 3, 2.5], "flows has 2.5, which isn't a whole number in its range"),
+        ]:
+            with self.subTest(said), self.assertRaises(ValueError) as caught:
+                dimacs.judge_max_arrays(*MAX, flows, CUT)
+            self.assertEqual(str(caught.exception), said)
+
+    def test_numbers_are_not_cut_off(self):
+        for kind in (decimal.Decimal, fractions.Fraction):
+            with self.subTest(kind), self.assertRaises((TypeError, ValueError)):
+                dimacs.judge_max_arrays(*MAX, [*FLOW[:-1], kind("3.5")], CUT)
+
+    def test_what_has_no_places(self):
+        by_number = dict(enumerate(FLOW))
+        for flows in (by_number, collections.OrderedDict(by_number), set(FLOW), frozenset(FLOW), by_number.keys()):
+            with self.subTest(type(flows)), self.assertRaises(TypeError):
+                dimacs.judge_max_arrays(*MAX, flows, CUT)
+        inside = {4: False, 1: True, 2: False, 3: False}
+        with self.assertRaises(TypeError):
+            dimacs.judge_max_arrays(*MAX, FLOW, inside)
+
+    def test_buffers_that_are_not_read(self):
+        doubles = memoryview((ctypes.c_double.__ctype_be__ * 5)(*FLOW))
+        letters = (ctypes.c_char * 5)(*b"42133")
+        for flows in (doubles, letters, array.array("u", "42133")):
+            with self.subTest(type(flows)), self.assertRaises(TypeError):
+                dimacs.judge_max_arrays(*MAX, flows, CUT)
+
+
+class Package(unittest.TestCase):
+    def test_versions_of_python(self):
+        """Python 3.9 cuts off the fraction of a Decimal in an array."""
+        folder = Path(__file__).resolve().parent.parent / "python"
+        self.assertIn('requires-python = ">=3.10"\n', (folder / "pyproject.toml").read_text(encoding="utf-8"))
+        self.assertIn("Requires-Python: >=3.10\n", (folder / "build_wheel.py").read_text(encoding="utf-8"))
+
 
 class Forms(unittest.TestCase):
     """The same arrays in other forms."""
@@ -228,6 +272,19 @@ class Forms(unittest.TestCase):
         ]:
             self.judged(numbers, ids, marks)
 
+    def test_arrays_of_ctypes(self):
+        def of(kind):
+            return lambda items: (kind * len(items))(*items)
+
+        for numbers, ids, marks in [
+            (of(ctypes.c_int64), of(ctypes.c_uint32), of(ctypes.c_uint8)),
+            (of(ctypes.c_longlong), of(ctypes.c_uint), of(ctypes.c_bool)),
+            (of(ctypes.c_int32), of(ctypes.c_int16), of(ctypes.c_int8)),
+            (of(ctypes.c_double), of(ctypes.c_float), of(ctypes.c_int64)),
+            (of(ctypes.c_int64.__ctype_be__), of(ctypes.c_uint32.__ctype_be__), of(ctypes.c_uint16.__ctype_be__)),
+        ]:
+            self.judged(numbers, ids, marks)
+
     @unittest.skipUnless(numpy, "numpy isn't there")
     def test_numpy(self):
         def of(kind):
@@ -242,6 +299,9 @@ class Forms(unittest.TestCase):
             (of("int32"), of("int32"), of("int32")),
             (of("uint64"), of("int64"), of("int8")),
             (of("float64"), of("float32"), of("float64")),
+            (of("float16"), of("float16"), of("float16")),
+            (of("longdouble"), of("longdouble"), of("longdouble")),
+            (lambda items: list(of("uint8")(items)), of("uint32"), lambda items: list(map(bool, of("bool")(items)))),
             (of(">i8"), of(">u4"), of("uint16")),
             (of("object"), of("object"), of("object")),
             (spread("int64"), spread("uint32"), spread("bool")),
@@ -273,6 +333,7 @@ class Forms(unittest.TestCase):
             numpy.full(5, numpy.nan),
             numpy.full(5, numpy.inf),
             numpy.full(5, 2.0**63),
+            *(numpy.full(5, sign * numpy.inf, kind) for sign in (1, -1) for kind in ("float16", "float32", "longdouble")),
             numpy.array([2**63] * 5, "object"),
             numpy.zeros((5, 1), "int64"),
         ):
@@ -283,6 +344,30 @@ class Forms(unittest.TestCase):
                 dimacs.judge_max_arrays(4, 1, 4, tails, *MAX[4:], FLOW, CUT)
         with self.assertRaises(TypeError):
             dimacs.judge_max_arrays(*MAX, numpy.array(FLOW, "complex128"), CUT)
+
+    @unittest.skipUnless(numpy, "numpy isn't there")
+    def test_numpy_with_masks(self):
+        for kind in ("int64", "int32", "float64"):
+            for mask in ([0] * 5, [0, 0, 0, 0, 1]):
+                flows = numpy.ma.array(FLOW, kind, mask=mask)
+                with self.subTest(kind), self.assertRaises(TypeError):
+                    dimacs.judge_max_arrays(*MAX, flows, CUT)
+        tails = numpy.ma.array([1, 1, 2, 2, 2**32 + 3], mask=[0, 0, 0, 0, 1])
+        with self.assertRaises(TypeError):
+            dimacs.judge_max_arrays(4, 1, 4, tails, *MAX[4:], FLOW, CUT)
+
+    @unittest.skipUnless(numpy, "numpy isn't there")
+    def test_numpy_with_its_own_ends(self):
+        class Narrow(numpy.ndarray):
+            def min(self, *words, **named):
+                return numpy.int64(1)
+
+            max = min
+
+        tails = numpy.array([1, 1, 2, 2, 2**32 + 3]).view(Narrow)
+        with self.assertRaises(ValueError):
+            dimacs.judge_max_arrays(4, 1, 4, tails, *MAX[4:], FLOW, CUT)
+        self.judged(lambda items: numpy.array(items, "int32").view(Narrow), list, list)
 
     def test_infinite_distances(self):
         for distances in ([0, 5.0, float("inf"), float("inf")], [0, 5, LAST, float("inf")]):

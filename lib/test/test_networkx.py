@@ -10,6 +10,11 @@ try:
 except ImportError:
     networkx = None
 
+try:
+    import numpy
+except ImportError:
+    numpy = None
+
 
 def pipes():
     """A network from "spring" to "town"; a maximum flow has the value 12, and the cut has the first three nodes."""
@@ -175,6 +180,45 @@ class LeastCost(Networkx):
         self.refused(ValueError, dimacs.certify_networkx_min, graph, flow)
 
 
+class Demands(Networkx):
+    """Of two nodes with an edge from "a" to "b"."""
+
+    def certified(self, leaves, enters, amount):
+        graph = networkx.DiGraph()
+        graph.add_node("a", demand=leaves)
+        graph.add_node("b", demand=enters)
+        graph.add_edge("a", "b", capacity=500, weight=1)
+        return dimacs.certify_networkx_min(graph, {"a": {"b": amount}})
+
+    @unittest.skipUnless(numpy, "numpy isn't there")
+    def test_numbers_of_numpy(self):
+        for leaves, enters, amount in [
+            (-1, numpy.uint8(1), 1),
+            (-1, numpy.uint64(1), 1),
+            (-1, numpy.True_, 1),
+            (numpy.int8(-1), numpy.float32(1), 1),
+            (numpy.int8(-128), 128, 128),
+        ]:
+            with self.subTest(repr(enters)):
+                self.assertEqual(self.certified(leaves, enters, amount).value, amount)
+
+    @unittest.skipUnless(numpy, "numpy isn't there")
+    def test_those_that_have_no_sign(self):
+        for leaves in (numpy.uint8(255), numpy.uint32(2**32 - 1), 255):
+            it = self.refused(dimacs.Refused, self.certified, leaves, 1, 1)
+            self.assertEqual((it.node, it.reason), ("a", "Balance"))
+        it = self.refused(ValueError, self.certified, numpy.uint64(2**64 - 1), 1, 1)
+        self.assertIn("demand has 18446744073709551615", str(it))
+
+    def test_ends(self):
+        for leaves, enters in ((-(2**63) + 1, 2**63 - 1), (0, 2**63)):
+            it = self.refused(dimacs.Refused, self.certified, leaves, enters, 1)
+            self.assertEqual((it.node, it.reason), ("a", "Balance"))
+        for demand in (-(2**63), 2**63 + 1):
+            it = self.refused(ValueError, self.certified, demand, 0, 1)
+            self.assertIn(f"demand has {demand}", str(it))
+
+
 class Distances(Networkx):
     def test_what_networkx_finds(self):
         for seed in range(10):
@@ -225,6 +269,46 @@ class Misuse(Networkx):
         ]:
             it = self.refused(ValueError, call, *words)
             self.assertNotIsInstance(it, dimacs.PastLimit)
+
+    def test_shapes(self):
+        one, several = networkx.DiGraph([("a", "b")]), networkx.MultiDiGraph([("a", "b")])
+        shapes = [
+            (one, "flow[u][v]", [None, [1], (1, {"a": {"b": 1}}), {"a": 1}, {("a", "b"): 1}, {"a": {"b": {0: 1}}}]),
+            (several, "flow[u][v][key]", [{"a": {"b": 1}}, {"a": {"b": [1]}}, {"a": {"b": {0: {}}}}, {"a": None}]),
+        ]
+        for graph, shape, flows in shapes:
+            for flow in flows:
+                with self.subTest(str(flow)):
+                    it = self.refused(TypeError, dimacs.certify_networkx_max, graph, "a", "b", flow)
+                    self.assertIn(f"the amounts {shape}, ", str(it))
+                    it = self.refused(TypeError, dimacs.certify_networkx_min, graph, flow)
+                    self.assertIn(f"the amounts {shape}, ", str(it))
+        for distances in ([0, 1], None, ({"a": 0, "b": 1}, {})):
+            it = self.refused(TypeError, dimacs.certify_networkx_paths, one, "a", distances)
+            self.assertIn("a dict by node", str(it))
+        it = self.refused(TypeError, dimacs.judge_networkx_min, one, {}, [0, 0])
+        self.assertIn("potentials is a list", str(it))
+        it = self.refused(TypeError, dimacs.certify_networkx_max, {"a": {"b": {}}}, "a", "b", {})
+        self.assertIn("a DiGraph or MultiDiGraph", str(it))
+
+    def test_numbers_that_do_not_fit(self):
+        def graph(demand=0, **edge):
+            made = networkx.DiGraph([("a", "b", edge)])
+            made.nodes["b"]["demand"] = demand
+            return made
+
+        half, none = {"a": {"b": 0.5}}, {}
+        for call, words, said in [
+            (dimacs.certify_networkx_max, (graph(capacity=2**63), "a", "b", none), f"capacity has {2**63},"),
+            (dimacs.certify_networkx_max, (graph(capacity=1.5), "a", "b", none), "capacity has 1.5,"),
+            (dimacs.certify_networkx_max, (graph(), "a", "b", half), "flow has 0.5,"),
+            (dimacs.certify_networkx_min, (graph(weight=0.5), none), "weight has 0.5,"),
+            (dimacs.certify_networkx_min, (graph(demand=2**64), none), f"demand has {2**64},"),
+            (dimacs.certify_networkx_paths, (graph(weight=float("inf")), "a", {"a": 0}), "weight has inf,"),
+            (dimacs.certify_networkx_paths, (graph(), "a", {"a": 0, "b": 0.5}), "distances has 0.5,"),
+        ]:
+            it = self.refused(ValueError, call, *words)
+            self.assertIn(said, str(it))
 
     def test_limits(self):
         graph = pipes()

@@ -3,8 +3,10 @@
 import mmap
 import tempfile
 import unittest
+from unittest import mock
 
 import dimacs
+from dimacs import library
 
 MAX = "p max 4 5\nn 1 s\nn 4 t\na 1 2 4\na 1 3 2\na 2 3 2\na 2 4 3\na 3 4 5\n"
 FLOW = "s 6\nf 1 2 4\nf 1 3 2\nf 2 3 1\nf 2 4 3\nf 3 4 3\n"
@@ -74,6 +76,19 @@ class Judges(unittest.TestCase):
         pairs = "".join(f"q 1 {k % 4 + 1}\n" for k in range(1000))
         answers = dimacs.judge_paths(GRAPH, f"p aux sp p2p 1000\n{pairs}", DIST).pairs
         self.assertEqual([it.target for it in answers], [k % 4 + 1 for k in range(1000)])
+
+    def test_what_the_second_call_answers(self):
+        """A text that is longer than a line is asked for again."""
+        words = GRAPH, "p aux sp p2p 40\n" + "q 1 2\n" * 40, DIST
+        judge, calls = library.judge, []
+
+        def second_has_no_memory(*words):
+            calls.append(words)
+            return judge(*words) if len(calls) == 1 else library.NO_MEMORY
+
+        with mock.patch.object(library, "judge", second_has_no_memory), self.assertRaises(MemoryError):
+            dimacs.judge_paths(*words)
+        self.assertEqual(len(calls), 2)
 
 
 class Certifies(unittest.TestCase):

@@ -6,7 +6,8 @@ through. One whose items have the width that the library takes isn't copied: uin
 uint8 or bool for inside, int64 for all others; no other thread may write to it meanwhile. Else each number is converted.
 
 ValueError is raised where a number doesn't fit or isn't whole, or where an array is longer or shorter than the others
-want it; and PastLimit, which is a ValueError, where a number is past a limit of instances.
+want it; and PastLimit, which is a ValueError, where a number is past a limit of instances. TypeError is raised for items
+that are no numbers, and for a dict, a set or a masked array.
 """
 
 from __future__ import annotations
@@ -181,7 +182,8 @@ def certify_min_arrays(
     """Decides whether a flow costs least; its cost, and for each node a potential, which show it.
 
     Raises NotOptimal where the flow is feasible, but another costs less, which it has, and Refused, as
-    certify_max_arrays; OverflowError where the flow costs least, by potentials that take more than 64 bits.
+    certify_max_arrays; OverflowError where the flow costs least, and the potentials that were found take more than
+    64 bits; others may fit.
     """
     given = _Given(_MIN, nodes, tails, heads, lows, caps, costs, supplies)
     given.add(_FLOWS, flows)

@@ -6,7 +6,8 @@ import array
 import ctypes
 import math
 import sys
-from typing import Any, Iterable, NamedTuple
+from collections.abc import Mapping, Set
+from typing import Any, NamedTuple, Sequence
 
 from .answers import UNREACHED
 
@@ -81,15 +82,22 @@ MARKS = Items("B", 1, 0, 2**8 - 1)
 DISTANCES = NUMBERS._replace(infinity=UNREACHED)
 
 #: The codes of buffers that have such items already, by their code here.
-_SAME = {"I": ("I", "L", "=I", "@I", "<I"), "q": ("q", "l", "=q", "@q", "<q"), "B": ("B", "?")}
+_SAME = {"I": ("I", "L", "=I", "@I", "<I"), "q": ("q", "l", "=q", "@q", "<q"), "B": ("B", "?", "<B", "<?")}
 
 
 def _refuse(name: str, number: Any) -> ValueError:
     return ValueError(f"{name} has {number}, which isn't a whole number in its range")
 
 
+def _is_numpy_bool(number: Any) -> bool:
+    numpy = sys.modules.get("numpy")
+    return numpy is not None and isinstance(number, numpy.bool_)
+
+
 def _whole(number: Any, items: Items, name: str) -> int:
     """The integer that a number is."""
+    if _is_numpy_bool(number):
+        return int(number)
     if hasattr(number, "__index__"):
         return number.__index__()
     if not hasattr(number, "is_integer"):
@@ -101,21 +109,21 @@ def _whole(number: Any, items: Items, name: str) -> int:
     return int(number)
 
 
-def _from_numbers(numbers: Iterable[Any], items: Items, name: str) -> Buffer:
+def _from_numbers(numbers: Sequence[Any], items: Items, name: str) -> Buffer:
     """Converts numbers one by one."""
     try:
         kept = array.array(items.code, numbers)
-    except OverflowError:
-        raise ValueError(f"{name} has a number that is out of its range") from None
-    except TypeError:
-        whole = [_whole(number, items, name) for number in numbers]
-        return _from_numbers(whole, items, name)
+    except (OverflowError, TypeError):
+        kept = array.array(items.code, [number_of(number, items, name) for number in numbers])
     address, length = kept.buffer_info()
     return Buffer(kept, address, length)
 
 
 def _from_numpy(numpy: Any, numbers: Any, items: Items, name: str) -> Buffer:
     """Takes a numpy array as it is where its items have the width, and else converts it."""
+    if isinstance(numbers, numpy.ma.MaskedArray):
+        raise TypeError(f"{name} is a masked array, and what is masked has no number")
+    numbers = numpy.asarray(numbers)  # other subclasses have a least and a greatest item of their own
     wanted = numpy.dtype(items.code)
     kind = numbers.dtype.kind
     if numbers.ndim != 1:
@@ -140,6 +148,8 @@ def _from_numpy(numpy: Any, numbers: Any, items: Items, name: str) -> Buffer:
 
 def _whole_numpy(numpy: Any, numbers: Any, items: Items, name: str) -> Any:
     """The integers that an array of floats is."""
+    # The ends of the ranges are no float16: that has inf there.
+    numbers = numbers.astype(numpy.result_type(numbers.dtype, numpy.float64), copy=False)
     infinite = numbers == math.inf if items.infinity is not None else numpy.zeros(len(numbers), bool)
     finite = numpy.where(infinite, 0, numbers)
     # The end is exact as a float, where the greatest of 64 bits isn't.
@@ -152,10 +162,29 @@ def _whole_numpy(numpy: Any, numbers: Any, items: Items, name: str) -> Any:
     return whole
 
 
+def _gone_through(numbers: Any, name: str) -> list[Any]:
+    """The items of what has no buffer."""
+    if isinstance(numbers, (Mapping, Set)):
+        raise TypeError(f"{name} is a {type(numbers).__name__}, whose items have no places as those of an array")
+    return list(numbers)
+
+
+def _items_of(numbers: Any, view: memoryview, name: str) -> list[Any]:
+    """The items of what has a buffer. A view doesn't read those of each format, but what it is of may."""
+    try:
+        return view.tolist()
+    except NotImplementedError:
+        pass
+    try:
+        return list(numbers)
+    except NotImplementedError:
+        raise TypeError(f"{name} has items of the format {view.format}, which Python doesn't read") from None
+
+
 def array_of(numbers: Any, items: Items, name: str) -> Buffer:
     """The items of an array: as they lie in memory, where a buffer has them so, and else converted.
 
-    Raises ValueError where one doesn't fit or isn't whole.
+    Raises ValueError where one doesn't fit or isn't whole, and TypeError where there are none that are numbers.
     """
     if type(numbers) in (list, tuple):
         return _from_numbers(numbers, items, name)
@@ -165,11 +194,11 @@ def array_of(numbers: Any, items: Items, name: str) -> Buffer:
     try:
         view = memoryview(numbers)
     except TypeError:
-        return _from_numbers(list(numbers), items, name)
+        return _from_numbers(_gone_through(numbers, name), items, name)
     if view.ndim != 1:
         raise ValueError(f"{name} has {view.ndim} dimensions, and not one")
     if view.format not in _SAME[items.code] or view.itemsize != items.width or not view.c_contiguous:
-        return _from_numbers(view.tolist(), items, name)
+        return _from_numbers(_items_of(numbers, view, name), items, name)
     if isinstance(numbers, array.array):
         return Buffer(view, *numbers.buffer_info())
     return Buffer(view, _address_of(view) if len(view) else 0, len(view))
@@ -199,10 +228,12 @@ class Room:
         return address, length, ctypes.byref(self._told)
 
     def in_form_of(self, came: Any) -> Any:
-        """All items: a numpy array where what came is one, array.array where it is that, else a list. Marks are bools."""
+        """All items: a numpy array where what came is one, array.array where it is that, else a list. Marks are bools, and
+        in array.array bytes that aren't 0 where they are true."""
         numpy = sys.modules.get("numpy")
         if numpy is not None and isinstance(came, numpy.ndarray):
-            return numpy.frombuffer(self._kept, bool if self._items is MARKS else self._items.code)
+            found = numpy.frombuffer(self._kept, self._items.code)
+            return found != 0 if self._items is MARKS else found
         if isinstance(came, array.array):
             return self._kept
         return list(map(bool, self._kept)) if self._items is MARKS else self._kept.tolist()

@@ -6,34 +6,53 @@ a node has 0. Flows are dicts, as networkx answers them: flow[u][v], of a MultiD
 entry carries 0. Numbers may be floats that are whole.
 
 Refused and PastLimit name nodes and edges as the graph does: an edge is (u, v), of a MultiDiGraph (u, v, key). ValueError
-is raised where an argument doesn't belong to the graph.
+is raised where an argument doesn't belong to the graph, and TypeError where it has another shape.
 """
 
 from __future__ import annotations
 
 import math
+from collections.abc import Mapping
 from contextlib import contextmanager
-from typing import Any, Iterator, Mapping
+from typing import Any, Iterable, Iterator
 
 from . import arrays
 from .answers import UNREACHED, Certified, NotOptimal, PastLimit, Refused, Verdict
+from .buffers import NUMBERS, Items, number_of
 
 #: The capacity of an edge without one. A flow has to stay below it there: then the same edges have room left as if
 #: there were no limit, and so it is as good as it would be then.
 _UNLIMITED = 2**63 - 1
 
+#: A demand is a supply negated.
+_DEMANDS = NUMBERS._replace(least=-NUMBERS.greatest, greatest=-NUMBERS.least)
 
-def _count(flow: Any, depth: int) -> int:
-    """How many entries a flow has that aren't 0."""
-    if depth == 0:
-        return int(flow != 0)
-    return sum(_count(it, depth - 1) for it in flow.values())
+
+def _entries(flow: Any, shape: str) -> dict[tuple[Any, ...], Any]:
+    """The entries of a flow of this shape by their edges."""
+    entries = {(): flow}
+    for _ in range(shape.count("[")):
+        _test_shape(all(isinstance(it, Mapping) for it in entries.values()), shape)
+        entries = {(*edge, word): it for edge, more in entries.items() for word, it in more.items()}
+    _test_shape(not any(isinstance(it, Mapping) for it in entries.values()), shape)
+    return entries
+
+
+def _test_shape(has_it: bool, shape: str) -> None:
+    if not has_it:
+        raise TypeError(f"the flow isn't a dict of dicts with the amounts {shape}, as it has to be for this graph")
+
+
+def _numbers(numbers: Iterable[Any], items: Items, name: str) -> list[int]:
+    return [number_of(it, items, name) for it in numbers]
 
 
 class _Graph:
     """The nodes and edges of a graph by the numbers that they have in arrays."""
 
     def __init__(self, graph: Any) -> None:
+        if not hasattr(graph, "is_directed"):
+            raise TypeError(f"the graph is a {type(graph).__name__}, and has to be a DiGraph or MultiDiGraph of networkx")
         if not graph.is_directed():
             raise ValueError("the graph isn't directed")
         self.nodes = list(graph)
@@ -52,37 +71,39 @@ class _Graph:
             raise ValueError(f"{node!r} is no node of the graph")
         return self._number[node]
 
-    def by_edge(self, attribute: str, missing: float) -> list[Any]:
-        return [data.get(attribute, missing) for data in self._data]
+    def weights(self, missing: int) -> list[int]:
+        return _numbers((data.get("weight", missing) for data in self._data), NUMBERS, "weight")
 
-    def capacities(self) -> list[Any]:
-        return [_UNLIMITED if it == math.inf else it for it in self.by_edge("capacity", math.inf)]
+    def _is_unlimited(self) -> list[bool]:
+        """Of each edge whether it carries any amount."""
+        return [data.get("capacity", math.inf) == math.inf for data in self._data]
 
-    def supplies(self) -> list[Any]:
-        return [-data.get("demand", 0) for data in self._node_data]
+    def capacities(self) -> list[int]:
+        by_edge = zip(self._data, self._is_unlimited())
+        return _numbers((_UNLIMITED if it else data["capacity"] for data, it in by_edge), NUMBERS, "capacity")
 
-    def by_node(self, values: Mapping[Any, Any], missing: int) -> list[Any]:
+    def supplies(self) -> list[int]:
+        # A number is an int before it is negated: those of numpy have an end.
+        return [-it for it in _numbers((data.get("demand", 0) for data in self._node_data), _DEMANDS, "demand")]
+
+    def by_node(self, values: Mapping[Any, Any], missing: int, name: str) -> list[Any]:
         """The value of each node."""
+        if not isinstance(values, Mapping):
+            raise TypeError(f"{name} is a {type(values).__name__}, and has to be a dict by node")
         for node in values:
             self.number(node)
         return [values.get(node, missing) for node in self.nodes]
 
-    def flows(self, flow: Mapping[Any, Any]) -> list[Any]:
+    def flows(self, flow: Mapping[Any, Any]) -> list[int]:
         """The flow of each edge."""
-        flows = [self._flow_of(flow, edge) for edge in self.edges]
-        depth = 3 if self._is_multigraph else 2
-        if _count(flow, depth) != sum(it != 0 for it in flows):
+        entries = _entries(flow, "flow[u][v][key]" if self._is_multigraph else "flow[u][v]")
+        flows = _numbers((entries.pop(edge, 0) for edge in self.edges), NUMBERS, "flow")
+        if any(it != 0 for it in entries.values()):
             raise ValueError("the flow has an entry of no edge of the graph")
-        for edge, amount, capacity in zip(self.edges, flows, self.by_edge("capacity", math.inf)):
-            if capacity == math.inf and amount >= _UNLIMITED:
+        for edge, amount, is_unlimited in zip(self.edges, flows, self._is_unlimited()):
+            if is_unlimited and amount >= _UNLIMITED:
                 raise ValueError(f"the flow of {edge} is out of its range")
         return flows
-
-    @staticmethod
-    def _flow_of(flow: Any, edge: tuple[Any, ...]) -> Any:
-        for word in edge:
-            flow = flow.get(word, {})
-        return flow if flow != {} else 0
 
     def flow_dict(self, flows: list[int]) -> dict[Any, Any]:
         """The flow as networkx has it."""
@@ -119,7 +140,7 @@ def _max_words(graph: _Graph, source: Any, sink: Any, flow: Any) -> tuple[Any, .
 
 def _min_words(graph: _Graph, flow: Any) -> tuple[Any, ...]:
     """The words of a call about a flow of least cost."""
-    lows, costs = [0] * len(graph.edges), graph.by_edge("weight", 0)
+    lows, costs = [0] * len(graph.edges), graph.weights(0)
     words = graph.tails, graph.heads, lows, graph.capacities(), costs, graph.supplies()
     return len(graph.nodes), *words, graph.flows(flow)
 
@@ -130,7 +151,7 @@ def judge_networkx_max(graph: Any, source: Any, sink: Any, flow: Any, side: Any)
     Raises Refused where it doesn't show it.
     """
     given = _Graph(graph)
-    inside = given.by_node(dict.fromkeys(side, 1), 0)
+    inside = given.by_node(dict.fromkeys(side, 1), 0, "side")
     with given.names():
         return arrays.judge_max_arrays(*_max_words(given, source, sink, flow), inside)
 
@@ -145,7 +166,7 @@ def judge_networkx_min(graph: Any, flow: Any, potentials: Any = None) -> Verdict
     if potentials is None:
         return Verdict("min", certify_networkx_min(graph, flow).value)
     given = _Graph(graph)
-    prices = given.by_node(potentials, 0)
+    prices = given.by_node(potentials, 0, "potentials")
     with given.names():
         return arrays.judge_min_arrays(*_min_words(given, flow), prices)
 
@@ -166,7 +187,8 @@ def certify_networkx_min(graph: Any, flow: Any) -> Certified:
     """Decides whether a flow costs least; its cost, and a dict of potentials by node, which show it.
 
     Raises NotOptimal where the flow is feasible, but another costs less, which it has as a dict, and Refused, as
-    certify_networkx_max; OverflowError where the flow costs least, by potentials that take more than 64 bits.
+    certify_networkx_max; OverflowError where the flow costs least, and the potentials that were found take more
+    than 64 bits; others may fit.
     """
     given = _Graph(graph)
     with given.names():
@@ -181,8 +203,8 @@ def certify_networkx_paths(graph: Any, source: Any, distances: Any) -> Certified
     predecessor on a shortest path, which the source has not: None. Raises Refused where a distance isn't true.
     """
     given = _Graph(graph)
-    weights = given.by_edge("weight", 1)
-    by_node = given.by_node(distances, UNREACHED)
+    weights = given.weights(1)
+    by_node = given.by_node(distances, UNREACHED, "distances")
     with given.names():
         words = len(given.nodes), given.tails, given.heads, weights, given.number(source), by_node
         predecessors = arrays.certify_paths_arrays(*words).predecessors

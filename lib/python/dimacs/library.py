@@ -71,18 +71,20 @@ def _raise_for(status: int, said: bytes) -> None:
     if status == MISUSED:
         raise ValueError("the library doesn't take these words")
     if status == GAVE_UP:
-        raise OverflowError("the flow costs least, but the potentials that show it take more than 64 bits")
+        raise OverflowError("the flow costs least, but the potentials that were found take more than 64 bits")
 
 
 def call(function: Callable[..., int], *words: Any) -> tuple[int, bytes]:
     """Makes a call that hands out a text, twice where that is longer than a line; its status, and the text."""
-    room, told = _Line(), _size()
-    status = function(*words, room, LINE, ctypes.byref(told))
-    length = told.value
-    if length > LINE:
-        room = ctypes.create_string_buffer(length)
-        function(*words, room, length, ctypes.byref(told))
-    said = room[:length]
+    line, room = _Line(), LINE
+    while True:
+        told = _size()
+        status = function(*words, line, room, ctypes.byref(told))
+        if told.value <= room:
+            break
+        room = told.value
+        line = ctypes.create_string_buffer(room)
+    said = line[: told.value]
     if status != DONE and status != REFUSED:
         _raise_for(status, said)
     return status, said
