@@ -13,7 +13,7 @@
  *   - A pointer is of memory that has the length that stands beside it; with the length 0 it may be null. A `told`
  *     is never null.
  *   - What a call writes (`out`, `told` and their like) overlaps neither what it reads nor another room.
- *   - So it is with each array of an instance. Its length is a number of items, as are the lengths of rooms for items,
+ *   - The same holds of each array of an instance. Its length is a number of items, as are the lengths of rooms for items,
  *     and the memory holds so many, each at a multiple of its size. A pointer to an instance is never null.
  *   - Calls may run side by side in several threads, also over the same texts and arrays, where none of them writes what
  *     another one reads or writes. None is made from a signal handler, nor in the forked child of a process with threads.
@@ -36,7 +36,8 @@ enum {
     DIMACS_MISUSED = 2,   /* nothing was judged: a number names no kind, or an array has a wrong length, and nothing is
                              handed out; or a number of an instance in arrays is past its limit, and the line says where */
     DIMACS_NO_MEMORY = 4, /* there was not enough memory, and nothing is said of the claim. Nothing is handed out */
-    DIMACS_GAVE_UP = 5    /* a flow costs least, by potentials that take more than 64 bits: `g limit` is handed out */
+    DIMACS_GAVE_UP = 5    /* a flow costs least, and the potentials that were found take more than 64 bits; others may fit.
+                             `g limit` is handed out */
 };
 
 /* What is judged; the first two are what is certified. */
@@ -160,18 +161,17 @@ uint32_t dimacs_judge_paths_arrays(const dimacs_graph *graph, uint32_t source, c
                                    size_t distances_length, const uint32_t *predecessors, size_t predecessors_length,
                                    uint8_t *out, size_t room, size_t *told);
 
-/* Certifies a flow, by arc, that has no certificate. Hands out what dimacs_judge_max_arrays does, but its tests of the
- * cut, and with a yes a byte for each node to `inside`, 1 or 0: a cut by which that judge says yes too. Where the flow is
- * feasible and isn't maximum: `x solution 0 0 NotMaximum`, and a feasible flow of greater value to `better`, an amount
- * for each arc. The time that it takes isn't bounded by the number of arcs. */
+/* Certifies a flow, by arc, that has no certificate. Makes the tests of dimacs_judge_max_arrays, but those of the cut, and
+ * hands out the same lines; and with a yes a byte for each node to `inside`, not 0 for each node inside a cut by which that
+ * judge says yes too. Where the flow is feasible and isn't maximum: `x solution 0 0 NotMaximum`, and a feasible flow of
+ * greater value to `better`, an amount for each arc. The time that it takes isn't bounded by the number of arcs. */
 uint32_t dimacs_certify_max_arrays(const dimacs_max *instance, const int64_t *flows, size_t flows_length, uint8_t *out,
                                    size_t room, size_t *told, uint8_t *inside, size_t inside_room, size_t *inside_told,
                                    int64_t *better, size_t better_room, size_t *better_told);
 
-/* The same of a flow that is to cost least. Hands out what dimacs_judge_min_arrays does, but its last test, and with a
- * yes potentials, by node, by which that judge says yes too; DIMACS_GAVE_UP where the flow costs least and the potentials
- * that were found take more than 64 bits. Where the flow is feasible and another costs less: `x solution 0 0 NotLeast`,
- * and such a flow to `better`. */
+/* The same of a flow that is to cost least. Makes the tests of dimacs_judge_min_arrays, but the last one, and hands out the
+ * same lines; and with a yes potentials, by node, by which that judge says yes too, or answers DIMACS_GAVE_UP. Where the
+ * flow is feasible and another costs less: `x solution 0 0 NotLeast`, and such a flow to `better`. */
 uint32_t dimacs_certify_min_arrays(const dimacs_min *instance, const int64_t *flows, size_t flows_length, uint8_t *out,
                                    size_t room, size_t *told, int64_t *potentials, size_t potentials_room,
                                    size_t *potentials_told, int64_t *better, size_t better_room, size_t *better_told);
