@@ -109,12 +109,16 @@ def _whole(number: Any, items: Items, name: str) -> int:
     return int(number)
 
 
-def _from_numbers(numbers: Sequence[Any], items: Items, name: str) -> Buffer:
-    """Converts numbers one by one."""
+def converted(numbers: Sequence[Any], items: Items, name: str) -> array.array:
+    """An array of numbers, each of which is converted."""
     try:
-        kept = array.array(items.code, numbers)
+        return array.array(items.code, numbers)
     except (OverflowError, TypeError):
-        kept = array.array(items.code, [number_of(number, items, name) for number in numbers])
+        return array.array(items.code, [number_of(number, items, name) for number in numbers])
+
+
+def _from_numbers(numbers: Sequence[Any], items: Items, name: str) -> Buffer:
+    kept = converted(numbers, items, name)
     address, length = kept.buffer_info()
     return Buffer(kept, address, length)
 

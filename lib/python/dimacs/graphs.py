@@ -12,13 +12,14 @@ is raised where an argument doesn't belong to the graph, and TypeError where it 
 from __future__ import annotations
 
 import math
+from array import array
 from collections.abc import Mapping
 from contextlib import contextmanager
-from typing import Any, Iterable, Iterator
+from typing import Any, Iterator
 
 from . import arrays
 from .answers import UNREACHED, Certified, NotOptimal, PastLimit, Refused, Verdict
-from .buffers import NUMBERS, Items, number_of
+from .buffers import NUMBERS, converted, number_of
 
 #: The capacity of an edge without one. A flow has to stay below it there: then the same edges have room left as if
 #: there were no limit, and so it is as good as it would be then.
@@ -41,10 +42,6 @@ def _entries(flow: Any, shape: str) -> dict[tuple[Any, ...], Any]:
 def _test_shape(has_it: bool, shape: str) -> None:
     if not has_it:
         raise TypeError(f"the flow isn't a dict of dicts with the amounts {shape}, as it has to be for this graph")
-
-
-def _numbers(numbers: Iterable[Any], items: Items, name: str) -> list[int]:
-    return [number_of(it, items, name) for it in numbers]
 
 
 class _Graph:
@@ -71,20 +68,19 @@ class _Graph:
             raise ValueError(f"{node!r} is no node of the graph")
         return self._number[node]
 
-    def weights(self, missing: int) -> list[int]:
-        return _numbers((data.get("weight", missing) for data in self._data), NUMBERS, "weight")
+    def weights(self, missing: int) -> array[int]:
+        return converted([data.get("weight", missing) for data in self._data], NUMBERS, "weight")
 
-    def _is_unlimited(self) -> list[bool]:
-        """Of each edge whether it carries any amount."""
-        return [data.get("capacity", math.inf) == math.inf for data in self._data]
+    def _capacities(self) -> list[Any]:
+        """Those of the graph. An edge with inf carries any amount."""
+        return [data.get("capacity", math.inf) for data in self._data]
 
-    def capacities(self) -> list[int]:
-        by_edge = zip(self._data, self._is_unlimited())
-        return _numbers((_UNLIMITED if it else data["capacity"] for data, it in by_edge), NUMBERS, "capacity")
+    def capacities(self) -> array[int]:
+        return converted([_UNLIMITED if it == math.inf else it for it in self._capacities()], NUMBERS, "capacity")
 
     def supplies(self) -> list[int]:
         # A number is an int before it is negated: those of numpy have an end.
-        return [-it for it in _numbers((data.get("demand", 0) for data in self._node_data), _DEMANDS, "demand")]
+        return [-number_of(data.get("demand", 0), _DEMANDS, "demand") for data in self._node_data]
 
     def by_node(self, values: Mapping[Any, Any], missing: int, name: str) -> list[Any]:
         """The value of each node."""
@@ -94,18 +90,18 @@ class _Graph:
             self.number(node)
         return [values.get(node, missing) for node in self.nodes]
 
-    def flows(self, flow: Mapping[Any, Any]) -> list[int]:
+    def flows(self, flow: Mapping[Any, Any]) -> array[int]:
         """The flow of each edge."""
         entries = _entries(flow, "flow[u][v][key]" if self._is_multigraph else "flow[u][v]")
-        flows = _numbers((entries.pop(edge, 0) for edge in self.edges), NUMBERS, "flow")
+        flows = converted([entries.pop(edge, 0) for edge in self.edges], NUMBERS, "flow")
         if any(it != 0 for it in entries.values()):
             raise ValueError("the flow has an entry of no edge of the graph")
-        for edge, amount, is_unlimited in zip(self.edges, flows, self._is_unlimited()):
-            if is_unlimited and amount >= _UNLIMITED:
+        for edge, amount, capacity in zip(self.edges, flows, self._capacities()):
+            if capacity == math.inf and amount >= _UNLIMITED:
                 raise ValueError(f"the flow of {edge} is out of its range")
         return flows
 
-    def flow_dict(self, flows: list[int]) -> dict[Any, Any]:
+    def flow_dict(self, flows: array[int]) -> dict[Any, Any]:
         """The flow as networkx has it."""
         made: dict[Any, Any] = {node: {} for node in self.nodes}
         for (tail, head, *key), amount in zip(self.edges, flows):
