@@ -72,32 +72,36 @@ fn instances_without_a_flow_are_judged(rt: HostRuntime) {
 #[test]
 fn maximum_flows_are_certified(rt: HostRuntime) {
     let alloc = rt.alloc();
-    match certify_max_arrays(alloc, &pipes(), &[2, 2]) {
-        Ok(MaxCertified::Optimal { value, inside }) => {
-            same(&rt, "its value", value, 2);
-            same(&rt, "its cut", inside.as_slice(), &[1, 0, 0]);
-        }
-        _ => holds(&rt, "maximum", false),
+    let answer = certify_max_arrays(alloc, &pipes(), &[2, 2]);
+    if let Ok(MaxCertified::Optimal { value, inside }) = &answer {
+        same(&rt, "its value", *value, 2);
+        same(&rt, "its cut", inside.as_slice(), &[1, 0, 0]);
+    } else {
+        holds(&rt, "maximum", false);
     }
-    match certify_max_arrays(alloc, &pipes(), &[1, 1]) {
-        Ok(MaxCertified::Better(flow)) => same(&rt, "better", flow.amounts(), &[2, 2]),
-        _ => holds(&rt, "one less", false),
+    let answer = certify_max_arrays(alloc, &pipes(), &[1, 1]);
+    if let Ok(MaxCertified::Better(flow)) = &answer {
+        same(&rt, "better", flow.amounts(), &[2, 2]);
+    } else {
+        holds(&rt, "one less", false);
     }
 }
 
 #[test]
 fn least_flows_are_certified(rt: HostRuntime) {
     let alloc = rt.alloc();
-    match certify_min_arrays(alloc, &ways(&[2, -2]), &[2, 0]) {
-        Ok(MinCertified::Optimal { cost, potentials }) => {
-            same(&rt, "its cost", cost, 6);
-            let shown = judge_min_arrays(alloc, &ways(&[2, -2]), &[2, 0], &potentials);
-            same(&rt, "its potentials", shown, Ok(Verdict::Min(6)));
-        }
-        _ => holds(&rt, "least", false),
+    let answer = certify_min_arrays(alloc, &ways(&[2, -2]), &[2, 0]);
+    if let Ok(MinCertified::Optimal { cost, potentials }) = &answer {
+        same(&rt, "its cost", *cost, 6);
+        let shown = judge_min_arrays(alloc, &ways(&[2, -2]), &[2, 0], potentials);
+        same(&rt, "its potentials", shown, Ok(Verdict::Min(6)));
+    } else {
+        holds(&rt, "least", false);
     }
-    match certify_min_arrays(alloc, &ways(&[2, -2]), &[1, 1]) {
-        Ok(MinCertified::Better(flow)) => same(&rt, "better", flow.amounts(), &[2, 0]),
-        _ => holds(&rt, "one by the other way", false),
+    let answer = certify_min_arrays(alloc, &ways(&[2, -2]), &[1, 1]);
+    if let Ok(MinCertified::Better(flow)) = &answer {
+        same(&rt, "better", flow.amounts(), &[2, 0]);
+    } else {
+        holds(&rt, "one by the other way", false);
     }
 }
