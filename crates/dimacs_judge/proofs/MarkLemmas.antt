@@ -1,10 +1,9 @@
 -- Marks of the nodes that a block labels, and the arcs that make its labels.
-use Rattle.std.proofs.Common.{IsTrue, ◌^◌, cond, count_by, is_some, ◌≡◌, ◌≢◌, ◌⊎◌, ◌↔◌, inl, inr, ℕ, suc, zero, ◌+◌, ◌<◌, ◌≤◌, Bool, true, false, List, [], ◌∷◌, ◌++◌, Contains, length, take, drop, get_or, slice_get, Option, Some, None, IfSome, ℤ, pos, ◌+ℤ◌, ◌<ℤ◌, refl, sym, ap, subst, ◌∙◌, arith}
-use Rattle.std.specs.Prelude.{◌==◌, if◌then◌else◌, nat_le, Result, Ok, Err}
+use Rattle.std.proofs.Common.{IsTrue, ◌^◌, cond, count_by, is_some, ◌≡◌, ◌≢◌, ◌⊎◌, ◌↔◌, inl, inr, ℕ, suc, zero, ◌+◌, ◌<◌, ◌≤◌, Bool, true, false, List, [], ◌∷◌, ◌++◌, Contains, length, take, drop, get_or, slice_get, Option, Some, None, IfSome, ℤ, pos, ◌+ℤ◌, refl, sym, ap, subst, ◌∙◌, arith}
+use Rattle.std.specs.Prelude.{◌==◌, ◌&&◌, if◌then◌else◌, nat_le, Result, Ok, Err}
 use Rattle.std.specs.Result.{result_and}
 use Rattle.std.specs.Int.{from_bool}
 use Rattle.std.proofs.Math.Seq.{drop-cons}
-use Rattle.std.proofs.lemmas.Int.{ints}
 use Rattle.std.proofs.lemmas.Bool.{cases_eq, cases_lt, eq-eqb}
 use Rattle.std.proofs.lemmas.Bool.Decides.{eqb_tells, nat_tests}
 use Rattle.std.proofs.lemmas.Option.{get_or_from_slice_get, slice_get_within}
@@ -186,12 +185,13 @@ pub not_aside : (radius from to : Option ℤ) (weight : ℤ) → (¬ LeadsAside 
 not_aside radius from to weight holds reason (d, tail, inl out) = holds (d, tail, inl out.1)
 not_aside radius from to weight holds reason (d, tail, inr far) = holds (d, tail, inr far.1)
 
--- the arc leads to the label, which waits for its tail
-pub tight_where : (a : ArcView) (at : ℕ → Known) → (LeadsTo (at a.tail).dist (at a.head).dist a.cost × ((at a.head).pred ≡ a.tail) × (is_made (at a.head) ≡ false)) ↔ IsTight a at
-tight_where a at = (
-  λ (leads, pred, unmade). record { base = leads.0; tail = leads.1; head = leads.2; pred = pred; unmade = unmade },
-  λ tight. ((tight.base, tight.tail, tight.head), tight.pred, tight.unmade),
+-- the arc leads to the label, which waits for its tail: by two tests, both of which are made in any case
+pub tight_where : (a : ArcView) (at : ℕ → Known) (leads waits : Bool) → (IsTrue leads ↔ LeadsTo (at a.tail).dist (at a.head).dist a.cost) → (IsTrue waits ↔ (((at a.head).pred ≡ a.tail) × (is_made (at a.head) ≡ false))) → IsTrue (leads && waits) ↔ IsTight a at
+tight_where a at true waits leads_is waits_is = (
+  λ yes. (let leads = leads_is.0 refl in let waiting = waits_is.0 yes in record { base = leads.0; tail = leads.1; head = leads.2; pred = waiting.0; unmade = waiting.1 }),
+  λ tight. waits_is.1 (tight.pred, tight.unmade),
 )
+tight_where a at false waits leads_is waits_is = (λ yes. absurd (let no : IsTrue false = yes in cc), λ tight. leads_is.1 (tight.base, tight.tail, tight.head))
 
 pub head_unmarked : (a : ArcView) (at : ℕ → Known) → (at a.head).dist ≡ None → ¬ IsTight a at
 head_unmarked a at none tight = let e : None ≡ Some (tight.base +ℤ a.cost) = sym none ∙ tight.head in cc

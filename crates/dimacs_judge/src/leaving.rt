@@ -80,7 +80,7 @@ fn node_passed<N: Network, D: Distance>(
         if least.by_weight() && leads_past(radius, from, arc.cost) {
             return true;
         }
-        if pass_arc(arc, radius, marks).is_err() {
+        if pass_arc(arc, block, marks).is_err() {
             return false;
         }
         next = least.before(place);

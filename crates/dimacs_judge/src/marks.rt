@@ -271,11 +271,10 @@ fn arcs_passed<N: Network, D: Distance>(
     ensures marked { IsMarked D.value (N.list network.now) block.now marks.new }
     ensures tests { Tells (distance_rows (N.list network.now) block.now) result }
 {
-    let radius = block.radius();
     let labels = block.labels();
     let mut count = 0usize;
     for i in 0..network.arcs() {
-        match pass_arc(network.arc(i), radius, marks) {
+        match pass_arc(network.arc(i), block, marks) {
             Ok(made) => count += usize::from(made),
             Err(reason) => {
                 rest_passed(network, block, i + 1, marks);
@@ -304,83 +303,61 @@ fn rest_passed<N: Network, D: Distance>(
     ensures marked { IsMarked D.value (N.list network.now) block.now marks.new }
     ensures made { AreMade (N.list network.now) block.now (known D.value marks.new) }
 {
-    let radius = block.radius();
     for i in from..network.arcs() {
-        let _passed = pass_arc(network.arc(i), radius, marks);
+        let _passed = pass_arc(network.arc(i), block, marks);
     }
 }
 
-/// Marks the head where the arc makes its label. Tells whether it did, as no arc before it, or why the arc fails.
+/// Marks the head where the arc makes its label. Tells whether it did, as no arc before it, or why the arc fails. Where the
+/// labels hold no branch is foretold wrongly: none is on whether the arc makes a label.
 #[inline(always)]
 pub(crate) fn pass_arc<D: Distance>(
     arc: ArcView,
-    radius: Option<i128>,
+    block: &Block,
     marks: &mut NodeTable<Mark<D>>,
 ) -> Result<bool, Reason>
     requires blank { IsBlank D.value marks.old }
     requires wide { AreWide (known D.value marks.old) }
-    ensures told { TellsReason (RelaxFails radius (known D.value marks.old arc.tail).dist (known D.value marks.old arc.head).dist arc.cost) (result_err result) }
+    ensures told { TellsReason (RelaxFails block.now.radius (known D.value marks.old arc.tail).dist (known D.value marks.old arc.head).dist arc.cost)
+        (result_err result) }
     ensures marks { MarksArc arc (known D.value marks.old) (known D.value marks.new) }
     ensures made { IfOk result (λ made. IsTrue made → IsTight arc (known D.value marks.old)) }
     ensures blank { IsBlank D.value marks.new }
 {
-    let passed = mark_arc(arc, marks);
-    // The one branch, which is foretold rightly as long as the labels hold.
-    if passed.is_doubtful {
-        if let Some(reason) = arc_fault(arc, radius, marks) {
-            return Err(reason);
+    let from = match marks.get_placed(arc.tail) {
+        Some(tail) if tail.dist.is_some() => tail.dist,
+        _ => return Ok(false),
+    };
+    let head = match marks.get_placed(arc.head) {
+        Some(head) if !leads_aside(from, head.dist, arc.cost) => head,
+        _ => {
+            return match arc_fault(arc.tail, arc.head, arc.cost, block, marks) {
+                Some(reason) => Err(reason),
+                None => Ok(false),
+            };
         }
-    }
-    Ok(passed.made)
-}
-
-/// What one arc told.
-#[derive(Clone, Copy)]
-struct Passed {
-    /// The tail has a label, and the head has none or a greater one than that of the tail and the weight.
-    is_doubtful: bool,
-    /// The arc makes the head's label, as none before it.
-    made: bool,
-}
-
-/// Marks the head where the arc makes its label.
-#[inline(always)]
-fn mark_arc<D: Distance>(arc: ArcView, marks: &mut NodeTable<Mark<D>>) -> Passed
-    requires blank { IsBlank D.value marks.old }
-    ensures doubtful { IsTrue result.is_doubtful ↔ LeadsAside (known D.value marks.old arc.tail).dist (known D.value marks.old arc.head).dist arc.cost }
-    ensures made { IsTrue result.made ↔ IsTight arc (known D.value marks.old) }
-    ensures marks { MarksArc arc (known D.value marks.old) (known D.value marks.new) }
-    ensures blank { IsBlank D.value marks.new }
-{
-    let from = marks.get(arc.tail).dist;
-    let Some(head) = marks.get_placed(arc.head) else {
-        return Passed {
-            is_doubtful: from.is_some(),
-            made: false,
-        };
     };
     let made = leads_to(from, head.dist, arc.cost) & head.waits_for(arc.tail);
     marks.put(arc.head, head.made_if(made));
-    Passed {
-        is_doubtful: leads_aside(from, head.dist, arc.cost),
-        made,
-    }
+    Ok(made)
 }
 
-/// Why the arc fails, if it does.
+/// Why an arc of this weight fails, if it does.
 #[cold]
 #[inline(never)]
 fn arc_fault<D: Distance>(
-    arc: ArcView,
-    radius: Option<i128>,
+    tail: u32,
+    head: u32,
+    weight: i64,
+    block: &Block,
     marks: &NodeTable<Mark<D>>,
 ) -> Option<Reason>
     requires { AreWide (known D.value marks.now) }
-    ensures { TellsReason (RelaxFails radius (known D.value marks.now arc.tail).dist (known D.value marks.now arc.head).dist arc.cost) result }
+    ensures { TellsReason (RelaxFails block.now.radius (known D.value marks.now tail).dist (known D.value marks.now head).dist weight) result }
 {
-    let from = distance_in(marks.get(arc.tail).dist)?;
-    let to = distance_in(marks.get(arc.head).dist);
-    relax_fault_from(from, to, radius, arc.cost)
+    let from = distance_in(marks.get(tail).dist)?;
+    let to = distance_in(marks.get(head).dist);
+    relax_fault_from(from, to, block.radius(), weight)
 }
 
 /// The first label that no arc makes, by the marks.

@@ -1,6 +1,5 @@
 use Rattle.std.proofs.Common.{◌≡◌, ◌+◌, ◌-◌, ◌<◌, IfSome, Option, ℤ, ◌+ℤ◌, SFits, length, slice_index, ap, arith, rules, subst, sym, ◌∙◌}
 use Rattle.std.specs.Int.{w64, w128}
-use Rattle.std.specs.Result.{result_err}
 use Rattle.std.proofs.lemmas.Int.{to_z-of_z}
 use Rattle.std.proofs.lemmas.Option.{get_or_from_slice_get}
 use Rattle.dimacs_records.specs.Ranges.{IsWide}
@@ -8,11 +7,9 @@ use Rattle.dimacs_instance.specs.declared.network.ArcView.{ArcView}
 use Rattle.dimacs_instance.specs.declared.links.Side.TheVariants.{Tail}
 use Rattle.dimacs_instance.specs.Links.{IsLast}
 use Rattle.dimacs_claims.specs.Labels.{IsNear}
-use Rattle.dimacs_judge.specs.CertificateTests.{RelaxFails}
 use Rattle.dimacs_judge.specs.inside.Leaving.{IsPassed, WeightsFall, arcs_in}
 use Rattle.dimacs_judge.specs.inside.Marks.{known}
 use Rattle.dimacs_judge.specs.Rows.{arc_at, no_arc}
-use Rattle.dimacs_judge.specs.inside.Tests.{TellsReason}
 use Rattle.dimacs_judge.proofs.LeavingLemmas.{ArePassedOn, at_place, no_reason, node_beyond, node_done, node_more, passed_still, passed_this}
 use Rattle.dimacs_judge.proofs.MarkLemmas.{known_after, known_wide, label_wide}
 use Rattle.dimacs_judge.proofs.leaving.node_passed.Goals as goal
@@ -94,8 +91,7 @@ loop-next-preserved g c =
     let same : arc_at chosen place ≡ a = at_place arcs order place inside ∙ (ap (arc_at arcs) (sym c.arc_at.ensures) ∙ get_or_from_slice_get arcs i a no_arc c.arc-arc.ensures) in
     let here : (arc_at chosen place).tail ≡ node = is.found c.loop-next-test.true in
     let last : IsLast Tail chosen place node c.before-next.result = subst (IsLast Tail chosen place node) (sym c.before-next.ensures) (subst (λ v. IsLast Tail chosen place v (slice_index c.args.least.now.before.items place)) here (c.requires.least.linked.last_before place inside)) in
-    let told = subst (λ (radius : Option ℤ). TellsReason (RelaxFails radius (old a.tail).dist (old a.head).dist a.cost) (result_err c.pass_arc.result)) c.radius-radius.ensures c.pass_arc.ensures.told in
-    let this = passed_this a old new b passes arcs i c.arc-arc.ensures is.marked.known (no_reason _ c.pass_arc.result (sym c.is_err.ensures.value ∙ c.if-is_err.false) told) in
+    let this = passed_this a old new b passes arcs i c.arc-arc.ensures is.marked.known (no_reason _ c.pass_arc.result (sym c.is_err.ensures.value ∙ c.if-is_err.false) c.pass_arc.ensures.told) in
     let on : ArePassedOn arcs order b old node (place + 1) = subst (ArePassedOn arcs order b old node) next_is is.passed in
     record {
       marked = record { blank = c.pass_arc.ensures.blank; known = known_after a old new b passes arcs is.marked.known i c.arc-arc.ensures };

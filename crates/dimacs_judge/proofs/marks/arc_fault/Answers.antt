@@ -8,6 +8,6 @@ pub returns : goal.returns
 returns g c =
     let value = g.D.Distance.value in
     let from : SFits w128 c.in_ok-from.from = search rules in
-    let cost : SFits w64 c.args.arc.cost = search rules in
-    told_between c.args.radius _ _ _ _ _ _ c.relax_fault_from.result (ap (λ d. Some d) (to_z-of_z w128 c.in_ok-from.from from) ∙ (c.in_ok-from.ensures ∙ ap (λ m. value m.dist) c.get.ensures.value))
-    (c.distance_in-to.ensures ∙ ap (λ m. value m.dist) c.get-2.ensures.value) (to_z-of_z w64 c.args.arc.cost cost) c.relax_fault_from.ensures
+    let cost : SFits w64 c.args.weight = search rules in
+    told_between c.args.block.now.radius _ _ _ _ _ _ c.relax_fault_from.result (ap (λ d. Some d) (to_z-of_z w128 c.in_ok-from.from from) ∙ (c.in_ok-from.ensures ∙ ap (λ m. value m.dist) c.get.ensures.value))
+    (c.distance_in-to.ensures ∙ ap (λ m. value m.dist) c.get-2.ensures.value) (to_z-of_z w64 c.args.weight cost) (rw c.radius.ensures at c.relax_fault_from.ensures)

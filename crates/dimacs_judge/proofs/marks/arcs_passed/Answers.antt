@@ -30,7 +30,7 @@ loop-i-preserved g c =
     let new = known value c.pass_arc.new.marks in
     let passes = c.pass_arc.ensures.marks in
     let i = c.loop-i.i in
-    let told = rw (c.radius-radius.ensures, c.in-Ok.is) at c.pass_arc.ensures.told in
+    let told = rw c.in-Ok.is at c.pass_arc.ensures.told in
     let made = rw c.in-Ok.is at c.pass_arc.ensures.made in
     record {
       marked = record { blank = c.pass_arc.ensures.blank; known = known_after a old new b passes arcs is.marked.known i c.arc.ensures };
@@ -58,7 +58,7 @@ returns-in-Err-clause-tests g c =
     let b = c.args.block.now in
     let is = c.loop-i.invariant in
     let value = g.D.Distance.value in
-    let told = rw (c.radius-radius.ensures, c.in-Err.is) at c.pass_arc.ensures.told in
+    let told = rw c.in-Err.is at c.pass_arc.ensures.told in
     let first = first_after c.arc.result (known value c.loop-i.marks) (known value c.pass_arc.new.marks) b c.pass_arc.ensures.marks arcs is.marked.known c.loop-i.i c.arc.ensures c.in-Err.reason is.clear told in
     let made = c.labels_made.ensures arcs b (sym c.labels-labels.ensures) c.rest_passed.ensures.made in
     rw c.and.ensures (both_told arcs b c.labels_made.result (Err (Arc (c.loop-i.i + 1), c.in-Err.reason)) made first)

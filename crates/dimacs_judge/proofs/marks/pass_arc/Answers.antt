@@ -1,20 +1,35 @@
-use Rattle.std.proofs.Common.{None, Some, refl}
-use Rattle.dimacs_judge.specs.inside.Marks.{known}
-use Rattle.dimacs_judge.proofs.MarkLemmas.{same_dists, told_between}
+use Rattle.std.proofs.Common.{IsTrue, ◌≡◌, ◌↔◌, ◌∙◌, ap, rules, w64, SFits, true, false}
+use Rattle.std.proofs.lemmas.Int.{to_z-of_z}
+use Rattle.dimacs_judge.specs.inside.Distances.{LeadsAside, LeadsTo}
+use Rattle.dimacs_judge.specs.inside.Marks.{is_made, known, known_by}
+use Rattle.dimacs_judge.proofs.MarkLemmas.{not_aside, passes_put, tight_where}
 use Rattle.dimacs_judge.proofs.marks.pass_arc.Goals as goal
 
-pub returns-in-Some-clause-told : goal.returns-in-Some-clause-told
-returns-in-Some-clause-told g c =
-    let a = c.args.arc in
-    let old = known g.D.Distance.value c.args.marks.now in
-    let new = known g.D.Distance.value c.mark_arc-passed.new.marks in
-    let same = same_dists a old new c.mark_arc-passed.ensures.marks in
-    told_between c.args.radius (new a.tail).dist (old a.tail).dist (new a.head).dist (old a.head).dist a.cost a.cost (Some c.in-Some.reason) (same a.tail) (same a.head) refl (rw c.in-Some.is at c.arc_fault.ensures)
+pub returns-in-None-clause-told : goal.returns-in-None-clause-told
+returns-in-None-clause-told g c =
+    let cost : SFits w64 c.args.arc.cost = search rules in
+    rw (to_z-of_z w64 c.args.arc.cost cost, c.in-None.is) at c.arc_fault.ensures
 
-pub returns-in_default-clause-told : goal.returns-in_default-clause-told
-returns-in_default-clause-told g c =
+pub returns-clause-told : goal.returns-clause-told
+returns-clause-told g c =
     let a = c.args.arc in
-    let old = known g.D.Distance.value c.args.marks.now in
-    let new = known g.D.Distance.value c.mark_arc-passed.new.marks in
-    let same = same_dists a old new c.mark_arc-passed.ensures.marks in
-    told_between c.args.radius (new a.tail).dist (old a.tail).dist (new a.head).dist (old a.head).dist a.cost a.cost None (same a.tail) (same a.head) refl (rw c.in_default.is at c.arc_fault.ensures)
+    let at = known g.D.Distance.value c.args.marks.now in
+    let cost : SFits w64 a.cost = search rules in
+    let aside : IsTrue c.leads_aside.result ↔ LeadsAside (at a.tail).dist (at a.head).dist a.cost = rw (to_z-of_z w64 a.cost cost, c.in-Some.ensures.0, c.in-Some-get_placed.ensures.0) at c.leads_aside.ensures in
+    not_aside c.args.block.now.radius (at a.tail).dist (at a.head).dist a.cost (λ leads. let yes : c.leads_aside.result ≡ true = aside.1 leads in let no = rw yes at c.if-not-leads_aside.true in cc)
+
+pub returns-clause-marks : goal.returns-clause-marks
+returns-clause-marks g c =
+    let a = c.args.arc in
+    let value = g.D.Distance.value in
+    let old = known value c.args.marks.now in
+    let new = known value c.put.new.self in
+    let head = c.in-Some-get_placed.ensures.0 in
+    let put = c.put.ensures.set in
+    let cost : SFits w64 a.cost = search rules in
+    let leads : IsTrue c.leads_to.result ↔ LeadsTo (old a.tail).dist (old a.head).dist a.cost = rw (to_z-of_z w64 a.cost cost, c.in-Some.ensures.0, head) at c.leads_to.ensures in
+    let waits : IsTrue c.waits_for.result ↔ (((old a.head).pred ≡ a.tail) × (is_made (old a.head) ≡ false)) = rw head at c.waits_for.ensures in
+    passes_put a old new _ (λ v off. ap (known_by value) (c.put.ensures.others v off))
+    (ap (λ m. value m.dist) put ∙ (ap value c.made_if.ensures.dist ∙ ap (λ m. value m.dist) head))
+    (rw (ap (λ m. m.pred) head) at (ap (λ m. m.pred) put ∙ c.made_if.ensures.pred))
+    (tight_where a old c.leads_to.result c.waits_for.result leads waits)
