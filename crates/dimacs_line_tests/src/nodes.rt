@@ -130,11 +130,11 @@ static PLACED: [(u32, Option<i64>); 4] = [
 static SKIPS: [(u32, usize); 8] = [
     (0, 0),
     (511, 511),
-    (512, 768),
+    (512, 576),
     (767, 768),
     (65_790, 65_792),
     (65_793, 65_793),
-    (66_048, 66_304),
+    (66_048, 66_112),
     (GREATEST, GREATEST as usize),
 ];
 
@@ -159,7 +159,7 @@ fn a_table_tells_its_values_and_the_pages_that_were_taken(rt: HostRuntime) -> Re
     for &(id, wanted) in &SKIPS {
         same_at(&rt, "from node", id as u64, table.skip_blank(id), wanted);
     }
-    let past = GREATEST as usize + 256;
+    let past = GREATEST as usize + 64;
     same(&rt, "past the greatest", table.end(), past);
     Ok(())
 }

@@ -38,16 +38,16 @@ module _ {T : Type 0} where
         | inr apart ↦ get-with_option_other (values_below f n) n id (f n) apart ∙ get-values_below f n id (omega arith)
       ]
 
-  value_of-past : (table : NodeTable (Option T)) (id : ℕ) → blank_of table ≡ None → 256 * reach_of table ≤ id → value_of table id ≡ None
+  value_of-past : (table : NodeTable (Option T)) (id : ℕ) → blank_of table ≡ None → 64 * reach_of table ≤ id → value_of table id ≡ None
   value_of-past table id blank past =
-      slot_value-no_page table.blank table.directory.items table.slots.items id table.numbered (get_or_past table.directory.items (id / 256) NO_PAGE (omega (arith, past))) ∙ blank
+      slot_value-no_page table.blank table.directory.items table.slots.items id table.numbered (get_or_past table.directory.items (id / 64) NO_PAGE (omega (arith, past))) ∙ blank
 
   pub get-values_in : (table : NodeTable (Option T)) (id : ℕ) → blank_of table ≡ None → get (values_in table) id ≡ value_of table id
   unfolding values_in
   get-values_in table id blank =
-      elim (cases_lt id (256 * reach_of table)) [
-        | inl h ↦ get-values_below (value_of table) (256 * reach_of table) id h
-        | inr h ↦ get-values_below_past (value_of table) (256 * reach_of table) id h ∙ sym (value_of-past table id blank h)
+      elim (cases_lt id (64 * reach_of table)) [
+        | inl h ↦ get-values_below (value_of table) (64 * reach_of table) id h
+        | inr h ↦ get-values_below_past (value_of table) (64 * reach_of table) id h ∙ sym (value_of-past table id blank h)
       ]
 
   pub values_in-none : (table : NodeTable (Option T)) → blank_of table ≡ None → ((id : ℕ) → value_of table id ≡ blank_of table) → values_in table ≡ empty

@@ -6,7 +6,7 @@ use Rattle.dimacs_nodes.specs.declared.node_table.TheConstants.{NO_PAGE}
 use Rattle.dimacs_nodes.specs.Slots.{number_of, place_of, slot_value}
 use Rattle.dimacs_nodes.specs.inside.Slots.{IsDirectory, SameNumbers}
 
-pub place_of-number : (directory : List ℕ) (id : ℕ) → place_of directory id ≡ number_of directory id * 256 + id % 256
+pub place_of-number : (directory : List ℕ) (id : ℕ) → place_of directory id ≡ number_of directory id * 64 + id % 64
 unfolding place_of
 place_of-number directory id = omega arith
 
@@ -16,15 +16,15 @@ no_pages = record { short = omega arith; whole = refl; few = omega arith; known 
 -- places are the same for the same numbers
 pub place_of-same : (old new : List ℕ) → SameNumbers old new → (id : ℕ) → place_of new id ≡ place_of old id
 unfolding place_of
-place_of-same old new same id = ap (λ n. 256 * n + id % 256) (same (id / 256))
+place_of-same old new same id = ap (λ n. 64 * n + id % 64) (same (id / 64))
 
 -- two IDs have places of their own
 apart_places : (directory : List ℕ) (slots id other : ℕ) → IsDirectory directory slots → place_of directory id < slots → place_of directory other ≡ place_of directory id → other ≡ id
 unfolding place_of
 apart_places directory slots id other is inside same =
     let numbers : number_of directory id ≡ number_of directory other = omega (arith, same) in
-    let below : 256 * number_of directory id < slots = omega (arith, inside) in
-    let pages : id / 256 ≡ other / 256 = is.apart (id / 256) (other / 256) below numbers in
+    let below : 64 * number_of directory id < slots = omega (arith, inside) in
+    let pages : id / 64 ≡ other / 64 = is.apart (id / 64) (other / 64) below numbers in
     omega (arith, same, numbers, pages)
 
 module _ {T : Type 0} (blank : T) where
@@ -46,7 +46,7 @@ module _ {T : Type 0} (blank : T) where
   unfolding place_of
   slot_value-no_page directory slots id is none = slot_value-past directory slots id (omega (arith, none, is.few))
 
-  pub slot_value-same_page : (directory : List ℕ) (slots : List T) (id other : ℕ) → IsDirectory directory (length slots) → length slots ≤ place_of directory id → other / 256 ≡ id / 256 → slot_value blank directory slots other ≡ blank
+  pub slot_value-same_page : (directory : List ℕ) (slots : List T) (id other : ℕ) → IsDirectory directory (length slots) → length slots ≤ place_of directory id → other / 64 ≡ id / 64 → slot_value blank directory slots other ≡ blank
   unfolding place_of
   slot_value-same_page directory slots id other is past same = slot_value-past directory slots other (omega (arith, past, is.whole, ap (λ i. get_or directory i NO_PAGE) same))
 
@@ -70,51 +70,51 @@ module _ {T : Type 0} (blank : T) where
   slot_value-same old new slots same id = ap (λ place. get_or slots place blank) (place_of-same old new same id)
 
 -- ---- one page more
-module _ (directory : List ℕ) (slots id : ℕ) (is : IsDirectory directory slots) (free : slots ≤ place_of directory id) (room : slots / 256 < NO_PAGE) (inside : id / 256 < length directory) where
+module _ (directory : List ℕ) (slots id : ℕ) (is : IsDirectory directory slots) (free : slots ≤ place_of directory id) (room : slots / 64 < NO_PAGE) (inside : id / 64 < length directory) where
   abbrev number : ℕ
-  number = slots / 256
+  number = slots / 64
 
   abbrev longer : List ℕ
-  longer = set directory (id / 256) number
+  longer = set directory (id / 64) number
 
-  at_page : (i : ℕ) → i ≡ id / 256 → get_or longer i NO_PAGE ≡ number
-  at_page i same = rw same (get_or-set_same directory (id / 256) number NO_PAGE inside)
+  at_page : (i : ℕ) → i ≡ id / 64 → get_or longer i NO_PAGE ≡ number
+  at_page i same = rw same (get_or-set_same directory (id / 64) number NO_PAGE inside)
 
-  elsewhere : (i : ℕ) → i ≢ id / 256 → get_or longer i NO_PAGE ≡ get_or directory i NO_PAGE
-  elsewhere i apart = get_or-set_other directory (id / 256) i number NO_PAGE apart
+  elsewhere : (i : ℕ) → i ≢ id / 64 → get_or longer i NO_PAGE ≡ get_or directory i NO_PAGE
+  elsewhere i apart = get_or-set_other directory (id / 64) i number NO_PAGE apart
 
   -- no other page had the number, and none had one above it
-  other_number : (i : ℕ) → i ≢ id / 256 → get_or directory i NO_PAGE ≢ number
+  other_number : (i : ℕ) → i ≢ id / 64 → get_or directory i NO_PAGE ≢ number
   other_number i off same = elim (cases_eq (get_or directory i NO_PAGE) NO_PAGE) [
     | inl none ↦ omega (arith, same, none, room)
     | inr some ↦ omega (arith, same, is.known i some, is.whole)
   ]
 
-  taken_before : (i : ℕ) → i ≢ id / 256 → 256 * get_or longer i NO_PAGE < slots + 256 → 256 * get_or directory i NO_PAGE < slots
+  taken_before : (i : ℕ) → i ≢ id / 64 → 64 * get_or longer i NO_PAGE < slots + 64 → 64 * get_or directory i NO_PAGE < slots
   taken_before i off below = elim (cases_eq (get_or directory i NO_PAGE) NO_PAGE) [
     | inl none ↦ absurd (omega (arith, below, elsewhere i off, none, room, is.whole))
     | inr some ↦ is.known i some
   ]
 
-  pub page_place : place_of longer id < slots + 256
+  pub page_place : place_of longer id < slots + 64
   unfolding place_of
-  page_place = omega (arith, at_page (id / 256) refl, is.whole)
+  page_place = omega (arith, at_page (id / 64) refl, is.whole)
 
-  pub page_numbered : IsDirectory longer (slots + 256)
+  pub page_numbered : IsDirectory longer (slots + 64)
   page_numbered = record {
     short = rw length-set is.short;
     whole = omega (arith, is.whole);
     few = omega (arith, is.whole, room);
-    known = λ i some. elim (cases_eq i (id / 256)) [
+    known = λ i some. elim (cases_eq i (id / 64)) [
       | inl same ↦ omega (arith, at_page i same, is.whole)
       | inr off ↦ omega (arith, elsewhere i off, is.known i (λ none. some (elsewhere i off ∙ none)))
     ];
-    apart = λ i j below same. elim (cases_eq i (id / 256)) [
-      | inl here ↦ elim (cases_eq j (id / 256)) [
+    apart = λ i j below same. elim (cases_eq i (id / 64)) [
+      | inl here ↦ elim (cases_eq j (id / 64)) [
         | inl there ↦ here ∙ sym there
         | inr off ↦ absurd (other_number j off (sym (elsewhere j off) ∙ sym same ∙ at_page i here))
       ]
-      | inr off ↦ elim (cases_eq j (id / 256)) [
+      | inr off ↦ elim (cases_eq j (id / 64)) [
         | inl there ↦ absurd (other_number i off (sym (elsewhere i off) ∙ same ∙ at_page j there))
         | inr away ↦ is.apart i j (taken_before i off below) (sym (elsewhere i off) ∙ same ∙ elsewhere j away)
       ]
@@ -131,16 +131,16 @@ module _ (directory : List ℕ) (slots id : ℕ) (is : IsDirectory directory slo
     pub page_values : (other : ℕ) → slot_value blank longer (values ++ more) other ≡ slot_value blank directory values other
     unfolding slot_value place_of
     page_values other =
-        stays (place_of longer other) ∙ elim (cases_eq (other / 256) (id / 256)) [
+        stays (place_of longer other) ∙ elim (cases_eq (other / 64) (id / 64)) [
           | inl same ↦
               let old : length values ≤ place_of directory other = omega (arith, free, size, is.whole, ap (λ i. get_or directory i NO_PAGE) same) in
-              let new : length values ≤ place_of longer other = omega (arith, at_page (other / 256) same, size, is.whole) in
+              let new : length values ≤ place_of longer other = omega (arith, at_page (other / 64) same, size, is.whole) in
               get_or_past values (place_of longer other) blank new ∙ sym (get_or_past values (place_of directory other) blank old)
-          | inr off ↦ ap (λ n. get_or values (256 * n + other % 256) blank) (elsewhere (other / 256) off)
+          | inr off ↦ ap (λ n. get_or values (64 * n + other % 64) blank) (elsewhere (other / 64) off)
         ]
 
 -- a longer directory
-pub same_directory : (old new : List ℕ) (slots : ℕ) → SameNumbers old new → length new ≤ 16777216 → IsDirectory old slots → IsDirectory new slots
+pub same_directory : (old new : List ℕ) (slots : ℕ) → SameNumbers old new → length new ≤ 67108864 → IsDirectory old slots → IsDirectory new slots
 same_directory old new slots same short is = record {
   short = short;
   whole = is.whole;

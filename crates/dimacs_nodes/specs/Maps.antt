@@ -18,4 +18,4 @@ module _ {T : Type 0} where
 
   -- the values that a table has, whose blank is none
   unfoldable pub values_in : NodeTable (Option T) → FinMap nat_cmp T
-  values_in table = values_below (value_of table) (256 * reach_of table)
+  values_in table = values_below (value_of table) (64 * reach_of table)

@@ -1,14 +1,14 @@
--- The slots of IDs, in pages of 256.
+-- The slots of IDs, in pages of 64.
 use Rattle.std.specs.Prelude.{ℕ, ◌+◌, ◌*◌, ◌/◌, ◌%◌, List, slice_index_or}
 use Rattle.dimacs_nodes.specs.declared.node_table.TheConstants.{NO_PAGE}
 
 -- the number of the page of this ID
 abbrev pub number_of : List ℕ → ℕ → ℕ
-number_of directory id = slice_index_or directory (id / 256) NO_PAGE
+number_of directory id = slice_index_or directory (id / 64) NO_PAGE
 
 -- where the slot of this ID is
 unfoldable pub place_of : List ℕ → ℕ → ℕ
-place_of directory id = 256 * number_of directory id + id % 256
+place_of directory id = 64 * number_of directory id + id % 64
 
 -- what the slot of this ID holds
 unfoldable pub slot_value : {T : Type 0} → T → List ℕ → List T → ℕ → T

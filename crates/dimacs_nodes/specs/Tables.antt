@@ -23,12 +23,12 @@ module _ {T : Type 0} where
   abbrev pub reach_of : NodeTable T → ℕ
   reach_of table = length table.directory.items
 
-  -- how many slots were taken, 256 for each page
+  -- how many slots were taken, 64 for each page
   abbrev pub slots_in : NodeTable T → ℕ
   slots_in table = length table.slots.items
 
   -- nothing was taken but the page of this ID, where it had none, and the directory up to it
   pub record TakesPageAlone (old new : NodeTable T) (id : ℕ) : Type 0 where
-    pub reach : reach_of new ≤ max (reach_of old) (id / 256 + 1)
-    pub page : slots_in new ≤ slots_in old + 256
+    pub reach : reach_of new ≤ max (reach_of old) (id / 64 + 1)
+    pub page : slots_in new ≤ slots_in old + 64
     pub none : HasPlace old id → slots_in new ≡ slots_in old

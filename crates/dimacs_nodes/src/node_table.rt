@@ -8,7 +8,7 @@ use dimacs_lines::Memory;
 use std::alloc::Global;
 
 /// The IDs that share a page.
-const PAGE: usize = 256;
+const PAGE: usize = 64;
 
 /// The number of a page that was not taken.
 const NO_PAGE: u32 = u32::MAX;
@@ -163,9 +163,9 @@ fn place(directory: &[u32], id: u32) -> usize
 /// Makes the directory reach to the page of an ID.
 fn extend_directory(directory: &mut Vec<u32>, id: u32) -> Result<(), Memory>
     ensures same { SameNumbers directory.old.items directory.new.items }
-    ensures reached { OnOk result (id / 256 < length directory.new.items) }
-    ensures short { length directory.old.items ≤ 16777216 → length directory.new.items ≤ 16777216 }
-    ensures no_longer { length directory.new.items ≤ max (length directory.old.items) (id / 256 + 1) }
+    ensures reached { OnOk result (id / 64 < length directory.new.items) }
+    ensures short { length directory.old.items ≤ 67108864 → length directory.new.items ≤ 67108864 }
+    ensures no_longer { length directory.new.items ≤ max (length directory.old.items) (id / 64 + 1) }
 {
     let count = id as usize / PAGE + 1;
     if directory.len() < count {

@@ -10,7 +10,7 @@ use std::alloc::Global;
 use std::marker::Model;
 
 /// A number for each node that was given one, by the node's ID. It takes 16 bytes where it fits 64 bits, and else 32: by
-/// pages of 256 nodes, for either sort of number.
+/// pages of 64 nodes, for either sort of number.
 #[derive(Drop)]
 pub struct WideMap {
     /// Numbers of 64 bits.

@@ -13,4 +13,4 @@ returns c =
       | in-Some w ↦ w.number-is ∙ w.in-Some.ensures.lookup.3.1 NO_PAGE
       | in-None w ↦ w.number-is ∙ sym (get_or_past _ _ NO_PAGE w.in-None.ensures.lookup.3)
     ] in
-    ap (λ n. n * 256 + c.args.id % 256) number ∙ sym (place_of-number c.args.directory.now c.args.id)
+    ap (λ n. n * 64 + c.args.id % 64) number ∙ sym (place_of-number c.args.directory.now c.args.id)

@@ -15,4 +15,4 @@ pub returns-clause-blank : goal.returns-clause-blank
 returns-clause-blank g c =
     let table = c.args.self.now in
     let len : vec_len table.directory ≡ length table.directory.items = search rules in
-    λ id past. slot_value-no_page table.blank table.directory.items table.slots.items id table.numbered (get_or_past table.directory.items (id / 256) NO_PAGE (omega (arith, past, len, c.len.ensures)))
+    λ id past. slot_value-no_page table.blank table.directory.items table.slots.items id table.numbered (get_or_past table.directory.items (id / 64) NO_PAGE (omega (arith, past, len, c.len.ensures)))
