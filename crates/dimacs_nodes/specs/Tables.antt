@@ -19,7 +19,7 @@ module _ {T : Type 0} where
   abbrev pub SameValues : NodeTable T → NodeTable T → Type 0
   SameValues old new = (id : ℕ) → value_of new id ≡ value_of old id
 
-  -- up to which page the directory goes; the page of an ID is its 256th part
+  -- up to which page the directory goes; the page of an ID is its 64th part
   abbrev pub reach_of : NodeTable T → ℕ
   reach_of table = length table.directory.items
 
