@@ -57,6 +57,7 @@ impl Block {
     }
 
     /// Adds a label of a node that has none.
+    #[inline(always)]
     pub fn add(&mut self, label: Label) -> Result<(), Memory>
         requires { claims.label self.old label.id ≡ None }
         ensures added { OnOk result (self.new ≡ with_label self.old label) }

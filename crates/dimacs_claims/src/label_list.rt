@@ -63,7 +63,7 @@ impl LabelList {
     }
 
     /// Adds a label after the others.
-    #[inline]
+    #[inline(always)]
     pub(crate) fn push(&mut self, label: Label) -> Result<(), Memory>
         ensures pushed { OnOk result (self.new ≡ self.old ++ label ∷ []) }
         ensures unchanged { OnErr result (self.new ≡ self.old) }

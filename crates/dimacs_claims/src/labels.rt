@@ -248,6 +248,7 @@ impl BegunLabels {
     }
 }
 
+#[inline(always)]
 fn add_to_last(blocks: &mut Vec<Block>, label: Label) -> Result<(), Memory>
     requires { (front : List BlockValue) × (b : BlockValue) × (blocks.old.items ≡ front ++ b ∷ []) × (claims.label b label.id ≡ None) }
     ensures added { OnOk result ((front : List BlockValue) (b : BlockValue) → blocks.old.items ≡ front ++ b ∷ []
