@@ -117,6 +117,27 @@ class MaximumFlow(Networkx):
         it = self.refused(dimacs.Refused, dimacs.certify_networkx_max, graph, *ends, flow)
         self.assertIn((it.node, it.arc), [("mill", None), (None, ("mill", "farm"))])
 
+    def test_forms_of_a_side(self):
+        graph = pipes()
+        ends = "spring", "town"
+        value, flow = networkx.maximum_flow(graph, *ends)
+        _, (side, others) = networkx.minimum_cut(graph, *ends)
+        says = {node: node in side for node in graph}
+        for form in (side, sorted(side), iter(side), says, dict.fromkeys(side, True)):
+            self.assertEqual(dimacs.judge_networkx_max(graph, *ends, flow, form), dimacs.Verdict("max", value))
+        if numpy is not None:
+            marked = {node: numpy.bool_(is_inside) for node, is_inside in says.items()}
+            self.assertEqual(dimacs.judge_networkx_max(graph, *ends, flow, marked).value, value)
+        it = self.refused(dimacs.Refused, dimacs.judge_networkx_max, graph, *ends, flow, dict.fromkeys(graph, False))
+        self.assertEqual((it.node, it.reason), ("spring", "SourceOutside"))
+        for form in (dict.fromkeys(side, 1), {**says, "town": None}, {node: graph[node] for node in side}, flow):
+            it = self.refused(TypeError, dimacs.judge_networkx_max, graph, *ends, flow, form)
+            self.assertIn("side", str(it))
+        for form in ({**says, "moat": False}, {*side, "moat"}):
+            self.refused(ValueError, dimacs.judge_networkx_max, graph, *ends, flow, form)
+        for form in ((side, others), 3, None):
+            self.refused(TypeError, dimacs.judge_networkx_max, graph, *ends, flow, form)
+
     def test_better(self):
         graph = pipes()
         none = {node: dict.fromkeys(graph[node], 0) for node in graph}

@@ -94,6 +94,10 @@ def _is_numpy_bool(number: Any) -> bool:
     return numpy is not None and isinstance(number, numpy.bool_)
 
 
+def is_bool(number: Any) -> bool:
+    return isinstance(number, bool) or _is_numpy_bool(number)
+
+
 def _whole(number: Any, items: Items, name: str) -> int:
     """The integer that a number is."""
     if _is_numpy_bool(number):

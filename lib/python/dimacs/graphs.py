@@ -19,7 +19,7 @@ from typing import Any, Iterator
 
 from . import arrays
 from .answers import UNREACHED, Certified, NotOptimal, PastLimit, Refused, Verdict
-from .buffers import NUMBERS, converted, number_of
+from .buffers import NUMBERS, converted, is_bool, number_of
 
 #: The capacity of an edge without one. A flow has to stay below it there: then the same edges have room left as if
 #: there were no limit, and so it is as good as it would be then.
@@ -90,6 +90,13 @@ class _Graph:
             self.number(node)
         return [values.get(node, missing) for node in self.nodes]
 
+    def inside(self, side: Any) -> list[bool]:
+        """Whether each node is on this side: one of these nodes, or one that a dict maps to True."""
+        marks = side if isinstance(side, Mapping) else dict.fromkeys(side, True)
+        if not all(is_bool(it) for it in marks.values()):
+            raise TypeError(f"side is a {type(side).__name__} that doesn't map nodes to bools, and has to be a set of nodes")
+        return self.by_node(marks, False, "side")
+
     def flows(self, flow: Mapping[Any, Any]) -> array[int]:
         """The flow of each edge."""
         entries = _entries(flow, "flow[u][v][key]" if self._is_multigraph else "flow[u][v]")
@@ -144,10 +151,11 @@ def _min_words(graph: _Graph, flow: Any) -> tuple[Any, ...]:
 def judge_networkx_max(graph: Any, source: Any, sink: Any, flow: Any, side: Any) -> Verdict:
     """Judges what maximum_flow says of a graph, as the source's side of a cut shows: the first set of minimum_cut.
 
-    Raises Refused where it doesn't show it.
+    The side is a set or list of nodes, or a dict that says of nodes whether they are on it, True or False; a node that isn't
+    in the dict is not. Raises Refused where the side doesn't show it, and TypeError where it is another dict.
     """
     given = _Graph(graph)
-    inside = given.by_node(dict.fromkeys(side, 1), 0, "side")
+    inside = given.inside(side)
     with given.names():
         return arrays.judge_max_arrays(*_max_words(given, source, sink, flow), inside)
 
