@@ -63,17 +63,16 @@ class _Given:
         count = len(form.numbers)
         self._arrays: list[tuple[_Array, Buffer]] = []
         fields: list[Any] = [number_of(number, IDS, name) for name, number in zip(form.numbers, given)]
-        self.nodes = fields[0]
         for form_of_it, numbers in zip(form.arrays, given[count:]):
             fields += self._keep(form_of_it, numbers)
-        self.arcs = self._arrays[0][1].length  # one for each tail
+        self._count = {"nodes": fields[0], "arcs": self._arrays[0][1].length}  # one arc for each tail
         self._instance = form.structure(*fields)
         self.words: list[Any] = [ctypes.byref(self._instance)]
 
     def _keep(self, form: _Array, numbers: Any) -> tuple[Any, int]:
         buffer = array_of(numbers, form.items, form.name)
         self._arrays.append((form, buffer))
-        return buffer.words()
+        return buffer.address, buffer.length
 
     def add_number(self, name: str, number: Any) -> None:
         self.words.append(number_of(number, IDS, name))
@@ -83,12 +82,12 @@ class _Given:
 
     def length(self, form: _Array) -> int:
         """How many items an array has to have."""
-        return self.arcs if form.each == "arcs" else self.nodes
+        return self._count[form.each]
 
     def test_lengths(self) -> None:
         """The library tests the lengths too, but doesn't tell which one is wrong."""
         for form, buffer in self._arrays:
-            if buffer.length != self.length(form):
+            if buffer.length != self._count[form.each]:
                 raise ValueError(f"{form.name} has {buffer.length} items, and there are {self.length(form)} {form.each}")
 
 

@@ -108,7 +108,8 @@ def call_for_text(function: Callable[..., int], *words: Any, room: int, has_line
 def call_with_rooms(function: Callable[..., int], words: list[Any], rooms: list[Room]) -> tuple[int, bytes]:
     """Makes a call that hands out items to rooms that are large enough; its status, and the line."""
     line, told = _Line(), _size()
-    status = function(*words, line, LINE, ctypes.byref(told), *(word for room in rooms for word in room.words()))
+    handed = [word for room in rooms for word in room.words()]
+    status = function(*words, line, LINE, ctypes.byref(told), *handed)
     said = line[: told.value]
     _raise_for(status, said)
     return status, said
