@@ -11,5 +11,7 @@ mod MaxLemmas
 mod MinLemmas
 mod OrderLemmas
 mod PredLemmas
+mod RisingLemmas
+mod SinkLemmas
 mod TreeLemmas
 mod WayLemmas

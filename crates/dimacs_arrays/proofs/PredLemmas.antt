@@ -20,11 +20,11 @@ pub record AreFilled (labels : List Label) (preds : List ℕ) (n : ℕ) : Type 0
   pub named : (j : ℕ) → j < n → pred_by_node preds (at_place labels j).id ≡ (at_place labels j).pred
   pub others : (v : ℕ) → ((j : ℕ) → j < n → (at_place labels j).id ≢ v) → pred_by_node preds v ≡ 0
 
-set_here : (preds : List ℕ) (u p : ℕ) → IsNode (length preds) u → pred_by_node (slice_set preds (u - 1) p) u ≡ p
+pub set_here : (preds : List ℕ) (u p : ℕ) → IsNode (length preds) u → pred_by_node (slice_set preds (u - 1) p) u ≡ p
 set_here preds zero p node = absurd (omega (arith, node.0))
 set_here preds (suc k) p node = let e : suc k - 1 ≡ k = omega arith in rw e (get_or-set_same preds k p 0 (omega (arith, node.1)))
 
-set_there : (preds : List ℕ) (u v p : ℕ) → 1 ≤ u → v ≢ u → pred_by_node (slice_set preds (u - 1) p) v ≡ pred_by_node preds v
+pub set_there : (preds : List ℕ) (u v p : ℕ) → 1 ≤ u → v ≢ u → pred_by_node (slice_set preds (u - 1) p) v ≡ pred_by_node preds v
 set_there preds u zero p some apart = refl
 set_there preds u (suc k) p some apart = get_or-set_other preds (u - 1) k p 0 (λ e. apart (omega (arith, e, some)))
 

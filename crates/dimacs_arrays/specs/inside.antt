@@ -1,3 +1,4 @@
 pub mod Answers
 pub mod LabelTrees
 pub mod MinCertified
+pub mod Rising

@@ -8,6 +8,7 @@ ghost use Rattle.dimacs_arrays.specs.Paths.{CertifiesByNode, JudgesByNode, pred_
 
 use crate::labels::labels_by_node;
 use crate::predecessors::predecessors_of;
+use crate::rising::rising_predecessors;
 use dimacs_decide::{DistancesByNode, decide_distances};
 use dimacs_instance::{Graph, Network, Queries};
 use dimacs_judge::{JudgeError, Verdict, judge_paths};
@@ -59,6 +60,9 @@ pub fn certify_paths_by_node<N: Network>(
     requires source { IsNode graph.now.nodes source }
     ensures { CertifiesByNode graph.now source (claimed_by_node distances.now) result }
 {
+    if let Some(predecessors) = rising_predecessors(alloc, graph.network(), source, distances)? {
+        return Ok(predecessors);
+    }
     let nodes = graph.network().nodes();
     let labels = decide_distances(alloc, graph, source, &DistancesByNode { distances })?;
     Ok(predecessors_of(alloc, nodes, &labels.blocks()[0])?)

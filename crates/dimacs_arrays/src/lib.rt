@@ -25,6 +25,7 @@ mod limits;
 mod max;
 mod min;
 mod predecessors;
+mod rising;
 mod way_back;
 
 pub use certify_max::{MaxCertified, certify_max_arrays};

@@ -6,6 +6,7 @@ use Rattle.dimacs_arrays.specs.Paths.{pred_by_node}
 use Rattle.dimacs_arrays.specs.inside.LabelTrees.{ArePredsOf}
 use Rattle.dimacs_arrays.proofs.CertifyPathsLemmas.{labels_by, one_block}
 use Rattle.dimacs_arrays.proofs.OrderLemmas.{both_pass}
+use Rattle.dimacs_arrays.proofs.RisingLemmas.{rising_certified}
 use Rattle.dimacs_arrays.proofs.distances.certify_paths_by_node.Goals as goal
 
 pub predecessors_of-requires : goal.predecessors_of-requires
@@ -14,7 +15,13 @@ predecessors_of-requires g c =
     let labels = c.in_ok-labels.labels in
     let b = c.index-blocks-0.result in
     let alone : labels.blocks ≡ b ∷ [] = one_block labels.blocks b are.1.alone (rw c.blocks-2.ensures.blocks at c.index-blocks-0.is) in
-    rw (c.nodes-nodes.ensures, c.network.ensures.nodes, ← are.1.passes.nodes) (All-head (IsBlock labels.nodes) b [] (rw alone at c.blocks-2.ensures.lawful.blocks))
+    rw (c.nodes-nodes.ensures, c.network-2.ensures.nodes, ← are.1.passes.nodes) (All-head (IsBlock labels.nodes) b [] (rw alone at c.blocks-2.ensures.lawful.blocks))
+
+pub returns-in-Some : goal.returns-in-Some
+returns-in-Some g c =
+    let lawful = c.network.ensures.lawful in
+    let rising = rw (c.in-Some.is, c.network.ensures.nodes, c.network.ensures.arcs) at c.in_ok-predecessors.ensures in
+    rising_certified c.args.graph.now c.args.source c.args.distances.now c.in-Some.predecessors.items c.requires.source lawful.nodes_few lawful.joined rising
 
 pub returns : goal.returns
 returns g c =
@@ -26,12 +33,12 @@ returns g c =
     let preds = c.in_ok-predecessors_of.field-0.items in
     let alone : labels.blocks ≡ b ∷ [] = one_block labels.blocks b are.1.alone (rw c.blocks-2.ensures.blocks at c.index-blocks-0.is) in
     let lawful : IsBlock value.nodes b = rw (← are.1.passes.nodes) (All-head (IsBlock labels.nodes) b [] (rw alone at c.blocks-2.ensures.lawful.blocks)) in
-    let named : ArePredsOf value.nodes b.labels preds = rw (c.nodes-nodes.ensures, c.network.ensures.nodes) at c.in_ok-predecessors_of.ensures in
+    let named : ArePredsOf value.nodes b.labels preds = rw (c.nodes-nodes.ensures, c.network-2.ensures.nodes) at c.in_ok-predecessors_of.ensures in
     let by = labels_by value c.args.source claim labels b preds are.1 alone lawful named in (
       are.0,
       record {
         each = named.each;
         some = (labels, by);
-        pass = λ other says. both_pass value c.args.source claim (pred_by_node preds) c.network.ensures.lawful.joined labels other by says are.1.passes;
+        pass = λ other says. both_pass value c.args.source claim (pred_by_node preds) c.network-2.ensures.lawful.joined labels other by says are.1.passes;
       },
     )

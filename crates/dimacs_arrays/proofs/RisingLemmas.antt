@@ -1,0 +1,177 @@
+-- Distances that rise along arcs are true.
+use Rattle.std.proofs.Common.{◌≡◌, ◌≢◌, inl, inr, ℕ, suc, zero, ◌+◌, ◌-◌, ◌^◌, ◌<◌, ◌≤◌, List, [], ◌∷◌, All, length, get_or, Option, Some, None, IsSome, is_some, ℤ, pos, ◌+ℤ◌, ◌≤ℤ◌, ◌<ℤ◌, refl, sym, ap, subst, ◌∙◌, arith}
+use Rattle.std.specs.Prelude.{int_lt, slice_get, slice_set}
+use Rattle.std.proofs.lemmas.Bool.{cases_Bool, cases_eq, cases_order}
+use Rattle.std.proofs.lemmas.Bool.Decides.{eqb_tells}
+use Rattle.std.proofs.lemmas.Int.{ints}
+use Rattle.std.proofs.lemmas.List.Elements.{All-cons, All-from_get_or, All-get_or, All-nil, Contains-get_or}
+use Rattle.dimacs_lines.specs.Limits.{most_nodes}
+use Rattle.dimacs_records.specs.Ranges.{IsNode, IsWide}
+use Rattle.dimacs_instance.specs.declared.network.ArcView.{ArcView}
+use Rattle.dimacs_instance.specs.Arcs.{JoinsNodes, NetworkValue}
+use Rattle.dimacs_instance.specs.QueryTexts.{Sources}
+use Rattle.dimacs_claims.specs.declared.block.Label.{Label}
+use Rattle.dimacs_claims.specs.Labels.{BlockValue, IsLabel, LabelsValue, distance_in, label, no_label}
+use Rattle.dimacs_judge.specs.Answers.{block_of}
+use Rattle.dimacs_judge.specs.Labels.{HasTightArc, IsRelaxed, LabelsOk}
+use Rattle.dimacs_judge.specs.PathsJudge.{PassesPaths}
+use Rattle.dimacs_judge.specs.QueryTests.{HasFullBlock}
+use Rattle.dimacs_judge.specs.Rows.{arc_at, no_arc}
+use Rattle.dimacs_judge.specs.Walks.{IsDistance}
+use Rattle.dimacs_judge.proofs.Distances.{labels_are_distances}
+use Rattle.dimacs_judge.proofs.LabelsPassing.{stays_near}
+use Rattle.dimacs_claims.proofs.ByIdLemmas.{distance_in-at, fresh_apart}
+use Rattle.std.proofs.lemmas.Bool.{ne_eqb}
+use Rattle.dimacs_decide.specs.Claims.{claimed_by_node, unless_greatest}
+use Rattle.dimacs_decide.specs.Distances.{AreDistancesFrom}
+use Rattle.dimacs_arrays.specs.Paths.{AreLabelsBy, ArePredecessors, IsDue, pred_by_node}
+use Rattle.dimacs_arrays.specs.inside.Rising.{AreRising, AreRisingBy, HasRisingArc, Relaxes, Rises}
+use Rattle.dimacs_arrays.proofs.CertifyPathsLemmas.{not_source}
+use Rattle.dimacs_arrays.proofs.DistanceLemmas.{distance_within}
+use Rattle.dimacs_arrays.proofs.PredLemmas.{set_here, set_there}
+use Rattle.dimacs_arrays.proofs.SinkLemmas.{AreNearer, sink_labels}
+
+-- ---- the arcs so far
+pub record AreRisingBelow (arcs : List ArcView) (claim : ℕ → Option ℤ) (pred : ℕ → ℕ) (n : ℕ) : Type 0 where
+  pub relaxed : (k : ℕ) → k < n → Relaxes claim (arc_at arcs k)
+  pub made : (v : ℕ) → pred v ≢ 0 → HasRisingArc arcs claim (pred v) v
+
+module _ (arcs : List ArcView) (claim : ℕ → Option ℤ) where
+  relaxed_more : (pred : ℕ → ℕ) (n : ℕ) → AreRisingBelow arcs claim pred n → Relaxes claim (arc_at arcs n) → (k : ℕ) → k < n + 1 → Relaxes claim (arc_at arcs k)
+  relaxed_more pred n are here k less = elim (cases_order k n) [
+    | inl same ↦ subst (λ j. Relaxes claim (arc_at arcs j)) (sym same) here
+    | inr other ↦ elim other [
+      | inl before ↦ are.relaxed k before
+      | inr past ↦ absurd (omega (arith, past, less))
+    ]
+  ]
+
+  pub flat_more : (pred : ℕ → ℕ) (n : ℕ) → AreRisingBelow arcs claim pred n → Relaxes claim (arc_at arcs n) → AreRisingBelow arcs claim pred (n + 1)
+  flat_more pred n are here = record { relaxed = relaxed_more pred n are here; made = are.made }
+
+  pub rising_more : (preds : List ℕ) (n : ℕ) → n < length arcs → IsNode (length preds) (arc_at arcs n).head → AreRisingBelow arcs claim (pred_by_node preds) n → Relaxes claim (arc_at arcs n) → ((d : ℤ) × Rises claim (arc_at arcs n) d)
+      → AreRisingBelow arcs claim (pred_by_node (slice_set preds ((arc_at arcs n).head - 1) (arc_at arcs n).tail)) (n + 1)
+  rising_more preds n inside node are here rises = record {
+    relaxed = relaxed_more (pred_by_node preds) n are here;
+    made = λ v some. elim (cases_eq v a.head) [
+      | inl same ↦ subst (λ u. HasRisingArc arcs claim (pred_by_node after u) u) (sym same) (a, Contains-get_or arcs n no_arc inside, sym (set_here preds a.head a.tail node), refl, rises)
+      | inr apart ↦
+          let kept = set_there preds a.head v a.tail node.0 apart in
+          subst (λ p. HasRisingArc arcs claim p v) (sym kept) (are.made v (λ none. some (kept ∙ none)))
+    ];
+  }
+    where
+      a : ArcView
+      a = arc_at arcs n
+
+      after : List ℕ
+      after = slice_set preds (a.head - 1) a.tail
+
+  pub rising_all : (pred : ℕ → ℕ) (n : ℕ) → length arcs ≤ n → AreRisingBelow arcs claim pred n → AreRising arcs claim pred
+  rising_all pred n over are = record { relaxed = All-from_get_or (Relaxes claim) arcs no_arc (λ k inside. are.relaxed k (omega (arith, inside, over))); made = are.made }
+
+-- ---- distances by node
+below_greatest : (o : Option ℤ) (d : ℤ) → unless_greatest o ≡ Some d → d <ℤ pos (2 ^ 63)
+below_greatest None d is = absurd (cc)
+below_greatest (Some c) d is = elim (cases_Bool (int_lt c (pos (2 ^ 63 - 1)))) [
+  | inl less ↦ (let e : Some c ≡ Some d = rw less at is in let f : c ≡ d = cc in omega (arith, ints, less, f))
+  | inr most ↦ absurd (let e : None ≡ Some d = rw most at is in cc)
+]
+
+wide_claim : (distances : List ℤ) (v : ℕ) (d : ℤ) → claimed_by_node distances v ≡ Some d → pos 0 ≤ℤ d → IsWide d
+wide_claim distances zero d is low = absurd (cc)
+wide_claim distances (suc k) d is low = let less = below_greatest (slice_get distances k) d is in (omega (arith, ints, low), omega (arith, ints, less))
+
+module _ (g : NetworkValue) (s : ℕ) (distances : List ℤ) (preds : List ℕ) (node : IsNode g.nodes s) (small : g.nodes ≤ most_nodes) (joined : All (JoinsNodes g.nodes) g.arcs) (are : AreRisingBy g.nodes s g.arcs distances (claimed_by_node distances) preds) where
+  abbrev claim : ℕ → Option ℤ
+  claim = claimed_by_node distances
+
+  abbrev pred : ℕ → ℕ
+  pred = pred_by_node preds
+
+  inside : (v : ℕ) → IsSome (claim v) → IsNode g.nodes v
+  inside v some = subst (λ n. IsNode n v) are.whole (distance_within distances v some)
+
+  -- the arc that leads to a node from its predecessor
+  made : (v : ℕ) (d : ℤ) → v ≢ s → claim v ≡ Some d → HasRisingArc g.arcs claim (pred v) v
+  made v d apart named = are.rising.made v (are.reached v (apart, ap is_some named))
+
+  nearer : (v : ℕ) (d : ℤ) → v ≢ s → claim v ≡ Some d → (e : ℤ) × (claim (pred v) ≡ Some e) × (pos 0 ≤ℤ e) × (e <ℤ d)
+  nearer v d apart named =
+      let (a, has, tail, head, up) = made v d apart named in
+      let (e, rises) = up in
+      let both : Some (e +ℤ a.cost) ≡ Some d = sym rises.head ∙ (ap claim head ∙ named) in
+      let adds : e +ℤ a.cost ≡ d = cc in
+      (e, ap claim (sym tail) ∙ rises.tail, rises.low, omega (arith, ints, adds, rises.more))
+
+  others : (v : ℕ) → (¬ IsDue s claim v) → pred v ≡ 0
+  others v free = elim (cases_eq (pred v) 0) [
+    | inl none ↦ none
+    | inr some ↦
+        let (a, has, tail, head, up) = are.rising.made v some in
+        let (e, rises) = up in
+        let named : claim v ≡ Some (e +ℤ a.cost) = ap claim (sym head) ∙ rises.head in
+        let apart : v ≢ s = λ same. (
+        let both : Some (e +ℤ a.cost) ≡ Some (pos 0) = sym named ∙ (ap claim same ∙ are.source) in
+        let adds : e +ℤ a.cost ≡ pos 0 = cc in
+        omega (arith, ints, adds, rises.low, rises.more)
+        ) in
+        absurd (free (apart, ap is_some named))
+  ]
+
+  are_nearer : AreNearer g.nodes s claim pred
+  are_nearer = record { source = node; at = are.source; inside = inside; wide = wide_claim distances; nearer = nearer; others = others }
+
+  module _ (labels : LabelsValue) (by : AreLabelsBy g.nodes s claim pred labels) where
+    abbrev b : BlockValue
+    b = by.block
+
+    relaxed : All (IsRelaxed b) g.arcs
+    relaxed = All-from_get_or (IsRelaxed b) g.arcs no_arc (λ k h d is.
+        let ends : JoinsNodes g.nodes (arc_at g.arcs k) = All-get_or (JoinsNodes g.nodes) g.arcs k no_arc h joined in
+        let (e, named, le) = All-get_or (Relaxes claim) g.arcs k no_arc h are.rising.relaxed d (sym (by.says _ ends.0) ∙ is) in
+        inl (e, by.says _ ends.1 ∙ named, le))
+
+    tight_at : (k : ℕ) → k < length b.labels → HasTightArc g.arcs b (get_or b.labels k no_label)
+    tight_at k h =
+        let l = get_or b.labels k no_label in
+        let lawful : IsLabel g.nodes l = All-get_or (IsLabel g.nodes) b.labels k no_label h by.lawful.within in
+        let other : l.id ≢ b.source = All-get_or (λ (m : Label). m.id ≢ b.source) b.labels k no_label h (not_source b.source [] b.labels by.lawful.fresh) in
+        let found : distance_in b.labels l.id ≡ Some l.dist = distance_in-at b.labels (fresh_apart b.source b.labels by.lawful.fresh) k h in
+        let here : label b l.id ≡ Some l.dist = rw (ne_eqb b.source l.id (λ e. other (sym e))) found in
+        let named : claim l.id ≡ Some l.dist = sym (by.says l.id lawful.id) ∙ here in
+        let from : l.pred ≡ pred l.id = All-get_or (λ (m : Label). m.pred ≡ pred m.id) b.labels k no_label h by.preds in
+        let (a, has, tail, head, up) = made l.id l.dist (λ same. other (same ∙ sym by.source)) named in
+        let (e, rises) = up in
+        let both : Some (e +ℤ a.cost) ≡ Some l.dist = sym rises.head ∙ (ap claim head ∙ named) in
+        let adds : e +ℤ a.cost ≡ l.dist = cc in
+        let start : a.tail ≡ l.pred = tail ∙ sym from in
+        (e, by.says l.pred lawful.pred ∙ (ap claim (sym start) ∙ rises.tail), record { arc = a; present = has; from = start; to = head; adds = adds })
+
+    passes : LabelsOk g.arcs b
+    passes = record { weights = rw by.whole tt; tight = All-from_get_or (HasTightArc g.arcs b) b.labels no_label tight_at; relaxed = relaxed }
+
+    found_block : block_of (b ∷ []) s ≡ Some b
+    found_block = elim (eqb_tells b.source s) [ inl same ↦ rw same.0 refl | inr apart ↦ absurd (apart.1 by.source) ]
+
+    pub rising_pass : PassesPaths g (Sources (s ∷ [])) labels
+    rising_pass =
+        let alone : labels.blocks ≡ b ∷ [] = ap (λ (l : LabelsValue). l.blocks) by.alone in
+        record {
+          nodes = ap (λ (l : LabelsValue). l.nodes) by.alone;
+          queries = All-cons (λ id. id ≤ g.nodes) s [] node.1 (All-nil _);
+          blocks = All-cons (HasFullBlock labels.blocks) s [] (b, ap (λ blocks. block_of blocks s) alone ∙ found_block, by.whole) (All-nil _);
+          labels = subst (All (LabelsOk g.arcs)) (sym alone) (All-cons (LabelsOk g.arcs) b [] passes (All-nil _));
+        }
+
+    carried : (s' v : ℕ) (told told' radius : Option ℤ) → b.source ≡ s' → told ≡ told' → radius ≡ None → IsDistance g.arcs b.source v told radius → IsDistance g.arcs s' v told' None
+    carried s' v told told' radius source same none is = rw (← source, ← same, ← none) is
+
+    pub rising_true : AreDistancesFrom g s claim
+    rising_true v at = carried s v (label b v) (claim v) b.radius by.source (by.says v at) by.whole (labels_are_distances g.arcs b by.lawful.preds (stays_near g.nodes b by.lawful) passes v)
+
+  -- the distances are true, and the predecessors show it
+  pub rising_certified : AreDistancesFrom g s claim × ArePredecessors g s claim preds
+  rising_certified =
+      let (labels, by, order) = sink_labels g.nodes s claim pred small are_nearer in
+      (rising_true labels by, record { each = are.each; some = (labels, by); pass = rising_pass })

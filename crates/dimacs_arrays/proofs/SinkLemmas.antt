@@ -1,0 +1,200 @@
+-- Labels of nodes whose predecessors are nearer.
+use Rattle.std.proofs.Common.{◌≡◌, ◌≢◌, ◌⊎◌, inl, inr, ℕ, suc, zero, ◌+◌, ◌≤◌, ◌==◌, Bool, true, false, cond, [], ◌∷◌, Option, Some, None, IsSome, is_some, ℤ, pos, negsuc, ◌≤ℤ◌, ◌<ℤ◌, refl, sym, ap, subst, ◌∙◌, arith}
+use Rattle.std.proofs.lemmas.Bool.{cases_Bool, cases_eq, cases_order, ne_eqb}
+use Rattle.std.proofs.lemmas.Bool.Decides.{eqb_tells}
+use Rattle.std.proofs.lemmas.Int.{ints}
+use Rattle.dimacs_lines.specs.Limits.{most_nodes}
+use Rattle.dimacs_records.specs.Ranges.{IsNode, IsWide}
+use Rattle.dimacs_claims.specs.declared.block.Label.{Label}
+use Rattle.dimacs_claims.specs.Labels.{BlockValue, IsBlock, IsNear, LabelsValue, label, with_label}
+use Rattle.dimacs_claims.proofs.BlockLemmas.{block_empty, block_push, label-with_label}
+use Rattle.dimacs_judge.specs.Tests.{Clear}
+use Rattle.dimacs_arrays.specs.Paths.{AreInOrder, AreLabelsBy, IsDue, IsNext, IsPred, LeadsBack, back, pred_row}
+use Rattle.dimacs_arrays.specs.inside.LabelTrees.{AreLed, AreLedBelow, IsLabelTree, Keeps}
+use Rattle.dimacs_arrays.proofs.LabelLemmas.{in_order, spelled}
+use Rattle.dimacs_arrays.proofs.TreeLemmas.{begun, few, grown, next_label, pred_labelled, source_led, unlabelled}
+
+-- ---- one step back more
+back_more : (pred : ℕ → ℕ) (n v : ℕ) → back pred (suc n) v ≡ pred (back pred n v)
+back_more pred zero v = refl
+back_more pred (suc n) v = back_more pred n (pred v)
+
+leads_more : (pred : ℕ → ℕ) (u v : ℕ) → LeadsBack pred u v → LeadsBack pred (pred u) v
+leads_more pred u v (n, is) = (suc n, back_more pred n v ∙ ap pred is)
+
+natural : (d : ℤ) → pos 0 ≤ℤ d → (k : ℕ) × (d ≡ pos k)
+natural (pos k) low = (k, refl)
+natural (negsuc k) low = absurd (omega (arith, ints))
+
+some_value : (o : Option ℤ) → IsSome o → (d : ℤ) × (o ≡ Some d)
+some_value None some = absurd (let f : false ≡ true = some in cc)
+some_value (Some d) some = (d, refl)
+
+-- the predecessor of a node has a distance that is less, and not negative
+abbrev pub IsNearer : (ℕ → Option ℤ) → ℕ → ℤ → Type 0
+IsNearer claim p d = (e : ℤ) × (claim p ≡ Some e) × (pos 0 ≤ℤ e) × (e <ℤ d)
+
+-- each node with a distance but the source has a predecessor that is nearer, and the others have none
+pub record AreNearer (nodes s : ℕ) (claim : ℕ → Option ℤ) (pred : ℕ → ℕ) : Type 0 where
+  pub source : IsNode nodes s
+  pub at : claim s ≡ Some (pos 0)
+  pub inside : (v : ℕ) → IsSome (claim v) → IsNode nodes v
+  pub wide : (v : ℕ) (d : ℤ) → claim v ≡ Some d → pos 0 ≤ℤ d → IsWide d
+  pub nearer : (v : ℕ) (d : ℤ) → v ≢ s → claim v ≡ Some d → IsNearer claim (pred v) d
+  pub others : (v : ℕ) → (¬ IsDue s claim v) → pred v ≡ 0
+
+module _ (nodes s : ℕ) (claim : ℕ → Option ℤ) (pred : ℕ → ℕ) (small : nodes ≤ most_nodes) (are : AreNearer nodes s claim pred) where
+  -- only nodes no further than d got labels
+  abbrev OnlyNear : ℤ → (ℕ → Bool) → (ℕ → Bool) → Type 0
+  OnlyNear d led after = (w : ℕ) (c : ℤ) → after w ≡ true → claim w ≡ Some c → (led w ≡ true) ⊎ (c ≤ℤ d)
+
+  -- more labels, and that of u among them
+  abbrev Grown : ℕ → ℤ → (ℕ → Bool) → Type 0
+  Grown u d led = (b : BlockValue) × (after : ℕ → Bool) × IsLabelTree nodes s claim pred b after × Keeps led after × (after u ≡ true) × OnlyNear d led after
+
+  module _ (root : ℕ) (far : ℤ) (rooted : claim root ≡ Some far) where
+    root_some : IsSome (claim root)
+    root_some = ap is_some rooted
+
+    -- the label of a node whose predecessor has one
+    placed : (b : BlockValue) (led : ℕ → Bool) (u : ℕ) (d : ℤ) → IsLabelTree nodes s claim pred b led → AreLedBelow claim led root → led root ≡ false → claim u ≡ Some d → pos 0 ≤ℤ d → LeadsBack pred u root → led u ≡ false → led (pred u) ≡ true → Grown u d led
+    placed b led u d is below unled named low leads new from = (with_label b l, after, grown nodes s claim pred b led u is new d after node from next named lawful adds here others, keeps, here, only)
+      where
+        l : Label
+        l = record { dist = d; id = u; pred = pred u }
+
+        after : ℕ → Bool
+        after v = cond (u == v) true (led v)
+
+        node : IsNode nodes u
+        node = are.inside u (ap is_some named)
+
+        here : after u ≡ true
+        here = elim (eqb_tells u u) [ inl same ↦ rw same.0 refl | inr apart ↦ absurd (apart.1 refl) ]
+
+        others : (v : ℕ) → v ≢ u → after v ≡ led v
+        others v apart = rw (ne_eqb u v (λ e. apart (sym e))) refl
+
+        next : IsNext s claim pred b.labels l
+        next = next_label nodes s claim pred b led is root l below root_some unled leads
+
+        none : label b u ≡ None
+        none = unlabelled nodes s claim pred b led u is new
+
+        adds : (v : ℕ) → label (with_label b l) v ≡ cond (u == v) (Some d) (label b v)
+        adds v = label-with_label b l none v
+
+        near : IsNear b.radius d
+        near = subst (λ radius. IsNear radius d) (sym is.whole) tt
+
+        lawful : IsBlock nodes (with_label b l)
+        lawful = block_push nodes b l is.lawful (record { id = node; dist = are.wide u d named low; pred = is.inside (pred u) from }) (few nodes s claim pred b led u is new small node) (ap is_some none) (pred_labelled nodes s claim pred b led u is new from) near
+
+        keeps : Keeps led after
+        keeps v h = elim (cases_eq v u) [ inl same ↦ ap after same ∙ here | inr apart ↦ others v apart ∙ h ]
+
+        only : OnlyNear d led after
+        only w c h at = elim (cases_eq w u) [
+          | inl same ↦ (let e : Some d ≡ Some c = sym named ∙ (ap claim (sym same) ∙ at) in let f : d ≡ c = cc in inr (omega (arith, ints, f)))
+          | inr apart ↦ inl (sym (others w apart) ∙ h)
+        ]
+
+    nearer_too : (led : ℕ → Bool) (w : ℕ) (c d e : ℤ) → e <ℤ d → (led w ≡ true) ⊎ (c ≤ℤ e) → (led w ≡ true) ⊎ (c ≤ℤ d)
+    nearer_too led w c d e less (inl was) = inl was
+    nearer_too led w c d e less (inr near) = inr (omega (arith, ints, near, less))
+
+    -- that of u, after those of the way back from its predecessor
+    with_parent : (b : BlockValue) (led : ℕ → Bool) (u : ℕ) (d e : ℤ) → AreLedBelow claim led root → led root ≡ false → claim u ≡ Some d → d ≤ℤ far → LeadsBack pred u root → pos 0 ≤ℤ e → e <ℤ d → Grown (pred u) e led → Grown u d led
+    with_parent b led u d e below unled named close leads low less (b', after, tree, keeps, there, only) =
+        let still : after root ≡ false = elim (cases_Bool (after root)) [
+          | inr off ↦ off
+          | inl on ↦ elim (only root far on rooted) [
+            | inl was ↦ absurd (let f : true ≡ false = sym was ∙ unled in cc)
+            | inr near ↦ absurd (omega (arith, ints, near, less, close))
+          ]
+        ] in
+        let lower : AreLedBelow claim after root = λ v h some. keeps v (below v h some) in
+        elim (cases_Bool (after u)) [
+          | inl on ↦ (b', after, tree, keeps, on, λ w c h at. nearer_too led w c d e less (only w c h at))
+          | inr off ↦
+              let (b'', last, whole, more, here, beyond) = placed b' after u d tree lower still named (omega (arith, ints, low, less)) leads off there in
+              (b'', last, whole, λ v h. more v (keeps v h), here, λ w c h at. elim (beyond w c h at) [ inl was ↦ nearer_too led w c d e less (only w c was at) | inr near ↦ inr near ])
+        ]
+
+    not_the_source : (b : BlockValue) (led : ℕ → Bool) (u : ℕ) → IsLabelTree nodes s claim pred b led → led u ≡ false → u ≢ s
+    not_the_source b led u is off e = let f : true ≡ false = sym (source_led nodes s claim pred b led is).0 ∙ (ap led (sym e) ∙ off) in absurd (cc)
+
+    -- the labels of the way back from u, which is on that from the root
+    climbed : (fuel : ℕ) (b : BlockValue) (led : ℕ → Bool) (u : ℕ) (d : ℤ) → IsLabelTree nodes s claim pred b led → AreLedBelow claim led root → led root ≡ false → claim u ≡ Some d → d ≤ℤ pos fuel → d ≤ℤ far → LeadsBack pred u root → Grown u d led
+    climbed zero b led u d is below unled named most close leads = elim (cases_Bool (led u)) [
+      | inl on ↦ (b, led, is, λ v h. h, on, λ w c h at. inl h)
+      | inr off ↦ (let (e, from, low, less) = are.nearer u d (not_the_source b led u is off) named in absurd (omega (arith, ints, most, low, less)))
+    ]
+    climbed (suc k) b led u d is below unled named most close leads = elim (cases_Bool (led u)) [
+      | inl on ↦ (b, led, is, λ v h. h, on, λ w c h at. inl h)
+      | inr off ↦
+          let (e, from, low, less) = are.nearer u d (not_the_source b led u is off) named in
+          with_parent b led u d e below unled named close leads low less (climbed k b led (pred u) e is below unled from (omega (arith, ints, most, less)) (omega (arith, ints, close, less)) (leads_more pred u root leads))
+    ]
+
+  -- the labels of all nodes before n
+  abbrev LedBelow : ℕ → Type 0
+  LedBelow n = (b : BlockValue) × (led : ℕ → Bool) × IsLabelTree nodes s claim pred b led × AreLedBelow claim led n
+
+  first : LedBelow 0
+  first = (
+    record { source = s; radius = None; labels = [] },
+    λ v. s == v,
+    begun nodes claim pred s (λ v. s == v) are.source are.at (block_empty nodes s None are.source tt) (elim (eqb_tells s s) [ inl same ↦ same.0 | inr apart ↦ absurd (apart.1 refl) ]) (λ v apart. ne_eqb s v (λ e. apart (sym e))),
+    λ v h some. absurd (omega (arith, h)),
+  )
+
+  with_node : (n : ℕ) (led after : ℕ → Bool) → Keeps led after → AreLedBelow claim led n → (IsSome (claim n) → after n ≡ true) → AreLedBelow claim after (suc n)
+  with_node n led after keeps below here v h some = elim (cases_order v n) [
+    | inl same ↦ ap after same ∙ here (subst (λ u. IsSome (claim u)) same some)
+    | inr other ↦ elim other [
+      | inl before ↦ keeps v (below v before some)
+      | inr past ↦ absurd (omega (arith, past, h))
+    ]
+  ]
+
+  one_more : (n : ℕ) → LedBelow n → LedBelow (suc n)
+  one_more n (b, led, is, below) = elim (cases_Bool (led n)) [
+    | inl on ↦ (b, led, is, with_node n led led (λ v h. h) below (λ some. on))
+    | inr off ↦ elim (cases_Bool (is_some (claim n))) [
+      | inr none ↦ (b, led, is, with_node n led led (λ v h. h) below (λ some. absurd (let f : true ≡ false = sym some ∙ none in cc)))
+      | inl some ↦
+          let (d, named) = some_value (claim n) some in
+          let apart : n ≢ s = λ e. (let f : true ≡ false = sym (source_led nodes s claim pred b led is).0 ∙ (ap led (sym e) ∙ off) in cc) in
+          let (e, from, low, less) = are.nearer n d apart named in
+          let (k, is_k) = natural d (omega (arith, ints, low, less)) in
+          let (b', after, tree, keeps, here, only) = climbed n d named k b led n d is below off named (omega (arith, ints, is_k)) (omega (arith, ints)) (zero, refl) in
+          (b', after, tree, with_node n led after keeps below (λ some. here))
+    ]
+  ]
+
+  all_below : (n : ℕ) → LedBelow n
+  all_below zero = first
+  all_below (suc n) = one_more n (all_below n)
+
+  is_pred : (v : ℕ) → IsPred nodes s claim v (pred v)
+  is_pred v = elim (cases_eq v s) [
+    | inl same ↦ (let free : ¬ IsDue s claim v = λ due. due.0 same in inr (free, are.others v free))
+    | inr apart ↦ elim (cases_Bool (is_some (claim v))) [
+      | inr none ↦ (let free : ¬ IsDue s claim v = λ due. (let f : true ≡ false = sym due.1 ∙ none in cc) in inr (free, are.others v free))
+      | inl some ↦
+          let (d, named) = some_value (claim v) some in
+          let (e, from, low, less) = are.nearer v d apart named in
+          inl ((apart, some), are.inside (pred v) (ap is_some from))
+    ]
+  ]
+
+  preds_clear : Clear (pred_row nodes s claim pred)
+  preds_clear v place reason fails = fails.2.1 (is_pred v)
+
+  -- there are labels by these predecessors
+  pub sink_labels : (labels : LabelsValue) × AreLabelsBy nodes s claim pred labels × AreInOrder s claim pred labels
+  sink_labels =
+      let (b, led, is, below) = all_below (nodes + 1) in
+      let all : AreLed claim led = λ v some. below v (omega (arith, (are.inside v some).1)) some in
+      (record { nodes = nodes; blocks = b ∷ [] }, spelled nodes s claim pred b led preds_clear is all, in_order nodes s claim pred b led is)

@@ -1,0 +1,35 @@
+use Rattle.std.proofs.Common.{◌≡◌, ◌∙◌, ◌<◌, length, subst, sym, arith}
+use Rattle.std.proofs.lemmas.List.{length-set}
+use Rattle.std.proofs.lemmas.List.Elements.{All-get_or}
+use Rattle.std.proofs.lemmas.Option.{get_or_from_slice_get, slice_get_within}
+use Rattle.dimacs_records.specs.Ranges.{IsNode}
+use Rattle.dimacs_instance.specs.Arcs.{JoinsNodes}
+use Rattle.dimacs_judge.specs.Rows.{arc_at, no_arc}
+use Rattle.dimacs_decide.specs.Claims.{claimed_by_node}
+use Rattle.dimacs_arrays.specs.Paths.{pred_by_node}
+use Rattle.dimacs_arrays.proofs.RisingLemmas.{flat_more, rising_all, rising_more}
+use Rattle.dimacs_arrays.proofs.rising.rising_tails.Goals.{in-Flat, in-Rising}
+use Rattle.dimacs_arrays.proofs.rising.rising_tails.Goals as goal
+
+pub loop-i-preserved : goal.loop-i-preserved
+loop-i-preserved g c =
+    let arcs = g.N.Network.list c.args.network.now in
+    let claim = claimed_by_node c.args.distances.now in
+    let tails = c.loop-i.tails.items in
+    let i = c.loop-i.i in
+    let so_far = c.loop-i.invariant in
+    let is : arc_at arcs i ≡ c.arc-arc.result = get_or_from_slice_get arcs i c.arc-arc.result no_arc c.arc-arc.ensures in
+    let inside : i < length arcs = slice_get_within arcs i c.arc-arc.result c.arc-arc.ensures in
+    let ends = All-get_or (JoinsNodes (g.N.Network.node_count c.args.network.now)) arcs i no_arc inside c.requires.joined in
+    let head : IsNode (length tails) (arc_at arcs i).head = subst (λ n. IsNode n (arc_at arcs i).head) (sym (so_far.each ∙ c.requires.nodes)) ends.1 in
+    elim c.match-step_along.branch [
+      | in-Flat w ↦ rw w.tails-is record { each = so_far.each; rising = flat_more arcs claim (pred_by_node tails) i so_far.rising (rw is w.in-Flat.ensures) }
+      | in-Rising w ↦ rw w.tails-is record {
+        each = length-set tails _ _ ∙ so_far.each;
+        rising = rw (← is) (rising_more arcs claim tails i inside head so_far.rising (rw is w.in-Rising.ensures.0) (rw is w.in-Rising.ensures.1));
+      }
+    ]
+
+pub returns-clause-rising : goal.returns-clause-rising
+returns-clause-rising g c =
+    rising_all (g.N.Network.list c.args.network.now) (claimed_by_node c.args.distances.now) (pred_by_node c.loop-i.tails.items) c.loop-i.i (omega (arith, c.loop-i-test.false, c.loop-i.auto.i-end, c.arcs-i-end.ensures)) c.loop-i.invariant.rising

@@ -1,0 +1,49 @@
+-- Inside: distances that rise along the arcs that make them.
+use Rattle.std.specs.Prelude.{ℕ, ◌≡◌, ◌≢◌, List, All, Contains, length, Option, Some, ℤ, pos, ◌+ℤ◌, ◌≤ℤ◌, ◌<ℤ◌}
+use Rattle.dimacs_instance.specs.declared.network.ArcView.{ArcView}
+use Rattle.dimacs_arrays.specs.Paths.{IsDue, pred_by_node}
+use Rattle.dimacs_arrays.specs.declared.rising.Step.{Step}
+use Rattle.dimacs_arrays.specs.declared.rising.Step.TheVariants.{Flat, Rising, Short}
+
+-- where its tail has a distance, the arc leads to a node with one that is no greater than by the arc
+abbrev pub Relaxes : (ℕ → Option ℤ) → ArcView → Type 0
+Relaxes claim a = (d : ℤ) → claim a.tail ≡ Some d → (e : ℤ) × (claim a.head ≡ Some e) × (e ≤ℤ (d +ℤ a.cost))
+
+-- the arc makes the distance of its head, from one that is less and not negative
+pub record Rises (claim : ℕ → Option ℤ) (a : ArcView) (d : ℤ) : Type 0 where
+  pub tail : claim a.tail ≡ Some d
+  pub head : claim a.head ≡ Some (d +ℤ a.cost)
+  pub low : pos 0 ≤ℤ d
+  pub more : pos 0 <ℤ a.cost
+
+-- where an arc of this weight leads from the one distance to the other
+abbrev pub Spans : ℤ → ℤ → ℤ → Step → Type 0
+Spans from to weight Flat = to ≤ℤ (from +ℤ weight)
+Spans from to weight Rising = (to ≡ from +ℤ weight) × (pos 0 ≤ℤ from) × (pos 0 <ℤ weight)
+Spans from to weight Short = Unit {0}
+
+abbrev pub Steps : (ℕ → Option ℤ) → ArcView → Step → Type 0
+Steps claim a Flat = Relaxes claim a
+Steps claim a Rising = Relaxes claim a × ((d : ℤ) × Rises claim a d)
+Steps claim a Short = Unit {0}
+
+-- an arc that rises leads from p to v
+abbrev pub HasRisingArc : List ArcView → (ℕ → Option ℤ) → ℕ → ℕ → Type 0
+HasRisingArc arcs claim p v = (a : ArcView) × Contains arcs a × (a.tail ≡ p) × (a.head ≡ v) × ((d : ℤ) × Rises claim a d)
+
+-- no arc leads too far, and each predecessor but 0 leads to its node by an arc that rises
+pub record AreRising (arcs : List ArcView) (claim : ℕ → Option ℤ) (pred : ℕ → ℕ) : Type 0 where
+  pub relaxed : All (Relaxes claim) arcs
+  pub made : (v : ℕ) → pred v ≢ 0 → HasRisingArc arcs claim (pred v) v
+
+-- each node that has to have a predecessor has one
+abbrev pub AreReached : ℕ → (ℕ → Option ℤ) → (ℕ → ℕ) → Type 0
+AreReached s claim pred = (v : ℕ) → IsDue s claim v → pred v ≢ 0
+
+-- the predecessors of all nodes, which show that the distances are true
+pub record AreRisingBy (nodes s : ℕ) (arcs : List ArcView) (distances : List ℤ) (claim : ℕ → Option ℤ) (preds : List ℕ) : Type 0 where
+  pub whole : length distances ≡ nodes
+  pub each : length preds ≡ nodes
+  pub source : claim s ≡ Some (pos 0)
+  pub rising : AreRising arcs claim (pred_by_node preds)
+  pub reached : AreReached s claim (pred_by_node preds)
