@@ -1,5 +1,5 @@
 -- Distances that rise along arcs are true.
-use Rattle.std.proofs.Common.{◌≡◌, ◌≢◌, inl, inr, ℕ, suc, zero, ◌+◌, ◌-◌, ◌^◌, ◌<◌, ◌≤◌, List, [], ◌∷◌, All, length, get_or, Option, Some, None, IsSome, is_some, ℤ, pos, ◌+ℤ◌, ◌≤ℤ◌, ◌<ℤ◌, refl, sym, ap, subst, ◌∙◌, arith}
+use Rattle.std.proofs.Common.{◌≡◌, ◌≢◌, inl, inr, ℕ, suc, zero, ◌+◌, ◌-◌, ◌^◌, ◌<◌, ◌≤◌, List, [], ◌∷◌, All, length, get_or, Option, Some, None, Ok, IsSome, is_some, ℤ, pos, ◌+ℤ◌, ◌≤ℤ◌, ◌<ℤ◌, refl, sym, ap, subst, ◌∙◌, arith}
 use Rattle.std.specs.Prelude.{int_lt, slice_get, slice_set}
 use Rattle.std.proofs.lemmas.Bool.{cases_Bool, cases_eq, cases_order}
 use Rattle.std.proofs.lemmas.Bool.Decides.{eqb_tells}
@@ -11,20 +11,26 @@ use Rattle.dimacs_instance.specs.declared.network.ArcView.{ArcView}
 use Rattle.dimacs_instance.specs.Arcs.{JoinsNodes, NetworkValue}
 use Rattle.dimacs_instance.specs.QueryTexts.{Sources}
 use Rattle.dimacs_claims.specs.declared.block.Label.{Label}
-use Rattle.dimacs_claims.specs.Labels.{BlockValue, IsLabel, LabelsValue, distance_in, label, no_label}
+use Rattle.dimacs_claims.specs.Labels.{BlockValue, AreLabels, IsLabel, LabelsValue, distance_in, label, no_label}
+use Rattle.dimacs_claims.proofs.BlockLemmas.{each_after_nil, labels_push}
+use Rattle.dimacs_judge.specs.declared.verdict.Verdict.TheVariants as verdicts
+use Rattle.dimacs_judge.proofs.Passing.{nodes_clear}
+use Rattle.dimacs_judge.proofs.PathsPassing.{passing_shows}
+use Rattle.dimacs_judge.proofs.QueriesPassing.{query_blocks_clear, query_nodes_clear}
 use Rattle.dimacs_judge.specs.Answers.{block_of}
 use Rattle.dimacs_judge.specs.Labels.{HasTightArc, IsRelaxed, LabelsOk}
-use Rattle.dimacs_judge.specs.PathsJudge.{PassesPaths}
+use Rattle.dimacs_judge.specs.PathsJudge.{PassesPaths, paths_rows}
 use Rattle.dimacs_judge.specs.QueryTests.{HasFullBlock}
 use Rattle.dimacs_judge.specs.Rows.{arc_at, no_arc}
+use Rattle.dimacs_judge.specs.Tests.{AllClear}
 use Rattle.dimacs_judge.specs.Walks.{IsDistance}
 use Rattle.dimacs_judge.proofs.Distances.{labels_are_distances}
-use Rattle.dimacs_judge.proofs.LabelsPassing.{stays_near}
+use Rattle.dimacs_judge.proofs.LabelsPassing.{labels_clear, stays_near}
 use Rattle.dimacs_claims.proofs.ByIdLemmas.{distance_in-at, fresh_apart}
 use Rattle.std.proofs.lemmas.Bool.{ne_eqb}
 use Rattle.dimacs_decide.specs.Claims.{claimed_by_node, unless_greatest}
 use Rattle.dimacs_decide.specs.Distances.{AreDistancesFrom}
-use Rattle.dimacs_arrays.specs.Paths.{AreLabelsBy, ArePredecessors, IsDue, pred_by_node}
+use Rattle.dimacs_arrays.specs.Paths.{AreLabelsBy, ArePredecessors, IsDue, JudgesByNode, pred_by_node}
 use Rattle.dimacs_arrays.specs.inside.Rising.{AreRising, AreRisingBy, HasRisingArc, Relaxes, Rises}
 use Rattle.dimacs_arrays.proofs.CertifyPathsLemmas.{not_source}
 use Rattle.dimacs_arrays.proofs.DistanceLemmas.{distance_within}
@@ -82,7 +88,7 @@ wide_claim : (distances : List ℤ) (v : ℕ) (d : ℤ) → claimed_by_node dist
 wide_claim distances zero d is low = absurd (cc)
 wide_claim distances (suc k) d is low = let less = below_greatest (slice_get distances k) d is in (omega (arith, ints, low), omega (arith, ints, less))
 
-module _ (g : NetworkValue) (s : ℕ) (distances : List ℤ) (preds : List ℕ) (node : IsNode g.nodes s) (small : g.nodes ≤ most_nodes) (joined : All (JoinsNodes g.nodes) g.arcs) (are : AreRisingBy g.nodes s g.arcs distances (claimed_by_node distances) preds) where
+module _ (g : NetworkValue) (s : ℕ) (distances : List ℤ) (preds : List ℕ) (node : IsNode g.nodes s) (small : g.nodes ≤ most_nodes) (joined : All (JoinsNodes g.nodes) g.arcs) (are : AreRisingBy g.nodes s g.arcs (claimed_by_node distances) distances preds) where
   abbrev claim : ℕ → Option ℤ
   claim = claimed_by_node distances
 
@@ -175,3 +181,14 @@ module _ (g : NetworkValue) (s : ℕ) (distances : List ℤ) (preds : List ℕ) 
   rising_certified =
       let (labels, by, order) = sink_labels g.nodes s claim pred small are_nearer in
       (rising_true labels by, record { each = are.each; some = (labels, by); pass = rising_pass })
+
+  -- the judge says yes to the labels that they spell
+  pub rising_judged : JudgesByNode g s claim pred (Ok (verdicts.Sources 1))
+  rising_judged =
+      let (labels, by, order) = sink_labels g.nodes s claim pred small are_nearer in
+      let passes = rising_pass labels by in
+      let none : AreLabels (record { nodes = g.nodes; blocks = [] }) = record { nodes_few = small; blocks_few = omega arith; blocks = All-nil _; sources = each_after_nil _ } in
+      let one = labels_push g.nodes [] by.block none by.lawful (λ other among. absurd (omega (arith, among.1))) (omega arith) in
+      let lawful : AreLabels labels = subst AreLabels (sym by.alone) one in
+      let clear : AllClear (paths_rows g (Sources (s ∷ [])) labels) = (nodes_clear g.nodes labels.nodes passes.nodes, (query_nodes_clear g.nodes (Sources (s ∷ [])) passes.queries, (query_blocks_clear labels.blocks (Sources (s ∷ [])) passes.blocks, labels_clear g.arcs labels.blocks passes.labels))) in
+      inl (labels, by, order, (clear, passing_shows g (Sources (s ∷ [])) labels lawful passes, refl))

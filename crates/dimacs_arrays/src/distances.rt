@@ -8,7 +8,7 @@ ghost use Rattle.dimacs_arrays.specs.Paths.{CertifiesByNode, JudgesByNode, pred_
 
 use crate::labels::labels_by_node;
 use crate::predecessors::predecessors_of;
-use crate::rising::rising_predecessors;
+use crate::rising::{rise_by, rising_predecessors};
 use dimacs_decide::{DistancesByNode, decide_distances};
 use dimacs_instance::{Graph, Network, Queries};
 use dimacs_judge::{JudgeError, Verdict, judge_paths};
@@ -34,6 +34,9 @@ pub fn judge_paths_by_node<N: Network>(
     requires predecessors { length predecessors.now ≡ graph.now.nodes }
     ensures { JudgesByNode graph.now source (claimed_by_node distances.now) (pred_by_node predecessors.now) result }
 {
+    if rise_by(alloc, graph.network(), source, distances, predecessors)? {
+        return Ok(Verdict::Sources(1));
+    }
     let nodes = graph.network().nodes();
     let labels = labels_by_node(alloc, nodes, source, distances, predecessors)?;
     judge_paths(alloc, graph, &all_from(alloc, source)?, &labels)

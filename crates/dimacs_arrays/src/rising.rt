@@ -36,12 +36,12 @@ pub(crate) fn rising_predecessors<N: Network>(
     requires few_nodes { N.node_count network.now ≤ most_nodes }
     requires joined { All (JoinsNodes (N.node_count network.now)) (N.list network.now) }
     ensures { IfOk result (λ found. IfSome found (λ predecessors. AreRisingBy (N.node_count network.now) source
-        (N.list network.now) distances.now (claimed_by_node distances.now) predecessors.items)) }
+        (N.list network.now) (claimed_by_node distances.now) distances.now predecessors.items)) }
 {
-    if distances.len() != network.nodes() as usize || !is_zero(distance_of(distances, source)) {
+    if !is_begun(network.nodes(), source, distances) {
         return Ok(None);
     }
-    let Some(predecessors) = rising_tails(alloc, network, distances)? else {
+    let Some(predecessors) = rising_tails(alloc, network, distances, None)? else {
         return Ok(None);
     };
     if all_reached(source, distances, &predecessors) {
@@ -49,6 +49,38 @@ pub(crate) fn rising_predecessors<N: Network>(
     } else {
         Ok(None)
     }
+}
+
+/// Whether these are predecessors that show that the distances are true, by arcs of positive weight. A no says nothing of
+/// them. Goes over the arcs once.
+pub(crate) fn rise_by<N: Network>(
+    alloc: Global,
+    network: &N,
+    source: u32,
+    distances: &[i64],
+    predecessors: &[u32],
+) -> Result<bool, Memory>
+    requires few_nodes { N.node_count network.now ≤ most_nodes }
+    requires joined { All (JoinsNodes (N.node_count network.now)) (N.list network.now) }
+    ensures { IfOk result (λ yes. IsTrue yes → AreRisingBy (N.node_count network.now) source
+        (N.list network.now) (claimed_by_node distances.now) distances.now predecessors.now) }
+{
+    if !is_begun(network.nodes(), source, distances)
+        || !all_reached(source, distances, predecessors)
+    {
+        return Ok(false);
+    }
+    match rising_tails(alloc, network, distances, Some(predecessors))? {
+        Some(tails) => Ok(&tails[..] == predecessors),
+        None => Ok(false),
+    }
+}
+
+/// Whether there is a distance for each node, and that of the source is 0.
+fn is_begun(nodes: u32, source: u32, distances: &[i64]) -> bool
+    ensures { IsTrue result → ((length distances.now ≡ nodes) × (claimed_by_node distances.now source ≡ Some (pos 0))) }
+{
+    distances.len() == nodes as usize && is_zero(distance_of(distances, source))
 }
 
 fn is_zero(distance: Option<i128>) -> bool
@@ -60,11 +92,13 @@ fn is_zero(distance: Option<i128>) -> bool
     }
 }
 
-/// For each node the tail of the last arc that rises to it, 0 for none. None where an arc is short.
+/// For each node the tail of the last arc that rises to it, 0 for none; where predecessors are wanted, of the arcs from
+/// these alone. None where an arc is short.
 fn rising_tails<N: Network>(
     alloc: Global,
     network: &N,
     distances: &[i64],
+    wanted: Option<&[u32]>,
 ) -> Result<Option<Vec<u32>>, Memory>
     requires nodes { length distances.now ≡ N.node_count network.now }
     requires joined { All (JoinsNodes (N.node_count network.now)) (N.list network.now) }
@@ -74,13 +108,33 @@ fn rising_tails<N: Network>(
     let mut tails = vec![in alloc; 0u32; distances.len()]?;
     for i in 0..network.arcs() {
         let arc = network.arc(i);
-        match step_along(distances, arc) {
+        match step_wanted(distances, wanted, arc) {
             Step::Flat => {}
             Step::Rising => tails[arc.head as usize - 1] = arc.tail,
             Step::Short => return Ok(None),
         }
     }
     Ok(Some(tails))
+}
+
+/// Where an arc leads, which rises only where its tail is wanted.
+#[inline(always)]
+fn step_wanted(distances: &[i64], wanted: Option<&[u32]>, arc: ArcView) -> Step
+    ensures { Steps (claimed_by_node distances.now) arc result }
+{
+    match step_along(distances, arc) {
+        Step::Rising if !is_wanted(wanted, arc) => Step::Flat,
+        step => step,
+    }
+}
+
+/// Whether the tail of an arc may be the predecessor of its head.
+#[inline(always)]
+fn is_wanted(wanted: Option<&[u32]>, arc: ArcView) -> bool {
+    match wanted {
+        Some(predecessors) => predecessor_of(predecessors, arc.head) == arc.tail,
+        None => true,
+    }
 }
 
 /// Where an arc leads. Looks the head up only where the tail has a distance.

@@ -41,7 +41,7 @@ abbrev pub AreReached : ℕ → (ℕ → Option ℤ) → (ℕ → ℕ) → Type 
 AreReached s claim pred = (v : ℕ) → IsDue s claim v → pred v ≢ 0
 
 -- the predecessors of all nodes, which show that the distances are true
-pub record AreRisingBy (nodes s : ℕ) (arcs : List ArcView) (distances : List ℤ) (claim : ℕ → Option ℤ) (preds : List ℕ) : Type 0 where
+pub record AreRisingBy (nodes s : ℕ) (arcs : List ArcView) (claim : ℕ → Option ℤ) (distances : List ℤ) (preds : List ℕ) : Type 0 where
   pub whole : length distances ≡ nodes
   pub each : length preds ≡ nodes
   pub source : claim s ≡ Some (pos 0)

@@ -2,12 +2,19 @@ use Rattle.std.proofs.Common.{inl}
 use Rattle.dimacs_decide.specs.Claims.{claimed_by_node}
 use Rattle.dimacs_arrays.specs.Paths.{pred_by_node}
 use Rattle.dimacs_arrays.proofs.LabelLemmas.{unlabelled}
+use Rattle.dimacs_arrays.proofs.RisingLemmas.{rising_judged}
 use Rattle.dimacs_arrays.proofs.distances.judge_paths_by_node.Goals as goal
 
 pub returns-in_err-labels : goal.returns-in_err-labels
 returns-in_err-labels g c =
     let refutes = rw c.requires.distances at c.in_err-labels.ensures.labels in
-    unlabelled c.args.graph.now c.args.source (claimed_by_node c.args.distances.now) (pred_by_node c.args.predecessors.now) c.in_err-labels.field-0.0 refutes _ c.from_residual.ensures.1
+    unlabelled c.args.graph.now c.args.source (claimed_by_node c.args.distances.now) (pred_by_node c.args.predecessors.now) c.in_err-labels.field-0.0 refutes _ c.from_residual-in_err-labels.ensures.1
+
+pub returns-then-branch : goal.returns-then-branch
+returns-then-branch g c =
+    let lawful = c.network.ensures.lawful in
+    let rising = rw (c.network.ensures.nodes, c.network.ensures.arcs) at (c.in_ok-rise_by.ensures c.if-branch.true) in
+    rising_judged c.args.graph.now c.args.source c.args.distances.now c.args.predecessors.now c.requires.source lawful.nodes_few lawful.joined rising
 
 pub returns : goal.returns
 returns g c =

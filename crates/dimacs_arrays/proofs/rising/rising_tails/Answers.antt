@@ -22,7 +22,7 @@ loop-i-preserved g c =
     let inside : i < length arcs = slice_get_within arcs i c.arc-arc.result c.arc-arc.ensures in
     let ends = All-get_or (JoinsNodes (g.N.Network.node_count c.args.network.now)) arcs i no_arc inside c.requires.joined in
     let head : IsNode (length tails) (arc_at arcs i).head = subst (λ n. IsNode n (arc_at arcs i).head) (sym (so_far.each ∙ c.requires.nodes)) ends.1 in
-    elim c.match-step_along.branch [
+    elim c.match-step_wanted.branch [
       | in-Flat w ↦ rw w.tails-is record { each = so_far.each; rising = flat_more arcs claim (pred_by_node tails) i so_far.rising (rw is w.in-Flat.ensures) }
       | in-Rising w ↦ rw w.tails-is record {
         each = length-set tails _ _ ∙ so_far.each;
