@@ -162,9 +162,10 @@ uint32_t dimacs_judge_paths_arrays(const dimacs_graph *graph, uint32_t source, c
                                    uint8_t *out, size_t room, size_t *told);
 
 /* Certifies a flow, by arc, that has no certificate. Makes the tests of dimacs_judge_max_arrays, but those of the cut, and
- * hands out the same lines; and with a yes a byte for each node to `inside`, not 0 for each node inside a cut by which that
- * judge says yes too. Where the flow is feasible and isn't maximum: `x solution 0 0 NotMaximum`, and a feasible flow of
- * greater value to `better`, an amount for each arc. The time that it takes isn't bounded by the number of arcs. */
+ * hands out the same lines; and with a yes a byte for each node to `inside`, 1 for each node inside a cut by which that
+ * judge says yes too, and 0 for the others. Where the flow is feasible and isn't maximum: `x solution 0 0 NotMaximum`, and a
+ * feasible flow of greater value to `better`, an amount for each arc. The time that it takes isn't bounded by the number of
+ * arcs. */
 uint32_t dimacs_certify_max_arrays(const dimacs_max *instance, const int64_t *flows, size_t flows_length, uint8_t *out,
                                    size_t room, size_t *told, uint8_t *inside, size_t inside_room, size_t *inside_told,
                                    int64_t *better, size_t better_room, size_t *better_told);

@@ -1,5 +1,5 @@
 -- One node more of what arrays say by node.
-use Rattle.std.proofs.Common.{◌≡◌, inl, inr, ℕ, zero, suc, ◌+◌, ◌<◌, ◌==◌, ◌||◌, List, length, get_or, map, Option, Some, None, Bool, true, false, cond, refl, sym, ◌∙◌, ap, add-one, arith}
+use Rattle.std.proofs.Common.{◌≡◌, inl, inr, ℕ, zero, suc, ◌+◌, ◌<◌, ◌≤◌, ◌==◌, ◌||◌, List, [], ◌∷◌, length, get_or, map, Option, Some, None, Bool, true, false, cond, refl, sym, ◌∙◌, ap, add-one, arith}
 use Rattle.std.proofs.Math.Path.{fun_ext}
 use mir.Val.{bool_byte}
 use Rattle.std.specs.Prelude.{ℤ, pos, nat_lt, if◌then◌else◌, unwrap_or}
@@ -9,6 +9,7 @@ use Rattle.std.specs.Cmp.{signed_Decides}
 use Rattle.std.specs.FinMap.{empty, get, insert, remove}
 use Rattle.std.proofs.lemmas.Bool.{cases_lt, cases_order, eq-eqb, le-ltb, lt-ltb, ne_eqb}
 use Rattle.std.proofs.lemmas.List.{get_or_past}
+use Rattle.std.proofs.lemmas.List.Elements.{All-cons, All-nil}
 use Rattle.std.proofs.lemmas.List.FromFn.{get_or-map-range_with_len, length-map-range_with_len}
 use Rattle.dimacs_nodes.proofs.Nodes.{contains-empty, contains-insert, get-empty, get-insert}
 use Rattle.dimacs_records.specs.Ranges.{IsNode}
@@ -16,7 +17,7 @@ use Rattle.dimacs_records.proofs.ZeroLemmas.{get-removed}
 use Rattle.dimacs_claims.specs.Cuts.{CutValue, empty_cut, with_node}
 use Rattle.dimacs_claims.specs.Potentials.{PotentialsValue, ArePotentials, potential_of, with_potential, zero_potentials}
 use Rattle.dimacs_judge.specs.Cuts.{members}
-use Rattle.dimacs_arrays.specs.ByNode.{marked, number_of}
+use Rattle.dimacs_arrays.specs.ByNode.{AreBits, marked, number_of}
 
 -- what is said of the first n nodes, and nothing of the others
 module _ {T : Type 0} (nothing : T) where
@@ -96,6 +97,15 @@ one_if false = refl
 pub marked-bytes : (set : ℕ → Bool) (nodes v : ℕ) → IsNode nodes v → marked (map (byte_in set) (range_with_len 1 nodes)) v ≡ set v
 marked-bytes set nodes zero node = absurd (omega (arith, node.0))
 marked-bytes set nodes (suc k) node = ap (λ n. nat_lt 0 n) (get_or-map-range_with_len (byte_in set) 1 nodes k (suc k) 0 (omega (arith, node.1)) (omega arith)) ∙ one_if (set (suc k))
+
+one_bit : (b : Bool) → bool_byte b ≤ 1
+one_bit true = omega arith
+one_bit false = omega arith
+
+-- each of them is 0 or 1
+pub bits : (set : ℕ → Bool) (ids : List ℕ) → AreBits (map (byte_in set) ids)
+bits set [] = All-nil _
+bits set (v ∷ ids) = All-cons (λ byte. byte ≤ 1) (byte_in set v) (map (byte_in set) ids) (one_bit (set v)) (bits set ids)
 
 -- ---- numbers
 abbrev pub number_among : ℕ → ℤ → ℕ → ℤ

@@ -23,7 +23,7 @@ use Rattle.dimacs_arrays.specs.declared.max.MaxArrays.{MaxArrays}
 use Rattle.dimacs_arrays.specs.declared.certify_max.MaxCertified.{MaxCertified}
 use Rattle.dimacs_arrays.specs.declared.certify_max.MaxCertified.TheVariants.{Optimal, Better}
 use Rattle.dimacs_arrays.specs.Answers.{AnswersArrays, length_of}
-use Rattle.dimacs_arrays.specs.ByNode.{marked}
+use Rattle.dimacs_arrays.specs.ByNode.{AreBits, marked}
 use Rattle.dimacs_arrays.specs.Limits.{count_rows, limit_row}
 
 -- the arc of this index
@@ -68,9 +68,10 @@ pub record IsMaxFlowImproved (i : MaxValue) (x y : List ℤ) : Type 0 where
   pub feasible : FeasibleMax i y
   pub greater : value i x <ℤ value i y
 
--- the flow is maximum by the cut of the marked nodes, and has this value; or it isn't, and the other is better
+-- the flow is maximum by the cut of the nodes whose byte is 1, and not 0, and has this value; or it isn't, and the other is better
 abbrev pub CertifiesMaxFlow : MaxValue → List ℤ → MaxCertified → Type 0
-CertifiesMaxFlow i x (Optimal total inside) = ShowsMaxFlow i x (marked inside.items) × (total ≡ value i x) × (length inside.items ≡ i.nodes)
+CertifiesMaxFlow i x (Optimal total inside) =
+    ShowsMaxFlow i x (marked inside.items) × (total ≡ value i x) × (length inside.items ≡ i.nodes) × AreBits inside.items
 CertifiesMaxFlow i x (Better y) = IsMaxFlowImproved i x y
 
 -- what judging and certifying over the arrays may answer

@@ -5,7 +5,7 @@ ghost use Rattle.dimacs_lines.specs.Limits.{most_nodes};
 ghost use Rattle.dimacs_records.specs.Ranges.{IsNode, IsWhole};
 ghost use Rattle.dimacs_claims.specs.Potentials.{potential_of};
 ghost use Rattle.dimacs_judge.specs.Cuts.{members};
-ghost use Rattle.dimacs_arrays.specs.ByNode.{marked, number_of};
+ghost use Rattle.dimacs_arrays.specs.ByNode.{AreBits, marked, number_of};
 ghost use Rattle.dimacs_arrays.specs.MinArrays.{IsWider};
 
 use dimacs_claims::{Cut, Potentials};
@@ -33,6 +33,7 @@ pub(crate) fn bytes_of(alloc: Global, nodes: u32, cut: &Cut) -> Result<Vec<u8>, 
     requires few { nodes ≤ most_nodes }
     ensures one_each { IfOk result (λ inside. length inside.items ≡ nodes) }
     ensures marked { IfOk result (λ inside. (v : ℕ) → IsNode nodes v → marked inside.items v ≡ members cut.now v) }
+    ensures bits { IfOk result (λ inside. AreBits inside.items) }
 {
     let mut inside = Vec::new(alloc);
     for i in 0..nodes {

@@ -17,7 +17,7 @@ use std::alloc::Global;
 /// What certifying says of a flow.
 #[derive(Drop)]
 pub enum MaxCertified {
-    /// It is maximum, of this value; the nodes whose byte is 1 show it, with which `judge_max_arrays` says yes.
+    /// It is maximum, of this value; the nodes whose byte is 1 show it, with which `judge_max_arrays` says yes. Others have 0.
     Optimal { value: i128, inside: Vec<u8> },
     /// It isn't: this flow is feasible and has greater value.
     Better(Flow),

@@ -1,7 +1,8 @@
 use Rattle.std.proofs.Common.{◌≡◌, ◌+◌, ◌∙◌, sym, arith}
+use Rattle.std.specs.List.{range_with_len}
 use Rattle.std.proofs.lemmas.List.FromFn.{length-map-range_with_len, map-range_with_len_more}
 use Rattle.dimacs_judge.specs.Cuts.{members}
-use Rattle.dimacs_arrays.proofs.ByNodeLemmas.{byte_in, marked-bytes}
+use Rattle.dimacs_arrays.proofs.ByNodeLemmas.{bits, byte_in, marked-bytes}
 use Rattle.dimacs_arrays.proofs.by_node.bytes_of.Goals as goal
 
 pub loop-i-preserved : goal.loop-i-preserved
@@ -17,3 +18,6 @@ pub returns-clause-marked : goal.returns-clause-marked
 returns-clause-marked c =
     let all : c.loop-i.i ≡ c.args.nodes = omega (arith, c.loop-i-test.false, c.loop-i.auto.i-end) in
     rw (c.loop-i.invariant, all) (marked-bytes (members c.args.cut.now) c.args.nodes)
+
+pub returns-clause-bits : goal.returns-clause-bits
+returns-clause-bits c = rw c.loop-i.invariant (bits (members c.args.cut.now) (range_with_len 1 c.loop-i.i))

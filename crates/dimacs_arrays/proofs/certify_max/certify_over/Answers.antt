@@ -34,4 +34,4 @@ returns g c =
     let bytes = c.in_ok-bytes_of-in-Optimal in
     let same = rw nodes at bytes.ensures.marked in
     let fits : SFits w128 c.value_of.result = search rules in
-    ((record { feasible = feasible; tight = same_cut i law x set (marked bytes.field-0.items) same decided.1 }, decided.0), to_z-of_z w128 c.value_of.result fits ∙ c.value_of.ensures ∙ ap (value i) c.in_ok-flow.ensures, bytes.ensures.one_each ∙ nodes)
+    ((record { feasible = feasible; tight = same_cut i law x set (marked bytes.field-0.items) same decided.1 }, decided.0), to_z-of_z w128 c.value_of.result fits ∙ c.value_of.ensures ∙ ap (value i) c.in_ok-flow.ensures, bytes.ensures.one_each ∙ nodes, bytes.ensures.bits)
