@@ -137,6 +137,13 @@ class Certifies(unittest.TestCase):
         with self.assertRaises(OverflowError):
             dimacs.certify_min_arrays(*words, [1] * 3)
 
+    def test_potentials_at_both_ends_of_64_bits(self):
+        words = (3, [1, 2], [2, 3], [0] * 2, [2] * 2, [LAST] * 2, [1, 0, -1], [1] * 2)
+        cost, potentials = dimacs.certify_min_arrays(*words)
+        self.assertEqual(cost, 2 * LAST)
+        self.assertEqual(potentials, [LAST - 1, -1, -LAST - 1])
+        self.assertEqual(dimacs.judge_min_arrays(*words, potentials).value, cost)
+
     def test_exceptions_are_pickled(self):
         for call, words in [
             (dimacs.certify_max_arrays, (*MAX, SLOW)),

@@ -2,7 +2,7 @@
 use Rattle.std.proofs.Common.{◌≡◌, inl, inr, ℕ, zero, suc, ◌+◌, ◌<◌, ◌≤◌, ◌==◌, ◌||◌, List, [], ◌∷◌, length, get_or, map, Option, Some, None, Bool, true, false, cond, refl, sym, ◌∙◌, ap, add-one, arith}
 use Rattle.std.proofs.Math.Path.{fun_ext}
 use mir.Val.{bool_byte}
-use Rattle.std.specs.Prelude.{ℤ, pos, nat_lt, if◌then◌else◌, unwrap_or}
+use Rattle.std.specs.Prelude.{ℤ, pos, ◌+ℤ◌, nat_lt, if◌then◌else◌, unwrap_or}
 use Rattle.std.specs.List.{range_with_len}
 use Rattle.std.specs.Ordering.{int_eq, nat_cmp}
 use Rattle.std.specs.Cmp.{signed_Decides}
@@ -15,8 +15,9 @@ use Rattle.dimacs_nodes.proofs.Nodes.{contains-empty, contains-insert, get-empty
 use Rattle.dimacs_records.specs.Ranges.{IsNode}
 use Rattle.dimacs_records.proofs.ZeroLemmas.{get-removed}
 use Rattle.dimacs_claims.specs.Cuts.{CutValue, empty_cut, with_node}
-use Rattle.dimacs_claims.specs.Potentials.{PotentialsValue, ArePotentials, potential_of, with_potential, zero_potentials}
+use Rattle.dimacs_claims.specs.Potentials.{PotentialsValue, potential_of, with_potential, zero_potentials}
 use Rattle.dimacs_judge.specs.Cuts.{members}
+use Rattle.dimacs_arrays.specs.inside.MinCertified.{AreShifted}
 use Rattle.dimacs_arrays.specs.ByNode.{AreBits, marked, number_of}
 
 -- what is said of the first n nodes, and nothing of the others
@@ -149,18 +150,13 @@ module _ (numbers : List ℤ) where
   pub all_numbers : (p : PotentialsValue) → ((v : ℕ) → potential_of p v ≡ number_among (length numbers) (number_of numbers v) v) → potential_of p ≡ number_of numbers
   all_numbers p so_far = fun_ext (λ v. so_far v ∙ among_all (pos 0) (length numbers) (number_of numbers v) v (number_past v))
 
--- the potentials of all nodes, in an array
-pub numbers_are : (p : PotentialsValue) → ArePotentials p → number_of (map (potential_of p) (range_with_len 1 p.nodes)) ≡ potential_of p
-numbers_are p law = fun_ext at
-  where
-    none : (v : ℕ) → (¬ IsNode p.nodes v) → (found : Option ℤ) → get p.values v ≡ found → unwrap_or found (pos 0) ≡ pos 0
-    none v off None e = refl
-    none v off (Some n) e = absurd (off (law.within v n e).0)
+-- the potentials of all nodes, with a number added to each, in an array
+abbrev pub sum_of : PotentialsValue → ℤ → ℕ → ℤ
+sum_of p shift v = potential_of p v +ℤ shift
 
-    at : (v : ℕ) → number_of (map (potential_of p) (range_with_len 1 p.nodes)) v ≡ potential_of p v
-    at zero = sym (none 0 (λ node. omega (arith, node.0)) (get p.values 0) refl)
-    at (suc k) = elim (cases_lt k p.nodes) [
-      | inl more ↦ get_or-map-range_with_len (potential_of p) 1 p.nodes k (suc k) (pos 0) more (omega arith)
-      | inr past ↦ get_or_past (map (potential_of p) (range_with_len 1 p.nodes)) k (pos 0) (omega (arith, past, length-map-range_with_len (potential_of p) 1 p.nodes))
-          ∙ sym (none (suc k) (λ node. omega (arith, node.1, past)) (get p.values (suc k)) refl)
-    ]
+pub sums_are : (p : PotentialsValue) (shift : ℤ) → AreShifted p shift (map (sum_of p shift) (range_with_len 1 p.nodes))
+sums_are p shift = record { each = length-map-range_with_len (sum_of p shift) 1 p.nodes; sums = sums }
+  where
+    sums : (v : ℕ) → IsNode p.nodes v → number_of (map (sum_of p shift) (range_with_len 1 p.nodes)) v ≡ sum_of p shift v
+    sums zero node = absurd (omega (arith, node.0))
+    sums (suc k) node = get_or-map-range_with_len (sum_of p shift) 1 p.nodes k (suc k) (pos 0) (omega (arith, node.1)) (omega arith)

@@ -1,11 +1,11 @@
 -- Flows that are certified over arrays.
-use Rattle.std.proofs.Common.{◌≡◌, ℕ, Bool, List, [], ◌∷◌, All, ℤ, inl, sym, subst, ◌∙◌, Result}
+use Rattle.std.proofs.Common.{◌≡◌, ℕ, Bool, List, [], ◌∷◌, All, ℤ, pos, ◌+ℤ◌, ◌<ℤ◌, arith, inl, sym, subst, ◌∙◌, Result}
 use Rattle.std.specs.Prelude.{IsErrAnd}
 use Rattle.std.specs.List.{AllZip}
 use Rattle.std.proofs.lemmas.List.Elements.{All-head, All-tail}
 use Rattle.dimacs_records.specs.Ranges.{IsNode}
 use Rattle.dimacs_records.specs.declared.reasons.Reason.{Reason}
-use Rattle.dimacs_claims.specs.Potentials.{PotentialsValue}
+use Rattle.dimacs_claims.specs.Potentials.{PotentialsValue, potential_of}
 use Rattle.dimacs_instance.specs.declared.network.ArcView.{ArcView}
 use Rattle.dimacs_instance.specs.Arcs.{JoinsNodes}
 use Rattle.dimacs_instance.specs.MaxFlows.{MaxValue, IsMax}
@@ -17,7 +17,9 @@ use Rattle.dimacs_judge.specs.Cuts.{CutTight, IsTightAt}
 use Rattle.dimacs_judge.specs.Feasible.{FeasibleMax, FeasibleMin}
 use Rattle.dimacs_judge.specs.Flows.{cost}
 use Rattle.dimacs_judge.specs.FlowTests.{cost_row, feasible_min_rows, min_demand}
-use Rattle.dimacs_judge.specs.Potentials.{Slack}
+use Rattle.dimacs_judge.specs.Potentials.{IsSlackAt, reduced_cost}
+use Rattle.std.proofs.lemmas.Int.{ints}
+use Rattle.dimacs_arrays.specs.ByNode.{number_of}
 use Rattle.dimacs_judge.specs.Tests.{AllClear, Clear, First, FirstOfRow, Refutes, Settles}
 use Rattle.dimacs_judge.specs.inside.Tests.{Refuses}
 use Rattle.dimacs_judge.proofs.Firsts.{AllOneWay}
@@ -66,6 +68,19 @@ module _ (i : MaxValue) (x : List ℤ) where
   max_better y feasible told = record { claimed = feasible; not_maximum = told.0; feasible = told.1; greater = told.2 }
 
 -- ---- least
+-- potentials stay slack where the same number is added to each
+module _ (nodes : ℕ) (p q : ℕ → ℤ) (shift : ℤ) (sums : (v : ℕ) → IsNode nodes v → q v ≡ p v +ℤ shift) where
+  slack_at : (a : ArcView) (z : ℤ) → JoinsNodes nodes a → IsSlackAt p a z → IsSlackAt q a z
+  slack_at a z joined slack =
+      let same : reduced_cost q a ≡ reduced_cost p a = omega (arith, ints, sums a.tail joined.0, sums a.head joined.1) in
+      subst (λ (c : ℤ). (pos 0 <ℤ c → z ≡ a.low) × (c <ℤ pos 0 → z ≡ a.cap)) (sym same) slack
+
+  all_slack : (arcs : List ArcView) (y : List ℤ) → All (JoinsNodes nodes) arcs → AllZip (IsSlackAt p) arcs y → AllZip (IsSlackAt q) arcs y
+  all_slack [] [] joined slack = tt
+  all_slack [] (z ∷ y) joined slack = absurd slack
+  all_slack (a ∷ arcs) [] joined slack = absurd slack
+  all_slack (a ∷ arcs) (z ∷ y) joined slack = (slack_at a z (All-head (JoinsNodes nodes) a arcs joined) slack.0, all_slack arcs y (All-tail (JoinsNodes nodes) a arcs joined) slack.1)
+
 module _ (i : MinValue) (x : List ℤ) where
   min_one_way : AllOneWay (min_claimed_rows i x)
   min_one_way = (bound_one_way i.arcs x, (balance_one_way i.nodes i.arcs (min_demand i) x, (cost_one_way i.arcs x, tt)))
@@ -93,10 +108,12 @@ module _ (i : MinValue) (x : List ℤ) where
       pub min_better : (y : List ℤ) → DecidesMin i x (of_min.Better y) → CertifiesMinFlow i x (min_told.Better y)
       min_better y told = record { claimed = feasible; costs_wide = costs_wide i.arcs x costs; not_least = told.0; feasible = told.1; less = told.2 }
 
-      pub min_least : (total : ℤ) (p : PotentialsValue) (told : MinCertified) → total ≡ cost i.arcs x → DecidesMin i x (of_min.Optimal p) → IsLeastBy total p told → CertifiesMinFlow i x told
-      min_least total p (min_told.Optimal said potentials) total_is decided is =
-          let slack = subst (λ (q : ℕ → ℤ). Slack i.arcs x q) (sym is.1) decided.1 in
-          ((record { feasible = feasible; costs_wide = costs_wide i.arcs x costs; slack = slack }, decided.0), is.0 ∙ total_is, is.2 ∙ decided.2)
-      min_least total p (min_told.Wide said q) total_is decided is =
+      pub min_least : All (JoinsNodes i.nodes) i.arcs → (total : ℤ) (p : PotentialsValue) (told : MinCertified) → total ≡ cost i.arcs x → DecidesMin i x (of_min.Optimal p) → IsLeastBy total p told → CertifiesMinFlow i x told
+      min_least joined total p (min_told.Optimal said potentials) total_is decided is =
+          let (shift, are) = is.1 in
+          let sums = subst (λ (nodes : ℕ). (v : ℕ) → IsNode nodes v → number_of potentials.items v ≡ potential_of p v +ℤ shift) decided.2 are.sums in
+          let slack = all_slack i.nodes (potential_of p) (number_of potentials.items) shift sums i.arcs x joined decided.1 in
+          ((record { feasible = feasible; costs_wide = costs_wide i.arcs x costs; slack = slack }, decided.0), is.0 ∙ total_is, are.each ∙ decided.2)
+      min_least joined total p (min_told.Wide said q) total_is decided is =
           rw is.1 ((record { feasible = feasible; costs_wide = costs_wide i.arcs x costs; slack = decided.1 }, decided.0), is.0 ∙ total_is, decided.2, is.2)
-      min_least total p (min_told.Better y) total_is decided is = absurd is
+      min_least joined total p (min_told.Better y) total_is decided is = absurd is

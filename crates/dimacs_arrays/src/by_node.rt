@@ -1,12 +1,12 @@
 //! Certificates that are said by node, to and from arrays.
 
-ghost use Rattle.std.specs.Prelude.{◌≡◌, ◌≤◌, ℕ, length, IfNone, IfOk, IfSome};
+ghost use Rattle.std.specs.Prelude.{◌≡◌, ◌≤◌, ◌+ℤ◌, ℕ, length, IfNone, IfOk, IfSome};
 ghost use Rattle.dimacs_lines.specs.Limits.{most_nodes};
-ghost use Rattle.dimacs_records.specs.Ranges.{IsNode, IsWhole};
+ghost use Rattle.dimacs_records.specs.Ranges.{IsNode, IsWhole, IsWide};
 ghost use Rattle.dimacs_claims.specs.Potentials.{potential_of};
 ghost use Rattle.dimacs_judge.specs.Cuts.{members};
 ghost use Rattle.dimacs_arrays.specs.ByNode.{AreBits, marked, number_of};
-ghost use Rattle.dimacs_arrays.specs.MinArrays.{IsWider};
+ghost use Rattle.dimacs_arrays.specs.inside.MinCertified.{AreShifted, IsShift, IsWiderBy};
 
 use dimacs_claims::{Cut, Potentials};
 use dimacs_lines::Memory;
@@ -60,15 +60,19 @@ pub(crate) fn potentials_of(
     Ok(potentials)
 }
 
-/// The potential of each node. None where one takes more than 64 bits.
-pub(crate) fn numbers_of(alloc: Global, potentials: &Potentials) -> Result<Option<Vec<i64>>, Memory>
-    ensures one_each { IfOk result (λ told. IfSome told (λ numbers. length numbers.items ≡ potentials.now.nodes)) }
-    ensures numbers { IfOk result (λ told. IfSome told (λ numbers. number_of numbers.items ≡ potential_of potentials.now)) }
-    ensures wider { IfOk result (λ told. IfNone told (IsWider potentials.now)) }
+/// The potential of each node, with this number added. None where a sum takes more than 64 bits.
+pub(crate) fn numbers_of(
+    alloc: Global,
+    potentials: &Potentials,
+    shift: i128,
+) -> Result<Option<Vec<i64>>, Memory>
+    requires { IsShift shift }
+    ensures numbers { IfOk result (λ told. IfSome told (λ numbers. AreShifted potentials.now shift numbers.items)) }
+    ensures wider { IfOk result (λ told. IfNone told (IsWiderBy potentials.now shift)) }
 {
     let mut numbers = Vec::new(alloc);
     for i in 0..potentials.nodes() {
-        let Some(number) = whole(potentials.of(i + 1)) else {
+        let Some(number) = whole(potentials.of(i + 1), shift) else {
             return Ok(None);
         };
         numbers.push(number)?;
@@ -76,10 +80,39 @@ pub(crate) fn numbers_of(alloc: Global, potentials: &Potentials) -> Result<Optio
     Ok(Some(numbers))
 }
 
-/// The same number in 64 bits, where it fits.
-fn whole(number: i128) -> Option<i64>
-    ensures some { IfSome result (λ fits. fits ≡ number) }
-    ensures none { IfNone result (¬ IsWhole number) }
+/// The sum in 64 bits, where it fits.
+fn whole(number: i128, shift: i128) -> Option<i64>
+    requires number { IsWide number }
+    requires shift { IsShift shift }
+    ensures some { IfSome result (λ fits. fits ≡ number +ℤ shift) }
+    ensures none { IfNone result (¬ IsWhole (number +ℤ shift)) }
 {
-    i64::try_from(number).ok()
+    i64::try_from(number + shift).ok()
+}
+
+/// What makes the least of the potentials the least number of 64 bits where it is added.
+pub(crate) fn lowest_shift(potentials: &Potentials) -> i128
+    ensures { IsShift result }
+{
+    i128::from(i64::MIN) - least_of(potentials)
+}
+
+/// The least of the potentials; 0 where there are no nodes.
+fn least_of(potentials: &Potentials) -> i128
+    ensures { IsWide result }
+{
+    let mut least = potentials.of(1);
+    for i in 0..potentials.nodes() {
+        least = lesser(least, potentials.of(i + 1));
+    }
+    least
+}
+
+#[inline(always)]
+fn lesser(a: i128, b: i128) -> i128
+    requires a { IsWide a }
+    requires b { IsWide b }
+    ensures { IsWide result }
+{
+    if a < b { a } else { b }
 }

@@ -1,13 +1,28 @@
 -- Inside: what is said of a flow that potentials show least.
-use Rattle.std.specs.Prelude.{◌≡◌, length, ℤ}
+use Rattle.std.specs.Prelude.{ℕ, ◌≡◌, ◌^◌, List, length, ℤ, pos, neg_ℤ, ◌+ℤ◌}
+use Rattle.dimacs_lines.specs.Number.{IsWithin}
+use Rattle.dimacs_records.specs.Ranges.{IsNode, IsWhole}
 use Rattle.dimacs_claims.specs.Potentials.{PotentialsValue, potential_of}
 use Rattle.dimacs_arrays.specs.declared.certify_min.MinCertified.{MinCertified}
 use Rattle.dimacs_arrays.specs.declared.certify_min.MinCertified.TheVariants.{Optimal, Wide, Better}
 use Rattle.dimacs_arrays.specs.ByNode.{number_of}
 use Rattle.dimacs_arrays.specs.MinArrays.{IsWider}
 
--- this cost and these potentials, in an array where they fit
+-- what may be added to potentials
+abbrev pub IsShift : ℤ → Type 0
+IsShift shift = IsWithin (neg_ℤ (pos (10 ^ 31))) (pos (10 ^ 31)) shift
+
+-- the numbers are the potentials of the nodes, with the same number added to each
+pub record AreShifted (p : PotentialsValue) (shift : ℤ) (numbers : List ℤ) : Type 0 where
+  pub each : length numbers ≡ p.nodes
+  pub sums : (v : ℕ) → IsNode p.nodes v → number_of numbers v ≡ potential_of p v +ℤ shift
+
+-- one of these sums takes more than 64 bits
+abbrev pub IsWiderBy : PotentialsValue → ℤ → Type 0
+IsWiderBy p shift = (v : ℕ) × IsNode p.nodes v × (¬ IsWhole (potential_of p v +ℤ shift))
+
+-- this cost and these potentials, in an array where they fit with a number added to each
 abbrev pub IsLeastBy : ℤ → PotentialsValue → MinCertified → Type 0
-IsLeastBy total p (Optimal told potentials) = (told ≡ total) × (number_of potentials.items ≡ potential_of p) × (length potentials.items ≡ p.nodes)
+IsLeastBy total p (Optimal told potentials) = (told ≡ total) × ((shift : ℤ) × AreShifted p shift potentials.items)
 IsLeastBy total p (Wide told q) = (told ≡ total) × (q ≡ p) × IsWider p
 IsLeastBy total p (Better y) = ⊥

@@ -1,24 +1,19 @@
 use Rattle.std.proofs.Common.{◌≡◌, ◌+◌, ◌∙◌, sym, w64, rules, arith, SFits}
 use Rattle.std.specs.Int.{w128}
 use Rattle.std.proofs.lemmas.Int.{to_z-of_z}
-use Rattle.std.proofs.lemmas.List.FromFn.{length-map-range_with_len, map-range_with_len_more}
-use Rattle.dimacs_claims.specs.Potentials.{potential_of}
-use Rattle.dimacs_arrays.proofs.ByNodeLemmas.{numbers_are}
+use Rattle.std.proofs.lemmas.List.FromFn.{map-range_with_len_more}
+use Rattle.dimacs_arrays.proofs.ByNodeLemmas.{sum_of, sums_are}
 use Rattle.dimacs_arrays.proofs.by_node.numbers_of.Goals as goal
 
 pub loop-i-preserved : goal.loop-i-preserved
 loop-i-preserved c =
+    let exact = to_z-of_z w128 c.args.shift c.ranges.shift in
     let fits : SFits w128 c.of.result = search rules in
     let whole : SFits w64 c.in-Some.number = search rules in
-    let is = rw (to_z-of_z w128 c.of.result fits, c.of.ensures.value) at c.in-Some.ensures.some in
-    c.in_ok-push.ensures.items ∙ rw (c.loop-i.invariant, to_z-of_z w64 c.in-Some.number whole, is) (sym (map-range_with_len_more (potential_of c.args.potentials.now) 1 c.loop-i.i (c.loop-i.i + 1) (omega arith)))
-
-pub returns-clause-one_each : goal.returns-clause-one_each
-returns-clause-one_each c =
-    let all = c.nodes-i-end.ensures.nodes in
-    rw (c.loop-i.invariant) (length-map-range_with_len (potential_of c.args.potentials.now) 1 c.loop-i.i ∙ omega (arith, c.loop-i-test.false, c.loop-i.auto.i-end, all))
+    let is = rw (to_z-of_z w128 c.of.result fits, c.of.ensures.value, exact) at c.in-Some.ensures.some in
+    c.in_ok-push.ensures.items ∙ rw (c.loop-i.invariant, exact, to_z-of_z w64 c.in-Some.number whole, is) (sym (map-range_with_len_more (sum_of c.args.potentials.now c.args.shift) 1 c.loop-i.i (c.loop-i.i + 1) (omega arith)))
 
 pub returns-clause-numbers : goal.returns-clause-numbers
 returns-clause-numbers c =
     let all : c.loop-i.i ≡ c.args.potentials.now.nodes = omega (arith, c.loop-i-test.false, c.loop-i.auto.i-end, c.nodes-i-end.ensures.nodes) in
-    rw (c.loop-i.invariant, all) (numbers_are c.args.potentials.now c.nodes-i-end.ensures.lawful)
+    rw (c.loop-i.invariant, all, to_z-of_z w128 c.args.shift c.ranges.shift) (sums_are c.args.potentials.now c.args.shift)

@@ -44,4 +44,4 @@ returns g c =
     let fits : SFits w128 c.in_ok-cost.cost = search rules in
     let least = c.in_ok-least_by-in-Optimal in
     let is = subst (λ (total : ℤ). IsLeastBy total potentials least.field-0) (to_z-of_z w128 c.in_ok-cost.cost fits) least.ensures in
-    min_least i c.args.flows.now feasible costs.1 c.in_ok-cost.cost potentials least.field-0 costs.0 decided is
+    min_least i c.args.flows.now feasible costs.1 c.network.ensures.lawful.joined c.in_ok-cost.cost potentials least.field-0 costs.0 decided is
