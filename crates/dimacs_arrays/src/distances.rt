@@ -22,6 +22,7 @@ use std::alloc::Global;
 /// The tests in their order: `NotShortest` at the source, where its distance isn't 0; each node, by ID: `NodeRange`, where
 /// its predecessor is 0 or above the number of nodes, or isn't 0 where it has to be; each node with a distance, by ID:
 /// `PredUnknown`, where it doesn't lead back to the source, predecessor by predecessor; and then those of `label_tests`.
+/// Where arcs of positive weight make all distances, one pass over the arcs shows that these pass.
 pub fn judge_paths_by_node<N: Network>(
     alloc: Global,
     graph: &Graph<N>,
@@ -53,7 +54,7 @@ fn all_from(alloc: Global, source: u32) -> Result<Queries, Memory>
 
 /// Decides whether these are the distances from the source: predecessors with which the judge says yes to them, in the
 /// order of IDs, 0 at the source and where there is no distance, exactly where they are. Else the first test that fails,
-/// as `decide_distances` tells it.
+/// as `decide_distances` tells it. Goes over the arcs once where those of positive weight make all distances.
 pub fn certify_paths_by_node<N: Network>(
     alloc: Global,
     graph: &Graph<N>,
