@@ -1,12 +1,13 @@
 //! Flows of least cost.
 
 use crate::number::Number;
+use crate::potentials::set_potential;
 use crate::problem::Problem;
 use crate::scaling::Scaling;
 use crate::simplex::Simplex;
 use dimacs_claims::Potentials;
 use dimacs_instance::{MinInstance, Network};
-use dimacs_lines::{Memory, WIDE};
+use dimacs_lines::Memory;
 use std::alloc::Global;
 
 /// An amount for each arc, and a potential for each node.
@@ -25,17 +26,9 @@ pub fn make_least_flow<N: Network>(
     instance: &MinInstance<N>,
 ) -> Result<LeastFlow, Memory> {
     let problem = Problem::new(alloc, instance)?;
-    let found = if problem.longest_path() < LONGEST && problem.imbalance() < MOST {
-        by_simplex::<N, i64>(alloc, &problem)?
-    } else {
-        by_simplex::<N, i128>(alloc, &problem)?
-    };
-    match found {
+    match quickly(alloc, &problem)? {
         Some(flow) => Ok(flow),
-        None if prices_fit(&problem) && problem.greatest_excess() < MOST => {
-            by_scaling::<N, i64>(alloc, &problem)
-        }
-        None => by_scaling::<N, i128>(alloc, &problem),
+        None => surely(alloc, &problem),
     }
 }
 
@@ -52,6 +45,27 @@ const PRICE_BITS: u32 = 60;
 const WORK_FOR_EACH: u64 = 500;
 
 const WORK_FOR_ALL: u64 = 1073741824;
+
+/// By the simplex, unless it takes too much work.
+fn quickly<N: Network>(
+    alloc: Global,
+    problem: &Problem<'_, N>,
+) -> Result<Option<LeastFlow>, Memory> {
+    if problem.longest_path() < LONGEST && problem.imbalance() < MOST {
+        by_simplex::<N, i64>(alloc, problem)
+    } else {
+        by_simplex::<N, i128>(alloc, problem)
+    }
+}
+
+/// By cost scaling.
+fn surely<N: Network>(alloc: Global, problem: &Problem<'_, N>) -> Result<LeastFlow, Memory> {
+    if prices_fit(problem) && problem.greatest_excess() < MOST {
+        by_scaling::<N, i64>(alloc, problem)
+    } else {
+        by_scaling::<N, i128>(alloc, problem)
+    }
+}
 
 /// Whether prices of cost scaling fit 64 bits. In the first phase they fall by a few times the tolerance for each node,
 /// and less later.
@@ -74,9 +88,11 @@ fn by_simplex<N: Network, V: Number>(
         return Ok(None);
     }
     let potentials = simplex.potentials(alloc)?;
+    let amounts = simplex.amounts(alloc, problem.network())?;
+    let potentials = by_id(alloc, problem, &potentials)?;
     Ok(Some(LeastFlow {
-        amounts: simplex.amounts(alloc, problem.network())?,
-        potentials: by_id(alloc, problem, &potentials)?,
+        amounts,
+        potentials,
     }))
 }
 
@@ -87,9 +103,11 @@ fn by_scaling<N: Network, V: Number>(
     let mut scaling: Scaling<V> = Scaling::new(alloc, problem)?;
     scaling.run(alloc)?;
     let potentials = scaling.potentials(alloc)?;
+    let amounts = scaling.amounts(alloc, problem.network())?;
+    let potentials = by_id(alloc, problem, &potentials)?;
     Ok(LeastFlow {
-        amounts: scaling.amounts(alloc, problem.network())?,
-        potentials: by_id(alloc, problem, &potentials)?,
+        amounts,
+        potentials,
     })
 }
 
@@ -100,12 +118,11 @@ fn by_id<N: Network>(
     values: &[i128],
 ) -> Result<Potentials, Memory> {
     let mut potentials = Potentials::new(alloc, problem.instance().network().nodes());
-    for (id, value) in problem.ids().iter().zip(values) {
-        let id = *id;
-        let value = value.wrapping_neg();
-        if 1 <= id && id <= potentials.nodes() && value != 0 && -WIDE <= value && value <= WIDE {
-            potentials.set(id, value)?;
-        }
+    let mut number: usize = 0;
+    for id in problem.ids() {
+        let value = values.get(number).copied().unwrap_or(0);
+        set_potential(&mut potentials, *id, value.wrapping_neg())?;
+        number = number.wrapping_add(1);
     }
     Ok(potentials)
 }

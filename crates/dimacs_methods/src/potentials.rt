@@ -169,10 +169,20 @@ fn potentials<N: Network, V: Number>(
         let place = places.of(number);
         let distance = member(distances, place.group, V::of(0)).plus(place.shift);
         let value = V::of(0).minus(distance).wide();
-        let id = claim.id(number);
-        if 1 <= id && id <= potentials.nodes() && value != 0 && -WIDE <= value && value <= WIDE {
-            potentials.set(id, value)?;
-        }
+        set_potential(&mut potentials, claim.id(number), value)?;
     }
     Ok(potentials)
+}
+
+/// Sets the potential of a node that has 0, unless there is no such node, or the potential is out of range.
+pub(crate) fn set_potential(
+    potentials: &mut Potentials,
+    id: u32,
+    value: i128,
+) -> Result<(), Memory> {
+    let is_node = 1 <= id && id <= potentials.nodes();
+    if is_node && value != 0 && -WIDE <= value && value <= WIDE {
+        potentials.set(id, value)?;
+    }
+    Ok(())
 }

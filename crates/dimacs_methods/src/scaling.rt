@@ -56,11 +56,14 @@ impl<V: Number> Scaling<V> {
     ) -> Result<Scaling<V>, Memory> {
         let nodes = problem.excess().len();
         let bits = problem.bits();
+        let residual = Residual::new(alloc, problem, bits.nodes)?;
+        let path = Vec::with_capacity(alloc, LONGEST)?;
+        let ranks = Ranks::new(alloc, nodes.saturating_mul(RANKS), nodes)?;
         Ok(Scaling {
-            residual: Residual::new(alloc, problem, bits.nodes)?,
+            residual,
             active: VecDeque::new(alloc),
-            path: Vec::with_capacity(alloc, LONGEST)?,
-            ranks: Ranks::new(alloc, nodes.saturating_mul(RANKS), nodes)?,
+            path,
+            ranks,
             level: bits.cost.saturating_add(bits.nodes),
             doublings: bits.nodes,
             left: 0,

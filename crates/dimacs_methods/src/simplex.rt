@@ -18,7 +18,7 @@ mod tree;
 
 use crate::number::Number;
 use crate::problem::Problem;
-use crate::simplex::arcs::{AT_CAP, AT_LOW, Arcs, IN_TREE};
+use crate::simplex::arcs::{AT_CAP, AT_LOW, Arcs, IN_TREE, potential};
 use crate::simplex::cycle::{Cycle, Leaving};
 use crate::simplex::mixing::Mixing;
 use crate::simplex::numbering::number_of;
@@ -63,10 +63,12 @@ impl<V: Number> Simplex<V> {
         problem: &Problem<'_, N>,
     ) -> Result<Simplex<V>, Memory> {
         let price = V::of_wide(problem.longest_path().wrapping_mul(2));
+        let tree = Tree::star(alloc, problem.excess(), price)?;
+        let arcs = Arcs::new(alloc, problem)?;
         let count = problem.network().arcs();
         Ok(Simplex {
-            tree: Tree::star(alloc, problem.excess(), price)?,
-            arcs: Arcs::new(alloc, problem)?,
+            tree,
+            arcs,
             count,
             at: 0,
             block: count.isqrt().max(LEAST_BLOCK),
@@ -227,10 +229,12 @@ impl<V: Number> Simplex<V> {
     /// The potentials by the first numbers of the nodes.
     pub(crate) fn potentials(&self, alloc: Global) -> Result<Vec<i128>, Memory> {
         let mut potentials = vec![in alloc; 0i128; self.tree.names.len()]?;
-        for (name, potential) in self.tree.names.iter().zip(&self.tree.potentials) {
+        let mut number: u32 = 0;
+        for name in &self.tree.names {
             if let Some(place) = potentials.get_mut(*name as usize) {
-                *place = potential.wide();
+                *place = potential(&self.tree.potentials, number).wide();
             }
+            number = number.wrapping_add(1);
         }
         Ok(potentials)
     }

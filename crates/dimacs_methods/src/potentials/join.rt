@@ -65,19 +65,27 @@ impl Degree {
 
 impl<'a, V: Number> Joining<'a, V> {
     fn new(alloc: Global, links: &'a [Link<V>], count: u32) -> Result<Joining<'a, V>, Memory> {
+        let groups = Groups::apart(alloc, count)?;
+        let into = vec![in alloc; NO_DEGREE; count as usize]?;
+        let out = vec![in alloc; NO_DEGREE; count as usize]?;
         let mut joining = Joining {
             links,
-            groups: Groups::apart(alloc, count)?,
-            into: vec![in alloc; NO_DEGREE; count as usize]?,
-            out: vec![in alloc; NO_DEGREE; count as usize]?,
+            groups,
+            into,
+            out,
             todo: Vec::new(alloc),
             joined: 0,
         };
         joining.count_links();
-        for group in 0..count {
-            joining.ask(group)?;
-        }
+        joining.ask_all(count)?;
         Ok(joining)
+    }
+
+    fn ask_all(&mut self, count: u32) -> Result<(), Memory> {
+        for group in 0..count {
+            self.ask(group)?;
+        }
+        Ok(())
     }
 
     fn count_links(&mut self) {
@@ -143,11 +151,16 @@ impl<'a, V: Number> Joining<'a, V> {
         merge(&mut self.into, from, to, root);
         merge(&mut self.out, from, to, root);
         self.leave_out(root, number);
+        self.leave_back(root, number, back);
+        self.joined = self.joined.wrapping_add(1);
+        self.ask(root)
+    }
+
+    /// Counts another link of a group no longer, where it now leads to itself.
+    fn leave_back(&mut self, root: u32, number: u32, back: u32) {
         if back != number && self.is_within(back) {
             self.leave_out(root, back);
         }
-        self.joined = self.joined.wrapping_add(1);
-        self.ask(root)
     }
 
     /// Of a group with one link into it and one out of it, the one that isn't this; else this.

@@ -26,15 +26,13 @@ impl<V: Number> Tight<V> {
         claim: &Claim<'_, N>,
         places: &Places<V>,
     ) -> Result<Tight<V>, Memory> {
-        let mut steps = Vec::new(alloc);
-        for i in 0..claim.arcs() {
-            add_tight(claim, places, i, Side::Tail, &mut steps)?;
-            add_tight(claim, places, i, Side::Head, &mut steps)?;
-        }
         let nodes = claim.nodes();
+        let steps = tight_steps(alloc, claim, places)?;
+        let steps = Listing::new(alloc, &steps, nodes)?;
+        let onward = vec![in alloc; None; nodes as usize]?;
         Ok(Tight {
-            steps: Listing::new(alloc, &steps, nodes)?,
-            onward: vec![in alloc; None; nodes as usize]?,
+            steps,
+            onward,
             queue: Vec::new(alloc),
         })
     }
@@ -88,6 +86,20 @@ impl<V: Number> Tight<V> {
         }
         Ok(())
     }
+}
+
+/// The tight steps, in the order of the arcs.
+fn tight_steps<N: Network, V: Number>(
+    alloc: Global,
+    claim: &Claim<'_, N>,
+    places: &Places<V>,
+) -> Result<Vec<Step<V>>, Memory> {
+    let mut steps = Vec::new(alloc);
+    for i in 0..claim.arcs() {
+        add_tight(claim, places, i, Side::Tail, &mut steps)?;
+        add_tight(claim, places, i, Side::Head, &mut steps)?;
+    }
+    Ok(steps)
 }
 
 /// Adds the step of an arc from a side, if it is tight.

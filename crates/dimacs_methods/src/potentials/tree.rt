@@ -55,29 +55,38 @@ pub(crate) struct Tree<V> {
     walked: u64,
 }
 
+/// So many groups in a ring in the order of their numbers, and after them a root, on which all hang.
+fn ring(alloc: Global, groups: u32) -> Result<Vec<Node>, Memory> {
+    let mut nodes = Vec::with_capacity(alloc, groups as usize + 1)?;
+    let mut before = groups;
+    for group in 0..groups {
+        nodes.push(Node {
+            parent: groups,
+            before,
+            after: group + 1,
+            children: 0,
+        })?;
+        before = group;
+    }
+    nodes.push(Node {
+        parent: groups,
+        before,
+        after: 0,
+        children: groups,
+    })?;
+    Ok(nodes)
+}
+
 impl<V: Number> Tree<V> {
     /// All groups hang on one root, whose number is theirs.
     pub(crate) fn new(alloc: Global, groups: u32) -> Result<Tree<V>, Memory> {
-        let root = groups;
-        let mut nodes = Vec::with_capacity(alloc, groups as usize + 1)?;
-        for group in 0..groups {
-            nodes.push(Node {
-                parent: root,
-                before: if group == 0 { root } else { group - 1 },
-                after: group + 1,
-                children: 0,
-            })?;
-        }
-        nodes.push(Node {
-            parent: root,
-            before: root.saturating_sub(1),
-            after: 0,
-            children: groups,
-        })?;
+        let nodes = ring(alloc, groups)?;
+        let distances = vec![in alloc; V::of(0); groups as usize]?;
+        let waiting = Waiting::new(alloc, groups)?;
         Ok(Tree {
-            distances: vec![in alloc; V::of(0); groups as usize]?,
+            distances,
             nodes,
-            waiting: Waiting::new(alloc, groups)?,
+            waiting,
             looked: 0,
             walked: 0,
         })

@@ -19,9 +19,11 @@ pub(crate) struct Waiting {
 impl Waiting {
     /// None of so many groups waits.
     pub(crate) fn new(alloc: Global, groups: u32) -> Result<Waiting, Memory> {
+        let ring = vec![in alloc; 0u32; groups as usize]?;
+        let waits = vec![in alloc; false; groups as usize]?;
         Ok(Waiting {
-            ring: vec![in alloc; 0u32; groups as usize]?,
-            waits: vec![in alloc; false; groups as usize]?,
+            ring,
+            waits,
             first: 0,
             count: 0,
         })

@@ -89,18 +89,27 @@ impl<V: Number> Scaling<V> {
     /// the path came, or one of this reduced cost. Where there is none, an update finds that.
     fn relabel(&mut self, number: u32, least: V) {
         let node = self.residual.node(number);
-        let mut least = least.min(self.reduced_back(node.price));
-        for half in self.residual.between(node.start, node.cursor) {
-            if half.room > 0 {
-                least = least.min(self.residual.reduced(node.price, half));
-            }
-        }
+        let least = least
+            .min(self.reduced_back(node.price))
+            .min(self.least_before(&node));
         if least < V::greatest() {
             let lowering = least.plus(V::of(1).doubled(self.level));
             self.residual.lower(number, lowering);
         }
         self.look_from(number, node.start);
         self.left = self.left.saturating_sub(1);
+    }
+
+    /// The least reduced cost of the halves with room before the cursor. The greatest number where there is none.
+    #[inline(always)]
+    fn least_before(&self, node: &Node<V>) -> V {
+        let mut least = V::greatest();
+        for half in self.residual.between(node.start, node.cursor) {
+            if half.room > 0 {
+                least = least.min(self.residual.reduced(node.price, half));
+            }
+        }
+        least
     }
 
     /// The reduced cost of the way back along the last arc of the path, to a node of this price. The greatest number

@@ -2,6 +2,7 @@
 
 use crate::number::Number;
 use crate::scaling::Scaling;
+use crate::scaling::residual::Node;
 use dimacs_lines::Memory;
 use std::alloc::Global;
 
@@ -38,16 +39,21 @@ impl<V: Number> Scaling<V> {
         let residues = usize::try_from(1i128.doubled(self.doublings)).unwrap_or(0);
         let mut taken = vec![in alloc; false; residues]?;
         for node in &self.residual.nodes {
-            for half in self.residual.between(node.start, node.end) {
-                if half.room > 0 && self.residual.reduced(node.price, half) < V::of(0) {
-                    let residue = self.residue(self.residual.price(half.to));
-                    if let Some(is_taken) = taken.get_mut(residue) {
-                        *is_taken = true;
-                    }
+            self.take_residues(node, &mut taken);
+        }
+        Ok(taken)
+    }
+
+    /// Marks the residues of the prices to which an arc of negative reduced cost leads from this node.
+    fn take_residues(&self, node: &Node<V>, taken: &mut [bool]) {
+        for half in self.residual.between(node.start, node.end) {
+            if half.room > 0 && self.residual.reduced(node.price, half) < V::of(0) {
+                let residue = self.residue(self.residual.price(half.to));
+                if let Some(is_taken) = taken.get_mut(residue) {
+                    *is_taken = true;
                 }
             }
         }
-        Ok(taken)
     }
 
     fn residue(&self, price: V) -> usize {

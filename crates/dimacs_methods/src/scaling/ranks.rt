@@ -25,10 +25,9 @@ impl Ranks {
             before: NONE,
             after: NONE,
         };
-        Ok(Ranks {
-            first: vec![in alloc; NONE; ranks]?,
-            links: vec![in alloc; alone; nodes]?,
-        })
+        let first = vec![in alloc; NONE; ranks]?;
+        let links = vec![in alloc; alone; nodes]?;
+        Ok(Ranks { first, links })
     }
 
     /// The number of ranks, which stands for that of a node that has none.

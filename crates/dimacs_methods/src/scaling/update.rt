@@ -111,11 +111,12 @@ impl<V: Number> Scaling<V> {
     pub(crate) fn park(&mut self, alloc: Global) -> Result<bool, Memory> {
         let reaching = self.reaching(alloc)?;
         let mut parked = false;
-        for (node, reaches) in self.residual.nodes.iter_mut().zip(&reaching) {
-            if !*reaches && node.excess > V::of(0) {
-                node.excess = V::of(0);
+        let mut number: u32 = 0;
+        for reaches in &reaching {
+            if !*reaches && self.residual.leave_excess(number) {
                 parked = true;
             }
+            number = number.wrapping_add(1);
         }
         Ok(parked)
     }
@@ -124,26 +125,43 @@ impl<V: Number> Scaling<V> {
     fn reaching(&self, alloc: Global) -> Result<Vec<bool>, Memory> {
         let mut reaching = vec![in alloc; false; self.residual.nodes.len()]?;
         let mut waiting = Vec::new(alloc);
-        let mut number: u32 = 0;
-        for node in &self.residual.nodes {
-            if node.excess < V::of(0) {
-                mark(&mut reaching, number);
-                waiting.push(number)?;
-            }
-            number = number.wrapping_add(1);
-        }
+        self.mark_deficits(&mut reaching, &mut waiting)?;
         for _ in 0..u64::MAX {
             let Some(number) = waiting.pop() else {
                 break;
             };
-            let node = self.residual.node(number);
-            for half in self.residual.between(node.start, node.end) {
-                if self.residual.room_back(half) > 0 && mark(&mut reaching, half.to) {
-                    waiting.push(half.to)?;
-                }
-            }
+            self.mark_before(number, &mut reaching, &mut waiting)?;
         }
         Ok(reaching)
+    }
+
+    /// Marks the nodes with a deficit, and lets them wait.
+    fn mark_deficits(&self, marks: &mut [bool], waiting: &mut Vec<u32>) -> Result<(), Memory> {
+        let mut number: u32 = 0;
+        for node in &self.residual.nodes {
+            if node.excess < V::of(0) {
+                mark(marks, number);
+                waiting.push(number)?;
+            }
+            number = number.wrapping_add(1);
+        }
+        Ok(())
+    }
+
+    /// Marks the nodes from which flow can be sent to this one, and lets those wait that weren't marked.
+    fn mark_before(
+        &self,
+        number: u32,
+        marks: &mut [bool],
+        waiting: &mut Vec<u32>,
+    ) -> Result<(), Memory> {
+        let node = self.residual.node(number);
+        for half in self.residual.between(node.start, node.end) {
+            if self.residual.room_back(half) > 0 && mark(marks, half.to) {
+                waiting.push(half.to)?;
+            }
+        }
+        Ok(())
     }
 }
 

@@ -41,8 +41,9 @@ impl<V: Number> Price<V> {
     }
 }
 
+/// The potential of a node.
 #[inline(always)]
-fn potential<V: Number>(potentials: &[V], node: u32) -> V {
+pub(crate) fn potential<V: Number>(potentials: &[V], node: u32) -> V {
     potentials.get(node as usize).copied().unwrap_or(V::of(0))
 }
 
@@ -58,10 +59,13 @@ impl<V: Number> Arcs<V> {
             tail: 0,
             head: 0,
         };
+        let prices = vec![in alloc; nowhere; count]?;
+        let states = vec![in alloc; AT_LOW; count]?;
+        let rooms = vec![in alloc; 0i64; count]?;
         let mut arcs = Arcs {
-            prices: vec![in alloc; nowhere; count]?,
-            states: vec![in alloc; AT_LOW; count]?,
-            rooms: vec![in alloc; 0i64; count]?,
+            prices,
+            states,
+            rooms,
         };
         arcs.fill(problem);
         Ok(arcs)

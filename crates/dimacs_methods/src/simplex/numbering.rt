@@ -10,19 +10,18 @@ impl<V: Number> Tree<V> {
     pub(crate) fn renumber(&mut self, alloc: Global) -> Result<Vec<u32>, Memory> {
         let order = self.preorder(alloc)?;
         let mut numbers = vec![in alloc; self.root(); self.nodes.len()]?;
-        let mut number: u32 = 0;
-        for node in &order {
-            if let Some(place) = numbers.get_mut(*node as usize) {
-                *place = number;
-            }
-            number = number.wrapping_add(1);
-        }
-        self.nodes = arranged(alloc, &self.nodes, &order)?;
-        self.places = arranged(alloc, &self.places, &order)?;
-        self.potentials = arranged(alloc, &self.potentials, &order)?;
-        self.names = arranged(alloc, &self.names, &order)?;
+        number_in_order(&mut numbers, &order);
+        self.arrange(alloc, &order)?;
         self.rename(&numbers);
         Ok(numbers)
+    }
+
+    /// Puts the nodes in this order.
+    fn arrange(&mut self, alloc: Global, order: &[u32]) -> Result<(), Memory> {
+        arrange(alloc, &mut self.nodes, order)?;
+        arrange(alloc, &mut self.places, order)?;
+        arrange(alloc, &mut self.potentials, order)?;
+        arrange(alloc, &mut self.names, order)
     }
 
     /// The nodes in preorder, the root last.
@@ -47,15 +46,27 @@ impl<V: Number> Tree<V> {
     }
 }
 
-/// The members of a table in this order, those that it has.
-fn arranged<T: Copy>(alloc: Global, table: &[T], order: &[u32]) -> Result<Vec<T>, Memory> {
+/// Gives the nodes numbers from 0, in this order.
+fn number_in_order(numbers: &mut [u32], order: &[u32]) {
+    let mut number: u32 = 0;
+    for node in order {
+        if let Some(place) = numbers.get_mut(*node as usize) {
+            *place = number;
+        }
+        number = number.wrapping_add(1);
+    }
+}
+
+/// Puts the members of a table in this order, those that it has.
+fn arrange<T: Copy>(alloc: Global, table: &mut Vec<T>, order: &[u32]) -> Result<(), Memory> {
     let mut arranged = Vec::with_capacity(alloc, table.len())?;
     for place in order {
         if let Some(member) = table.get(*place as usize) {
             arranged.push(*member)?;
         }
     }
-    Ok(arranged)
+    *table = arranged;
+    Ok(())
 }
 
 /// The new number of a node.

@@ -48,69 +48,42 @@ pub(crate) struct Tree<V: Number> {
     pub names: Vec<u32>,
 }
 
+impl<V: Number> Node<V> {
+    /// A node of this excess that hangs on the root.
+    fn on_root(root: u32, before: u32, excess: V) -> Node<V> {
+        let has_deficit = excess < V::of(0);
+        let flow = if has_deficit {
+            V::of(0).minus(excess)
+        } else {
+            excess
+        };
+        let room = V::greatest().minus(flow);
+        Node {
+            up: if has_deficit { flow } else { room },
+            down: if has_deficit { room } else { flow },
+            parent: root,
+            arc: ARTIFICIAL,
+            before,
+        }
+    }
+}
+
 impl<V: Number> Tree<V> {
     /// Each node hangs on the root by an artificial arc: one that takes its excess at no cost, or one that meets its
     /// deficit at this price. A node without either has one to the root, so that more can flow to the root from
     /// everywhere.
     pub(crate) fn star(alloc: Global, excess: &[i128], price: V) -> Result<Tree<V>, Memory> {
-        let size = excess.len().saturating_add(1);
-        let mut tree = Tree {
-            nodes: Vec::with_capacity(alloc, size)?,
-            places: Vec::with_capacity(alloc, size)?,
-            potentials: Vec::with_capacity(alloc, size)?,
-            names: Vec::with_capacity(alloc, size)?,
-        };
         let root = u32::try_from(excess.len()).unwrap_or(0);
-        let mut number: u32 = 0;
-        for amount in excess {
-            tree.hang_on_root(root, number, V::of_wide(*amount), price)?;
-            number = number.wrapping_add(1);
-        }
-        tree.push_root(root)?;
-        Ok(tree)
-    }
-
-    fn hang_on_root(&mut self, root: u32, number: u32, excess: V, price: V) -> Result<(), Memory> {
-        let zero = V::of(0);
-        let has_deficit = excess < zero;
-        let flow = if has_deficit {
-            zero.minus(excess)
-        } else {
-            excess
-        };
-        let room = V::greatest().minus(flow);
-        self.nodes.push(Node {
-            up: if has_deficit { flow } else { room },
-            down: if has_deficit { room } else { flow },
-            parent: root,
-            arc: ARTIFICIAL,
-            before: if number == 0 {
-                root
-            } else {
-                number.wrapping_sub(1)
-            },
-        })?;
-        self.places.push(Place {
-            after: number.wrapping_add(1),
-            depth: 1,
-        })?;
-        self.potentials
-            .push(if has_deficit { price } else { zero })?;
-        self.names.push(number)?;
-        Ok(())
-    }
-
-    fn push_root(&mut self, root: u32) -> Result<(), Memory> {
-        self.nodes.push(Node {
-            up: V::of(0),
-            down: V::of(0),
-            parent: root,
-            arc: ARTIFICIAL,
-            before: root.saturating_sub(1),
-        })?;
-        self.places.push(Place { after: 0, depth: 0 })?;
-        self.potentials.push(V::of(0))?;
-        Ok(())
+        let nodes = star_nodes(alloc, excess, root)?;
+        let places = star_places(alloc, root)?;
+        let potentials = star_potentials(alloc, excess, price)?;
+        let names = numbers_below(alloc, root)?;
+        Ok(Tree {
+            nodes,
+            places,
+            potentials,
+            names,
+        })
     }
 
     /// The root.
@@ -260,6 +233,61 @@ impl<V: Number> Tree<V> {
             node.before = before;
         }
     }
+}
+
+/// The nodes of a star in the order of their numbers, and its root.
+fn star_nodes<V: Number>(
+    alloc: Global,
+    excess: &[i128],
+    root: u32,
+) -> Result<Vec<Node<V>>, Memory> {
+    let mut nodes = Vec::with_capacity(alloc, excess.len().saturating_add(1))?;
+    let mut before = root;
+    let mut number: u32 = 0;
+    for amount in excess {
+        nodes.push(Node::on_root(root, before, V::of_wide(*amount)))?;
+        before = number;
+        number = number.wrapping_add(1);
+    }
+    nodes.push(Node {
+        up: V::of(0),
+        down: V::of(0),
+        parent: root,
+        arc: ARTIFICIAL,
+        before: root.saturating_sub(1),
+    })?;
+    Ok(nodes)
+}
+
+fn star_places(alloc: Global, root: u32) -> Result<Vec<Place>, Memory> {
+    let mut places = Vec::with_capacity(alloc, (root as usize).saturating_add(1))?;
+    for number in 0..root {
+        places.push(Place {
+            after: number.wrapping_add(1),
+            depth: 1,
+        })?;
+    }
+    places.push(Place { after: 0, depth: 0 })?;
+    Ok(places)
+}
+
+/// The price for each node with a deficit, 0 for the others and the root.
+fn star_potentials<V: Number>(alloc: Global, excess: &[i128], price: V) -> Result<Vec<V>, Memory> {
+    let mut potentials = Vec::with_capacity(alloc, excess.len().saturating_add(1))?;
+    for amount in excess {
+        let has_deficit = V::of_wide(*amount) < V::of(0);
+        potentials.push(if has_deficit { price } else { V::of(0) })?;
+    }
+    potentials.push(V::of(0))?;
+    Ok(potentials)
+}
+
+fn numbers_below(alloc: Global, count: u32) -> Result<Vec<u32>, Memory> {
+    let mut numbers = Vec::with_capacity(alloc, count as usize)?;
+    for number in 0..count {
+        numbers.push(number)?;
+    }
+    Ok(numbers)
 }
 
 /// Nodes that follow each other in preorder.
