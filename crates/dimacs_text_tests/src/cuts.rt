@@ -20,11 +20,6 @@ the empty set | p cut 4 0; | p cut 4 0;
 all nodes | p cut 2 2;u 2;u 1 | p cut 2 2;u 1;u 2;
 comments, blanks, CR, empty line, signs, zeros, no last line end | c x; p  cut +4 01\r;;cu 1;\tu +003 | p cut 4 1;u 3;";
 
-#[test]
-fn texts_get_their_canonical_form(rt: HostRuntime) -> Result<(), Fail> {
-    converts_each::<Cut>(&rt, rt.alloc(), CANONICAL_FORMS, 6)
-}
-
 /// Nodes, and whether each is in the text.
 static NODES_OF_TEXT: [(u32, bool); 10] = [
     (0, false),
@@ -82,15 +77,7 @@ a node named twice | p cut 4 3;u 3;u 1;u 3; | 4 2 NodeTwice
 a node more | p cut 4 1;u 3;u 1; | 3 0 TooMany
 a node too few | p cut 4 2;u 3; | 3 0 TooFew
 more lines than nodes | p cut 1 268435456;u 1 | 3 0 TooFew
-nothing after a refused line matters | p cut 4 1;u 5;u 0;p; | 2 2 NodeRange";
-
-#[test]
-fn texts_are_refused_at_their_first_fault(rt: HostRuntime) -> Result<(), Fail> {
-    refuses_each::<Cut>(&rt, rt.alloc(), REFUSED_TEXTS, 17)
-}
-
-/// Texts with a line that has several faults.
-static REFUSED_LINES: &str = "\
+nothing after a refused line matters | p cut 4 1;u 5;u 0;p; | 2 2 NodeRange
 the letter before the number of fields | U; | 1 1 UnknownLine
 the number of fields before the word | p pot 4; | 1 0 FieldCount
 the word before NODES | p pot x x; | 1 2 BadWord
@@ -99,11 +86,6 @@ the node's number before the missing problem | u x; | 1 2 BadNumber
 the problem's numbers before a second problem | p cut 4 0;p cut 4 x; | 2 4 BadNumber
 NODES before the count | p cut 4 0;u 5; | 2 2 NodeRange
 a node named twice before the count | p cut 4 1;u 1;u 1; | 3 2 NodeTwice";
-
-#[test]
-fn a_line_is_refused_for_its_first_reason(rt: HostRuntime) -> Result<(), Fail> {
-    refuses_each::<Cut>(&rt, rt.alloc(), REFUSED_LINES, 8)
-}
 
 /// Lines by number, and why each is refused, if it is.
 static RECORDS: &str = "\
@@ -131,11 +113,9 @@ fn a_refused_record_leaves_the_reading_as_it_was(rt: HostRuntime) -> Result<(), 
 }
 
 #[test]
-fn each_pull_that_fails_is_told(rt: HostRuntime) -> Result<(), Fail> {
-    tells_each_failed_pull::<Cut>(&rt, rt.alloc(), TWO_OF_FOUR)
-}
-
-#[test]
-fn each_put_that_fails_is_told(rt: HostRuntime) -> Result<(), Fail> {
+fn texts_are_read_and_written_by_the_rules(rt: HostRuntime) -> Result<(), Fail> {
+    converts_each::<Cut>(&rt, rt.alloc(), CANONICAL_FORMS, 6)?;
+    refuses_each::<Cut>(&rt, rt.alloc(), REFUSED_TEXTS, 25)?;
+    tells_each_failed_pull::<Cut>(&rt, rt.alloc(), TWO_OF_FOUR)?;
     tells_each_failed_put::<Cut>(&rt, rt.alloc(), TWO_OF_FOUR)
 }

@@ -27,11 +27,6 @@ tabs and blanks after | p\tsp\t1\t1\t ;a 1 1\t3 \r; | p sp 1 1;a 1 1 3;
 comments and empty lines after the last arc | p sp 1 1;a 1 1 3;; ;c x;c a 1 1 4 | p sp 1 1;a 1 1 3;
 comment that looks like a problem line | cp sp 7 7;p sp 1 0; | p sp 1 0;";
 
-#[test]
-fn texts_get_their_canonical_form(rt: HostRuntime) -> Result<(), Fail> {
-    converts_each::<Weights>(&rt, rt.alloc(), CANONICAL_FORMS, 11)
-}
-
 static ARCS: &str = "\
 1 2 0 0 5
 3 4 0 0 0
@@ -65,21 +60,6 @@ fn long_texts_are_read_and_written_whole(rt: HostRuntime) -> Result<(), Fail> {
 }
 
 #[test]
-fn each_pull_that_fails_is_told(rt: HostRuntime) -> Result<(), Fail> {
-    tells_each_failed_pull::<Weights>(&rt, rt.alloc(), "c x\np sp 2 1\na 1 2 5")
-}
-
-#[test]
-fn a_pull_that_fails_is_told_before_a_later_fault(rt: HostRuntime) -> Result<(), Fail> {
-    tells_failed_pulls::<Weights>(&rt, rt.alloc(), "p sp 2 1\ne\n", 10)
-}
-
-#[test]
-fn each_put_that_fails_is_told(rt: HostRuntime) -> Result<(), Fail> {
-    tells_each_failed_put::<Weights>(&rt, rt.alloc(), CYCLE)
-}
-
-#[test]
 fn a_put_that_fails_in_mid_stream_ends_the_text(rt: HostRuntime) -> Result<(), Fail> {
     let text = ring(rt.alloc(), 5_000)?;
     let graph = Weights::read(rt.alloc(), &mut FlakySource::new(&text, &[], &[]))?;
@@ -89,4 +69,13 @@ fn a_put_that_fails_in_mid_stream_ends_the_text(rt: HostRuntime) -> Result<(), F
     holds(&rt, "less than all", sink.bytes().len() < text.len());
     holds(&rt, "a beginning", text.starts_with(sink.bytes()));
     Ok(())
+}
+
+#[test]
+fn texts_are_read_and_written_by_the_rules(rt: HostRuntime) -> Result<(), Fail> {
+    converts_each::<Weights>(&rt, rt.alloc(), CANONICAL_FORMS, 11)?;
+    tells_each_failed_pull::<Weights>(&rt, rt.alloc(), "c x\np sp 2 1\na 1 2 5")?;
+    // A pull that fails is told before a later fault.
+    tells_failed_pulls::<Weights>(&rt, rt.alloc(), "p sp 2 1\ne\n", 10)?;
+    tells_each_failed_put::<Weights>(&rt, rt.alloc(), CYCLE)
 }

@@ -21,11 +21,6 @@ the greatest and the least distance, the greatest ID | p dist 134217728 1;t 1 2;
 distances about the ends of 64 bits, a short one first | p dist 5 1;t 1 4;d 2 -9223372036854775808 1;d 3 9223372036854775808 2;d 4 9223372036854775807 3;d 5 -9223372036854775809 4; | p dist 5 1;t 1 4;d 2 -9223372036854775808 1;d 3 9223372036854775808 2;d 4 9223372036854775807 3;d 5 -9223372036854775809 4;";
 
 #[test]
-fn texts_get_their_canonical_form(rt: HostRuntime) -> Result<(), Fail> {
-    converts_each::<Labels>(&rt, rt.alloc(), CANONICAL_FORMS, 6)
-}
-
-#[test]
 fn blocks_are_those_of_the_text(rt: HostRuntime) -> Result<(), Fail> {
     let labels: Labels = spelled(rt.alloc(), TWO_BLOCKS)?;
     same(&rt, "nodes", labels.nodes(), 4);
@@ -112,15 +107,7 @@ a label too few at the end | p dist 3 1;t 1 2;d 2 5 1; | 4 0 TooFew
 predecessor without a label | p dist 4 1;t 1 1;d 2 5 3; | 3 0 PredUnknown
 predecessor of a later line | p dist 4 1;t 1 2;d 3 0 4;d 4 0 3; | 3 0 PredUnknown
 predecessor of another block | p dist 4 2;t 1 1;d 2 5 1;t 3 1;d 4 1 2; | 5 0 PredUnknown
-source of another block | p dist 4 2;t 1 0;t 3 1;d 4 1 1; | 4 0 PredUnknown";
-
-#[test]
-fn texts_are_refused_at_their_first_fault(rt: HostRuntime) -> Result<(), Fail> {
-    refuses_each::<Labels>(&rt, rt.alloc(), REFUSED_TEXTS, 26)
-}
-
-/// Texts with a line that has several faults.
-static REFUSED_LINES: &str = "\
+source of another block | p dist 4 2;t 1 0;t 3 1;d 4 1 1; | 4 0 PredUnknown
 the letter before the number of fields | D; | 1 1 UnknownLine
 the number of fields before the word | p cut 4; | 1 0 FieldCount
 the node before its distance | d 0 x 1; | 1 2 NumberRange
@@ -136,11 +123,6 @@ the source as node before the count and the predecessor's label | p dist 4 1;t 1
 a node named twice before the count and the predecessor's label | p dist 4 1;t 1 1;d 2 5 1;d 2 5 3; | 4 2 NodeTwice
 the count before the predecessor's label | p dist 4 1;t 1 0;d 2 5 2; | 3 0 TooMany
 a label that is its own predecessor | p dist 4 1;t 1 1;d 2 5 2; | 3 0 PredUnknown";
-
-#[test]
-fn a_line_is_refused_for_its_first_reason(rt: HostRuntime) -> Result<(), Fail> {
-    refuses_each::<Labels>(&rt, rt.alloc(), REFUSED_LINES, 15)
-}
 
 /// Lines by number, and why each is refused, if it is.
 static RECORDS: &str = "\
@@ -182,11 +164,9 @@ fn a_refused_record_leaves_the_reading_as_it_was(rt: HostRuntime) -> Result<(), 
 }
 
 #[test]
-fn each_pull_that_fails_is_told(rt: HostRuntime) -> Result<(), Fail> {
-    tells_each_failed_pull::<Labels>(&rt, rt.alloc(), TWO_BLOCKS)
-}
-
-#[test]
-fn each_put_that_fails_is_told(rt: HostRuntime) -> Result<(), Fail> {
+fn texts_are_read_and_written_by_the_rules(rt: HostRuntime) -> Result<(), Fail> {
+    converts_each::<Labels>(&rt, rt.alloc(), CANONICAL_FORMS, 6)?;
+    refuses_each::<Labels>(&rt, rt.alloc(), REFUSED_TEXTS, 41)?;
+    tells_each_failed_pull::<Labels>(&rt, rt.alloc(), TWO_BLOCKS)?;
     tells_each_failed_put::<Labels>(&rt, rt.alloc(), TWO_BLOCKS)
 }

@@ -21,11 +21,6 @@ two arcs with the same ends | p max 2 2;n 1 s;n 2 t;a 1 2 1;a 1 2 1; | p max 2 2
 two loops at one node | p max 2 2;n 1 s;n 2 t;a 2 2 1;c;a 2 2 3; | p max 2 2;n 1 s;n 2 t;a 2 2 1;a 2 2 3;
 comments, blanks, CR, empty line, signs, zeros, no last line end | c x;  p  max 2 1\r;;n 2\tt;c y;n +01 s;a 1 2 -0 | p max 2 1;n 1 s;n 2 t;a 1 2 0;";
 
-#[test]
-fn texts_get_their_canonical_form(rt: HostRuntime) -> Result<(), Fail> {
-    converts_each::<MaxFlow>(&rt, rt.alloc(), CANONICAL_FORMS, 7)
-}
-
 static ARCS: &str = "\
 1 2 0 4 0
 1 3 0 2 0
@@ -37,12 +32,7 @@ static ARCS: &str = "\
 fn an_instance_has_the_ends_and_arcs_of_its_text(rt: HostRuntime) -> Result<(), Fail> {
     let max: MaxFlow = spelled(rt.alloc(), DIAMOND)?;
     same(&rt, "source and sink", (max.source(), max.sink()), (1, 4));
-    is_made_of(&rt, rt.alloc(), max.network(), 4, ARCS, 5)
-}
-
-#[test]
-fn an_arc_is_found_by_its_ends(rt: HostRuntime) -> Result<(), Fail> {
-    let max: MaxFlow = spelled(rt.alloc(), DIAMOND)?;
+    is_made_of(&rt, rt.alloc(), max.network(), 4, ARCS, 5)?;
     same(&rt, "the last arc", max.network().find(3, 4, 0), Some(4));
     same(
         &rt,
@@ -69,15 +59,7 @@ capacity past the range | p max 2 1;n 1 s;n 2 t;a 1 2 9223372036854775808; | 4 4
 no end | p max 2 1; | 2 0 EndMissing
 no end and no node | p max 0 0; | 2 0 EndMissing
 no sink, and an arc too few | p max 2 1;n 1 s; | 3 0 EndMissing
-an arc too few | p max 2 1;n 1 s;n 2 t;c; | 5 0 TooFew";
-
-#[test]
-fn texts_are_refused_at_their_first_fault(rt: HostRuntime) -> Result<(), Fail> {
-    refuses_each::<MaxFlow>(&rt, rt.alloc(), REFUSED_TEXTS, 15)
-}
-
-/// Texts whose last line has several faults.
-static REFUSED_LINES: &str = "\
+an arc too few | p max 2 1;n 1 s;n 2 t;c; | 5 0 TooFew
 number before word | p max 3 1;n 1 s;n 0 x; | 3 2 NumberRange
 word | p max 3 1;n 1 s;n 1 x; | 3 3 BadWord
 order before NODES | p max 3 1;n 1 s;n 2 t;a 1 2 1;n 4 s; | 5 0 RecordOrder
@@ -95,11 +77,6 @@ the ends before the bound | p max 3 1;n 1 s;a 1 2 -1; | 3 0 EndMissing
 the bound before the arc | p max 3 1;n 1 s;n 2 t;a 1 2 1;a 1 2 -1; | 5 4 BoundOrder
 the count, at an arc of the same ends | p max 3 1;n 1 s;n 2 t;a 1 2 1;a 1 2 1; | 5 0 TooMany
 the count | p max 3 1;n 1 s;n 2 t;a 1 2 1;a 2 1 1; | 5 0 TooMany";
-
-#[test]
-fn one_line_tells_its_first_reason(rt: HostRuntime) -> Result<(), Fail> {
-    refuses_each::<MaxFlow>(&rt, rt.alloc(), REFUSED_LINES, 17)
-}
 
 /// Lines by number, and why each is refused, if it is.
 static RECORDS: &str = "\
@@ -132,11 +109,9 @@ fn a_refused_record_leaves_the_reading_as_it_was(rt: HostRuntime) -> Result<(), 
 }
 
 #[test]
-fn each_pull_that_fails_is_told(rt: HostRuntime) -> Result<(), Fail> {
-    tells_each_failed_pull::<MaxFlow>(&rt, rt.alloc(), DIAMOND)
-}
-
-#[test]
-fn each_put_that_fails_is_told(rt: HostRuntime) -> Result<(), Fail> {
+fn texts_are_read_and_written_by_the_rules(rt: HostRuntime) -> Result<(), Fail> {
+    converts_each::<MaxFlow>(&rt, rt.alloc(), CANONICAL_FORMS, 7)?;
+    refuses_each::<MaxFlow>(&rt, rt.alloc(), REFUSED_TEXTS, 32)?;
+    tells_each_failed_pull::<MaxFlow>(&rt, rt.alloc(), DIAMOND)?;
     tells_each_failed_put::<MaxFlow>(&rt, rt.alloc(), DIAMOND)
 }

@@ -24,35 +24,17 @@ an arc, the arc back and a loop | p min 2 3;a 1 2 0 1 0;a 2 1 0 1 0;a 1 1 0 1 0;
 the greatest numbers | p min 1 1;n 1 9223372036854775807;a 1 1 9223372036854775807 9223372036854775807 9223372036854775807; | p min 1 1;n 1 9223372036854775807;a 1 1 9223372036854775807 9223372036854775807 9223372036854775807;
 the least numbers | p min 1 1;n 1 -9223372036854775808;a 1 1 -0 0 -9223372036854775808; | p min 1 1;n 1 -9223372036854775808;a 1 1 0 0 -9223372036854775808;";
 
-#[test]
-fn texts_get_their_canonical_form(rt: HostRuntime) -> Result<(), Fail> {
-    converts_each::<MinFlow>(&rt, rt.alloc(), CANONICAL_FORMS, 10)
-}
-
 /// Nodes, and what each supplies.
 static SUPPLIES: [(u32, i64); 6] = [(1, 4), (2, 0), (3, 0), (4, -4), (0, 0), (4_000_000_000, 0)];
 
 #[test]
-fn an_instance_has_the_supplies_of_its_text(rt: HostRuntime) -> Result<(), Fail> {
+fn an_instance_has_the_supplies_and_arcs_of_its_text(rt: HostRuntime) -> Result<(), Fail> {
     let instance: MinFlow = spelled(rt.alloc(), SHIPPING)?;
     for &(id, supply) in &SUPPLIES {
         same_at(&rt, "node", id as u64, instance.supply(id), supply);
     }
     let SupplySums { supplied, demanded } = instance.supply_sums();
     same(&rt, "sums of supplies", (supplied, demanded), (4, 4));
-    Ok(())
-}
-
-static ARCS: &str = "\
-1 2 0 4 2
-1 3 0 2 2
-2 3 0 2 1
-2 4 0 3 3
-3 4 0 5 1";
-
-#[test]
-fn an_instance_has_the_arcs_of_its_text(rt: HostRuntime) -> Result<(), Fail> {
-    let instance: MinFlow = spelled(rt.alloc(), SHIPPING)?;
     is_made_of(&rt, rt.alloc(), instance.network(), 4, ARCS, 5)?;
     same(
         &rt,
@@ -62,6 +44,13 @@ fn an_instance_has_the_arcs_of_its_text(rt: HostRuntime) -> Result<(), Fail> {
     );
     Ok(())
 }
+
+static ARCS: &str = "\
+1 2 0 4 2
+1 3 0 2 2
+2 3 0 2 1
+2 4 0 3 3
+3 4 0 5 1";
 
 #[test]
 fn sums_of_supplies_leave_64_bits(rt: HostRuntime) -> Result<(), Fail> {
@@ -105,16 +94,9 @@ one more than declared | p min 2 1;a 1 2 0 1 0;a 2 1 0 1 0; | 3 0 TooMany
 fewer than declared | p min 2 2;n 1 1;a 1 2 0 1 0; | 4 0 TooFew";
 
 #[test]
-fn texts_are_refused_at_their_first_fault(rt: HostRuntime) -> Result<(), Fail> {
-    refuses_each::<MinFlow>(&rt, rt.alloc(), REFUSED_TEXTS, 27)
-}
-
-#[test]
-fn each_pull_that_fails_is_told(rt: HostRuntime) -> Result<(), Fail> {
-    tells_each_failed_pull::<MinFlow>(&rt, rt.alloc(), SHIPPING)
-}
-
-#[test]
-fn each_put_that_fails_is_told(rt: HostRuntime) -> Result<(), Fail> {
+fn texts_are_read_and_written_by_the_rules(rt: HostRuntime) -> Result<(), Fail> {
+    converts_each::<MinFlow>(&rt, rt.alloc(), CANONICAL_FORMS, 10)?;
+    refuses_each::<MinFlow>(&rt, rt.alloc(), REFUSED_TEXTS, 27)?;
+    tells_each_failed_pull::<MinFlow>(&rt, rt.alloc(), SHIPPING)?;
     tells_each_failed_put::<MinFlow>(&rt, rt.alloc(), SHIPPING)
 }

@@ -24,11 +24,6 @@ potentials of 0 alone | p pot 3 3;y 3 0;y 2 0;y 1 0; | p pot 3 0;
 comments, blanks, CR, empty line, zeros, no last line end | c x; p  pot +4 01\r;;cy 1 1;\ty +003 -0007 | p pot 4 1;y 3 -7;
 the greatest and the least potential | p pot 2 2;y 2 -1000000000000000000000000000000;y 1 1000000000000000000000000000000; | p pot 2 2;y 1 1000000000000000000000000000000;y 2 -1000000000000000000000000000000;";
 
-#[test]
-fn texts_get_their_canonical_form(rt: HostRuntime) -> Result<(), Fail> {
-    converts_each::<Potentials>(&rt, rt.alloc(), CANONICAL_FORMS, 7)
-}
-
 /// Nodes, each with its potential.
 static VALUES: &str = "\
 0 0
@@ -105,15 +100,7 @@ a node named twice, then with 0 | p pot 4 3;y 3 2;y 3 0; | 3 2 NodeTwice
 a node named twice with 0 | p pot 4 3;y 3 0;y 3 -0; | 3 2 NodeTwice
 a node more | p pot 4 1;y 3 0;y 1 0; | 3 0 TooMany
 a node too few | p pot 4 2;y 3 0; | 3 0 TooFew
-nothing after a refused line matters | p pot 4 1;y 5 0;y 0 x;p; | 2 2 NodeRange";
-
-#[test]
-fn texts_are_refused_at_their_first_fault(rt: HostRuntime) -> Result<(), Fail> {
-    refuses_each::<Potentials>(&rt, rt.alloc(), REFUSED_TEXTS, 18)
-}
-
-/// Texts with a line that has several faults.
-static REFUSED_LINES: &str = "\
+nothing after a refused line matters | p pot 4 1;y 5 0;y 0 x;p; | 2 2 NodeRange
 the letter before the number of fields | Y; | 1 1 UnknownLine
 the number of fields before the word | p cut 4; | 1 0 FieldCount
 the word before NODES | p cut x x; | 1 2 BadWord
@@ -124,11 +111,6 @@ the potential before NODES | p pot 4 1;y 5 x; | 2 3 BadNumber
 the problem's numbers before a second problem | p pot 4 0;p pot 4 x; | 2 4 BadNumber
 NODES before the count | p pot 4 0;y 5 1; | 2 2 NodeRange
 a node named twice before the count | p pot 4 1;y 1 0;y 1 1; | 3 2 NodeTwice";
-
-#[test]
-fn a_line_is_refused_for_its_first_reason(rt: HostRuntime) -> Result<(), Fail> {
-    refuses_each::<Potentials>(&rt, rt.alloc(), REFUSED_LINES, 10)
-}
 
 /// Lines by number, and why each is refused, if it is.
 static RECORDS: &str = "\
@@ -151,11 +133,9 @@ fn a_refused_record_leaves_the_reading_as_it_was(rt: HostRuntime) -> Result<(), 
 }
 
 #[test]
-fn each_pull_that_fails_is_told(rt: HostRuntime) -> Result<(), Fail> {
-    tells_each_failed_pull::<Potentials>(&rt, rt.alloc(), TWO_OF_FOUR)
-}
-
-#[test]
-fn each_put_that_fails_is_told(rt: HostRuntime) -> Result<(), Fail> {
+fn texts_are_read_and_written_by_the_rules(rt: HostRuntime) -> Result<(), Fail> {
+    converts_each::<Potentials>(&rt, rt.alloc(), CANONICAL_FORMS, 7)?;
+    refuses_each::<Potentials>(&rt, rt.alloc(), REFUSED_TEXTS, 28)?;
+    tells_each_failed_pull::<Potentials>(&rt, rt.alloc(), TWO_OF_FOUR)?;
     tells_each_failed_put::<Potentials>(&rt, rt.alloc(), TWO_OF_FOUR)
 }

@@ -24,11 +24,6 @@ comment, blanks, CR, empty line, sign, zeros, no last line end | c x;  p  aux sp
 the greatest ID | p aux sp ss 1;s 134217728; | p aux sp ss 1;s 134217728;
 comments that look like queries | p aux sp ss 1;cs 1;s 2;c s 3; | p aux sp ss 1;s 2;";
 
-#[test]
-fn texts_get_their_canonical_form(rt: HostRuntime) -> Result<(), Fail> {
-    converts_each::<Queries>(&rt, rt.alloc(), CANONICAL_FORMS, 9)
-}
-
 /// What is told of queries: their kind, how many there are, and each of them.
 fn told(alloc: Global, queries: &Queries) -> Result<String, AllocError> {
     let (kind, count) = (queries.kind(), queries.len());
@@ -38,24 +33,19 @@ fn told(alloc: Global, queries: &Queries) -> Result<String, AllocError> {
     }
 }
 
-#[test]
-fn sources_are_those_of_their_text(rt: HostRuntime) -> Result<(), Fail> {
-    let queries: Queries = spelled(rt.alloc(), "p aux sp ss 3\ns 5\ns 1\ns 5\n")?;
-    let said = told(rt.alloc(), &queries)?;
-    same(&rt, "the queries", said.as_str(), "Sources 3 [5, 1, 5]");
-    Ok(())
-}
+/// Texts, each with what is told of its queries.
+static TOLD: [(&str, &str); 2] = [
+    ("p aux sp ss 3\ns 5\ns 1\ns 5\n", "Sources 3 [5, 1, 5]"),
+    (TWO_PAIRS, "Pairs 2 [(1, 2), (1, 4)]"),
+];
 
 #[test]
-fn pairs_are_those_of_their_text(rt: HostRuntime) -> Result<(), Fail> {
-    let queries: Queries = spelled(rt.alloc(), TWO_PAIRS)?;
-    let said = told(rt.alloc(), &queries)?;
-    same(
-        &rt,
-        "the queries",
-        said.as_str(),
-        "Pairs 2 [(1, 2), (1, 4)]",
-    );
+fn queries_are_those_of_their_text(rt: HostRuntime) -> Result<(), Fail> {
+    for &(text, wanted) in &TOLD {
+        let queries: Queries = spelled(rt.alloc(), text)?;
+        let said = told(rt.alloc(), &queries)?;
+        same(&rt, text, said.as_str(), wanted);
+    }
     Ok(())
 }
 
@@ -106,11 +96,6 @@ no pair, without line end | c;p aux sp p2p 1 | 3 0 TooFew
 the most that may be declared | p aux sp ss 268435456;s 1; | 3 0 TooFew
 nothing after a refused line matters | p aux sp ss 2;q 1 2;s 0;p aux sp ss 2; | 2 0 RecordOrder";
 
-#[test]
-fn texts_are_refused_at_their_first_fault(rt: HostRuntime) -> Result<(), Fail> {
-    refuses_each::<Queries>(&rt, rt.alloc(), REFUSED_TEXTS, 33)
-}
-
 /// Lines by number, and why each is refused, if it is.
 static RECORDS: &str = "\
 1 | q 1 2 | 0 ProblemMissing
@@ -140,11 +125,9 @@ fn a_refused_record_leaves_the_reading_as_it_was(rt: HostRuntime) -> Result<(), 
 }
 
 #[test]
-fn each_pull_that_fails_is_told(rt: HostRuntime) -> Result<(), Fail> {
-    tells_each_failed_pull::<Queries>(&rt, rt.alloc(), "c x\np aux sp ss 1\ns 5")
-}
-
-#[test]
-fn each_put_that_fails_is_told(rt: HostRuntime) -> Result<(), Fail> {
+fn texts_are_read_and_written_by_the_rules(rt: HostRuntime) -> Result<(), Fail> {
+    converts_each::<Queries>(&rt, rt.alloc(), CANONICAL_FORMS, 9)?;
+    refuses_each::<Queries>(&rt, rt.alloc(), REFUSED_TEXTS, 33)?;
+    tells_each_failed_pull::<Queries>(&rt, rt.alloc(), "c x\np aux sp ss 1\ns 5")?;
     tells_each_failed_put::<Queries>(&rt, rt.alloc(), TWO_PAIRS)
 }

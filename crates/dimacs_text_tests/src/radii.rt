@@ -18,11 +18,6 @@ a radius of 0 | p dist 4 1;t 1 2 -0;d 2 0 1;d 3 -7 2; | p dist 4 1;t 1 2 0;d 2 0
 the greatest radius | p dist 4 1;t 1 1 1000000000000000000000000000000;d 2 1000000000000000000000000000000 1; | p dist 4 1;t 1 1 1000000000000000000000000000000;d 2 1000000000000000000000000000000 1;
 comment, blanks, CR | c x;p dist 4 1\r;\tt  1 1\t8 \r;d 2 5 1 | p dist 4 1;t 1 1 8;d 2 5 1;";
 
-#[test]
-fn texts_keep_their_radii(rt: HostRuntime) -> Result<(), Fail> {
-    converts_each::<Labels>(&rt, rt.alloc(), CANONICAL_FORMS, 6)
-}
-
 /// Blocks, each with its radius.
 static RADII: [(usize, Option<i128>); 3] = [(0, Some(8)), (1, None), (2, Some(0))];
 
@@ -60,11 +55,6 @@ a node named twice before the radius | p dist 4 1;t 1 1 4;d 1 5 1; | 3 2 NodeTwi
 the count before the radius | p dist 4 1;t 1 0 4;d 2 5 1; | 3 0 TooMany
 the unknown predecessor before the radius | p dist 4 1;t 1 1 4;d 2 5 3; | 3 0 PredUnknown";
 
-#[test]
-fn texts_are_refused_at_their_first_fault(rt: HostRuntime) -> Result<(), Fail> {
-    refuses_each::<Labels>(&rt, rt.alloc(), REFUSED_TEXTS, 16)
-}
-
 /// Lines by number, and why each is refused, if it is.
 static RECORDS: &str = "\
 1 | p dist 4 1 | taken
@@ -79,4 +69,10 @@ fn a_label_past_the_radius_leaves_the_reading_as_it_was(rt: HostRuntime) -> Resu
     let labels = read_each(&rt, rt.alloc(), reading, TextKind::Labels, RECORDS, 5)?;
     same(&rt, "label", labels.label(0, 2), Some(4));
     Ok(())
+}
+
+#[test]
+fn texts_are_read_and_written_by_the_rules(rt: HostRuntime) -> Result<(), Fail> {
+    converts_each::<Labels>(&rt, rt.alloc(), CANONICAL_FORMS, 6)?;
+    refuses_each::<Labels>(&rt, rt.alloc(), REFUSED_TEXTS, 16)
 }

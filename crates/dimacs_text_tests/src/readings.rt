@@ -38,13 +38,11 @@ fn a_refused_record_leaves_the_reading_as_it_was(rt: HostRuntime) -> Result<(), 
 }
 
 #[test]
-fn a_reading_without_a_problem_is_refused_at_its_end(rt: HostRuntime) -> Result<(), Fail> {
+fn a_reading_without_a_problem_or_an_arc_is_refused_at_its_end(
+    rt: HostRuntime,
+) -> Result<(), Fail> {
     let reading = GraphReading::new(rt.alloc());
-    ends_with(&rt, rt.alloc(), reading, "0 ProblemMissing")
-}
-
-#[test]
-fn a_reading_with_an_arc_too_few_is_refused_at_its_end(rt: HostRuntime) -> Result<(), Fail> {
+    ends_with(&rt, rt.alloc(), reading, "0 ProblemMissing")?;
     let mut reading = GraphReading::new(rt.alloc());
     take_line(&mut reading, TextKind::Graph, 1, "p sp 1 2")?;
     take_line(&mut reading, TextKind::Graph, 2, "a 1 1 0")?;

@@ -44,11 +44,6 @@ fn tells_each(rt: &impl Abort, alloc: Global, table: &str, count: usize) -> Resu
     Ok(())
 }
 
-#[test]
-fn lines_say_records(rt: HostRuntime) -> Result<(), Fail> {
-    tells_each(&rt, rt.alloc(), SAYING, 14)
-}
-
 /// Lines that say nothing.
 static SILENT: &str = "\
 no byte |  | nothing
@@ -59,11 +54,6 @@ blanks before c |   c x | nothing
 first field begins with c | cp sp 1 1 | nothing
 word that begins with c | cut 1 | nothing
 comment like a faulty arc | c a 0 0 x | nothing";
-
-#[test]
-fn comments_and_lines_of_blanks_say_nothing(rt: HostRuntime) -> Result<(), Fail> {
-    tells_each(&rt, rt.alloc(), SILENT, 8)
-}
 
 #[test]
 fn comments_of_any_bytes_say_nothing(rt: HostRuntime) -> Result<(), Fail> {
@@ -127,6 +117,8 @@ weight past 64 bits that ends like a small one | a 1 2 18446744073709551617 | 4 
 many digits and a letter | a 1 2 99999999999999999999999999999999999999999999x | 4 BadNumber";
 
 #[test]
-fn lines_are_refused_for_their_first_fault(rt: HostRuntime) -> Result<(), Fail> {
+fn lines_say_records_or_nothing_or_are_refused(rt: HostRuntime) -> Result<(), Fail> {
+    tells_each(&rt, rt.alloc(), SAYING, 14)?;
+    tells_each(&rt, rt.alloc(), SILENT, 8)?;
     tells_each(&rt, rt.alloc(), REFUSED, 51)
 }

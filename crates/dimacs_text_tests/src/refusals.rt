@@ -41,24 +41,16 @@ fewer, without line end | p sp 3 2;a 1 2 5 | 3 0 TooFew
 skipped lines count | c;p sp 1 1;;c; | 5 0 TooFew
 place after skipped lines | c;;p sp 1 1; ;a 2 1 0; | 5 2 NodeRange
 the first of two faulty lines | p sp 1 1;a 1 2 0;a 0 0 0; | 2 3 NodeRange
-a fault after the last arc | p sp 1 1;a 1 1 0;x; | 3 1 UnknownLine";
+a fault after the last arc | p sp 1 1;a 1 1 0;x; | 3 1 UnknownLine
+the end after a refused line | p sp 1 1;e 1 1 0 | 2 1 UnknownLine
+a good line after a refused one | p sp 1 1;e 1 1 0;a 1 1 0; | 2 1 UnknownLine
+another fault after a refused line | p sp 1 1;e 1 1 0;a 0 0 0; | 2 1 UnknownLine
+a second problem after a refused line | p sp 1 1;e 1 1 0;p sp 1 1; | 2 1 UnknownLine
+empty lines after a refused one | p sp 1 1;e 1 1 0;;;; | 2 1 UnknownLine";
 
 #[test]
 fn texts_are_refused_at_their_first_fault(rt: HostRuntime) -> Result<(), Fail> {
-    refuses_each::<Weights>(&rt, rt.alloc(), REFUSED_TEXTS, 31)
-}
-
-/// Texts in which something follows a line that is refused.
-static REFUSED_LINES: &str = "\
-the end | p sp 1 1;e 1 1 0 | 2 1 UnknownLine
-a good line | p sp 1 1;e 1 1 0;a 1 1 0; | 2 1 UnknownLine
-another fault | p sp 1 1;e 1 1 0;a 0 0 0; | 2 1 UnknownLine
-a second problem | p sp 1 1;e 1 1 0;p sp 1 1; | 2 1 UnknownLine
-empty lines | p sp 1 1;e 1 1 0;;;; | 2 1 UnknownLine";
-
-#[test]
-fn nothing_after_a_refused_line_matters(rt: HostRuntime) -> Result<(), Fail> {
-    refuses_each::<Weights>(&rt, rt.alloc(), REFUSED_LINES, 5)
+    refuses_each::<Weights>(&rt, rt.alloc(), REFUSED_TEXTS, 36)
 }
 
 /// Texts that come byte by byte: how many pulls there are, and the line, field and reason of the refusal.

@@ -24,11 +24,6 @@ the greatest numbers | s 1000000000000000000000000000000;f 134217728 134217728 9
 the least numbers | s -1000000000000000000000000000000;f 1 1 -9223372036854775808; | s -1000000000000000000000000000000;f 1 1 -9223372036854775808;
 comments that look like lines of a solution | cs 2;s 1;c s 3;cf 1 2 3; | s 1;";
 
-#[test]
-fn texts_get_their_canonical_form(rt: HostRuntime) -> Result<(), Fail> {
-    converts_each::<Solution>(&rt, rt.alloc(), CANONICAL_FORMS, 9)
-}
-
 /// The value after an entry, with comments and empty lines between.
 const SCATTERED: &str = "c x\nf 1 2 4\n\ns 6\nf 3 4 -2\nf 1 2 4";
 
@@ -112,25 +107,12 @@ entry without flow | s 1;f 1 2; | 2 0 FieldCount
 entry and more | s 1;f 1 2 3 4; | 2 0 FieldCount
 flow past the range | s 1;f 1 2 9223372036854775808; | 2 4 NumberRange
 flow no number | f 1 2 1.5; | 1 4 BadNumber
-nothing after a refused line matters | s 1;s 2;s x;p; | 2 0 SolutionTwice";
-
-#[test]
-fn texts_are_refused_at_their_first_fault(rt: HostRuntime) -> Result<(), Fail> {
-    refuses_each::<Solution>(&rt, rt.alloc(), REFUSED_TEXTS, 16)
-}
-
-/// Texts with a line that has several faults.
-static REFUSED_LINES: &str = "\
+nothing after a refused line matters | s 1;s 2;s x;p; | 2 0 SolutionTwice
 the letter before the number of fields | S; | 1 1 UnknownLine
 the number of fields before the fields | f 0 x; | 1 0 FieldCount
 the tail before the head and the flow | s 1;f 0 0 x; | 2 2 NumberRange
 the head before the flow | f 1 134217729 x; | 1 3 NumberRange
 a value's own fault before a second value | s 1;s x; | 2 2 BadNumber";
-
-#[test]
-fn a_line_is_refused_for_its_first_reason(rt: HostRuntime) -> Result<(), Fail> {
-    refuses_each::<Solution>(&rt, rt.alloc(), REFUSED_LINES, 5)
-}
 
 /// Lines by number, and why each is refused, if it is.
 static RECORDS: &str = "\
@@ -165,11 +147,9 @@ fn a_reading_without_a_value_is_refused_at_its_end(rt: HostRuntime) -> Result<()
 }
 
 #[test]
-fn each_pull_that_fails_is_told(rt: HostRuntime) -> Result<(), Fail> {
-    tells_each_failed_pull::<Solution>(&rt, rt.alloc(), "f 1 2 3\ns 5")
-}
-
-#[test]
-fn each_put_that_fails_is_told(rt: HostRuntime) -> Result<(), Fail> {
+fn texts_are_read_and_written_by_the_rules(rt: HostRuntime) -> Result<(), Fail> {
+    converts_each::<Solution>(&rt, rt.alloc(), CANONICAL_FORMS, 9)?;
+    refuses_each::<Solution>(&rt, rt.alloc(), REFUSED_TEXTS, 21)?;
+    tells_each_failed_pull::<Solution>(&rt, rt.alloc(), "f 1 2 3\ns 5")?;
     tells_each_failed_put::<Solution>(&rt, rt.alloc(), FLOW)
 }
