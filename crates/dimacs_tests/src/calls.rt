@@ -54,7 +54,7 @@ fn tight_cut(alloc: Global) -> Result<Cut, ReadError> {
 }
 
 #[test]
-fn a_maximum_flow_is_feasible(rt: HostRuntime) -> Result<(), Fail> {
+fn a_maximum_flow_is_feasible_and_its_cut_is_tight(rt: HostRuntime) -> Result<(), Fail> {
     let (instance, flow) = flow_in_max(rt.alloc())?;
     assert_eq!(rt; flow.len(), 3, "arcs of the flow");
     same(
@@ -69,31 +69,19 @@ fn a_maximum_flow_is_feasible(rt: HostRuntime) -> Result<(), Fail> {
         feasible_max(rt.alloc(), &instance, &flow),
         Ok(()),
     );
-    Ok(())
-}
-
-#[test]
-fn a_cut_is_tight_for_a_maximum_flow(rt: HostRuntime) -> Result<(), Fail> {
-    let (instance, flow) = flow_in_max(rt.alloc())?;
+    let empty = Cut::new(rt.alloc(), 3);
+    same(
+        &rt,
+        "tests of the empty set",
+        cut_tests(&instance, &flow, &empty),
+        Err((Where::Node(1), Reason::SourceOutside)),
+    );
     let cut = tight_cut(rt.alloc())?;
     same(
         &rt,
         "tests of the cut",
         cut_tests(&instance, &flow, &cut),
         Ok(()),
-    );
-    Ok(())
-}
-
-#[test]
-fn the_empty_set_is_no_cut(rt: HostRuntime) -> Result<(), Fail> {
-    let (instance, flow) = flow_in_max(rt.alloc())?;
-    let nodes = Cut::new(rt.alloc(), 3);
-    same(
-        &rt,
-        "tests of the cut",
-        cut_tests(&instance, &flow, &nodes),
-        Err((Where::Node(1), Reason::SourceOutside)),
     );
     Ok(())
 }
@@ -107,6 +95,15 @@ fn a_maximum_flow_is_judged_by_a_cut(rt: HostRuntime) -> Result<(), Fail> {
         &rt,
         "verdict",
         judge_max(rt.alloc(), &instance, &solution, &cut),
+        Ok(Verdict::Max(3)),
+    );
+    let places = FlowPlaces::new(rt.alloc(), instance.network())?;
+    let text = b"f 1 3 1\nf 1 2 2\nf 2 3 2\ns 3\n";
+    let placed = read_solution_into(rt.alloc(), places, &mut MemorySource::new(text))?;
+    same(
+        &rt,
+        "verdict on the flow that was placed",
+        judge_max_placed(rt.alloc(), &instance, &placed, &cut),
         Ok(Verdict::Max(3)),
     );
     Ok(())
@@ -140,23 +137,6 @@ fn an_arc_without_an_entry_carries_nothing(rt: HostRuntime) -> Result<(), Fail> 
         "amounts",
         (flow.amount(0), flow.amount(1), flow.amount(2)),
         (5, 0, 0),
-    );
-    Ok(())
-}
-
-#[test]
-fn a_placed_maximum_flow_is_judged_by_a_cut(rt: HostRuntime) -> Result<(), Fail> {
-    let alloc = rt.alloc();
-    let instance = max(alloc)?;
-    let places = FlowPlaces::new(alloc, instance.network())?;
-    let text = b"f 1 3 1\nf 1 2 2\nf 2 3 2\ns 3\n";
-    let placed = read_solution_into(alloc, places, &mut MemorySource::new(text))?;
-    let cut = tight_cut(alloc)?;
-    same(
-        &rt,
-        "verdict",
-        judge_max_placed(alloc, &instance, &placed, &cut),
-        Ok(Verdict::Max(3)),
     );
     Ok(())
 }
@@ -209,7 +189,9 @@ fn slack(alloc: Global) -> Result<Potentials, ReadError> {
 }
 
 #[test]
-fn a_flow_of_least_cost_is_feasible(rt: HostRuntime) -> Result<(), Fail> {
+fn a_flow_of_least_cost_is_feasible_and_its_potentials_are_slack(
+    rt: HostRuntime,
+) -> Result<(), Fail> {
     let (instance, flow) = flow_in_min(rt.alloc())?;
     same(
         &rt,
@@ -217,12 +199,6 @@ fn a_flow_of_least_cost_is_feasible(rt: HostRuntime) -> Result<(), Fail> {
         feasible_min(rt.alloc(), &instance, &flow),
         Ok(()),
     );
-    Ok(())
-}
-
-#[test]
-fn potentials_are_slack_for_a_flow_of_least_cost(rt: HostRuntime) -> Result<(), Fail> {
-    let (instance, flow) = flow_in_min(rt.alloc())?;
     let potentials = slack(rt.alloc())?;
     same(
         &rt,
@@ -230,17 +206,11 @@ fn potentials_are_slack_for_a_flow_of_least_cost(rt: HostRuntime) -> Result<(), 
         slack_tests(&instance, &flow, &potentials),
         Ok(()),
     );
-    Ok(())
-}
-
-#[test]
-fn other_potentials_are_not_tight(rt: HostRuntime) -> Result<(), Fail> {
-    let (instance, flow) = flow_in_min(rt.alloc())?;
-    let potentials = read_potentials(rt.alloc(), &mut MemorySource::new(b"p pot 2 1\ny 1 2\n"))?;
+    let others = read_potentials(rt.alloc(), &mut MemorySource::new(b"p pot 2 1\ny 1 2\n"))?;
     same(
         &rt,
-        "tests of the potentials",
-        slack_tests(&instance, &flow, &potentials),
+        "tests of other potentials",
+        slack_tests(&instance, &flow, &others),
         Err((Where::Arc(1), Reason::NotTight)),
     );
     Ok(())
@@ -257,20 +227,13 @@ fn a_flow_of_least_cost_is_judged_by_potentials(rt: HostRuntime) -> Result<(), F
         judge_min(rt.alloc(), &instance, &solution, &potentials),
         Ok(Verdict::Min(3)),
     );
-    Ok(())
-}
-
-#[test]
-fn a_placed_flow_of_least_cost_is_judged_by_potentials(rt: HostRuntime) -> Result<(), Fail> {
-    let alloc = rt.alloc();
-    let instance = min(alloc)?;
-    let places = FlowPlaces::new(alloc, instance.network())?;
-    let placed = read_solution_into(alloc, places, &mut MemorySource::new(b"s 3\nf 1 2 1\n"))?;
-    let potentials = slack(alloc)?;
+    let places = FlowPlaces::new(rt.alloc(), instance.network())?;
+    let text = b"s 3\nf 1 2 1\n";
+    let placed = read_solution_into(rt.alloc(), places, &mut MemorySource::new(text))?;
     same(
         &rt,
-        "verdict",
-        judge_min_placed(alloc, &instance, &placed, &potentials),
+        "verdict on the flow that was placed",
+        judge_min_placed(rt.alloc(), &instance, &placed, &potentials),
         Ok(Verdict::Min(3)),
     );
     Ok(())

@@ -25,11 +25,6 @@ a fault in the solution after an entry of no arc | p max 4 5;n 1 s;n 4 t;a 1 2 4
 a fault in the cut beside an entry of no arc | p max 4 5;n 1 s;n 4 t;a 1 2 4;a 1 3 2;a 2 3 2;a 2 4 3;a 3 4 5; | s 6;f 1 4 1; | p cut 4 1; | Refused | x certificate 2 0 TooFew;
 faults in all texts | p max 4 5; | s; | p cut; | Refused | x instance 2 0 EndMissing;";
 
-#[test]
-fn maximum_flows_are_judged_by_cuts(rt: HostRuntime) -> Result<(), Fail> {
-    judges_each(&rt, rt.alloc(), JudgeKind::Max, FLOWS_BY_CUTS, 18)
-}
-
 /// Flows over several arcs between two nodes, each with the cut that has the source alone.
 static FLOWS_OF_PARALLELS: &str = "\
 an entry for each of two arcs | p max 2 2;n 1 s;n 2 t;a 1 2 1;a 1 2 1; | s 2;f 1 2 1;f 1 2 1; | p cut 2 1;u 1; | Done | v max 2;
@@ -44,11 +39,6 @@ entries that begin in another order | p max 3 4;n 1 s;n 3 t;a 1 2 1;a 2 3 4;a 1 
 two entries in order, and one too many | p max 3 4;n 1 s;n 3 t;a 1 2 1;a 2 3 4;a 1 2 3;a 2 3 0; | s 4;f 1 2 1;f 2 3 4;f 1 2 3;f 1 2 0; | p cut 3 1;u 1; | Refused | x solution 5 0 ArcTwice;
 entries out of order, and one too many | p max 3 4;n 1 s;n 3 t;a 1 2 1;a 2 3 4;a 1 2 3;a 2 3 0; | s 4;f 2 3 4;f 2 3 0;f 2 3 0;f 1 4 0; | p cut 3 1;u 1; | Refused | x solution 4 0 ArcTwice;
 an entry of no arc before one too many | p max 3 4;n 1 s;n 3 t;a 1 2 1;a 2 3 4;a 1 2 3;a 2 3 0; | f 1 3 0;f 1 2 0;f 1 2 0;f 1 2 0;s 4; | p cut 3 1;u 1; | Refused | x solution 1 0 UnknownArc;";
-
-#[test]
-fn entries_belong_to_arcs_by_their_order(rt: HostRuntime) -> Result<(), Fail> {
-    judges_each(&rt, rt.alloc(), JudgeKind::Max, FLOWS_OF_PARALLELS, 12)
-}
 
 /// Flows that are claimed to be of least cost, each with potentials.
 static COSTS_BY_POTENTIALS: &str = "\
@@ -65,11 +55,6 @@ a cost that leaves the range and comes back | p min 2 2;a 1 1 0 9000000000000000
 a supply that isn't sent | p min 4 5;n 1 4;n 4 -4;a 1 2 0 4 2;a 1 3 0 2 2;a 2 3 0 2 1;a 2 4 0 3 3;a 3 4 0 5 1; | s 0; | p pot 4 3;y 1 4;y 2 2;y 3 1; | Refused | x node 1 Balance;
 potentials of more nodes | p min 4 5;n 1 4;n 4 -4;a 1 2 0 4 2;a 1 3 0 2 2;a 2 3 0 2 1;a 2 4 0 3 3;a 3 4 0 5 1; | s 14;f 1 2 2;f 1 3 2;f 2 3 2;f 3 4 4; | p pot 5 0; | Refused | x certificate 0 0 NodesDiffer;";
 
-#[test]
-fn least_costs_are_judged_by_potentials(rt: HostRuntime) -> Result<(), Fail> {
-    judges_each(&rt, rt.alloc(), JudgeKind::Min, COSTS_BY_POTENTIALS, 12)
-}
-
 /// Sets that are claimed to be violated. Nothing is claimed beside them.
 static VIOLATED_SETS: &str = "\
 a supply that can't leave | p min 2 1;n 1 1;a 1 2 0 5 1; |  | p cut 2 2;u 1;u 2; | Done | v infeasible;
@@ -80,6 +65,9 @@ a set of more nodes | p min 2 1;n 1 1;n 2 -1;a 1 2 2 5 0; |  | p cut 3 1;u 1; | 
 a fault in the set | p min 4 5;n 1 4;n 4 -4;a 1 2 0 4 2;a 1 3 0 2 2;a 2 3 0 2 1;a 2 4 0 3 3;a 3 4 0 5 1; |  | p cut 4 1; | Refused | x certificate 2 0 TooFew;";
 
 #[test]
-fn sets_show_that_no_flow_is_feasible(rt: HostRuntime) -> Result<(), Fail> {
+fn flows_and_sets_are_judged_by_what_shows_them(rt: HostRuntime) -> Result<(), Fail> {
+    judges_each(&rt, rt.alloc(), JudgeKind::Max, FLOWS_BY_CUTS, 18)?;
+    judges_each(&rt, rt.alloc(), JudgeKind::Max, FLOWS_OF_PARALLELS, 12)?;
+    judges_each(&rt, rt.alloc(), JudgeKind::Min, COSTS_BY_POTENTIALS, 12)?;
     judges_each(&rt, rt.alloc(), JudgeKind::Infeasible, VIOLATED_SETS, 6)
 }
