@@ -173,22 +173,37 @@ static NETWORKS: [(&str, u32, Counted); 10] = [
     ("no arcs", 7, &[]),
 ];
 
+/// The network of these arcs with an index.
+fn star_of(
+    rt: &impl Abort,
+    alloc: Global,
+    nodes: u32,
+    arcs: Counted,
+) -> Result<ForwardStar<WeightArc>, Memory> {
+    let mut plain = PlainArcs::new(alloc, nodes);
+    for &(tail, head, _) in arcs {
+        assert!(rt; plain.arcs() < MAX_ARCS);
+        let weight = 0;
+        plain.push(WeightArc { tail, head, weight })?;
+    }
+    indexed(alloc, plain)
+}
+
+/// Whether each of these arcs is found, and no seventh one between two nodes.
+fn finds_each(rt: &impl Abort, name: &str, star: &ForwardStar<WeightArc>, arcs: Counted) {
+    let mut i = 0;
+    for &(tail, head, k) in arcs {
+        same(rt, name, star.find(tail, head, k), Some(i));
+        same(rt, name, star.find(tail, head, 6), None);
+        i = i.wrapping_add(1);
+    }
+}
+
 #[test]
 fn an_index_finds_each_arc(rt: HostRuntime) -> Result<(), Fail> {
     for &(name, nodes, arcs) in &NETWORKS {
-        let mut plain = PlainArcs::new(rt.alloc(), nodes);
-        for &(tail, head, _) in arcs {
-            assert!(rt; plain.arcs() < MAX_ARCS);
-            let weight = 0;
-            plain.push(WeightArc { tail, head, weight })?;
-        }
-        let star = indexed(rt.alloc(), plain)?;
-        let mut i = 0;
-        for &(tail, head, k) in arcs {
-            same(&rt, name, star.find(tail, head, k), Some(i));
-            same(&rt, name, star.find(tail, head, 6), None);
-            i = i.wrapping_add(1);
-        }
+        let star = star_of(&rt, rt.alloc(), nodes, arcs)?;
+        finds_each(&rt, name, &star, arcs);
         same(&rt, name, star.find(8, 8, 0), None);
     }
     Ok(())

@@ -5,7 +5,7 @@ use crate::tables::{case, cell, number, rows};
 use crate::texts::{Weights, refuses, refuses_each, told};
 use dimacs_lines::FlakySource;
 use dimacs_records::Text;
-use std::alloc::Global;
+use std::alloc::{AllocError, Global};
 use std::process::Abort;
 use std::test::Fail;
 
@@ -86,43 +86,118 @@ fn nothing_is_pulled_after_a_fault(rt: HostRuntime) -> Result<(), Fail> {
 /// The greatest length of a line.
 const LONGEST: usize = 1_048_576;
 
-#[test]
-fn the_longest_line_of_blanks_is_skipped(rt: HostRuntime) -> Result<(), Fail> {
-    let alloc = rt.alloc();
-    let mut blanks = Vec::from_elem(alloc, b' ', LONGEST)?;
-    refuses::<Weights>(&rt, alloc, "blanks within", &blanks, "2 0 ProblemMissing")?;
-    blanks.push(b'\n')?;
-    refuses::<Weights>(
-        &rt,
-        alloc,
-        "the end is not counted",
-        &blanks,
-        "2 0 ProblemMissing",
-    )
+/// A text with a long line.
+struct LongLine {
+    name: &'static str,
+    /// What stands before the line.
+    front: &'static str,
+    /// The byte that the line is made of, and how many of it.
+    byte: u8,
+    length: usize,
+    /// What stands after these bytes.
+    back: &'static str,
+    refusal: &'static str,
 }
 
-#[test]
-fn a_longer_line_is_refused_whatever_stands_in_it(rt: HostRuntime) -> Result<(), Fail> {
-    for (name, byte) in [("one blank more", b' '), ("length before letter", b'x')] {
-        let line = Vec::from_elem(rt.alloc(), byte, LONGEST + 1)?;
-        refuses::<Weights>(&rt, rt.alloc(), name, &line, "1 0 LineTooLong")?;
+/// The text of a long line.
+fn long_text(alloc: Global, line: &LongLine) -> Result<Vec<u8>, AllocError> {
+    let mut text = line.front.as_bytes().to_vec(alloc)?;
+    text.resize(text.len().saturating_add(line.length), line.byte)?;
+    text.extend_from_slice(line.back.as_bytes())?;
+    Ok(text)
+}
+
+/// Whether the text of each of these lines is refused so.
+fn refuses_long(rt: &impl Abort, alloc: Global, lines: &[LongLine]) -> Result<(), Fail> {
+    for line in lines {
+        let text = long_text(alloc, line)?;
+        refuses::<Weights>(rt, alloc, line.name, &text, line.refusal)?;
     }
     Ok(())
 }
 
+static LONGEST_BLANKS: [LongLine; 2] = [
+    LongLine {
+        name: "blanks within",
+        front: "",
+        byte: b' ',
+        length: LONGEST,
+        back: "",
+        refusal: "2 0 ProblemMissing",
+    },
+    LongLine {
+        name: "the end is not counted",
+        front: "",
+        byte: b' ',
+        length: LONGEST,
+        back: "\n",
+        refusal: "2 0 ProblemMissing",
+    },
+];
+
+#[test]
+fn the_longest_line_of_blanks_is_skipped(rt: HostRuntime) -> Result<(), Fail> {
+    refuses_long(&rt, rt.alloc(), &LONGEST_BLANKS)
+}
+
+static LONGER_LINES: [LongLine; 2] = [
+    LongLine {
+        name: "one blank more",
+        front: "",
+        byte: b' ',
+        length: LONGEST + 1,
+        back: "",
+        refusal: "1 0 LineTooLong",
+    },
+    LongLine {
+        name: "length before letter",
+        front: "",
+        byte: b'x',
+        length: LONGEST + 1,
+        back: "",
+        refusal: "1 0 LineTooLong",
+    },
+];
+
+#[test]
+fn a_longer_line_is_refused_whatever_stands_in_it(rt: HostRuntime) -> Result<(), Fail> {
+    refuses_long(&rt, rt.alloc(), &LONGER_LINES)
+}
+
+static LONGER_COMMENT: [LongLine; 1] = [LongLine {
+    name: "comments too",
+    front: "p sp 1 0\n",
+    byte: b'c',
+    length: LONGEST + 1,
+    back: "",
+    refusal: "2 0 LineTooLong",
+}];
+
 #[test]
 fn a_longer_comment_is_refused(rt: HostRuntime) -> Result<(), Fail> {
-    let mut text = b"p sp 1 0\n".to_vec(rt.alloc())?;
-    text.resize(9 + LONGEST + 1, b'c')?;
-    refuses::<Weights>(&rt, rt.alloc(), "comments too", &text, "2 0 LineTooLong")
+    refuses_long(&rt, rt.alloc(), &LONGER_COMMENT)
 }
+
+static CARRIAGE_RETURN: [LongLine; 2] = [
+    LongLine {
+        name: "as long as it may be",
+        front: "p sp 1 1\n",
+        byte: b'c',
+        length: LONGEST,
+        back: "",
+        refusal: "3 0 TooFew",
+    },
+    LongLine {
+        name: "CR is counted",
+        front: "p sp 1 1\n",
+        byte: b'c',
+        length: LONGEST,
+        back: "\r\n",
+        refusal: "2 0 LineTooLong",
+    },
+];
 
 #[test]
 fn a_carriage_return_is_counted(rt: HostRuntime) -> Result<(), Fail> {
-    let alloc = rt.alloc();
-    let mut text = b"p sp 1 1\n".to_vec(alloc)?;
-    text.resize(9 + LONGEST, b'c')?;
-    refuses::<Weights>(&rt, alloc, "as long as it may be", &text, "3 0 TooFew")?;
-    text.extend_from_slice(b"\r\n")?;
-    refuses::<Weights>(&rt, alloc, "CR is counted", &text, "2 0 LineTooLong")
+    refuses_long(&rt, rt.alloc(), &CARRIAGE_RETURN)
 }
