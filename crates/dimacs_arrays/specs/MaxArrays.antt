@@ -68,7 +68,7 @@ pub record IsMaxFlowImproved (i : MaxValue) (x y : List ℤ) : Type 0 where
   pub feasible : FeasibleMax i y
   pub greater : value i x <ℤ value i y
 
--- the flow is maximum by the cut of the nodes whose byte is 1, and not 0, and has this value; or it isn't, and the other is better
+-- the flow is maximum by the cut of the marked nodes, has this value, and each byte is 0 or 1; or it isn't, and the other is better
 abbrev pub CertifiesMaxFlow : MaxValue → List ℤ → MaxCertified → Type 0
 CertifiesMaxFlow i x (Optimal total inside) =
     ShowsMaxFlow i x (marked inside.items) × (total ≡ value i x) × (length inside.items ≡ i.nodes) × AreBits inside.items
