@@ -15,7 +15,7 @@ import sys
 
 import picture
 from measure import HERE, OVER_LIMIT, Asked, Rounds, head, line, mean, measure, measure_in_turn
-from texts import FAMILIES, claimed, declared_arcs, infeasible, instance, queries, sources
+from texts import FAMILIES, claimed, declared_arcs, infeasible, instance, labelled, queries, sources
 
 # in seconds of processor time: what a run may take, and what it may take to be run again
 MOST, LONG = 60, 15
@@ -34,7 +34,7 @@ PEERS = [
 ]
 
 KINDS = {"max": "Maximum flow", "min": "Least cost", "gr": "Distances"}
-OURS = {"max": ["solve-max", "certify-max"], "min": ["solve-min", "certify-min"], "gr": ["solve-paths"]}
+OURS = {"max": ["solve-max", "certify-max"], "min": ["solve-min", "certify-min"], "gr": ["solve-paths", "certify-paths"]}
 
 # the families that are measured where not all are asked for
 SHOWN = {
@@ -64,6 +64,7 @@ def commands(binary, kind, megabytes, file):
         query = queries(file, megabytes)
         starts = sources(query)
         found = {solving: [binary, solving, file, query, "labels"]}
+        found.update({name: ["./certify_paths", file, labelled(binary, file, megabytes)] for name in certifying})
     else:
         found = {solving: [binary, solving, file, "solution", "certificate"]}
         claim = claimed(binary, file)

@@ -4,7 +4,8 @@
 #
 #   bench/producers.sh BINARY
 #
-# BINARY is the built `dimacs`. A program whose package isn't installed is left out.
+# BINARY is the built `dimacs`. A program whose package isn't installed is left out, and so is `certify-paths`, which
+# certifies distances over arrays, where `make -C lib` didn't build the library.
 #
 # Environment, beside that of build.sh:
 #   SIZES       sizes of the instances in MB, of 1 and 20; 1,20
@@ -16,5 +17,8 @@ set -eu
 
 . "$(dirname "$0")/build.sh"
 build_peers
+rm -f "$dir/certify_paths"
+gcc -O2 -I"$here/../lib/include" -o "$dir/certify_paths" "$here/certify_paths.c" "$here/../lib/out/libdimacs.a" \
+    -lpthread -ldl -lm || echo "left out: certify-paths" >&2
 
 exec "$python" -B "$here/producers.py" "$dir" "${SIZES:-1,20}" "${ROUNDS:-3}" "$(realpath "$1")"

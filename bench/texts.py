@@ -121,6 +121,12 @@ def queries(file, megabytes):
     return beside(file, "sources", "gen", *words) + "/sources.query"
 
 
+def labelled(binary, file, megabytes):
+    """The file of the labels that `dimacs` makes of a graph for its queries."""
+    words = [os.path.abspath(it) for it in (file, queries(file, megabytes))]
+    return beside(file, "labelled", binary, "solve-paths", *words, "labels") + "/labels"
+
+
 def sources(query):
     """The nodes from which the queries ask for distances."""
     with open(query) as text:
