@@ -137,6 +137,21 @@ class MaximumFlow(Networkx):
             self.refused(ValueError, dimacs.judge_networkx_max, graph, *ends, flow, form)
         for form in ((side, others), 3, None):
             self.refused(TypeError, dimacs.judge_networkx_max, graph, *ends, flow, form)
+        view = graph.subgraph(side).nodes
+        self.assertEqual(dimacs.judge_networkx_max(graph, *ends, flow, view), dimacs.Verdict("max", value))
+
+    def test_bools_are_no_numbers_of_nodes(self):
+        graph = networkx.DiGraph()
+        graph.add_edge(0, 1, capacity=3)
+        graph.add_edge(1, 2, capacity=2)
+        value, flow = networkx.maximum_flow(graph, 0, 2)
+        self.assertEqual(dimacs.judge_networkx_max(graph, 0, 2, flow, [0, 1]).value, value)
+        forms = [[True, False, False], {True, False}]
+        if numpy is not None:
+            forms.append(numpy.array([True, False, False]))
+        for form in forms:
+            it = self.refused(TypeError, dimacs.judge_networkx_max, graph, 0, 2, flow, form)
+            self.assertIn("side", str(it))
 
     def test_better(self):
         graph = pipes()

@@ -13,7 +13,7 @@ from __future__ import annotations
 
 import math
 from array import array
-from collections.abc import Mapping
+from collections.abc import Mapping, Set
 from contextlib import contextmanager
 from typing import Any, Iterator
 
@@ -92,9 +92,13 @@ class _Graph:
 
     def inside(self, side: Any) -> list[bool]:
         """Whether each node is on this side: one of these nodes, or one that a dict maps to True."""
-        marks = side if isinstance(side, Mapping) else dict.fromkeys(side, True)
+        is_dict = isinstance(side, Mapping) and not isinstance(side, Set)  # a NodeView of networkx is both
+        marks = side if is_dict else dict.fromkeys(side, True)
         if not all(is_bool(it) for it in marks.values()):
             raise TypeError(f"side is a {type(side).__name__} that doesn't map nodes to bools, and has to be a set of nodes")
+        # True is 1 to a dict: where nodes are numbers, a bool for each node would name the nodes 0 and 1.
+        if any(is_bool(it) and not is_bool(self.nodes[self.number(it) - 1]) for it in marks):
+            raise TypeError(f"side is a {type(side).__name__} of bools, and has to be a set of nodes")
         return self.by_node(marks, False, "side")
 
     def flows(self, flow: Mapping[Any, Any]) -> array[int]:
