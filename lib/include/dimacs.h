@@ -36,8 +36,8 @@ enum {
     DIMACS_MISUSED = 2,   /* nothing was judged: a number names no kind, or an array has a wrong length, and nothing is
                              handed out; or a number of an instance in arrays is past its limit, and the line says where */
     DIMACS_NO_MEMORY = 4, /* there was not enough memory, and nothing is said of the claim. Nothing is handed out */
-    DIMACS_GAVE_UP = 5    /* a flow costs least, and the potentials that were found take more than 64 bits; others may fit.
-                             `g limit` is handed out */
+    DIMACS_GAVE_UP = 5    /* a flow costs least, and two of the potentials that were found are 2^64 or more apart; others
+                             may fit. `g limit` is handed out */
 };
 
 /* What is judged; the first two are what is certified. */

@@ -1,8 +1,8 @@
 -- One node more of what arrays say by node.
-use Rattle.std.proofs.Common.{◌≡◌, inl, inr, ℕ, zero, suc, ◌+◌, ◌<◌, ◌≤◌, ◌==◌, ◌||◌, List, [], ◌∷◌, length, get_or, map, Option, Some, None, Bool, true, false, cond, refl, sym, ◌∙◌, ap, add-one, arith}
+use Rattle.std.proofs.Common.{◌≡◌, inl, inr, ℕ, zero, suc, ◌+◌, ◌<◌, ◌≤◌, ◌==◌, ◌||◌, ◌⊎◌, ◌^◌, List, [], ◌∷◌, length, get_or, map, Option, Some, None, Bool, true, false, cond, refl, sym, subst, ◌∙◌, ap, add-one, arith}
 use Rattle.std.proofs.Math.Path.{fun_ext}
 use mir.Val.{bool_byte}
-use Rattle.std.specs.Prelude.{ℤ, pos, ◌+ℤ◌, nat_lt, if◌then◌else◌, unwrap_or}
+use Rattle.std.specs.Prelude.{ℤ, pos, neg_ℤ, ◌+ℤ◌, ◌≤ℤ◌, nat_lt, if◌then◌else◌, unwrap_or}
 use Rattle.std.specs.List.{range_with_len}
 use Rattle.std.specs.Ordering.{int_eq, nat_cmp}
 use Rattle.std.specs.Cmp.{signed_Decides}
@@ -12,12 +12,14 @@ use Rattle.std.proofs.lemmas.List.{get_or_past}
 use Rattle.std.proofs.lemmas.List.Elements.{All-cons, All-nil}
 use Rattle.std.proofs.lemmas.List.FromFn.{get_or-map-range_with_len, length-map-range_with_len}
 use Rattle.dimacs_nodes.proofs.Nodes.{contains-empty, contains-insert, get-empty, get-insert}
-use Rattle.dimacs_records.specs.Ranges.{IsNode}
+use Rattle.std.proofs.lemmas.Int.{by_lt_z, ints}
+use Rattle.dimacs_records.specs.Ranges.{IsNode, IsWide}
 use Rattle.dimacs_records.proofs.ZeroLemmas.{get-removed}
 use Rattle.dimacs_claims.specs.Cuts.{CutValue, empty_cut, with_node}
 use Rattle.dimacs_claims.specs.Potentials.{PotentialsValue, potential_of, with_potential, zero_potentials}
 use Rattle.dimacs_judge.specs.Cuts.{members}
-use Rattle.dimacs_arrays.specs.inside.MinCertified.{AreShifted}
+use Rattle.dimacs_arrays.specs.inside.MinCertified.{AreShifted, IsLeastOf, IsWiderBy}
+use Rattle.dimacs_arrays.specs.MinArrays.{IsWider}
 use Rattle.dimacs_arrays.specs.ByNode.{AreBits, marked, number_of}
 
 -- what is said of the first n nodes, and nothing of the others
@@ -160,3 +162,37 @@ sums_are p shift = record { each = length-map-range_with_len (sum_of p shift) 1 
     sums : (v : ℕ) → IsNode p.nodes v → number_of (map (sum_of p shift) (range_with_len 1 p.nodes)) v ≡ sum_of p shift v
     sums zero node = absurd (omega (arith, node.0))
     sums (suc k) node = get_or-map-range_with_len (sum_of p shift) 1 p.nodes k (suc k) (pos 0) (omega (arith, node.1)) (omega arith)
+
+-- ---- the least potential
+-- the least of the potentials of the nodes up to i, and of that of node 1
+pub record IsLeastUpTo (p : PotentialsValue) (i : ℕ) (least : ℤ) : Type 0 where
+  pub wide : IsWide least
+  pub below : (v : ℕ) → IsNode i v → least ≤ℤ potential_of p v
+  pub found : 1 ≤ p.nodes → (w : ℕ) × IsNode p.nodes w × (least ≡ potential_of p w)
+
+pub least_first : (p : PotentialsValue) (least : ℤ) → IsWide least → least ≡ potential_of p 1 → IsLeastUpTo p 0 least
+least_first p least wide is = record {
+  wide = wide;
+  below = λ v node. absurd (omega (arith, node.0, node.1));
+  found = λ some. (1, (omega arith, some), is);
+}
+
+pub least_more : (p : PotentialsValue) (i : ℕ) (least next new : ℤ) → next ≡ potential_of p (i + 1) → i < p.nodes → IsWide new → new ≤ℤ least → new ≤ℤ next → (new ≡ least) ⊎ (new ≡ next) → IsLeastUpTo p i least → IsLeastUpTo p (i + 1) new
+least_more p i least next new next_is inside wide less small one is = record {
+  wide = wide;
+  below = λ v node. elim (cases_lt v (i + 1)) [
+    | inl before ↦ (let low = is.below v (node.0, omega (arith, before)) in omega (arith, ints, low, less))
+    | inr last ↦ (let same : v ≡ i + 1 = omega (arith, last, node.1) in subst (λ w. new ≤ℤ potential_of p w) (sym same) (subst (λ n. new ≤ℤ n) next_is small))
+  ];
+  found = λ some. elim one [
+    | inl old ↦ (let (w, node, same) = is.found some in (w, node, old ∙ same))
+    | inr fresh ↦ (i + 1, (omega arith, omega (arith, inside)), fresh ∙ next_is)
+  ];
+}
+
+-- where the least of them is moved to the least number of 64 bits, and one takes more
+pub wider_by : (p : PotentialsValue) (least shift : ℤ) → IsLeastOf p least → (least +ℤ shift) ≡ neg_ℤ (pos (2 ^ 63)) → IsWiderBy p shift → IsWider p
+wider_by p least shift is moved (v, node, more) =
+    let (w, inside, same) = is.found (omega (arith, node.0, node.1)) in
+    let low = is.below v node in
+    (v, w, node, inside, by_lt_z (potential_of p v) (potential_of p w +ℤ pos (2 ^ 64)) (λ less. absurd (more (omega (arith, ints, moved, low), omega (arith, ints, moved, same, less)))) (λ far. omega (arith, ints, far)))

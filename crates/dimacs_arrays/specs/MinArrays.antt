@@ -1,10 +1,10 @@
 -- The arrays of minimum cost flow instances, and what they spell.
-use Rattle.std.specs.Prelude.{ℕ, ◌≡◌, ◌<◌, Bool, List, [], ◌∷◌, ◌++◌, length, get_or, map, ℤ, pos, ◌<ℤ◌, Result}
+use Rattle.std.specs.Prelude.{ℕ, ◌≡◌, ◌<◌, Bool, List, [], ◌∷◌, ◌++◌, length, get_or, map, ℤ, pos, ◌^◌, ◌+ℤ◌, ◌<ℤ◌, ◌≤ℤ◌, Result}
 use Rattle.std.specs.List.{range_with_len, zip}
 use Rattle.std.specs.Ordering.{nat_cmp}
 use Rattle.std.specs.FinMap.{FinMap, from_entries}
 use Rattle.dimacs_records.specs.NodeValues.{without_zeros}
-use Rattle.dimacs_records.specs.Ranges.{IsNode, IsWhole, IsWide}
+use Rattle.dimacs_records.specs.Ranges.{IsNode, IsWide}
 use Rattle.dimacs_claims.specs.Potentials.{PotentialsValue, potential_of}
 use Rattle.dimacs_instance.specs.declared.network.ArcView.{ArcView}
 use Rattle.dimacs_instance.specs.MinFlows.{MinValue, IsMin}
@@ -77,9 +77,9 @@ pub record IsMinFlowImproved (i : MinValue) (x y : List ℤ) : Type 0 where
   pub feasible : FeasibleMin i y
   pub less : cost i.arcs y <ℤ cost i.arcs x
 
--- one of the potentials of the nodes takes more than 64 bits
+-- two of the potentials of the nodes are so far apart that 64 bits don't take both, whatever is added to all
 abbrev pub IsWider : PotentialsValue → Type 0
-IsWider p = (v : ℕ) × IsNode p.nodes v × (¬ IsWhole (potential_of p v))
+IsWider p = (v : ℕ) × (w : ℕ) × IsNode p.nodes v × IsNode p.nodes w × ((potential_of p w +ℤ pos (2 ^ 64)) ≤ℤ potential_of p v)
 
 -- the flow is least by these potentials, in an array or wider than that, and has this cost; or it isn't, and the other is better
 abbrev pub CertifiesMinFlow : MinValue → List ℤ → MinCertified → Type 0

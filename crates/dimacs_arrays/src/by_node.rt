@@ -1,12 +1,12 @@
 //! Certificates that are said by node, to and from arrays.
 
-ghost use Rattle.std.specs.Prelude.{◌≡◌, ◌≤◌, ◌+ℤ◌, ℕ, length, IfNone, IfOk, IfSome};
+ghost use Rattle.std.specs.Prelude.{◌≡◌, ◌≤◌, ◌⊎◌, ◌^◌, ◌+ℤ◌, ◌≤ℤ◌, ℕ, ℤ, pos, neg_ℤ, length, IfNone, IfOk, IfSome};
 ghost use Rattle.dimacs_lines.specs.Limits.{most_nodes};
 ghost use Rattle.dimacs_records.specs.Ranges.{IsNode, IsWhole, IsWide};
 ghost use Rattle.dimacs_claims.specs.Potentials.{potential_of};
 ghost use Rattle.dimacs_judge.specs.Cuts.{members};
 ghost use Rattle.dimacs_arrays.specs.ByNode.{AreBits, marked, number_of};
-ghost use Rattle.dimacs_arrays.specs.inside.MinCertified.{AreShifted, IsShift, IsWiderBy};
+ghost use Rattle.dimacs_arrays.specs.inside.MinCertified.{AreShifted, IsLeastOf, IsShift, IsWiderBy};
 
 use dimacs_claims::{Cut, Potentials};
 use dimacs_lines::Memory;
@@ -92,14 +92,16 @@ fn whole(number: i128, shift: i128) -> Option<i64>
 
 /// What makes the least of the potentials the least number of 64 bits where it is added.
 pub(crate) fn lowest_shift(potentials: &Potentials) -> i128
-    ensures { IsShift result }
+    ensures shift { IsShift result }
+    ensures lowest { (least : ℤ) × IsLeastOf potentials.now least × ((least +ℤ result) ≡ neg_ℤ (pos (2 ^ 63))) }
 {
     i128::from(i64::MIN) - least_of(potentials)
 }
 
 /// The least of the potentials; 0 where there are no nodes.
 fn least_of(potentials: &Potentials) -> i128
-    ensures { IsWide result }
+    ensures wide { IsWide result }
+    ensures least { IsLeastOf potentials.now result }
 {
     let mut least = potentials.of(1);
     for i in 0..potentials.nodes() {
@@ -112,7 +114,9 @@ fn least_of(potentials: &Potentials) -> i128
 fn lesser(a: i128, b: i128) -> i128
     requires a { IsWide a }
     requires b { IsWide b }
-    ensures { IsWide result }
+    ensures wide { IsWide result }
+    ensures least { (result ≤ℤ a) × (result ≤ℤ b) }
+    ensures one { (result ≡ a) ⊎ (result ≡ b) }
 {
     if a < b { a } else { b }
 }

@@ -21,7 +21,7 @@ use std::alloc::Global;
 pub enum MinCertified {
     /// It is least, of this cost, by these potentials, with which `judge_min_arrays` says yes; that of node 1 comes first.
     Optimal { cost: i128, potentials: Vec<i64> },
-    /// It is least, of this cost, by potentials some of which take more than 64 bits; others might take less.
+    /// It is least, of this cost, by potentials two of which are 2^64 or more apart; others might be nearer.
     Wide { cost: i128, potentials: Potentials },
     /// It isn't: this flow is feasible and costs less.
     Better(Flow),
@@ -61,7 +61,7 @@ fn certify_over<N: Network>(
     }
 }
 
-/// What is said of a flow of this cost that these potentials show least: these, if they fit, else shifted.
+/// What is said of a flow of this cost that these potentials show least: these, if they fit, else moved by one number.
 fn least_by(alloc: Global, cost: i128, potentials: Potentials) -> Result<MinCertified, Memory>
     ensures { IfOk result (IsLeastBy cost potentials) }
 {

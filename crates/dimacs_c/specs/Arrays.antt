@@ -66,7 +66,7 @@ abbrev pub max_said : MaxCertified → Said ℕ
 max_said (max_certified.Optimal total inside) = record { status = 0; line = max_line total; certificate = inside.items; better = [] }
 max_said (max_certified.Better y) = record { status = 1; line = failure_line (Solution 0 0) NotMaximum; certificate = []; better = y }
 
--- 5 where one of the potentials that were found takes more than 64 bits
+-- 5 where two of the potentials that were found are 2^64 or more apart
 abbrev pub min_said : MinCertified → Said ℤ
 min_said (min_certified.Optimal total potentials) = record { status = 0; line = min_line total; certificate = potentials.items; better = [] }
 min_said (min_certified.Wide total p) = only 5 gave_up_line

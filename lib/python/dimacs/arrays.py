@@ -181,8 +181,8 @@ def certify_min_arrays(
     """Decides whether a flow costs least; its cost, and for each node a potential, which show it.
 
     Raises NotOptimal where the flow is feasible, but another costs less, which it has, and Refused, as
-    certify_max_arrays; OverflowError where the flow costs least, and the potentials that were found take more than
-    64 bits; others may fit.
+    certify_max_arrays; OverflowError where the flow costs least, and two of the potentials that were found are 2^64
+    or more apart; others may fit.
     """
     given = _Given(_MIN, nodes, tails, heads, lows, caps, costs, supplies)
     given.add(_FLOWS, flows)

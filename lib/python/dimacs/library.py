@@ -71,7 +71,7 @@ def _raise_for(status: int, said: bytes) -> None:
     if status == MISUSED:
         raise ValueError("the library doesn't take these words")
     if status == GAVE_UP:
-        raise OverflowError("the flow costs least, but the potentials that were found take more than 64 bits")
+        raise OverflowError("the flow costs least, but two of the potentials that were found are 2^64 or more apart")
 
 
 def call(function: Callable[..., int], *words: Any) -> tuple[int, bytes]:

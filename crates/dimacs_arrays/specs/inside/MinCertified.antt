@@ -1,5 +1,5 @@
 -- Inside: what is said of a flow that potentials show least.
-use Rattle.std.specs.Prelude.{ℕ, ◌≡◌, ◌^◌, List, length, ℤ, pos, neg_ℤ, ◌+ℤ◌}
+use Rattle.std.specs.Prelude.{ℕ, ◌≡◌, ◌≤◌, ◌^◌, List, length, ℤ, pos, neg_ℤ, ◌+ℤ◌, ◌≤ℤ◌}
 use Rattle.dimacs_lines.specs.Number.{IsWithin}
 use Rattle.dimacs_records.specs.Ranges.{IsNode, IsWhole}
 use Rattle.dimacs_claims.specs.Potentials.{PotentialsValue, potential_of}
@@ -16,6 +16,11 @@ IsShift shift = IsWithin (neg_ℤ (pos (10 ^ 31))) (pos (10 ^ 31)) shift
 pub record AreShifted (p : PotentialsValue) (shift : ℤ) (numbers : List ℤ) : Type 0 where
   pub each : length numbers ≡ p.nodes
   pub sums : (v : ℕ) → IsNode p.nodes v → number_of numbers v ≡ potential_of p v +ℤ shift
+
+-- the least of the potentials of the nodes, where there are nodes
+pub record IsLeastOf (p : PotentialsValue) (least : ℤ) : Type 0 where
+  pub below : (v : ℕ) → IsNode p.nodes v → least ≤ℤ potential_of p v
+  pub found : 1 ≤ p.nodes → (w : ℕ) × IsNode p.nodes w × (least ≡ potential_of p w)
 
 -- one of these sums takes more than 64 bits
 abbrev pub IsWiderBy : PotentialsValue → ℤ → Type 0
