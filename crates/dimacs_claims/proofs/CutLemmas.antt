@@ -1,7 +1,7 @@
 -- Sets of nodes, and records after those of a set that was begun.
-use Rattle.std.proofs.Common.{◌≡◌, ℕ, suc, ◌<◌, ◌≤◌, ◌∷◌, ◌++◌, [], List, Bool, true, false, Some, length, map, ◌+◌, ◌-◌, ◌==◌, ◌||◌, refl, ap, ap₂, sym, ◌∙◌, subst, arith}
+use Rattle.std.proofs.Common.{◌≡◌, ℕ, suc, ◌<◌, ◌≤◌, ◌∷◌, ◌++◌, [], List, Bool, true, false, Some, length, map, ◌+◌, ◌==◌, ◌||◌, refl, ap, ap₂, sym, ◌∙◌, subst, arith}
 use Rattle.std.specs.Prelude.{codes, nat_lt, nat_le, count_by}
-use Rattle.std.specs.List.{All, filter, list_any, range_with_len}
+use Rattle.std.specs.List.{All, list_any, range_with_len}
 use Rattle.std.specs.Ordering.{nat_cmp}
 use Rattle.std.specs.Cmp.{nat_cmp_total}
 use Rattle.std.specs.FinSet.{FinSet, contains, from_list, from_list_push, same_set, contains-from_list_nat, nat_cmp-IsAntisymmetric}
@@ -29,7 +29,7 @@ use Rattle.dimacs_records.specs.Ranges.{IsNode}
 use Rattle.dimacs_records.specs.Tests.{Counts, Passes, IsToldOf, TellsEnd}
 use Rattle.dimacs_claims.specs.CutReading.{CutBegun, IsCutBegunBy, after_lines, before}
 use Rattle.dimacs_records.specs.Spelling.{kind_of}
-use Rattle.dimacs_claims.proofs.NodeLists.{passing, passing_once, passing_few, none_passing, All-passing, passing_below, passing_listed, passing_more}
+use Rattle.dimacs_claims.proofs.NodeLists.{passing_once, passing_few, none_passing, All-passing, passing_listed, passing_more}
 use Rattle.dimacs_records.proofs.CountLemmas.{once_before, once_more}
 
 any_names : (id : ℕ) (named : List ℕ) → list_any (names id) (map CutNode named) ≡ list_any (is_id id) named
@@ -235,12 +235,3 @@ cut_round_trip c law =
         is_cut = law;
       };
     }
-
--- the lines of the nodes below this ID
-abbrev pub lines_below : CutValue → ℕ → List Record
-lines_below c id = map CutNode (passing (contains c.ids) (id - 1))
-
-pub lines_below_next : (first : Record) (c : CutValue) (id : ℕ) → 1 ≤ id → first ∷ lines_below c (id + 1) ≡ (first ∷ lines_below c id) ++ map CutNode (filter (contains c.ids) (id ∷ []))
-lines_below_next first c id least =
-    ap (λ ids. first ∷ map CutNode ids) (passing_below (contains c.ids) id least)
-    ∙ ap (λ rs. first ∷ rs) (map-append CutNode (passing (contains c.ids) (id - 1)) (filter (contains c.ids) (id ∷ [])))

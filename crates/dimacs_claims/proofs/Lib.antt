@@ -5,7 +5,6 @@ mod CutLemmas
 pub mod LabelLaws
 pub mod LabelRecords
 pub mod LabelStates
-pub mod LabelWrites
 pub mod LineCounts
 mod NodeLists
 mod PotentialsLemmas

@@ -1,10 +1,13 @@
 -- Lists of IDs, and those of a test from 1 on.
-use Rattle.std.proofs.Common.{◌≡◌, inl, inr, ℕ, zero, suc, ◌<◌, ◌≤◌, ◌+◌, ◌-◌, ◌==◌, ◌||◌, ◌&&◌, List, [], ◌∷◌, ◌++◌, length, map, Bool, true, false, cond, refl, sym, ◌∙◌, ap, arith}
+use Rattle.std.proofs.Common.{◌≡◌, inl, inr, ℕ, zero, suc, ◌<◌, ◌≤◌, ◌+◌, ◌-◌, ◌==◌, ◌||◌, ◌&&◌, List, [], ◌∷◌, ◌++◌, length, map, Option, Some, None, Bool, true, false, cond, refl, sym, ◌∙◌, ap, arith, rules}
 use Rattle.std.specs.Prelude.{count_by}
 use Rattle.std.specs.List.{All, filter, list_any, range_with_len}
 use Rattle.std.proofs.lemmas.Bool.{eqb-true, cases_lt}
 use Rattle.std.proofs.lemmas.Bool.Decides.{nat_tests}
+use Rattle.std.proofs.lemmas.List.{map-append}
 use Rattle.std.proofs.lemmas.List.Elements.{filter-append, All-nil, All-cons}
+use Rattle.dimacs_records.specs.declared.records.Record.{Record}
+use Rattle.dimacs_records.specs.Canonical.{AreLines, said_lines}
 use Rattle.dimacs_claims.specs.Cuts.{is_id}
 use Rattle.dimacs_records.proofs.CountLemmas.{count_by-cons, count_yes, count_no, none_counted}
 
@@ -67,6 +70,20 @@ passing_below p id least =
     let this : 1 + (id - 1) ≡ id = omega (arith, least) in
     ap (passing p) after ∙ ap (filter p) (range_next 1 (id - 1)) ∙ filter-append p (range_with_len 1 (id - 1)) ((1 + (id - 1)) ∷ [])
     ∙ ap (λ n. passing p (id - 1) ++ filter p (n ∷ [])) this
+
+-- a line for each ID that passes
+pub lines_of_passing : (p : ℕ → Bool) (line : ℕ → Record) (says : ℕ → Option Record → Type 0) (n : ℕ)
+    → ((i : ℕ) (said : Option Record) → i < n → says i said → said ≡ cond (p (i + 1)) (Some (line (i + 1))) None) → AreLines says n (λ i. map line (passing p i))
+lines_of_passing p line says n each = record {
+  none = refl;
+  more = λ i said within e.
+      let next : passing p (i + 1) ≡ passing p i ++ filter p ((i + 1) ∷ []) = search (rules, passing_below p (i + 1) (omega arith)) in
+      ap (map line) next ∙ map-append line (passing p i) (filter p ((i + 1) ∷ [])) ∙ ap (λ rs. map line (passing p i) ++ rs) (by_test (i + 1) said (p (i + 1)) (each i said within e));
+}
+  where
+    by_test : (id : ℕ) (said : Option Record) (b : Bool) → said ≡ cond b (Some (line id)) None → map line (cond b (id ∷ []) []) ≡ said_lines said
+    by_test id said true is = rw is refl
+    by_test id said false is = rw is refl
 
 length_filter : (p : ℕ → Bool) (a n : ℕ) → length (filter p (range_with_len a n)) ≤ n
 length_filter p a zero = omega arith

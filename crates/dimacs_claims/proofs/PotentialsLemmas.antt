@@ -8,6 +8,7 @@ use Rattle.std.specs.FinMap.{FinMap, empty, get, insert, from_entries, same_map,
 use Rattle.std.specs.FinMap.Entries.{find}
 use Rattle.std.proofs.lemmas.List.{map-append, length-append, length-map}
 use Rattle.std.proofs.lemmas.List.Elements.{All-nil, All-cons, All-head, All-tail}
+use Rattle.std.proofs.lemmas.Simd.{map-map}
 use Rattle.std.proofs.lemmas.Bool.{le-ltb, eqb-true}
 use Rattle.std.proofs.lemmas.Bool.Decides.{nat_tests}
 use Rattle.std.proofs.lemmas.Int.{ints}
@@ -16,7 +17,7 @@ use Rattle.dimacs_records.specs.declared.kinds.TextKind.TheVariants as kinds
 use Rattle.dimacs_records.specs.declared.records.Record.{Record}
 use Rattle.dimacs_records.specs.declared.records.Record.TheVariants.{PotentialsProblem, PotentialsNode}
 use Rattle.dimacs_records.specs.Earlier.{names, counted_in, is_short}
-use Rattle.dimacs_records.specs.Canonical.{CanBeSpelled}
+use Rattle.dimacs_records.specs.Canonical.{CanBeSpelled, AreLines, said_lines}
 use Rattle.dimacs_records.specs.Forms.{form, Word, Nodes, Count, Id, Wide}
 use Rattle.dimacs_records.specs.Readings.{LineRecord, records_of, IsAllowed, IsComplete}
 use Rattle.dimacs_records.specs.Texts.{AreFaultless}
@@ -30,7 +31,7 @@ use Rattle.dimacs_records.specs.NodeValues.{NameNodes, has_value, is_nonzero, is
 use Rattle.dimacs_claims.specs.PotentialsReading.{PotentialsBegun, ArePotentialsBegunBy, potentials_begun, after_lines, before, has_line}
 use Rattle.dimacs_records.specs.Tests.{Counts, Passes, PassesEnd, IsToldOf, TellsEnd}
 use Rattle.dimacs_records.specs.Spelling.{kind_of}
-use Rattle.dimacs_claims.proofs.NodeLists.{All-passing, count_map, passing, passing_below, passing_few, passing_listed, passing_once}
+use Rattle.dimacs_claims.proofs.NodeLists.{All-passing, count_map, passing, passing_below, passing_few, passing_listed, passing_once, lines_of_passing}
 use Rattle.dimacs_records.proofs.CountLemmas.{once_before, same_test}
 use Rattle.dimacs_records.proofs.NameLemmas.{has-from_entries, map_more, named_more, not_zero, without_zeros-named}
 
@@ -270,15 +271,18 @@ potentials_round_trip p law =
       };
     }
 
--- the lines of the nodes below this ID
-abbrev pub lines_below : PotentialsValue → ℕ → List Record
-lines_below p id = map node_line (with_values p (passing (nonzero_at p) (id - 1)))
-
-pub lines_below_next : (first : Record) (p : PotentialsValue) (id : ℕ) → 1 ≤ id → first ∷ lines_below p (id + 1) ≡ (first ∷ lines_below p id) ++ map node_line (with_values p (filter (nonzero_at p) (id ∷ [])))
-lines_below_next first p id least =
-    ap (λ ids. first ∷ map node_line (with_values p ids)) (passing_below (nonzero_at p) id least)
-    ∙ ap (λ ns. first ∷ map node_line ns) (map-append (λ id. (id, potential_of p id)) (passing (nonzero_at p) (id - 1)) (filter (nonzero_at p) (id ∷ [])))
-    ∙ ap (λ rs. first ∷ rs) (map-append node_line (with_values p (passing (nonzero_at p) (id - 1))) (with_values p (filter (nonzero_at p) (id ∷ []))))
+-- a line for each node whose potential isn't 0
+pub potential_lines : (p : PotentialsValue) (says : ℕ → Option Record → Type 0) (n : ℕ)
+    → ((i : ℕ) (said : Option Record) → i < n → says i said → said ≡ cond (nonzero_at p (i + 1)) (Some (PotentialsNode (i + 1) (potential_of p (i + 1)))) None)
+    → AreLines says n (λ i. map node_line (with_values p (passing (nonzero_at p) i)))
+potential_lines p says n each =
+    let value : ℕ → ℕ × ℤ = λ id. (id, potential_of p id) in
+    let h = lines_of_passing (nonzero_at p) (λ id. node_line (value id)) says n each in
+    record {
+      none = refl;
+      more = λ i said within e.
+          map-map node_line value (passing (nonzero_at p) (i + 1)) ∙ h.more i said within e ∙ ap (λ rs. rs ++ said_lines said) (sym (map-map node_line value (passing (nonzero_at p) i)));
+    }
 
 -- the number of nodes below this ID whose potential isn't 0
 pub count_below_in : (p : PotentialsValue) (id : ℕ) → 1 ≤ id → potential_of p id ≢ pos 0 → length (passing (nonzero_at p) (id - 1)) + 1 ≡ length (passing (nonzero_at p) (id + 1 - 1))

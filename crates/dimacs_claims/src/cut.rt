@@ -1,16 +1,13 @@
 //! Sets of nodes: the source's side of a cut, or a set whose supply can't be met.
 
-ghost use Rattle.std.specs.Prelude.{◌≡◌, ◌≤◌, ◌++◌, ◌∷◌, [], ℕ, List, Some, OnOk, OnErr, length, map, refl};
-ghost use Rattle.std.specs.List.{filter};
+ghost use Rattle.std.specs.Prelude.{◌≡◌, ◌≤◌, ◌<◌, ◌+◌, ◌++◌, ◌∷◌, [], ℕ, List, None, Some, OnOk, OnErr, if◌then◌else◌, length, refl};
 ghost use Rattle.std.specs.FinSet as set;
 ghost use Rattle.dimacs_lines.specs.Limits.{most_nodes};
 ghost use Rattle.dimacs_lines.specs.Devices.{CountsFault};
 ghost use Rattle.dimacs_lines.specs.Lines.{lines};
-ghost use Rattle.dimacs_lines.specs.Pages.{Appends, CountsOn};
 ghost use Rattle.dimacs_lines.specs.Puts.{Puts};
 ghost use Rattle.dimacs_records.specs.declared.kinds.TextKind.TheVariants as kinds;
 ghost use Rattle.dimacs_records.specs.declared.records.Record.TheVariants.{CutNode};
-ghost use Rattle.dimacs_records.specs.Canonical.{canonical_text};
 ghost use Rattle.dimacs_records.specs.Faults.{Fault};
 ghost use Rattle.dimacs_records.specs.Readings.{CountsRead};
 ghost use Rattle.dimacs_records.specs.Texts.{Reads};
@@ -18,11 +15,10 @@ ghost use Rattle.dimacs_claims.specs.Cuts.{CutValue, IsCut, GivesCut, SpellsCut,
 ghost use Rattle.dimacs_records.specs.Ranges.{IsNode};
 ghost use Rattle.dimacs_claims.specs.CutReading.{IsCutBegunBy, after_lines, before};
 
-use dimacs_lines::{DeviceFault, Memory, Page, Sink, Source};
+use dimacs_lines::{DeviceFault, Memory, Sink, Source};
 use dimacs_nodes::NodeSet;
 use dimacs_records::{
-    Begun, CountedReading, Declared, Earlier, ReadError, Record, TextKind, read_counted,
-    write_record,
+    Begun, CountedReading, Declared, Earlier, ReadError, Record, TextKind, put_text, read_counted,
 };
 use std::alloc::Global;
 use std::marker::Model;
@@ -199,22 +195,16 @@ pub fn write_cut<S: Sink>(cut: &Cut, sink: &mut S) -> Result<(), DeviceFault>
 {
     let nodes = cut.nodes();
     let count = cut.len();
-    let mut page = Page::new();
-    write_record(&mut page, sink, &Record::CutProblem { nodes, count });
-    for id in 1..nodes + 1 {
-        write_node(&mut page, sink, cut, id);
-    }
-    page.finish(sink)
-}
-
-/// Writes the line of a node, if it is in the set.
-#[inline(always)]
-fn write_node<S: Sink>(page: &mut Page, sink: &mut S, cut: &Cut, id: u32)
-    ensures written { Appends (canonical_text (map CutNode (filter (set.contains cut.now.ids) (id ∷ []))))
-        (S.accepted sink.old) page.old (S.accepted sink.new) page.new }
-    ensures faults { CountsOn (S.faults sink.old) page.old (S.faults sink.new) page.new }
-{
-    if cut.contains(id) {
-        write_record(page, sink, &Record::CutNode { id });
-    }
+    put_text(
+        sink,
+        &[Record::CutProblem { nodes, count }],
+        nodes as usize,
+        |i|
+            requires { i < most_nodes }
+            ensures { result ≡ (if set.contains cut.entry.now.ids (i + 1) then Some (CutNode (i + 1)) else None) }
+        {
+            let id = i as u32 + 1;
+            cut.contains(id).then_some(Record::CutNode { id })
+        },
+    )
 }

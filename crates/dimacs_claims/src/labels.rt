@@ -1,6 +1,6 @@
 //! Labels: claimed distances from sources.
 
-ghost use Rattle.std.specs.Prelude.{◌≡◌, ◌<◌, ◌≤◌, ◌++◌, ◌∷◌, [], ℕ, List, Option, Some, None, OnOk, OnErr, IfOk, IfSome, is_some, length, refl};
+ghost use Rattle.std.specs.Prelude.{◌≡◌, ◌<◌, ◌≤◌, ◌++◌, ◌∷◌, [], ℕ, List, Option, Some, None, OnOk, OnErr, IfOk, IfSome, is_some, length, option_map, refl, slice_get};
 ghost use Rattle.dimacs_lines.specs.Limits.{most_count, most_nodes};
 ghost use Rattle.dimacs_lines.specs.Devices.{CountsFault};
 ghost use Rattle.dimacs_lines.specs.Lines.{lines};
@@ -28,7 +28,7 @@ use dimacs_lines::{DeviceFault, Memory, Page, Sink, Source};
 use dimacs_nodes::{NodeSet, NodeTable};
 use dimacs_records::{
     Begun, CountedReading, Declared, Earlier, ReadError, Record, TextKind, read_counted,
-    write_record,
+    write_lines, write_record,
 };
 use std::alloc::Global;
 use std::marker::Model;
@@ -400,9 +400,15 @@ fn write_block<S: Sink>(page: &mut Page, sink: &mut S, block: &Block)
             radius,
         },
     );
-    for i in 0..labels.len() {
-        write_record(page, sink, &label_record(labels.at(i)));
-    }
+    write_lines(
+        page,
+        sink,
+        labels.len(),
+        |i|
+            requires { i < length labels.now }
+            ensures { result ≡ option_map label_line (slice_get labels.entry.now i) }
+        { Some(label_record(labels.at(i))) },
+    );
 }
 
 /// The line of a label.

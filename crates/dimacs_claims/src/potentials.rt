@@ -1,28 +1,24 @@
 //! Potentials of nodes.
 
-ghost use Rattle.std.specs.Prelude.{◌≡◌, ◌≤◌, ◌++◌, ◌∷◌, [], ℕ, List, Some, OnOk, OnErr, length, map, refl};
-ghost use Rattle.std.specs.List.{filter};
+ghost use Rattle.std.specs.Prelude.{◌≡◌, ◌≤◌, ◌<◌, ◌+◌, ◌++◌, ◌∷◌, [], ℕ, List, None, Some, OnOk, OnErr, if◌then◌else◌, length, refl};
 ghost use Rattle.dimacs_lines.specs.Limits.{most_nodes};
 ghost use Rattle.dimacs_lines.specs.Devices.{CountsFault};
 ghost use Rattle.dimacs_lines.specs.Lines.{lines};
-ghost use Rattle.dimacs_lines.specs.Pages.{Appends, CountsOn};
 ghost use Rattle.dimacs_lines.specs.Puts.{Puts};
 ghost use Rattle.dimacs_records.specs.declared.kinds.TextKind.TheVariants as kinds;
-ghost use Rattle.dimacs_records.specs.declared.records.Record.TheVariants.{PotentialsProblem};
-ghost use Rattle.dimacs_records.specs.Canonical.{canonical_text};
+ghost use Rattle.dimacs_records.specs.declared.records.Record.TheVariants.{PotentialsNode};
 ghost use Rattle.dimacs_records.specs.Faults.{Fault};
 ghost use Rattle.dimacs_records.specs.Readings.{CountsRead};
 ghost use Rattle.dimacs_records.specs.Texts.{Reads};
 ghost use Rattle.dimacs_records.specs.Ranges.{IsNode, IsWide};
-ghost use Rattle.dimacs_claims.specs.Potentials.{PotentialsValue, ArePotentials, GivesPotentials, SpellsPotentials, canonical_potentials, node_line, nonzero_ids, potential_of, with_potential, with_values, zero_potentials};
+ghost use Rattle.dimacs_claims.specs.Potentials.{PotentialsValue, ArePotentials, GivesPotentials, SpellsPotentials, canonical_potentials, nonzero_ids, potential_of, with_potential, zero_potentials};
 ghost use Rattle.dimacs_records.specs.NodeValues.{is_nonzero};
 ghost use Rattle.dimacs_claims.specs.PotentialsReading.{ArePotentialsBegunBy, after_lines, before};
 
-use dimacs_lines::{DeviceFault, Memory, Page, Sink, Source};
+use dimacs_lines::{DeviceFault, Memory, Sink, Source};
 use dimacs_nodes::WideMap;
 use dimacs_records::{
-    Begun, CountedReading, Declared, Earlier, ReadError, Record, TextKind, read_counted,
-    write_record,
+    Begun, CountedReading, Declared, Earlier, ReadError, Record, TextKind, put_text, read_counted,
 };
 use std::alloc::Global;
 use std::marker::Model;
@@ -219,24 +215,18 @@ pub fn write_potentials<S: Sink>(potentials: &Potentials, sink: &mut S) -> Resul
 {
     let nodes = potentials.nodes();
     let count = potentials.count_nonzero();
-    let mut page = Page::new();
-    write_record(&mut page, sink, &Record::PotentialsProblem { nodes, count });
-    for id in 1..nodes + 1 {
-        write_node(&mut page, sink, potentials, id);
-    }
-    page.finish(sink)
-}
-
-/// Writes the line of a node, if its potential isn't 0.
-#[inline(always)]
-fn write_node<S: Sink>(page: &mut Page, sink: &mut S, potentials: &Potentials, id: u32)
-    ensures written { Appends (canonical_text (map node_line
-        (with_values potentials.now (filter (λ id. is_nonzero (potential_of potentials.now id)) (id ∷ [])))))
-        (S.accepted sink.old) page.old (S.accepted sink.new) page.new }
-    ensures faults { CountsOn (S.faults sink.old) page.old (S.faults sink.new) page.new }
-{
-    let value = potentials.of(id);
-    if value != 0 {
-        write_record(page, sink, &Record::PotentialsNode { id, value });
-    }
+    put_text(
+        sink,
+        &[Record::PotentialsProblem { nodes, count }],
+        nodes as usize,
+        |i|
+            requires { i < most_nodes }
+            ensures { let value = potential_of potentials.entry.now (i + 1) in
+                result ≡ (if is_nonzero value then Some (PotentialsNode (i + 1) value) else None) }
+        {
+            let id = i as u32 + 1;
+            let value = potentials.of(id);
+            (value != 0).then_some(Record::PotentialsNode { id, value })
+        },
+    )
 }

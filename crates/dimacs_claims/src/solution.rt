@@ -1,6 +1,6 @@
 //! Solutions: a value, and the flows of arcs.
 
-ghost use Rattle.std.specs.Prelude.{◌≡◌, ℕ, List, [], Some, IfOk, map};
+ghost use Rattle.std.specs.Prelude.{◌≡◌, ◌<◌, ℕ, List, [], Some, IfOk, length, map, option_map, slice_get};
 ghost use Rattle.dimacs_claims.specs.declared.solution.Entry.{Entry};
 ghost use Rattle.std.specs.Result.{result_map_both};
 ghost use Rattle.dimacs_lines.specs.Devices.{CountsFault};
@@ -16,10 +16,10 @@ ghost use Rattle.dimacs_claims.specs.SolutionReading.{GivesPlaced, IsPlaced, IsP
 ghost use Rattle.dimacs_claims.specs.inside.SolutionReading.{TakesSolutionLine, earlier_value};
 
 use crate::place::{Place, Placed};
-use dimacs_lines::{DeviceFault, Page, Sink, Source};
+use dimacs_lines::{DeviceFault, Sink, Source};
 use dimacs_records::{
-    Earlier, ReadError, Reading, Record, TakeError, TextKind, read_text, test_end, test_record,
-    write_record,
+    Earlier, ReadError, Reading, Record, TakeError, TextKind, put_text, read_text, test_end,
+    test_record,
 };
 use std::alloc::Global;
 
@@ -201,10 +201,14 @@ pub fn write_solution<S: Sink>(solution: &Solution, sink: &mut S) -> Result<(), 
         → canonical_solution read ≡ canonical_solution (claimed solution.now) }
 {
     let value = solution.value;
-    let mut page = Page::new();
-    write_record(&mut page, sink, &Record::SolutionValue { value });
-    for entry in &solution.entries {
-        write_record(&mut page, sink, &entry.record());
-    }
-    page.finish(sink)
+    let entries = solution.entries.as_slice();
+    put_text(
+        sink,
+        &[Record::SolutionValue { value }],
+        entries.len(),
+        |i|
+            requires { i < length entries.now }
+            ensures { result ≡ option_map entry_record (slice_get entries.entry.now i) }
+        { Some(entries[i].record()) },
+    )
 }

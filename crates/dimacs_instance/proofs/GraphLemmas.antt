@@ -1,8 +1,7 @@
 -- Records after those of a graph that was begun.
-use Rattle.std.proofs.Common.{◌≡◌, ℕ, suc, ◌<◌, ◌≤◌, ◌∷◌, ◌++◌, [], List, false, Some, length, map, take, ◌+◌, refl, ap, ap₂, sym, ◌∙◌, arith}
-use Rattle.std.specs.Prelude.{ℤ, pos, codes, slice_get, nat_lt, nat_le}
+use Rattle.std.proofs.Common.{◌≡◌, ℕ, suc, ◌<◌, ◌≤◌, ◌∷◌, ◌++◌, [], List, false, Some, length, map, refl, ap, ap₂, sym, ◌∙◌, arith}
+use Rattle.std.specs.Prelude.{ℤ, pos, codes, nat_lt, nat_le}
 use Rattle.std.specs.List.{All}
-use Rattle.std.proofs.lemmas.List.{map-append}
 use Rattle.std.proofs.lemmas.Bool.{le-ltb}
 use Rattle.std.proofs.lemmas.Int.{ints}
 use Rattle.std.proofs.lemmas.List.{length-append, length-map}
@@ -28,7 +27,6 @@ use Rattle.dimacs_records.proofs.CanonicalLaws.{canonical_spelled, numbered_all}
 use Rattle.dimacs_instance.specs.Arcs.{JoinsNodes, NetworkValue}
 use Rattle.dimacs_instance.specs.Graph.{IsGraph, HasWeightAlone, GivesGraph, SpellsGraph, canonical_graph, graph_records, graph_arc}
 use Rattle.dimacs_instance.specs.GraphReading.{GraphBegun, graph_begun_records, after_lines}
-use Rattle.dimacs_instance.proofs.ArcLemmas.{take_next}
 
 counted_in-arcs : (arcs : List ArcView) → counted_in (map graph_arc arcs) ≡ length arcs
 counted_in-arcs [] = refl
@@ -139,8 +137,3 @@ graph_round_trip g is =
       spelled = canonical_spelled Graph (graph_records g) fit (omega (arith, length-map g.arcs graph_arc, is.arcs_few));
       given = (numbered_all (graph_records g), is);
     }
-
--- one arc more of the records
-pub next_records : (nodes : ℕ) (arcs : List ArcView) (i : ℕ) (a : ArcView) → slice_get arcs i ≡ Some a
-    → GraphProblem nodes (length arcs) ∷ map graph_arc (take (i + 1) arcs) ≡ (GraphProblem nodes (length arcs) ∷ map graph_arc (take i arcs)) ++ graph_arc a ∷ []
-next_records nodes arcs i a got = ap (λ some. GraphProblem nodes (length arcs) ∷ map graph_arc some) (take_next arcs i a got) ∙ ap (λ rs. GraphProblem nodes (length arcs) ∷ rs) (map-append graph_arc (take i arcs) (a ∷ []))

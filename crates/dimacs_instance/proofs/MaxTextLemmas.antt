@@ -1,10 +1,10 @@
 -- The records of maximum flow instances, and the texts of these.
-use Rattle.std.proofs.Common.{◌≡◌, ◌≢◌, ℕ, ◌<◌, ◌∷◌, ◌++◌, [], List, Bool, true, false, Some, length, map, take, ◌+◌, refl, ap, ap₂, sym, ◌∙◌, arith, inl, inr, length-append}
-use Rattle.std.specs.Prelude.{ℤ, pos, ◌≤ℤ◌, codes, slice_get, int_lt, nat_lt, if◌then◌else◌}
+use Rattle.std.proofs.Common.{◌≡◌, ◌≢◌, ℕ, ◌<◌, ◌∷◌, ◌++◌, [], List, Bool, true, false, Some, length, map, refl, ap, ap₂, sym, ◌∙◌, arith, inl, inr, length-append}
+use Rattle.std.specs.Prelude.{ℤ, pos, ◌≤ℤ◌, codes, int_lt, nat_lt, if◌then◌else◌}
 use Rattle.std.specs.List.{All, list_any}
 use Rattle.std.proofs.lemmas.Bool.{ne_eqb}
 use Rattle.std.proofs.lemmas.Int.{ints}
-use Rattle.std.proofs.lemmas.List.{map-append, length-map}
+use Rattle.std.proofs.lemmas.List.{length-map}
 use Rattle.std.proofs.lemmas.List.Elements.{All-nil, All-cons, All-head, All-tail}
 use Rattle.dimacs_lines.specs.Lines.{lines}
 use Rattle.dimacs_records.specs.declared.kinds.TextKind.TheVariants.{Max}
@@ -29,7 +29,6 @@ use Rattle.dimacs_instance.specs.Plain.{capacity_arc}
 use Rattle.dimacs_instance.specs.MaxTexts.{max_arc, max_records, canonical_max, GivesMax, SpellsMax}
 use Rattle.dimacs_instance.specs.MaxReading.{MaxBegun, IsMaxBegun, max_node, max_begun_records}
 use Rattle.dimacs_instance.proofs.MaxLemmas.{first_problem, one_more_node, one_more_arc, all_arcs, lacking}
-use Rattle.dimacs_instance.proofs.ArcLemmas.{take_next}
 
 -- an instance whose node lines come in this order
 abbrev read_whole : ℕ → EndLine → EndLine → List ArcView → MaxBegun
@@ -214,8 +213,3 @@ given_by rs m h = elim h.0 [
 -- the records of an instance are those of no other
 pub one_max : (rs : List LineRecord) (g h : MaxValue) → GivesMax rs g → GivesMax rs h → g ≡ h
 one_max rs g h a b = sym (given_by rs g a) ∙ given_by rs h b
-
--- one arc more after other records
-pub next_records : (problem first second : Record) (arcs : List ArcView) (i : ℕ) (a : ArcView) → slice_get arcs i ≡ Some a
-    → problem ∷ first ∷ second ∷ map max_arc (take (i + 1) arcs) ≡ (problem ∷ first ∷ second ∷ map max_arc (take i arcs)) ++ max_arc a ∷ []
-next_records problem first second arcs i a got = ap (λ rs. problem ∷ first ∷ second ∷ rs) (ap (map max_arc) (take_next arcs i a got) ∙ map-append max_arc (take i arcs) (a ∷ []))

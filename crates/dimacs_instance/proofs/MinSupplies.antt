@@ -1,24 +1,21 @@
 -- Supplies by node: their lines and their sums.
-use Rattle.std.proofs.Common.{◌≡◌, ℕ, zero, suc, ◌≤◌, ◌∷◌, ◌++◌, [], List, Option, Some, None, map, take, ◌+◌, ◌*◌, ◌^◌, cond, refl, ap, ap₂, sym, ◌∙◌, subst, append_assoc, add-one, arith}
-use Rattle.std.specs.Prelude.{ℤ, pos, negsuc, ◌≤ℤ◌, ◌<ℤ◌, ◌+ℤ◌, slice_get, sum_by, unwrap_or}
+use Rattle.std.proofs.Common.{◌≡◌, ℕ, zero, suc, ◌≤◌, ◌∷◌, ◌++◌, [], List, Option, Some, None, map, ◌+◌, ◌*◌, ◌^◌, cond, refl, ap, ap₂, sym, ◌∙◌, add-one, arith, ◌<◌, Bool, true, false}
+use Rattle.std.specs.Prelude.{ℤ, pos, negsuc, ◌≤ℤ◌, ◌<ℤ◌, ◌+ℤ◌, sum_by, unwrap_or}
 use Rattle.std.specs.List.{filter}
 use Rattle.std.specs.FinMap.{get, entries, values}
 use Rattle.std.proofs.lemmas.Int.{ints}
-use Rattle.std.proofs.lemmas.List.{map-append, append-nil, take_more}
+use Rattle.std.proofs.lemmas.List.{map-append}
 use Rattle.std.proofs.lemmas.List.Sums.{sum_by-append, sum_by-cons}
-use Rattle.std.proofs.lemmas.Option.{slice_get_within, get_or_from_slice_get}
 use Rattle.dimacs_lines.specs.Limits.{most_nodes}
-use Rattle.dimacs_lines.specs.Pages.{PageState, IsWritten}
 use Rattle.dimacs_nodes.proofs.Entries.{entry_of, entries_below, entries_below-none, entries_below-next, entries_are, All-get}
-use Rattle.dimacs_records.specs.declared.records.Record.TheVariants.{MinProblem}
-use Rattle.dimacs_records.specs.Canonical.{canonical_text}
-use Rattle.dimacs_instance.specs.declared.network.ArcView.{ArcView}
+use Rattle.dimacs_records.specs.declared.records.Record.TheVariants.{MinNode}
+use Rattle.dimacs_records.specs.Canonical.{AreLines, said_lines}
 use Rattle.dimacs_records.specs.Ranges.{IsWhole}
 use Rattle.dimacs_instance.specs.MinFlows.{MinValue, IsMin, IsSupply, supply_of, positive_part, negative_part}
-use Rattle.dimacs_instance.specs.MinTexts.{min_node, min_arc, min_records}
-use Rattle.dimacs_records.specs.NodeValues.{has_value}
+use Rattle.dimacs_instance.specs.MinTexts.{min_node}
+use Rattle.dimacs_records.specs.NodeValues.{has_value, is_nonzero}
 use Rattle.dimacs_instance.proofs.MinTextLemmas.{no_supply, no_supply_past, supplied_test}
-use Rattle.dimacs_records.proofs.WrittenLemmas.{canonical_text-append}
+use Rattle.dimacs_records.specs.declared.records.Record.{Record}
 
 -- the supplies of the nodes below n
 abbrev pub supplies_below : MinValue → ℕ → List (ℕ × ℤ)
@@ -91,31 +88,17 @@ pub negative_few : (s : ℤ) → IsWhole s → negative_part s ≤ 2 ^ 63
 negative_few (pos n) h = omega arith
 negative_few (negsuc n) h = omega (arith, ints, h.0)
 
--- the lines of supplies after a text
-module _ (start new : Option (List ℕ)) (page : PageState) (text : List ℕ) where
-  pub no_lines : (now : List (ℕ × ℤ)) → now ≡ [] → IsWritten start text new page → IsWritten start (text ++ canonical_text (map min_node now)) new page
-  no_lines now none h = subst (λ t. IsWritten start t new page) (sym (ap (λ es. text ++ canonical_text (map min_node es)) none ∙ append-nil text)) h
-
-  pub same_lines : (before now : List (ℕ × ℤ)) → now ≡ before → IsWritten start (text ++ canonical_text (map min_node before)) new page → IsWritten start (text ++ canonical_text (map min_node now)) new page
-  same_lines before now same h = subst (λ (es : List (ℕ × ℤ)). IsWritten start (text ++ canonical_text (map min_node es)) new page) (sym same) h
-
-  pub next_lines : (before more now : List (ℕ × ℤ)) → now ≡ before ++ more → IsWritten start ((text ++ canonical_text (map min_node before)) ++ canonical_text (map min_node more)) new page
-      → IsWritten start (text ++ canonical_text (map min_node now)) new page
-  next_lines before more now is h =
-      let lines : canonical_text (map min_node now) ≡ canonical_text (map min_node before) ++ canonical_text (map min_node more) =
-      ap (λ es. canonical_text (map min_node es)) is ∙ ap canonical_text (map-append min_node before more) ∙ canonical_text-append (map min_node before) (map min_node more) in
-      subst (λ t. IsWritten start t new page) (append_assoc text (canonical_text (map min_node before)) (canonical_text (map min_node more)) ∙ ap (λ t. text ++ t) (sym lines)) h
-
--- the problem line and the node lines
-pub node_lines : (nodes count : ℕ) (named : List (ℕ × ℤ)) → canonical_text (MinProblem nodes count ∷ []) ++ canonical_text (map min_node named) ≡ canonical_text (min_records nodes count named [])
-node_lines nodes count named =
-    sym (canonical_text-append (MinProblem nodes count ∷ []) (map min_node named)) ∙ ap (λ t. canonical_text (MinProblem nodes count ∷ t)) (sym (append-nil (map min_node named)))
-
--- one arc more of the records
-pub next_records : (nodes count : ℕ) (named : List (ℕ × ℤ)) (arcs : List ArcView) (i : ℕ) (a : ArcView) → slice_get arcs i ≡ Some a
-    → min_records nodes count named (take (i + 1) arcs) ≡ min_records nodes count named (take i arcs) ++ min_arc a ∷ []
-next_records nodes count named arcs i a got =
-    let taken : take (i + 1) arcs ≡ take i arcs ++ a ∷ [] = take_more arcs i a (slice_get_within arcs i a got) ∙ ap (λ x. take i arcs ++ x ∷ []) (get_or_from_slice_get arcs i a a got) in
-    ap (min_records nodes count named) taken
-    ∙ ap (λ t. MinProblem nodes count ∷ map min_node named ++ t) (map-append min_arc (take i arcs) (a ∷ []))
-    ∙ ap (λ t. MinProblem nodes count ∷ t) (sym (append_assoc (map min_node named) (map min_arc (take i arcs)) (min_arc a ∷ [])))
+-- a line for each node whose supply isn't 0
+pub supply_lines : (m : MinValue) → IsMin m → (says : ℕ → Option Record → Type 0) (n : ℕ)
+    → ((i : ℕ) (said : Option Record) → i < n → says i said → said ≡ cond (is_nonzero (supply_of m (i + 1))) (Some (MinNode (i + 1) (supply_of m (i + 1)))) None)
+    → AreLines says n (λ i. map min_node (supplies_below m (i + 1)))
+supply_lines m law says n each = record {
+  none = ap (map min_node) (first_supplies m law);
+  more = λ i said within e.
+      ap (map min_node) (next_supplies m law (i + 1)) ∙ map-append min_node (supplies_below m (i + 1)) (filter has_value ((i + 1, supply_of m (i + 1)) ∷ []))
+      ∙ ap (λ rs. map min_node (supplies_below m (i + 1)) ++ rs) (by_test (i + 1, supply_of m (i + 1)) said (is_nonzero (supply_of m (i + 1))) (each i said within e));
+}
+  where
+    by_test : (s : ℕ × ℤ) (said : Option Record) (b : Bool) → said ≡ cond b (Some (min_node s)) None → map min_node (cond b (s ∷ []) []) ≡ said_lines said
+    by_test s said true is = rw is refl
+    by_test s said false is = rw is refl

@@ -1,11 +1,10 @@
 -- Records after those of queries that were begun.
-use Rattle.std.proofs.Common.{◌≡◌, ℕ, suc, ◌<◌, ◌≤◌, ◌∷◌, ◌++◌, [], List, true, false, Some, length, map, take, ◌+◌, refl, ap, ap₂, sym, ◌∙◌, arith, inl, inr, ◌⊎◌}
-use Rattle.std.specs.Prelude.{codes, nat_lt, nat_le, slice_get}
+use Rattle.std.proofs.Common.{◌≡◌, ℕ, suc, ◌<◌, ◌≤◌, ◌∷◌, ◌++◌, [], List, true, false, Some, length, map, refl, ap, ap₂, sym, ◌∙◌, arith, inl, inr, ◌⊎◌}
+use Rattle.std.specs.Prelude.{codes, nat_lt, nat_le}
 use Rattle.std.specs.List.{All, list_any}
 use Rattle.std.proofs.lemmas.Int.{ints}
-use Rattle.std.proofs.lemmas.List.{length-append, length-map, take_more}
+use Rattle.std.proofs.lemmas.List.{length-append, length-map}
 use Rattle.std.proofs.lemmas.List.Elements.{All-cons, All-map, All-weaker}
-use Rattle.std.proofs.lemmas.Option.{slice_get_within, get_or_from_slice_get}
 use Rattle.std.proofs.lemmas.Bool.Decides.{nat_tests}
 use Rattle.dimacs_lines.specs.Limits.{most_count}
 use Rattle.dimacs_records.specs.declared.kinds.TextKind.TheVariants as kinds
@@ -181,7 +180,3 @@ queries_round_trip queries are =
       spelled = canonical_spelled kinds.Queries (query_records queries) fit (omega (arith, are.few));
       given = (numbered_all (query_records queries), are);
     }
-
--- one query more of the records
-pub next_query : (first : Record) (lines : List Record) (i : ℕ) (r : Record) → slice_get lines i ≡ Some r → first ∷ take (i + 1) lines ≡ (first ∷ take i lines) ++ r ∷ []
-next_query first lines i r got = ap (λ rs. first ∷ rs) (take_more lines i r (slice_get_within lines i r got) ∙ ap (λ x. take i lines ++ x ∷ []) (get_or_from_slice_get lines i r r got))

@@ -1,6 +1,6 @@
 //! Graphs for shortest paths.
 
-ghost use Rattle.std.specs.Prelude.{◌≡◌, ℕ, List, IfOk, Some, refl};
+ghost use Rattle.std.specs.Prelude.{◌≡◌, ◌<◌, ◌^◌, ℕ, List, IfOk, Some, length, option_map, refl, slice_get};
 ghost use Rattle.dimacs_lines.specs.Devices.{CountsFault};
 ghost use Rattle.dimacs_lines.specs.Puts.{Puts};
 ghost use Rattle.dimacs_records.specs.declared.kinds.TextKind.TheVariants as kinds;
@@ -18,10 +18,9 @@ use crate::network::{ArcView, Network};
 use crate::of_arcs::OfWeightArcs;
 use crate::plain::{KeptArc, PlainArcs, WeightArc};
 use crate::star::ForwardStar;
-use dimacs_lines::{DeviceFault, Memory, Page, Sink, Source};
+use dimacs_lines::{DeviceFault, Memory, Sink, Source};
 use dimacs_records::{
-    Begun, CountedReading, Declared, Earlier, ReadError, Record, TextKind, read_counted,
-    write_record,
+    Begun, CountedReading, Declared, Earlier, ReadError, Record, TextKind, put_text, read_counted,
 };
 use std::alloc::Global;
 use std::marker::{Model, PhantomData};
@@ -188,12 +187,15 @@ pub fn write_graph<N: Network, S: Sink>(graph: &Graph<N>, sink: &mut S) -> Resul
     let network = graph.network();
     let nodes = network.nodes();
     let arcs = network.arcs();
-    let mut page = Page::new();
-    write_record(&mut page, sink, &Record::GraphProblem { nodes, arcs });
-    for i in 0..arcs {
-        write_record(&mut page, sink, &arc_record(network.arc(i)));
-    }
-    page.finish(sink)
+    put_text(
+        sink,
+        &[Record::GraphProblem { nodes, arcs }],
+        arcs as usize,
+        |i|
+            requires { i < length (N.list network.now) × i < 2 ^ 32 }
+            ensures { result ≡ option_map graph_arc (slice_get (N.list network.entry.now) i) }
+        { Some(arc_record(network.arc(i as u32))) },
+    )
 }
 
 /// The line of an arc.

@@ -1,6 +1,6 @@
 //! Maximum flow instances.
 
-ghost use Rattle.std.specs.Prelude.{◌≡◌, ◌++◌, ◌∷◌, [], ℕ, List, Some, IfOk, false, refl};
+ghost use Rattle.std.specs.Prelude.{◌≡◌, ◌<◌, ◌^◌, ◌++◌, ◌∷◌, [], ℕ, List, Some, IfOk, false, length, option_map, refl, slice_get};
 ghost use Rattle.std.specs.List.{list_any};
 ghost use Rattle.dimacs_lines.specs.Devices.{CountsFault};
 ghost use Rattle.dimacs_lines.specs.Lines.{lines};
@@ -21,10 +21,10 @@ use crate::network::{ArcView, Network};
 use crate::of_arcs::OfCapacityArcs;
 use crate::plain::{CapacityArc, KeptArc, PlainArcs};
 use crate::star::ForwardStar;
-use dimacs_lines::{DeviceFault, Memory, Page, Sink, Source};
+use dimacs_lines::{DeviceFault, Memory, Sink, Source};
 use dimacs_records::{
-    Begun, CountedReading, Declared, Earlier, End, ReadError, Record, TextKind, read_counted,
-    write_record,
+    Begun, CountedReading, Declared, Earlier, End, ReadError, Record, TextKind, put_text,
+    read_counted,
 };
 use std::alloc::Global;
 use std::marker::{Model, PhantomData};
@@ -313,14 +313,15 @@ pub fn write_max<N: Network, S: Sink>(max: &MaxInstance<N>, sink: &mut S) -> Res
     let nodes = network.nodes();
     let arcs = network.arcs();
     let (first, second) = node_lines(max);
-    let mut page = Page::new();
-    write_record(&mut page, sink, &Record::MaxProblem { nodes, arcs });
-    write_record(&mut page, sink, &first);
-    write_record(&mut page, sink, &second);
-    for i in 0..arcs {
-        write_record(&mut page, sink, &arc_record(network.arc(i)));
-    }
-    page.finish(sink)
+    put_text(
+        sink,
+        &[Record::MaxProblem { nodes, arcs }, first, second],
+        arcs as usize,
+        |i|
+            requires { i < length (N.list network.now) × i < 2 ^ 32 }
+            ensures { result ≡ option_map max_arc (slice_get (N.list network.entry.now) i) }
+        { Some(arc_record(network.arc(i as u32))) },
+    )
 }
 
 /// The node lines by ID.

@@ -1,21 +1,18 @@
 //! Minimum cost flow instances.
 
-ghost use Rattle.std.specs.Prelude.{◌≡◌, ◌≤ℤ◌, ◌<ℤ◌, ◌+ℤ◌, ◌^◌, ◌∷◌, [], ℕ, List, map, Some, pos, IfOk, refl};
-ghost use Rattle.std.specs.List.{filter};
-ghost use Rattle.std.specs.FinMap.{entries};
+ghost use Rattle.std.specs.Prelude.{◌≡◌, ◌<◌, ◌+◌, ◌≤ℤ◌, ◌<ℤ◌, ◌+ℤ◌, ◌^◌, ◌∷◌, [], ℕ, List, None, Some, pos, IfOk, if◌then◌else◌, length, option_map, refl, slice_get};
 ghost use Rattle.dimacs_lines.specs.Devices.{CountsFault};
+ghost use Rattle.dimacs_lines.specs.Limits.{most_nodes};
 ghost use Rattle.dimacs_lines.specs.Lines.{lines};
-ghost use Rattle.dimacs_lines.specs.Pages.{Appends, CountsOn};
 ghost use Rattle.dimacs_lines.specs.Puts.{Puts};
 ghost use Rattle.dimacs_records.specs.declared.kinds.TextKind.TheVariants as kinds;
 ghost use Rattle.dimacs_records.specs.declared.records.Record.TheVariants.{MinNode};
-ghost use Rattle.dimacs_records.specs.Canonical.{canonical_text};
 ghost use Rattle.dimacs_records.specs.Readings.{CountsRead};
 ghost use Rattle.dimacs_records.specs.Faults.{Fault};
 ghost use Rattle.dimacs_records.specs.Texts.{Reads};
 ghost use Rattle.dimacs_instance.specs.MinFlows.{MinValue, IsMin, supply_of, positive_part, negative_part, supply_sum, demand_sum};
-ghost use Rattle.dimacs_instance.specs.MinTexts.{GivesMin, SpellsMin, canonical_min, min_node, min_arc};
-ghost use Rattle.dimacs_records.specs.NodeValues.{has_value};
+ghost use Rattle.dimacs_instance.specs.MinTexts.{GivesMin, SpellsMin, canonical_min, min_arc};
+ghost use Rattle.dimacs_records.specs.NodeValues.{is_nonzero};
 ghost use Rattle.dimacs_instance.specs.MinReading.{IsMinBegunBy, after_lines, before};
 
 mod build;
@@ -28,7 +25,7 @@ use dimacs_lines::{DeviceFault, Memory, Page, Sink, Source};
 use dimacs_nodes::NodeMap;
 use dimacs_records::{
     Begun, CountedReading, Declared, Earlier, ReadError, Record, TextKind, read_counted,
-    write_record,
+    write_lines, write_record,
 };
 use std::alloc::Global;
 use std::marker::{Model, PhantomData};
@@ -296,33 +293,30 @@ pub fn write_min<N: Network, S: Sink>(
     let arcs = network.arcs();
     let mut page = Page::new();
     write_record(&mut page, sink, &Record::MinProblem { nodes, arcs });
-    write_supplies(&mut page, sink, instance);
-    for i in 0..arcs {
-        write_record(&mut page, sink, &arc_record(network.arc(i)));
-    }
+    write_lines(
+        &mut page,
+        sink,
+        nodes as usize,
+        |i|
+            requires { i < most_nodes }
+            ensures { let supply = supply_of instance.entry.now (i + 1) in
+                result ≡ (if is_nonzero supply then Some (MinNode (i + 1) supply) else None) }
+        {
+            let id = i as u32 + 1;
+            let supply = instance.supply(id);
+            (supply != 0).then_some(Record::MinNode { id, supply })
+        },
+    );
+    write_lines(
+        &mut page,
+        sink,
+        arcs as usize,
+        |i|
+            requires { i < length (N.list network.now) × i < 2 ^ 32 }
+            ensures { result ≡ option_map min_arc (slice_get (N.list network.entry.now) i) }
+        { Some(arc_record(network.arc(i as u32))) },
+    );
     page.finish(sink)
-}
-
-/// Writes the node lines, by ID.
-fn write_supplies<N: Network, S: Sink>(page: &mut Page, sink: &mut S, instance: &MinInstance<N>)
-    ensures written { Appends (canonical_text (map min_node (entries instance.now.supplies))) (S.accepted sink.old) page.old (S.accepted sink.new) page.new }
-    ensures faults { CountsOn (S.faults sink.old) page.old (S.faults sink.new) page.new }
-{
-    for id in 1..=instance.network().nodes() {
-        write_supply(page, sink, id, instance.supply(id));
-    }
-}
-
-/// Writes the line of a node, unless its supply is 0.
-#[inline(always)]
-fn write_supply<S: Sink>(page: &mut Page, sink: &mut S, id: u32, supply: i64)
-    ensures written { Appends (canonical_text (map min_node (filter has_value ((id, supply) ∷ []))))
-        (S.accepted sink.old) page.old (S.accepted sink.new) page.new }
-    ensures faults { CountsOn (S.faults sink.old) page.old (S.faults sink.new) page.new }
-{
-    if supply != 0 {
-        write_record(page, sink, &Record::MinNode { id, supply });
-    }
 }
 
 /// The line of an arc.

@@ -18,7 +18,7 @@ ghost use Rattle.dimacs_instance.specs.QueriesReading.{queries_begun_records, af
 use dimacs_lines::{DeviceFault, Memory, Page, Sink, Source};
 use dimacs_records::{
     Begun, CountedReading, Declared, Earlier, Part, QueryKind, ReadError, Record, TextKind,
-    read_counted, write_line, write_record,
+    read_counted, write_line, write_lines,
 };
 use std::alloc::Global;
 use std::marker::Model;
@@ -226,9 +226,15 @@ pub fn write_queries<S: Sink>(queries: &Queries, sink: &mut S) -> Result<(), Dev
 {
     let mut page = Page::new();
     write_problem(&mut page, sink, queries.kind(), queries.len());
-    for i in 0..queries.len() {
-        write_record(&mut page, sink, &queries.line(i));
-    }
+    write_lines(
+        &mut page,
+        sink,
+        queries.len(),
+        |i|
+            requires { i < length (query_lines (asked queries.now)) }
+            ensures { result ≡ slice_get (query_lines (asked queries.entry.now)) i }
+        { Some(queries.line(i)) },
+    );
     page.finish(sink)
 }
 

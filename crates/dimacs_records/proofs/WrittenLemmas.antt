@@ -1,22 +1,42 @@
 -- Records written one after another.
-use Rattle.std.proofs.Common.{◌≡◌, ℕ, ◌∷◌, ◌++◌, [], List, Option, ap, sym, ◌∙◌, subst}
+use Rattle.std.proofs.Common.{◌≡◌, ◌<◌, ◌≤◌, ℕ, zero, suc, ◌∷◌, ◌++◌, [], List, Option, length, map, take, slice_get, refl, ap, sym, ◌∙◌, subst, append_assoc, add-one, arith}
+use Rattle.std.specs.Option.{option_map}
 use Rattle.std.proofs.lemmas.Grind.{flat_map-append}
-use Rattle.std.proofs.lemmas.List.{append-nil}
+use Rattle.std.proofs.lemmas.List.{append-nil, length-map, take_all}
+use Rattle.std.proofs.lemmas.Option.{slice_get-map}
 use Rattle.dimacs_lines.specs.Pages.{PageState, IsWritten}
 use Rattle.dimacs_records.specs.declared.records.Record.{Record}
-use Rattle.dimacs_records.specs.Canonical.{canonical_line, canonical_text}
+use Rattle.dimacs_records.specs.Canonical.{AreLines, canonical_line, canonical_text, said_lines}
 
 pub canonical_text-append : (rs more : List Record) → canonical_text (rs ++ more) ≡ canonical_text rs ++ canonical_text more
 canonical_text-append rs more = flat_map-append canonical_line rs more
 
--- more records were written
-pub written_after : (start new : Option (List ℕ)) (page : PageState) (before more rs : List Record) → rs ≡ before ++ more → IsWritten start (canonical_text before ++ canonical_text more) new page → IsWritten start (canonical_text rs) new page
-written_after start new page before more rs is h = subst (λ t. IsWritten start t new page) (sym (ap canonical_text is ∙ canonical_text-append before more)) h
+-- one record after other texts
+pub line_after : (start new : Option (List ℕ)) (page : PageState) (text : List ℕ) (r : Record) → IsWritten start (text ++ canonical_line r) new page → IsWritten start (text ++ canonical_text (r ∷ [])) new page
+line_after start new page text r h = subst (λ t. IsWritten start (text ++ t) new page) (sym (append-nil (canonical_line r))) h
 
--- the first record of a text was written
-pub written_first : (start new : Option (List ℕ)) (page : PageState) (r : Record) (rs : List Record) → rs ≡ r ∷ [] → IsWritten start ([] ++ canonical_line r) new page → IsWritten start (canonical_text rs) new page
-written_first start new page r rs is h = subst (λ t. IsWritten start t new page) (sym (ap canonical_text is ∙ append-nil (canonical_line r))) h
+-- more records after other texts
+pub lines_after : (start new : Option (List ℕ)) (page : PageState) (text : List ℕ) (before more all : List Record) → all ≡ before ++ more → IsWritten start ((text ++ canonical_text before) ++ canonical_text more) new page → IsWritten start (text ++ canonical_text all) new page
+lines_after start new page text before more all is h =
+    let same : (text ++ canonical_text before) ++ canonical_text more ≡ text ++ canonical_text all = append_assoc text (canonical_text before) (canonical_text more) ∙ ap (λ t. text ++ t) (sym (ap canonical_text is ∙ canonical_text-append before more)) in
+    subst (λ t. IsWritten start t new page) same h
 
--- one record more was written
-pub written_more : (start new : Option (List ℕ)) (page : PageState) (r : Record) (before rs : List Record) → rs ≡ before ++ r ∷ [] → IsWritten start (canonical_text before ++ canonical_line r) new page → IsWritten start (canonical_text rs) new page
-written_more start new page r before rs is h = written_after start new page before (r ∷ []) rs is (subst (λ t. IsWritten start (canonical_text before ++ t) new page) (sym (append-nil (canonical_line r))) h)
+next_line : (rs : List Record) (i : ℕ) → i < length rs → take (suc i) rs ≡ take i rs ++ said_lines (slice_get rs i)
+next_line [] i within = absurd (omega (arith, within))
+next_line (r ∷ rs) zero within = refl
+next_line (r ∷ rs) (suc i) within = ap (λ some. r ∷ some) (next_line rs i (omega (arith, within)))
+
+-- a line for each of a list
+pub lines_of_list : (says : ℕ → Option Record → Type 0) (n : ℕ) (rs : List Record) → n ≤ length rs → ((i : ℕ) (said : Option Record) → i < n → says i said → said ≡ slice_get rs i) → AreLines says n (λ i. take i rs)
+lines_of_list says n rs few each = record {
+  none = refl;
+  more = λ i said within e. ap (λ k. take k rs) (add-one i) ∙ next_line rs i (omega (arith, within, few)) ∙ ap (λ o. take i rs ++ said_lines o) (sym (each i said within e));
+}
+
+-- a line for each item of a list
+pub lines_of_items : {A : Type 0} (f : A → Record) (says : ℕ → Option Record → Type 0) (n : ℕ) (xs : List A) → n ≤ length xs → ((i : ℕ) (said : Option Record) → i < n → says i said → said ≡ option_map f (slice_get xs i)) → AreLines says n (λ i. take i (map f xs))
+lines_of_items f says n xs few each = lines_of_list says n (map f xs) (omega (arith, few, length-map xs f)) (λ i said within e. each i said within e ∙ sym (slice_get-map f xs i))
+
+-- they are all of them
+pub all_items : {A : Type 0} (f : A → Record) (n : ℕ) (xs : List A) → n ≡ length xs → take n (map f xs) ≡ map f xs
+all_items f n xs is = take_all n (map f xs) (omega (arith, is, length-map xs f))

@@ -1,5 +1,5 @@
 -- The line that spells a record in the canonical form.
-use Rattle.std.specs.Prelude.{ℕ, ◌≡◌, ◌⊎◌, List, [], ◌∷◌, map}
+use Rattle.std.specs.Prelude.{ℕ, ◌≡◌, ◌<◌, ◌+◌, ◌⊎◌, List, [], ◌∷◌, ◌++◌, map, Option, Some, None}
 use Rattle.std.specs.List.{flat_map, Contains}
 use Rattle.std.specs.Fmt.{signed_decimal}
 use Rattle.dimacs_lines.specs.Number.{IsWithin}
@@ -22,6 +22,15 @@ canonical_line r = line_of (letter_of r) (parts_of r)
 -- the lines of these records
 abbrev pub canonical_text : List Record → List ℕ
 canonical_text rs = flat_map canonical_line rs
+
+abbrev pub said_lines : Option Record → List Record
+said_lines None = []
+said_lines (Some r) = r ∷ []
+
+-- the lines of the numbers below each number, where these say a line or none
+pub record AreLines (says : ℕ → Option Record → Type 0) (count : ℕ) (below : ℕ → List Record) : Type 0 where
+  pub none : below 0 ≡ []
+  pub more : (i : ℕ) (said : Option Record) → i < count → says i said → below (i + 1) ≡ below i ++ said_lines said
 
 -- a field of this type can say this
 abbrev pub Fits : FieldType → Part → Type 0

@@ -1,11 +1,12 @@
 //! Records as lines in the canonical form: one blank between fields, numbers in decimal, a line end.
 
-ghost use Rattle.std.specs.Prelude.{◌≡◌, ℕ, List, Option, [], ◌∷◌, ◌++◌, pos, codes};
+ghost use Rattle.std.specs.Prelude.{◌≡◌, ◌<◌, ℕ, List, Option, [], ◌∷◌, ◌++◌, length, slice_get, pos, codes};
 ghost use Rattle.dimacs_lines.specs.Devices.{CountsFault};
 ghost use Rattle.dimacs_lines.specs.Puts.{Puts};
 ghost use Rattle.dimacs_lines.specs.Pages.{Appends, CountsOn};
 ghost use Rattle.dimacs_records.specs.declared.printed.Part.TheVariants.{Number};
-ghost use Rattle.dimacs_records.specs.Canonical.{canonical_line, line_of};
+ghost use Rattle.dimacs_records.specs.declared.records.Record.{Record};
+ghost use Rattle.dimacs_records.specs.Canonical.{AreLines, canonical_line, canonical_text, line_of, said_lines};
 ghost use Rattle.dimacs_records.specs.Spelling.{Text, Amount};
 
 use crate::printed::{Part, write_line};
@@ -20,6 +21,61 @@ pub fn put_record<S: Sink>(sink: &mut S, said: &Record) -> Result<(), DeviceFaul
     let mut page = Page::new();
     write_record(&mut page, sink, said);
     page.finish(sink)
+}
+
+/// Puts a text of these lines, and then of those that are said at the numbers below this one.
+pub fn put_text<S: Sink, F: Fn(usize) -> Option<Record>>(
+    sink: &mut S,
+    first: &[Record],
+    count: usize,
+    line: F,
+) -> Result<(), DeviceFault>
+    requires { (i : ℕ) → i < count → F.pre line i }
+    ensures puts { (below : ℕ → List Record) → AreLines (F.post line) count below
+        → Puts result (S.accepted sink.old) (canonical_text (first.now ++ below count)) (S.accepted sink.new) }
+    ensures fault { CountsFault result (S.faults sink.old) (S.faults sink.new) }
+{
+    let mut page = Page::new();
+    write_lines(
+        &mut page,
+        sink,
+        first.len(),
+        |i|
+            requires { i < length first.now }
+            ensures { result ≡ slice_get first.entry.now i }
+        { Some(first[i]) },
+    );
+    write_lines(&mut page, sink, count, line);
+    page.finish(sink)
+}
+
+/// Writes the lines that are said at the numbers below this one, in their order.
+#[inline(always)]
+pub fn write_lines<S: Sink, F: Fn(usize) -> Option<Record>>(
+    page: &mut Page,
+    sink: &mut S,
+    count: usize,
+    line: F,
+)
+    requires { (i : ℕ) → i < count → F.pre line i }
+    ensures written { (below : ℕ → List Record) → AreLines (F.post line) count below
+        → Appends (canonical_text (below count)) (S.accepted sink.old) page.old (S.accepted sink.new) page.new }
+    ensures faults { CountsOn (S.faults sink.old) page.old (S.faults sink.new) page.new }
+{
+    for i in 0..count {
+        write_said(page, sink, line(i));
+    }
+}
+
+/// Writes the line of a record, if there is one.
+#[inline(always)]
+fn write_said<S: Sink>(page: &mut Page, sink: &mut S, said: Option<Record>)
+    ensures written { Appends (canonical_text (said_lines said)) (S.accepted sink.old) page.old (S.accepted sink.new) page.new }
+    ensures faults { CountsOn (S.faults sink.old) page.old (S.faults sink.new) page.new }
+{
+    if let Some(said) = said {
+        write_record(page, sink, &said);
+    }
 }
 
 /// Writes the line of a record after what was written before.

@@ -21,7 +21,7 @@ mod reasons;
 mod records;
 mod text;
 
-pub use canonical::{put_record, write_record};
+pub use canonical::{put_record, put_text, write_lines, write_record};
 pub use counted::{Begun, CountedReading, read_counted};
 pub use driver::read_text;
 pub use faults::{At, LineFault, ReadError, TakeError};

@@ -1,15 +1,23 @@
-use Rattle.std.proofs.Common.{◌≡◌, ◌∷◌, [], ◌++◌, ◌+◌, ap, sym, subst, ◌∙◌, take, length}
+use Rattle.std.proofs.Common.{◌≡◌, ℕ, ◌<◌, ◌∷◌, [], List, ◌++◌, ◌+◌, ap, sym, subst, ◌∙◌, take, length, get_or}
 use Rattle.std.specs.List.{All, flat_map}
+use Rattle.std.proofs.lemmas.List.{append-nil, take_more}
+use Rattle.std.proofs.lemmas.List.Concat.{flat_map-append}
 use Rattle.dimacs_lines.specs.Lines.{lines}
 use Rattle.dimacs_records.specs.declared.kinds.TextKind.TheVariants.{Labels}
+use Rattle.dimacs_records.specs.declared.records.Record.{Record}
 use Rattle.dimacs_records.specs.declared.records.Record.TheVariants.{LabelsProblem}
 use Rattle.dimacs_records.proofs.ReadLaws.{spells_one_value}
 use Rattle.dimacs_records.specs.Canonical.{canonical_text}
-use Rattle.dimacs_claims.specs.Labels.{IsBlock}
+use Rattle.dimacs_claims.specs.Labels.{BlockValue, IsBlock}
 use Rattle.dimacs_claims.specs.LabelTexts.{GivesLabels, block_lines, canonical_labels}
 use Rattle.dimacs_claims.proofs.LabelLaws.{labels_round_trip, one_labels}
-use Rattle.dimacs_claims.proofs.LabelWrites.{line_after, lines_after, next_block}
+use Rattle.dimacs_records.proofs.WrittenLemmas.{line_after, lines_after}
 use Rattle.dimacs_claims.proofs.labels.write_labels.Goals as goal
+
+-- one block more
+next_block : (first : Record) (bs : List BlockValue) (i : ℕ) (d : BlockValue) → i < length bs → first ∷ flat_map block_lines (take (i + 1) bs) ≡ (first ∷ flat_map block_lines (take i bs)) ++ block_lines (get_or bs i d)
+next_block first bs i d below =
+    ap (λ t. first ∷ flat_map block_lines t) (take_more bs i d below) ∙ ap (λ t. first ∷ t) (flat_map-append block_lines (take i bs) (get_or bs i d ∷ []) ∙ ap (λ t. flat_map block_lines (take i bs) ++ t) (append-nil (block_lines (get_or bs i d))))
 
 pub loop-block-init : goal.loop-block-init
 loop-block-init g c =

@@ -1,37 +1,19 @@
-use Rattle.std.proofs.Common.{ap, ◌≡◌, ◌≤◌, ◌∷◌, [], refl, length, map, arith}
-use Rattle.std.specs.List.{filter}
+use Rattle.std.proofs.Common.{ap, map, arith}
 use Rattle.dimacs_lines.specs.Lines.{lines}
 use Rattle.dimacs_records.specs.declared.kinds.TextKind.TheVariants as kinds
-use Rattle.dimacs_records.specs.declared.records.Record.TheVariants.{PotentialsProblem}
 use Rattle.dimacs_records.proofs.ReadLaws.{spells_one_value}
-use Rattle.dimacs_records.proofs.WrittenLemmas.{written_first, written_after}
-use Rattle.dimacs_claims.specs.Potentials.{GivesPotentials, canonical_potentials, node_line, nonzero_ids, with_values}
-use Rattle.dimacs_claims.proofs.PotentialsLemmas.{nonzero_at, potentials_round_trip, lines_below, lines_below_next, one_potentials}
+use Rattle.dimacs_claims.specs.Potentials.{GivesPotentials, canonical_potentials, node_line, with_values}
+use Rattle.dimacs_claims.proofs.NodeLists.{passing}
+use Rattle.dimacs_claims.proofs.PotentialsLemmas.{nonzero_at, one_potentials, potential_lines, potentials_round_trip}
 use Rattle.dimacs_claims.proofs.potentials.write_potentials.Goals as goal
 
-pub loop-id-init : goal.loop-id-init
-loop-id-init g c =
-    let potentials = c.args.potentials.now in
-    let start = g.S.Sink.accepted c.args.sink.now in
-    let r = PotentialsProblem c.nodes-nodes.result c.count_nonzero-count.result in
-    let first : PotentialsProblem potentials.nodes (length (nonzero_ids potentials)) ∷ [] ≡ r ∷ [] = rw (c.nodes-nodes.ensures.nodes, c.count_nonzero-count.ensures) refl in
-    record {
-      least = omega arith;
-      written = written_first start _ _ r _ first (c.write_record.ensures.written start [] (c.new-page.ensures.written start));
-      faults = c.write_record.ensures.faults _ (c.new-page.ensures.faults _);
-    }
+pub put_text-requires : goal.put_text-requires
+put_text-requires g c = λ i within. omega (arith, within, c.nodes-nodes.ensures.nodes, c.nodes-nodes.ensures.lawful.nodes_few)
 
-pub loop-id-preserved : goal.loop-id-preserved
-loop-id-preserved g c =
-    let potentials = c.args.potentials.now in
-    let start = g.S.Sink.accepted c.args.sink.now in
-    let problem = PotentialsProblem potentials.nodes (length (nonzero_ids potentials)) in
-    let least : 1 ≤ c.loop-id.id = c.loop-id.invariant.least in
-    record {
-      least = omega (arith, least);
-      written = written_after start _ _ (problem ∷ lines_below potentials c.loop-id.id) (map node_line (with_values potentials (filter (nonzero_at potentials) (c.loop-id.id ∷ [])))) _ (lines_below_next problem potentials c.loop-id.id least) (c.write_node.ensures.written start _ c.loop-id.invariant.written);
-      faults = c.write_node.ensures.faults _ c.loop-id.invariant.faults;
-    }
+pub returns-clause-puts : goal.returns-clause-puts
+returns-clause-puts g c =
+    let p = c.args.potentials.now in
+    rw (c.nodes-nodes.ensures.nodes, c.count_nonzero-count.ensures) at (c.put_text.ensures.puts (λ i. map node_line (with_values p (passing (nonzero_at p) i))) (potential_lines p _ _ (λ i said within e. e)))
 
 pub returns-clause-round_trip : goal.returns-clause-round_trip
 returns-clause-round_trip g c = potentials_round_trip c.args.potentials.now c.nodes-nodes.ensures.lawful

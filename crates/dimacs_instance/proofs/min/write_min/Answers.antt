@@ -1,39 +1,36 @@
-use Rattle.std.proofs.Common.{ap, ◌≡◌, ◌∷◌, [], refl, subst, take, length}
-use Rattle.std.specs.Prelude.{slice_get, Some}
-use Rattle.std.specs.FinMap.{entries}
+use Rattle.std.proofs.Common.{ap, ◌≡◌, ◌∷◌, ◌+◌, [], refl, length, map, take, arith, rules}
 use Rattle.dimacs_lines.specs.Lines.{lines}
-use Rattle.dimacs_lines.specs.Pages.{IsWritten}
 use Rattle.dimacs_records.specs.declared.kinds.TextKind.TheVariants.{Min}
 use Rattle.dimacs_records.specs.declared.records.Record.TheVariants.{MinProblem}
 use Rattle.dimacs_records.proofs.ReadLaws.{spells_one_value}
-use Rattle.dimacs_records.proofs.WrittenLemmas.{written_first, written_more}
-use Rattle.dimacs_instance.specs.MinTexts.{canonical_min, GivesMin, min_arc, min_records}
+use Rattle.dimacs_records.proofs.WrittenLemmas.{all_items, line_after, lines_after, lines_of_items}
+use Rattle.dimacs_instance.specs.MinTexts.{canonical_min, GivesMin, min_arc, min_node}
 use Rattle.dimacs_instance.proofs.MinTextLemmas.{min_round_trip, one_min}
-use Rattle.dimacs_instance.proofs.MinSupplies.{node_lines, next_records}
+use Rattle.dimacs_instance.proofs.MinSupplies.{all_supplies, supplies_below, supply_lines}
 use Rattle.dimacs_instance.proofs.min.write_min.Goals as goal
 
-pub loop-i-init : goal.loop-i-init
-loop-i-init g c =
-    let m = c.args.instance.now in
-    let start = g.S.Sink.accepted c.args.sink.now in
-    let r = MinProblem c.nodes-nodes.result c.arcs-arcs.result in
-    let first : MinProblem m.nodes (length m.arcs) ∷ [] ≡ r ∷ [] = rw (c.nodes-nodes.ensures, c.arcs-arcs.ensures, c.network-network.ensures.nodes, c.network-network.ensures.arcs) refl in
-    record {
-      written = subst (λ t. IsWritten start t (g.S.Sink.accepted c.write_supplies.new.sink) c.write_supplies.new.page) (node_lines m.nodes (length m.arcs) (entries m.supplies))
-          (c.write_supplies.ensures.written start _ (written_first start _ _ r _ first (c.write_record.ensures.written start [] (c.new-page.ensures.written start))));
-      faults = c.write_supplies.ensures.faults _ (c.write_record.ensures.faults _ (c.new-page.ensures.faults _));
-    }
+pub write_lines-requires : goal.write_lines-requires
+write_lines-requires g c = λ i within. omega (arith, within, c.nodes-nodes.ensures, c.network-network.ensures.nodes, c.network-network.ensures.lawful.nodes_few)
 
-pub loop-i-preserved : goal.loop-i-preserved
-loop-i-preserved g c =
+pub write_lines-requires-2 : goal.write_lines-requires-2
+write_lines-requires-2 g c = λ i within. search (rules, within)
+
+pub returns-clause-puts : goal.returns-clause-puts
+returns-clause-puts g c =
     let m = c.args.instance.now in
+    let law = c.network-network.ensures.lawful in
     let start = g.S.Sink.accepted c.args.sink.now in
-    let got : slice_get m.arcs c.loop-i.i ≡ Some c.arc.result = rw c.network-network.ensures.arcs at c.arc.ensures in
-    record {
-      written = written_more start _ _ (min_arc c.arc.result) (min_records m.nodes (length m.arcs) (entries m.supplies) (take c.loop-i.i m.arcs)) _ (next_records m.nodes (length m.arcs) (entries m.supplies) m.arcs c.loop-i.i c.arc.result got)
-          (rw c.arc_record.ensures at (c.write_record-in-loop-i.ensures.written start _ c.loop-i.invariant.written));
-      faults = c.write_record-in-loop-i.ensures.faults _ c.loop-i.invariant.faults;
-    }
+    let nodes = c.nodes-nodes.result in
+    let n = c.arcs-arcs.result in
+    let all_nodes : nodes ≡ m.nodes = rw c.network-network.ensures.nodes at c.nodes-nodes.ensures in
+    let all_arcs : n ≡ length m.arcs = rw c.network-network.ensures.arcs at c.arcs-arcs.ensures in
+    let problem = MinProblem nodes n in
+    let supplies = map min_node (supplies_below m (nodes + 1)) in
+    let first = line_after start _ _ [] problem (c.write_record.ensures.written start [] (c.new-page.ensures.written start)) in
+    let second = lines_after start _ _ [] (problem ∷ []) supplies _ refl (c.write_lines.ensures.written (λ i. map min_node (supplies_below m (i + 1))) (supply_lines m law _ nodes (λ i said within e. e)) start _ first) in
+    let third = lines_after start _ _ [] (problem ∷ supplies) (take n (map min_arc m.arcs)) _ refl
+    (c.write_lines-2.ensures.written (λ i. take i (map min_arc m.arcs)) (lines_of_items min_arc _ n m.arcs (omega (arith, all_arcs)) (λ i said within e. rw c.network-network.ensures.arcs at e)) start _ second) in
+    rw (all_items min_arc n m.arcs all_arcs, all_nodes, all_arcs, all_supplies m law) at (c.finish.ensures.puts start _ third)
 
 pub returns-clause-round_trip : goal.returns-clause-round_trip
 returns-clause-round_trip g c = min_round_trip c.args.instance.now c.network-network.ensures.lawful

@@ -1,0 +1,20 @@
+use Rattle.std.proofs.Common.{◌≡◌, ◌++◌, ◌+◌, subst, arith}
+use Rattle.dimacs_lines.specs.Pages.{IsWritten}
+use Rattle.dimacs_records.specs.Canonical.{canonical_text, said_lines}
+use Rattle.dimacs_records.proofs.WrittenLemmas.{lines_after}
+use Rattle.dimacs_records.proofs.canonical.write_lines.Goals as goal
+
+pub loop-i-preserved : goal.loop-i-preserved
+loop-i-preserved g c = record {
+  within = omega (arith, c.loop-i-test.true);
+  written = λ below are start text h.
+      let i = c.loop-i.i in
+      lines_after start _ _ text (below i) (said_lines c.line.result) (below (i + 1)) (are.more i c.line.result c.loop-i-test.true c.line.ensures)
+      (c.write_said.ensures.written start (text ++ canonical_text (below i)) (c.loop-i.invariant.written below are start text h));
+  faults = λ start h. c.write_said.ensures.faults start (c.loop-i.invariant.faults start h);
+}
+
+pub returns-clause-written : goal.returns-clause-written
+returns-clause-written g c = λ below are start text h.
+    let end : c.loop-i.i ≡ c.args.count = omega (arith, c.loop-i-test.false, c.loop-i.invariant.within) in
+    subst (λ i. IsWritten start (text ++ canonical_text (below i)) (g.S.Sink.accepted c.loop-i.sink) c.loop-i.page) end (c.loop-i.invariant.written below are start text h)
