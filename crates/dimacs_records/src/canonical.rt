@@ -36,17 +36,26 @@ pub fn put_text<S: Sink, F: Fn(usize) -> Option<Record>>(
     ensures fault { CountsFault result (S.faults sink.old) (S.faults sink.new) }
 {
     let mut page = Page::new();
-    write_lines(
-        &mut page,
-        sink,
-        first.len(),
-        |i|
-            requires { i < length first.now }
-            ensures { result ≡ slice_get first.entry.now i }
-        { Some(first[i]) },
-    );
+    write_all(&mut page, sink, first);
     write_lines(&mut page, sink, count, line);
     page.finish(sink)
+}
+
+/// Writes the lines of these records. It is apart, since `write_record` is large where the record isn't known.
+#[inline(never)]
+fn write_all<S: Sink>(page: &mut Page, sink: &mut S, records: &[Record])
+    ensures written { Appends (canonical_text records.now) (S.accepted sink.old) page.old (S.accepted sink.new) page.new }
+    ensures faults { CountsOn (S.faults sink.old) page.old (S.faults sink.new) page.new }
+{
+    write_lines(
+        page,
+        sink,
+        records.len(),
+        |i|
+            requires { i < length records.now }
+            ensures { result ≡ slice_get records.entry.now i }
+        { Some(records[i]) },
+    );
 }
 
 /// Writes the lines that are said at the numbers below this one, in their order.
