@@ -2,9 +2,9 @@
 //! the last. Their records are read straight from the bytes that are held; any other line is left to `record`.
 
 ghost use Rattle.std.specs.Prelude.{◌≡◌, ◌≤◌, ◌∷◌, [], pos, length, drop, IfSome, IsTrue};
-ghost use Rattle.dimacs_records.specs.declared.kinds.TextKind.TheVariants.{Max, Min, Graph, Solution, Potentials, Labels};
+ghost use Rattle.dimacs_records.specs.declared.kinds.TextKind.TheVariants.{Min, Potentials, Labels};
 ghost use Rattle.dimacs_records.specs.Forms.{Id, Whole};
-ghost use Rattle.dimacs_records.specs.inside.Plain.{IsPlainLine, SaysFirst};
+ghost use Rattle.dimacs_records.specs.inside.Plain.{IsPlainLine, SaysArc, SaysFirst};
 ghost use Rattle.dimacs_records.specs.Spelling.{Amount};
 
 use crate::kinds::TextKind;
@@ -26,15 +26,6 @@ pub(crate) struct PlainLine {
     pub(crate) said: Record,
 }
 
-/// A line of two nodes and a number: how many bytes it takes with its end, and what it says.
-#[derive(Clone, Copy)]
-struct ArcLine {
-    size: usize,
-    tail: u32,
-    head: u32,
-    number: i64,
-}
-
 /// A line of a node and a number.
 #[derive(Clone, Copy)]
 struct NodeLine {
@@ -51,33 +42,13 @@ pub(crate) fn plain_line<R: Reading>(kind: TextKind, bytes: &[u8]) -> Option<Pla
     ensures { IfSome result (λ line. SaysFirst kind bytes.now line.said line.size) }
 {
     match kind {
-        TextKind::Max => max_line(bytes),
+        TextKind::Max | TextKind::Graph => arc_line(kind, b'a', bytes),
         TextKind::Min => min_line(bytes),
-        TextKind::Graph => graph_line(bytes),
-        TextKind::Solution => solution_line(bytes),
+        TextKind::Solution => arc_line(kind, b'f', bytes),
         TextKind::Potentials => potentials_line(bytes),
         TextKind::Labels => labels_line(bytes),
         TextKind::Queries | TextKind::Cut => None,
     }
-}
-
-/// An arc of a maximum flow.
-#[inline(always)]
-fn max_line(bytes: &[u8]) -> Option<PlainLine>
-    ensures { IfSome result (λ line. SaysFirst Max bytes.now line.said line.size) }
-{
-    let ArcLine {
-        size,
-        tail,
-        head,
-        number,
-    } = arc_line(bytes, b'a')?;
-    let said = Record::MaxArc {
-        tail,
-        head,
-        cap: number,
-    };
-    Some(PlainLine { size, said })
 }
 
 /// A node or an arc of a minimum cost flow.
@@ -90,44 +61,6 @@ fn min_line(bytes: &[u8]) -> Option<PlainLine>
     }
     let NodeLine { size, id, number } = node_line(bytes, b'n')?;
     let said = Record::MinNode { id, supply: number };
-    Some(PlainLine { size, said })
-}
-
-/// An arc of a graph.
-#[inline(always)]
-fn graph_line(bytes: &[u8]) -> Option<PlainLine>
-    ensures { IfSome result (λ line. SaysFirst Graph bytes.now line.said line.size) }
-{
-    let ArcLine {
-        size,
-        tail,
-        head,
-        number,
-    } = arc_line(bytes, b'a')?;
-    let said = Record::GraphArc {
-        tail,
-        head,
-        weight: number,
-    };
-    Some(PlainLine { size, said })
-}
-
-/// An entry of a solution.
-#[inline(always)]
-fn solution_line(bytes: &[u8]) -> Option<PlainLine>
-    ensures { IfSome result (λ line. SaysFirst Solution bytes.now line.said line.size) }
-{
-    let ArcLine {
-        size,
-        tail,
-        head,
-        number,
-    } = arc_line(bytes, b'f')?;
-    let said = Record::SolutionEntry {
-        tail,
-        head,
-        flow: number,
-    };
     Some(PlainLine { size, said })
 }
 
@@ -201,9 +134,8 @@ fn node_line(bytes: &[u8], letter: u8) -> Option<NodeLine>
 
 /// A line of two nodes and a number.
 #[inline(always)]
-fn arc_line(bytes: &[u8], letter: u8) -> Option<ArcLine>
-    ensures { IfSome result (λ line. IsPlainLine bytes.now letter (Id ∷ Id ∷ Whole ∷ [])
-        (Amount (pos line.tail) ∷ Amount (pos line.head) ∷ Amount line.number ∷ []) line.size) }
+fn arc_line(kind: TextKind, letter: u8, bytes: &[u8]) -> Option<PlainLine>
+    ensures { IfSome result (λ line. SaysFirst kind bytes.now line.said line.size) }
 {
     if !begins_with(bytes, letter) {
         return None;
@@ -211,12 +143,33 @@ fn arc_line(bytes: &[u8], letter: u8) -> Option<ArcLine>
     let (after_tail, tail) = plain_id(bytes, 2, b' ')?;
     let (after_head, head) = plain_id(bytes, after_tail, b' ')?;
     let (size, number) = plain_whole(bytes, after_head, b'\n')?;
-    Some(ArcLine {
-        size,
-        tail,
-        head,
-        number,
-    })
+    let said = arc_record(kind, letter, tail, head, number)?;
+    Some(PlainLine { size, said })
+}
+
+/// What a line of two nodes and a number says, where the kind has such lines of the letter.
+#[inline(always)]
+fn arc_record(kind: TextKind, letter: u8, tail: u32, head: u32, number: i64) -> Option<Record>
+    ensures { IfSome result (λ said. SaysArc kind letter tail head number said) }
+{
+    match (kind, letter) {
+        (TextKind::Max, b'a') => Some(Record::MaxArc {
+            tail,
+            head,
+            cap: number,
+        }),
+        (TextKind::Graph, b'a') => Some(Record::GraphArc {
+            tail,
+            head,
+            weight: number,
+        }),
+        (TextKind::Solution, b'f') => Some(Record::SolutionEntry {
+            tail,
+            head,
+            flow: number,
+        }),
+        _ => None,
+    }
 }
 
 /// Whether a letter and a blank stand in front.

@@ -1,6 +1,6 @@
 -- Inside: lines in the plain form: a letter, one blank before each field, and the line's end right after the last.
-use Rattle.std.specs.Prelude.{ℕ, ◌+◌, ◌≡◌, ◌≤◌, List, [], ◌∷◌, ◌++◌, length, drop, Option, Some, Result, Ok, Err}
-use Rattle.std.specs.List.{All}
+use Rattle.std.specs.Prelude.{ℕ, ℤ, pos, ◌+◌, ◌≡◌, ◌≤◌, List, [], ◌∷◌, ◌++◌, length, drop, Option, Some, Result, Ok, Err}
+use Rattle.std.specs.List.{All, Contains}
 use Rattle.dimacs_lines.specs.Devices.{before_piece}
 use Rattle.dimacs_lines.specs.Lines.{lines}
 use Rattle.dimacs_lines.specs.Plain.{EndsAt}
@@ -10,10 +10,10 @@ use Rattle.dimacs_records.specs.declared.kinds.TextKind.{TextKind}
 use Rattle.dimacs_records.specs.declared.records.Record.{Record}
 use Rattle.dimacs_records.specs.declared.plain.PlainLines.{PlainLines}
 use Rattle.dimacs_records.specs.inside.Driver.{IsReadSoFar, RefusesLine}
-use Rattle.dimacs_records.specs.Forms.{FieldType}
+use Rattle.dimacs_records.specs.Forms.{FieldType, Id, Whole, form, forms}
 use Rattle.dimacs_records.specs.LineReader.{ReadsLine}
 use Rattle.dimacs_records.specs.Readings.{LineRecord}
-use Rattle.dimacs_records.specs.Spelling.{Part, SayAll, texts_in}
+use Rattle.dimacs_records.specs.Spelling.{Part, Amount, SayAll, kind_of, letter_of, parts_of, texts_in}
 
 -- these texts stand there one after another: a blank after each but the last, and a line end after that
 abbrev pub Stand : List ℕ → ℕ → List (List ℕ) → ℕ → Type 0
@@ -28,6 +28,13 @@ pub record IsPlainLine (bytes : List ℕ) (letter : ℕ) (types : List FieldType
   pub stand : Stand bytes 2 texts size
   pub short : All (λ (text : List ℕ). length text ≤ 40) texts
   pub says : SayAll types texts parts
+
+-- lines of the kind have this letter, two nodes and a number, and the record is what such a line says
+pub record SaysArc (kind : TextKind) (letter tail head : ℕ) (n : ℤ) (r : Record) : Type 0 where
+  pub among : Contains (forms kind) (form (letter ∷ []) (Id ∷ Id ∷ Whole ∷ []))
+  pub of_kind : kind_of r ≡ kind
+  pub of_letter : letter_of r ≡ letter ∷ []
+  pub parts : parts_of r ≡ Amount (pos tail) ∷ Amount (pos head) ∷ Amount n ∷ []
 
 -- the first line of the bytes is whole and within the limits, and says this record; with its end it takes so many bytes
 pub record SaysFirst (kind : TextKind) (bytes : List ℕ) (r : Record) (size : ℕ) : Type 0 where
