@@ -1,10 +1,9 @@
 -- Arcs between given ends.
-use Rattle.std.proofs.Common.{◌≡◌, ℕ, ◌+◌, ◌∷◌, ◌++◌, [], List, true, false, take, count_by, Some, slice_get, ap, ◌∙◌, arith}
+use Rattle.std.proofs.Common.{◌≡◌, ℕ, ◌+◌, List, true, false, take, count_by, Some, slice_get, arith}
 use Rattle.std.specs.Prelude.{◌==◌}
 use Rattle.std.proofs.lemmas.Bool.{eq-eqb, and_from}
 use Rattle.std.proofs.lemmas.Bool.Decides.{nat_tests}
 use Rattle.std.proofs.lemmas.List.Sums.{count_by_more_yes, count_by_more_no}
-use Rattle.std.proofs.lemmas.List.{take_more}
 use Rattle.std.proofs.lemmas.Option.{slice_get_within, get_or_from_slice_get}
 use Rattle.dimacs_instance.specs.declared.network.ArcView.{ArcView}
 use Rattle.dimacs_instance.specs.Arcs.{joins}
@@ -22,7 +21,3 @@ module _ (arcs : List ArcView) (tail head i : ℕ) (a : ArcView) (got : slice_ge
 
   pub counts_other : (a.tail ≡ tail → a.head ≡ head → ⊥) → count_by (joins tail head) (take (i + 1) arcs) ≡ count_by (joins tail head) (take i arcs)
   counts_other other = count_by_more_no (joins tail head) arcs i a (slice_get_within arcs i a got) (rw (get_or_from_slice_get arcs i a a got) (joins_not tail head a other))
-
--- the arcs up to the next one
-pub take_next : (arcs : List ArcView) (i : ℕ) (a : ArcView) → slice_get arcs i ≡ Some a → take (i + 1) arcs ≡ take i arcs ++ a ∷ []
-take_next arcs i a got = take_more arcs i a (slice_get_within arcs i a got) ∙ ap (λ x. take i arcs ++ x ∷ []) (get_or_from_slice_get arcs i a a got)

@@ -110,7 +110,7 @@ impl<N: Network> MinInstance<N> {
             supplied: 0,
             demanded: 0,
         };
-        for id in 1..=self.network().nodes() {
+        for id in 1..self.network().nodes() + 1 {
             sums = sums.with(self.supply(id));
         }
         sums

@@ -8,59 +8,37 @@ use Rattle.dimacs_instance.proofs.min.MinInstance.supply_sums.Goals as goal
 
 pub loop-id-init : goal.loop-id-init
 loop-id-init g c = record {
-  within = omega arith;
+  within = omega (arith, c.network.ensures.nodes);
   supplied = ap pos (sym (sum_first positive_part refl c.args.self.now c.network.ensures.lawful));
   demanded = ap pos (sym (sum_first negative_part refl c.args.self.now c.network.ensures.lawful));
 }
 
-pub with-sums-requires-clause-supplied : goal.with-sums-requires-clause-supplied
-with-sums-requires-clause-supplied g c =
+pub with-sums-requires : goal.with-sums-requires
+with-sums-requires g c =
     let m = c.args.self.now in
     let law = c.network.ensures.lawful in
     let inside : c.loop-id.id ≤ most_nodes = omega (arith, c.loop-id-test.true, c.nodes-id-end.ensures, c.network.ensures.nodes, law.nodes_few) in
-    rw c.loop-id.invariant.supplied (sum_fits positive_part refl m (λ id. positive_few (supply_of m id) (whole_supply m law id)) c.loop-id.id inside)
-
-pub with-sums-requires-clause-demanded : goal.with-sums-requires-clause-demanded
-with-sums-requires-clause-demanded g c =
-    let m = c.args.self.now in
-    let law = c.network.ensures.lawful in
-    let inside : c.loop-id.id ≤ most_nodes = omega (arith, c.loop-id-test.true, c.nodes-id-end.ensures, c.network.ensures.nodes, law.nodes_few) in
-    rw c.loop-id.invariant.demanded (sum_fits negative_part refl m (λ id. negative_few (supply_of m id) (whole_supply m law id)) c.loop-id.id inside)
+    record {
+      supplied = rw c.loop-id.invariant.supplied (sum_fits positive_part refl m (λ id. positive_few (supply_of m id) (whole_supply m law id)) c.loop-id.id inside);
+      demanded = rw c.loop-id.invariant.demanded (sum_fits negative_part refl m (λ id. negative_few (supply_of m id) (whole_supply m law id)) c.loop-id.id inside);
+    }
 
 pub loop-id-preserved : goal.loop-id-preserved
 loop-id-preserved g c =
     let m = c.args.self.now in
     let fits : SFits w64 c.supply.result = search rules in
     record {
-      within = omega arith;
+      within = omega (arith, c.loop-id-test.true, c.nodes-id-end.ensures, c.network.ensures.nodes);
       supplied = sum_more positive_part refl m c.loop-id.id _ _ _ c.loop-id.invariant.supplied c.supply.ensures (rw (to_z-of_z w64 c.supply.result fits) at c.with-sums.ensures.supplied);
       demanded = sum_more negative_part refl m c.loop-id.id _ _ _ c.loop-id.invariant.demanded c.supply.ensures (rw (to_z-of_z w64 c.supply.result fits) at c.with-sums.ensures.demanded);
     }
 
-pub returns-clause-supplied : goal.returns-clause-supplied
-returns-clause-supplied g c =
+pub returns : goal.returns
+returns g c =
     let m = c.args.self.now in
+    let law = c.network.ensures.lawful in
     let end : c.loop-id.id ≡ m.nodes + 1 = omega (arith, c.loop-id-test.false, c.loop-id.invariant.within, c.nodes-id-end.ensures, c.network.ensures.nodes) in
-    c.loop-id.invariant.supplied ∙ ap (λ n. pos (sum_below positive_part m n)) end ∙ ap pos (sum_all positive_part refl m c.network.ensures.lawful)
-
-pub returns-2-clause-supplied : goal.returns-2-clause-supplied
-returns-2-clause-supplied g c =
-    let m = c.args.self.now in
-    let fits : SFits w64 c.supply.result = search rules in
-    let last : c.loop-id.id ≡ m.nodes = omega (arith, c.nodes-id-end.ensures, c.network.ensures.nodes) in
-    sum_more positive_part refl m c.loop-id.id _ _ _ c.loop-id.invariant.supplied c.supply.ensures (rw (to_z-of_z w64 c.supply.result fits) at c.with-sums.ensures.supplied)
-    ∙ ap (λ n. pos (sum_below positive_part m (n + 1))) last ∙ ap pos (sum_all positive_part refl m c.network.ensures.lawful)
-
-pub returns-clause-demanded : goal.returns-clause-demanded
-returns-clause-demanded g c =
-    let m = c.args.self.now in
-    let end : c.loop-id.id ≡ m.nodes + 1 = omega (arith, c.loop-id-test.false, c.loop-id.invariant.within, c.nodes-id-end.ensures, c.network.ensures.nodes) in
-    c.loop-id.invariant.demanded ∙ ap (λ n. pos (sum_below negative_part m n)) end ∙ ap pos (sum_all negative_part refl m c.network.ensures.lawful)
-
-pub returns-2-clause-demanded : goal.returns-2-clause-demanded
-returns-2-clause-demanded g c =
-    let m = c.args.self.now in
-    let fits : SFits w64 c.supply.result = search rules in
-    let last : c.loop-id.id ≡ m.nodes = omega (arith, c.nodes-id-end.ensures, c.network.ensures.nodes) in
-    sum_more negative_part refl m c.loop-id.id _ _ _ c.loop-id.invariant.demanded c.supply.ensures (rw (to_z-of_z w64 c.supply.result fits) at c.with-sums.ensures.demanded)
-    ∙ ap (λ n. pos (sum_below negative_part m (n + 1))) last ∙ ap pos (sum_all negative_part refl m c.network.ensures.lawful)
+    record {
+      supplied = c.loop-id.invariant.supplied ∙ ap (λ n. pos (sum_below positive_part m n)) end ∙ ap pos (sum_all positive_part refl m law);
+      demanded = c.loop-id.invariant.demanded ∙ ap (λ n. pos (sum_below negative_part m n)) end ∙ ap pos (sum_all negative_part refl m law);
+    }

@@ -7,7 +7,7 @@ use Rattle.dimacs_instance.proofs.min.MinInstance.supply_sums.Given as goal
 -- the supplies of the IDs so far were added
 abbrev pub invariant-loop-id : goal.invariant-loop-id
 invariant-loop-id g l = record {
-  within : l.id ≤ l.id-end + 1;
+  within : l.id ≤ l.self.nodes + 1;
   supplied : l.sums.supplied ≡ pos (sum_below positive_part l.self l.id);
   demanded : l.sums.demanded ≡ pos (sum_below negative_part l.self l.id);
 }
