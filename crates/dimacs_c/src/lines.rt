@@ -55,7 +55,7 @@ fn put_judged<K: Sink>(
     answer: Result<Verdict, ArrayError>,
 ) -> Result<u32, DeviceFault>
     ensures status { IfOk result (λ status. status ≡ (said verdict_said answer).status) }
-    ensures line { Puts result (K.accepted sink.old) (said verdict_said answer).line (K.accepted sink.new) }
+    ensures line { Puts result (K.seen sink.old) (said verdict_said answer).line (K.seen sink.new) }
 {
     match answer {
         Ok(verdict) => put_yes(sink, &verdict),
@@ -66,7 +66,7 @@ fn put_judged<K: Sink>(
 /// Puts the line of a verdict.
 pub(crate) fn put_yes<K: Sink>(sink: &mut K, verdict: &Verdict) -> Result<u32, DeviceFault>
     ensures status { IfOk result (λ status. status ≡ 0) }
-    ensures line { Puts result (K.accepted sink.old) (verdict_lines verdict.now) (K.accepted sink.new) }
+    ensures line { Puts result (K.seen sink.old) (verdict_lines verdict.now) (K.seen sink.new) }
 {
     put_verdict(sink, verdict)?;
     Ok(YES)
@@ -79,7 +79,7 @@ pub(crate) fn put_no<K: Sink>(
     reason: Reason,
 ) -> Result<u32, DeviceFault>
     ensures status { IfOk result (λ status. status ≡ 1) }
-    ensures line { Puts result (K.accepted sink.old) (failure_line place reason) (K.accepted sink.new) }
+    ensures line { Puts result (K.seen sink.old) (failure_line place reason) (K.seen sink.new) }
 {
     put_failure(sink, place, reason)?;
     Ok(NO)
@@ -88,7 +88,7 @@ pub(crate) fn put_no<K: Sink>(
 /// Puts the line that tells that a limit was reached.
 pub(crate) fn put_wide<K: Sink>(sink: &mut K) -> Result<u32, DeviceFault>
     ensures status { IfOk result (λ status. status ≡ 5) }
-    ensures line { Puts result (K.accepted sink.old) gave_up_line (K.accepted sink.new) }
+    ensures line { Puts result (K.seen sink.old) gave_up_line (K.seen sink.new) }
 {
     put_gave_up(sink)?;
     Ok(GAVE_UP)
@@ -97,7 +97,7 @@ pub(crate) fn put_wide<K: Sink>(sink: &mut K) -> Result<u32, DeviceFault>
 /// Puts the line of an error, where it has one.
 pub(crate) fn put_error<K: Sink>(sink: &mut K, error: ArrayError) -> Result<u32, DeviceFault>
     ensures status { IfOk result (λ status. status ≡ error_status error) }
-    ensures line { Puts result (K.accepted sink.old) (error_line error) (K.accepted sink.new) }
+    ensures line { Puts result (K.seen sink.old) (error_line error) (K.seen sink.new) }
 {
     match error {
         ArrayError::Refused(place, reason) => put_no(sink, place, reason),

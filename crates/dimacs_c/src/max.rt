@@ -101,7 +101,7 @@ fn put_certified<K: Sink>(
     answer: &Result<MaxCertified, ArrayError>,
 ) -> Result<u32, DeviceFault>
     ensures status { IfOk result (λ status. status ≡ (said max_said answer.now).status) }
-    ensures line { Puts result (K.accepted sink.old) (said max_said answer.now).line (K.accepted sink.new) }
+    ensures line { Puts result (K.seen sink.old) (said max_said answer.now).line (K.seen sink.new) }
 {
     match answer {
         Ok(MaxCertified::Optimal { value, .. }) => put_yes(sink, &Verdict::Max(*value)),

@@ -122,7 +122,7 @@ fn put_certified<K: Sink>(
     answer: &Result<MinCertified, ArrayError>,
 ) -> Result<u32, DeviceFault>
     ensures status { IfOk result (λ status. status ≡ (said min_said answer.now).status) }
-    ensures line { Puts result (K.accepted sink.old) (said min_said answer.now).line (K.accepted sink.new) }
+    ensures line { Puts result (K.seen sink.old) (said min_said answer.now).line (K.seen sink.new) }
 {
     match answer {
         Ok(MinCertified::Optimal { cost, .. }) => put_yes(sink, &Verdict::Min(*cost)),

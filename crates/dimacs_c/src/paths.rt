@@ -93,7 +93,7 @@ fn put_certified<K: Sink>(
     answer: &Result<Vec<u32>, ArrayError>,
 ) -> Result<u32, DeviceFault>
     ensures status { IfOk result (λ status. status ≡ (said paths_said answer.now).status) }
-    ensures line { Puts result (K.accepted sink.old) (said paths_said answer.now).line (K.accepted sink.new) }
+    ensures line { Puts result (K.seen sink.old) (said paths_said answer.now).line (K.seen sink.new) }
 {
     match answer {
         Ok(_) => put_yes(sink, &Verdict::Sources(1)),

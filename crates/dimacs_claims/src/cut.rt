@@ -3,7 +3,6 @@
 ghost use Rattle.std.specs.Prelude.{◌≡◌, ◌≤◌, ◌<◌, ◌+◌, ◌++◌, ◌∷◌, [], ℕ, List, None, Some, OnOk, OnErr, if◌then◌else◌, length, refl};
 ghost use Rattle.std.specs.FinSet as set;
 ghost use Rattle.dimacs_lines.specs.Limits.{most_nodes};
-ghost use Rattle.dimacs_lines.specs.Devices.{CountsFault};
 ghost use Rattle.dimacs_lines.specs.Lines.{lines};
 ghost use Rattle.dimacs_lines.specs.Puts.{Puts};
 ghost use Rattle.dimacs_records.specs.declared.kinds.TextKind.TheVariants as kinds;
@@ -188,8 +187,7 @@ pub fn read_cut<S: Source>(alloc: Global, source: &mut S) -> Result<Cut, ReadErr
 
 /// Writes the canonical text of a set of nodes.
 pub fn write_cut<S: Sink>(cut: &Cut, sink: &mut S) -> Result<(), DeviceFault>
-    ensures puts { Puts result (S.accepted sink.old) (canonical_cut cut.now) (S.accepted sink.new) }
-    ensures fault { CountsFault result (S.faults sink.old) (S.faults sink.new) }
+    ensures puts { Puts result (S.seen sink.old) (canonical_cut cut.now) (S.seen sink.new) }
     ensures round_trip { SpellsCut (canonical_cut cut.now) cut.now }
     ensures same_text { (read : CutValue) → SpellsCut (canonical_cut cut.now) read → canonical_cut read ≡ canonical_cut cut.now }
 {

@@ -2,9 +2,8 @@
 
 ghost use Rattle.std.specs.Prelude.{◌≡◌, ◌<◌, ◌≤◌, ◌++◌, ◌∷◌, [], ℕ, List, Option, Some, None, OnOk, OnErr, IfOk, IfSome, is_some, length, option_map, refl, slice_get};
 ghost use Rattle.dimacs_lines.specs.Limits.{most_count, most_nodes};
-ghost use Rattle.dimacs_lines.specs.Devices.{CountsFault};
 ghost use Rattle.dimacs_lines.specs.Lines.{lines};
-ghost use Rattle.dimacs_lines.specs.Pages.{Appends, CountsOn};
+ghost use Rattle.dimacs_lines.specs.Pages.{Appends};
 ghost use Rattle.dimacs_lines.specs.Puts.{Puts};
 ghost use Rattle.dimacs_records.specs.declared.kinds.TextKind.TheVariants as kinds;
 ghost use Rattle.dimacs_records.specs.declared.records.Record.TheVariants.{LabelsBlock};
@@ -357,8 +356,7 @@ pub fn read_plain_labels<S: Source>(alloc: Global, source: &mut S) -> Result<Lab
 
 /// Writes the canonical text of labels.
 pub fn write_labels<S: Sink>(labels: &Labels, sink: &mut S) -> Result<(), DeviceFault>
-    ensures puts { Puts result (S.accepted sink.old) (canonical_labels labels.now) (S.accepted sink.new) }
-    ensures fault { CountsFault result (S.faults sink.old) (S.faults sink.new) }
+    ensures puts { Puts result (S.seen sink.old) (canonical_labels labels.now) (S.seen sink.new) }
     ensures round_trip { FitText labels.now → SpellsLabels (canonical_labels labels.now) labels.now }
     ensures same_text { FitText labels.now → (read : LabelsValue) → SpellsLabels (canonical_labels labels.now) read
         → canonical_labels read ≡ canonical_labels labels.now }
@@ -384,8 +382,7 @@ pub fn write_labels<S: Sink>(labels: &Labels, sink: &mut S) -> Result<(), Device
 /// Writes the line of a block and those of its labels.
 fn write_block<S: Sink>(page: &mut Page, sink: &mut S, block: &Block)
     requires { length block.now.labels ≤ most_count }
-    ensures written { Appends (canonical_text (block_lines block.now)) (S.accepted sink.old) page.old (S.accepted sink.new) page.new }
-    ensures faults { CountsOn (S.faults sink.old) page.old (S.faults sink.new) page.new }
+    ensures { Appends (canonical_text (block_lines block.now)) (S.seen sink.old) page.old (S.seen sink.new) page.new }
 {
     let labels = block.labels();
     let source = block.source();

@@ -2,7 +2,6 @@
 
 ghost use Rattle.std.specs.Prelude.{◌≡◌, ◌≤◌, ◌<◌, ◌+◌, ◌++◌, ◌∷◌, [], ℕ, List, None, Some, OnOk, OnErr, if◌then◌else◌, length, refl};
 ghost use Rattle.dimacs_lines.specs.Limits.{most_nodes};
-ghost use Rattle.dimacs_lines.specs.Devices.{CountsFault};
 ghost use Rattle.dimacs_lines.specs.Lines.{lines};
 ghost use Rattle.dimacs_lines.specs.Puts.{Puts};
 ghost use Rattle.dimacs_records.specs.declared.kinds.TextKind.TheVariants as kinds;
@@ -207,8 +206,7 @@ pub fn read_potentials<S: Source>(alloc: Global, source: &mut S) -> Result<Poten
 
 /// Writes the canonical text of potentials.
 pub fn write_potentials<S: Sink>(potentials: &Potentials, sink: &mut S) -> Result<(), DeviceFault>
-    ensures puts { Puts result (S.accepted sink.old) (canonical_potentials potentials.now) (S.accepted sink.new) }
-    ensures fault { CountsFault result (S.faults sink.old) (S.faults sink.new) }
+    ensures puts { Puts result (S.seen sink.old) (canonical_potentials potentials.now) (S.seen sink.new) }
     ensures round_trip { SpellsPotentials (canonical_potentials potentials.now) potentials.now }
     ensures same_text { (read : PotentialsValue) → SpellsPotentials (canonical_potentials potentials.now) read
         → canonical_potentials read ≡ canonical_potentials potentials.now }

@@ -3,7 +3,6 @@
 ghost use Rattle.std.specs.Prelude.{◌≡◌, ◌<◌, ℕ, List, [], Some, IfOk, length, map, option_map, slice_get};
 ghost use Rattle.dimacs_claims.specs.declared.solution.Entry.{Entry};
 ghost use Rattle.std.specs.Result.{result_map_both};
-ghost use Rattle.dimacs_lines.specs.Devices.{CountsFault};
 ghost use Rattle.dimacs_lines.specs.Lines.{lines};
 ghost use Rattle.dimacs_lines.specs.Puts.{Puts};
 ghost use Rattle.dimacs_records.specs.declared.kinds.TextKind.TheVariants as kinds;
@@ -193,8 +192,7 @@ pub fn read_solution_into<P: Place, S: Source>(
 /// Writes the canonical text of a solution. Read again, its value stands on line 1 and its entries on the lines
 /// after it.
 pub fn write_solution<S: Sink>(solution: &Solution, sink: &mut S) -> Result<(), DeviceFault>
-    ensures puts { Puts result (S.accepted sink.old) (canonical_solution (claimed solution.now)) (S.accepted sink.new) }
-    ensures fault { CountsFault result (S.faults sink.old) (S.faults sink.new) }
+    ensures puts { Puts result (S.seen sink.old) (canonical_solution (claimed solution.now)) (S.seen sink.new) }
     ensures round_trip { IsLawful (claimed solution.now) → SpellsSolution (canonical_solution (claimed solution.now)) (renumbered (claimed solution.now)) }
     ensures same_text { IsLawful (claimed solution.now) → (read : SolutionValue)
         → SpellsSolution (canonical_solution (claimed solution.now)) read

@@ -1,7 +1,6 @@
 //! Graphs for shortest paths.
 
 ghost use Rattle.std.specs.Prelude.{◌≡◌, ◌<◌, ◌^◌, ℕ, List, IfOk, Some, length, option_map, refl, slice_get};
-ghost use Rattle.dimacs_lines.specs.Devices.{CountsFault};
 ghost use Rattle.dimacs_lines.specs.Puts.{Puts};
 ghost use Rattle.dimacs_records.specs.declared.kinds.TextKind.TheVariants as kinds;
 ghost use Rattle.dimacs_records.specs.Readings.{CountsRead};
@@ -179,8 +178,7 @@ pub fn read_plain_graph<S: Source>(
 
 /// Writes the canonical text of a graph.
 pub fn write_graph<N: Network, S: Sink>(graph: &Graph<N>, sink: &mut S) -> Result<(), DeviceFault>
-    ensures puts { Puts result (S.accepted sink.old) (canonical_graph graph.now) (S.accepted sink.new) }
-    ensures fault { CountsFault result (S.faults sink.old) (S.faults sink.new) }
+    ensures puts { Puts result (S.seen sink.old) (canonical_graph graph.now) (S.seen sink.new) }
     ensures round_trip { SpellsGraph (canonical_graph graph.now) graph.now }
     ensures same_text { (read : NetworkValue) → SpellsGraph (canonical_graph graph.now) read → canonical_graph read ≡ canonical_graph graph.now }
 {

@@ -2,7 +2,6 @@
 
 ghost use Rattle.std.specs.Prelude.{◌≡◌, ◌<◌, ◌^◌, ◌++◌, ◌∷◌, [], ℕ, List, Some, IfOk, false, length, option_map, refl, slice_get};
 ghost use Rattle.std.specs.List.{list_any};
-ghost use Rattle.dimacs_lines.specs.Devices.{CountsFault};
 ghost use Rattle.dimacs_lines.specs.Lines.{lines};
 ghost use Rattle.dimacs_lines.specs.Puts.{Puts};
 ghost use Rattle.dimacs_records.specs.declared.kinds.TextKind.TheVariants as kinds;
@@ -304,8 +303,7 @@ pub fn read_plain_max<S: Source>(
 
 /// Writes the canonical text of a maximum flow instance.
 pub fn write_max<N: Network, S: Sink>(max: &MaxInstance<N>, sink: &mut S) -> Result<(), DeviceFault>
-    ensures puts { Puts result (S.accepted sink.old) (canonical_max max.now) (S.accepted sink.new) }
-    ensures fault { CountsFault result (S.faults sink.old) (S.faults sink.new) }
+    ensures puts { Puts result (S.seen sink.old) (canonical_max max.now) (S.seen sink.new) }
     ensures round_trip { SpellsMax (canonical_max max.now) max.now }
     ensures same_text { (read : MaxValue) → SpellsMax (canonical_max max.now) read → canonical_max read ≡ canonical_max max.now }
 {

@@ -1,7 +1,6 @@
 //! Minimum cost flow instances.
 
 ghost use Rattle.std.specs.Prelude.{◌≡◌, ◌<◌, ◌+◌, ◌≤ℤ◌, ◌<ℤ◌, ◌+ℤ◌, ◌^◌, ◌∷◌, [], ℕ, List, None, Some, pos, IfOk, if◌then◌else◌, length, option_map, refl, slice_get};
-ghost use Rattle.dimacs_lines.specs.Devices.{CountsFault};
 ghost use Rattle.dimacs_lines.specs.Limits.{most_nodes};
 ghost use Rattle.dimacs_lines.specs.Lines.{lines};
 ghost use Rattle.dimacs_lines.specs.Puts.{Puts};
@@ -283,8 +282,7 @@ pub fn write_min<N: Network, S: Sink>(
     instance: &MinInstance<N>,
     sink: &mut S,
 ) -> Result<(), DeviceFault>
-    ensures puts { Puts result (S.accepted sink.old) (canonical_min instance.now) (S.accepted sink.new) }
-    ensures fault { CountsFault result (S.faults sink.old) (S.faults sink.new) }
+    ensures puts { Puts result (S.seen sink.old) (canonical_min instance.now) (S.seen sink.new) }
     ensures round_trip { SpellsMin (canonical_min instance.now) instance.now }
     ensures same_text { (read : MinValue) → SpellsMin (canonical_min instance.now) read → canonical_min read ≡ canonical_min instance.now }
 {

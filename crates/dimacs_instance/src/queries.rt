@@ -1,10 +1,9 @@
 //! Queries for shortest paths.
 
-ghost use Rattle.std.specs.Prelude.{◌≡◌, ◌<◌, ℕ, List, Option, Some, IfOk, length, refl, slice_get};
+ghost use Rattle.std.specs.Prelude.{◌≡◌, ◌<◌, ℕ, List, Some, IfOk, length, refl, slice_get};
 ghost use Rattle.std.specs.Result.{result_map_both};
-ghost use Rattle.dimacs_lines.specs.Devices.{CountsFault};
 ghost use Rattle.dimacs_lines.specs.Lines.{lines};
-ghost use Rattle.dimacs_lines.specs.Pages.{Appends, CountsOn};
+ghost use Rattle.dimacs_lines.specs.Pages.{Appends};
 ghost use Rattle.dimacs_lines.specs.Puts.{Puts};
 ghost use Rattle.dimacs_records.specs.declared.kinds.TextKind.TheVariants as kinds;
 ghost use Rattle.dimacs_records.specs.declared.records.Record.TheVariants.{QueriesProblem};
@@ -217,8 +216,7 @@ pub fn read_queries<S: Source>(alloc: Global, source: &mut S) -> Result<Queries,
 
 /// Writes the canonical text of queries, of open lists too.
 pub fn write_queries<S: Sink>(queries: &Queries, sink: &mut S) -> Result<(), DeviceFault>
-    ensures puts { Puts result (S.accepted sink.old) (canonical_queries (asked queries.now)) (S.accepted sink.new) }
-    ensures fault { CountsFault result (S.faults sink.old) (S.faults sink.new) }
+    ensures puts { Puts result (S.seen sink.old) (canonical_queries (asked queries.now)) (S.seen sink.new) }
     ensures round_trip { AreLawful (asked queries.now) → SpellsQueries (canonical_queries (asked queries.now)) (asked queries.now) }
     ensures same_text { AreLawful (asked queries.now) → (read : QueriesValue)
         → SpellsQueries (canonical_queries (asked queries.now)) read
@@ -240,8 +238,7 @@ pub fn write_queries<S: Sink>(queries: &Queries, sink: &mut S) -> Result<(), Dev
 
 /// Writes the problem line, also of a number that none may declare.
 fn write_problem<S: Sink>(page: &mut Page, sink: &mut S, asks: QueryKind, count: usize)
-    ensures written { Appends (canonical_line (QueriesProblem asks count)) (S.accepted sink.old) page.old (S.accepted sink.new) page.new }
-    ensures faults { CountsOn (S.faults sink.old) page.old (S.faults sink.new) page.new }
+    ensures { Appends (canonical_line (QueriesProblem asks count)) (S.seen sink.old) page.old (S.seen sink.new) page.new }
 {
     write_line(
         page,

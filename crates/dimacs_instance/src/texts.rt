@@ -1,8 +1,7 @@
 //! The kinds of text of instances and queries: how each is read, written and shown.
 
-ghost use Rattle.std.specs.Prelude.{◌≡◌, ℕ, List, Some, [], ◌∷◌};
+ghost use Rattle.std.specs.Prelude.{◌≡◌, Some, [], ◌∷◌};
 ghost use Rattle.std.specs.Fmt.{decimal};
-ghost use Rattle.dimacs_lines.specs.Devices.{CountsFault};
 ghost use Rattle.dimacs_lines.specs.Puts.{Puts};
 ghost use Rattle.dimacs_records.specs.declared.kinds.TextKind.TheVariants as kinds;
 ghost use Rattle.dimacs_records.specs.Printed.{shown};
@@ -157,8 +156,7 @@ impl Text for Queries {
 
 /// Puts the line about a maximum flow instance.
 fn show_max<N: Network, K: Sink>(max: &MaxInstance<N>, sink: &mut K) -> Result<(), DeviceFault>
-    ensures puts { Puts result (K.accepted sink.old) (shown_max max.now) (K.accepted sink.new) }
-    ensures fault { CountsFault result (K.faults sink.old) (K.faults sink.new) }
+    ensures { Puts result (K.seen sink.old) (shown_max max.now) (K.seen sink.new) }
 {
     let network = max.network();
     put_line(
@@ -176,8 +174,7 @@ fn show_max<N: Network, K: Sink>(max: &MaxInstance<N>, sink: &mut K) -> Result<(
 
 /// Puts the line about a minimum cost flow instance.
 fn show_min<N: Network, K: Sink>(min: &MinInstance<N>, sink: &mut K) -> Result<(), DeviceFault>
-    ensures puts { Puts result (K.accepted sink.old) (shown_min min.now) (K.accepted sink.new) }
-    ensures fault { CountsFault result (K.faults sink.old) (K.faults sink.new) }
+    ensures { Puts result (K.seen sink.old) (shown_min min.now) (K.seen sink.new) }
 {
     let network = min.network();
     let sums = min.supply_sums();
@@ -196,8 +193,7 @@ fn show_min<N: Network, K: Sink>(min: &MinInstance<N>, sink: &mut K) -> Result<(
 
 /// Puts the line about a graph.
 fn show_graph<N: Network, K: Sink>(graph: &Graph<N>, sink: &mut K) -> Result<(), DeviceFault>
-    ensures puts { Puts result (K.accepted sink.old) (shown_graph graph.now) (K.accepted sink.new) }
-    ensures fault { CountsFault result (K.faults sink.old) (K.faults sink.new) }
+    ensures { Puts result (K.seen sink.old) (shown_graph graph.now) (K.seen sink.new) }
 {
     let network = graph.network();
     put_line(
@@ -213,8 +209,7 @@ fn show_graph<N: Network, K: Sink>(graph: &Graph<N>, sink: &mut K) -> Result<(),
 
 /// Puts the line about queries of this word.
 fn show_queries<K: Sink>(sink: &mut K, word: &[u8], count: usize) -> Result<(), DeviceFault>
-    ensures puts { Puts result (K.accepted sink.old) (shown (word.now ∷ decimal count ∷ [])) (K.accepted sink.new) }
-    ensures fault { CountsFault result (K.faults sink.old) (K.faults sink.new) }
+    ensures { Puts result (K.seen sink.old) (shown (word.now ∷ decimal count ∷ [])) (K.seen sink.new) }
 {
     put_line(sink, b"i", &[Part::Word(word), Part::Wide(count as i128)])
 }

@@ -13,6 +13,11 @@ abbrev pub after_piece : Option (List ℕ) → List ℕ → Option (List ℕ)
 after_piece None piece = None
 after_piece (Some held) piece = Some (held ++ piece)
 
+-- what a sink has accepted so far, where it tells that, and how often it has failed: a `u64` that wraps
+pub record Written : Type 0 where
+  pub accepted : Option (List ℕ)
+  pub faults : ℕ
+
 -- one fault more, in a count that wraps at 64 bits
 abbrev pub one_more : ℕ → ℕ
 one_more faults = (faults + 1) % 2 ^ 64

@@ -1,7 +1,7 @@
 //! Where bytes come from and where they go, piece by piece.
 
 ghost use Rattle.std.specs.Prelude.{◌≡◌, ◌<◌, ◌≤◌, [], ℕ, List, Option, take, length, IfOk, IfSome, OnErr, Ok};
-ghost use Rattle.dimacs_lines.specs.Devices.{before_piece, after_piece, CountsFault, CountsPut};
+ghost use Rattle.dimacs_lines.specs.Devices.{before_piece, after_piece, CountsFault, CountsPut, Written};
 ghost use Rattle.dimacs_lines.specs.Puts.{Puts};
 
 use std::alloc::{AllocError, AllocFailed};
@@ -46,25 +46,21 @@ pub trait Source {
 
 /// What takes the bytes of a text, piece by piece.
 pub trait Sink {
-    /// The bytes accepted so far, where the sink tells them.
-    ghost accepted: { Self → Option (List ℕ) };
-
-    /// How often it has failed: a `u64` that wraps.
-    ghost faults: { Self → ℕ };
+    /// The bytes accepted so far, and how often it has failed.
+    ghost seen: { Self → Written };
 
     /// Accepts a beginning of the bytes, and answers how many they are. An error accepts none. `Ok(0)` for a piece
     /// that is not empty is a fault too, since it would never end.
     fn put(&mut self, bytes: &[u8]) -> Result<usize, DeviceFault>
         ensures room { IfOk result (λ k. k ≤ length bytes.now) }
-        ensures taken { IfOk result (λ k. accepted self.new ≡ after_piece (accepted self.old) (take k bytes.now)) }
-        ensures unchanged { OnErr result (accepted self.new ≡ accepted self.old) }
-        ensures fault { CountsPut result bytes.now (faults self.old) (faults self.new) };
+        ensures taken { IfOk result (λ k. (seen self.new).accepted ≡ after_piece (seen self.old).accepted (take k bytes.now)) }
+        ensures unchanged { OnErr result ((seen self.new).accepted ≡ (seen self.old).accepted) }
+        ensures fault { CountsPut result bytes.now (seen self.old).faults (seen self.new).faults };
 }
 
 /// Puts all of the bytes. After an error the sink has accepted a beginning of them.
 pub fn put_all<S: Sink>(sink: &mut S, bytes: &[u8]) -> Result<(), DeviceFault>
-    ensures puts { Puts result (S.accepted sink.old) bytes.now (S.accepted sink.new) }
-    ensures fault { CountsFault result (S.faults sink.old) (S.faults sink.new) }
+    ensures { Puts result (S.seen sink.old) bytes.now (S.seen sink.new) }
 {
     let mut done = 0;
     while done < bytes.len() {

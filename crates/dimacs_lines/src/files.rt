@@ -120,9 +120,7 @@ impl<W: Write> FileSink<W> {
 }
 
 impl<W: Write> Sink for FileSink<W> {
-    ghost accepted = { λ s. None };
-
-    ghost faults = { λ s. s.faults };
+    ghost seen = { λ s. record { accepted = None; faults = s.faults } };
 
     fn put(&mut self, bytes: &[u8]) -> Result<usize, DeviceFault>
         ensures room { IfOk result (λ count. count ≤ length bytes.now) }

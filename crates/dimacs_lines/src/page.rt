@@ -1,10 +1,10 @@
 //! Output in large pieces.
 
-ghost use Rattle.std.specs.Prelude.{◌≡◌, ◌+◌, ◌/◌, ◌%◌, ◌<◌, ◌≤◌, [], ◌∷◌, ◌++◌, ℕ, List, Option, true, false, length};
+ghost use Rattle.std.specs.Prelude.{◌≡◌, ◌+◌, ◌/◌, ◌%◌, ◌<◌, ◌≤◌, [], ◌∷◌, ◌++◌, ℕ, List, true, false, length};
 ghost use Rattle.std.specs.Fmt.{decimal, signed_decimal};
 ghost use Rattle.dimacs_lines.specs.Puts.{Puts};
-ghost use Rattle.dimacs_lines.specs.Devices.{CountsFault};
-ghost use Rattle.dimacs_lines.specs.Pages.{Appends, CountsOn, IsWritten, FaultsAre, number_field, numbers_line};
+ghost use Rattle.dimacs_lines.specs.Devices.{Written};
+ghost use Rattle.dimacs_lines.specs.Pages.{Appends, IsWritten, number_field, numbers_line};
 ghost use Rattle.dimacs_lines.specs.inside.Pages.{IsPut};
 ghost use Rattle.dimacs_lines.specs.inside.Decimals.{two_digits};
 
@@ -55,8 +55,7 @@ impl Model for Page {
 impl Page {
     pub fn new() -> Page
         ensures empty { result ≡ record { kept = []; failed = false } }
-        ensures written { (start : Option (List ℕ)) → IsWritten start [] start result }
-        ensures faults { (start : ℕ) → FaultsAre start start result }
+        ensures written { (start : Written) → IsWritten start [] start result }
     {
         Page {
             bytes: [0; 16_384],
@@ -68,8 +67,7 @@ impl Page {
     /// Writes the bytes after what was written before.
     #[inline(always)]
     pub fn write<S: Sink>(&mut self, sink: &mut S, bytes: &[u8])
-        ensures written { Appends bytes.now (S.accepted sink.old) self.old (S.accepted sink.new) self.new }
-        ensures faults { CountsOn (S.faults sink.old) self.old (S.faults sink.new) self.new }
+        ensures { Appends bytes.now (S.seen sink.old) self.old (S.seen sink.new) self.new }
     {
         if PAGE - self.length < bytes.len() {
             self.turn(sink, bytes);
@@ -81,8 +79,7 @@ impl Page {
     /// Writes a number in decimal.
     #[inline(always)]
     pub fn number<S: Sink>(&mut self, sink: &mut S, n: i64)
-        ensures written { Appends (signed_decimal n) (S.accepted sink.old) self.old (S.accepted sink.new) self.new }
-        ensures faults { CountsOn (S.faults sink.old) self.old (S.faults sink.new) self.new }
+        ensures { Appends (signed_decimal n) (S.seen sink.old) self.old (S.seen sink.new) self.new }
     {
         self.make_room(sink, LONGEST);
         self.append_number(n);
@@ -92,8 +89,7 @@ impl Page {
     /// line.
     pub fn line<S: Sink>(&mut self, sink: &mut S, letter: u8, numbers: &[i64])
         requires few { length numbers.now ≤ 5 }
-        ensures written { Appends (numbers_line letter numbers.now) (S.accepted sink.old) self.old (S.accepted sink.new) self.new }
-        ensures faults { CountsOn (S.faults sink.old) self.old (S.faults sink.new) self.new }
+        ensures { Appends (numbers_line letter numbers.now) (S.seen sink.old) self.old (S.seen sink.new) self.new }
     {
         self.make_room(sink, LONGEST_LINE);
         self.append_line(letter, numbers);
@@ -109,8 +105,7 @@ impl Page {
         second: i64,
         third: i64,
     )
-        ensures written { Appends (numbers_line letter (first ∷ second ∷ third ∷ [])) (S.accepted sink.old) self.old (S.accepted sink.new) self.new }
-        ensures faults { CountsOn (S.faults sink.old) self.old (S.faults sink.new) self.new }
+        ensures { Appends (numbers_line letter (first ∷ second ∷ third ∷ [])) (S.seen sink.old) self.old (S.seen sink.new) self.new }
     {
         self.make_room(sink, LONGEST_LINE);
         self.append_line_of_three(letter, first, second, third);
@@ -118,8 +113,7 @@ impl Page {
 
     /// Writes a wide number in decimal.
     pub fn wide<S: Sink>(&mut self, sink: &mut S, n: i128)
-        ensures written { Appends (signed_decimal n) (S.accepted sink.old) self.old (S.accepted sink.new) self.new }
-        ensures faults { CountsOn (S.faults sink.old) self.old (S.faults sink.new) self.new }
+        ensures { Appends (signed_decimal n) (S.seen sink.old) self.old (S.seen sink.new) self.new }
     {
         let mut digits = Buffer::new();
         self.write(sink, digits.format(n).as_bytes());
@@ -127,9 +121,8 @@ impl Page {
 
     /// Puts what is left of the text, and tells whether the sink failed.
     pub fn finish<S: Sink>(mut self, sink: &mut S) -> Result<(), DeviceFault>
-        ensures puts { (start : Option (List ℕ)) (text : List ℕ) → IsWritten start text (S.accepted sink.old) self
-            → Puts result start text (S.accepted sink.new) }
-        ensures fault { (start : ℕ) → FaultsAre start (S.faults sink.old) self → CountsFault result start (S.faults sink.new) }
+        ensures { (start : Written) (text : List ℕ) → IsWritten start text (S.seen sink.old) self
+            → Puts result start text (S.seen sink.new) }
     {
         self.flush(sink);
         if self.failed {
@@ -141,8 +134,7 @@ impl Page {
     /// Writes the bytes where the page has no room for them.
     #[inline(never)]
     fn turn<S: Sink>(&mut self, sink: &mut S, bytes: &[u8])
-        ensures written { Appends bytes.now (S.accepted sink.old) self.old (S.accepted sink.new) self.new }
-        ensures faults { CountsOn (S.faults sink.old) self.old (S.faults sink.new) self.new }
+        ensures { Appends bytes.now (S.seen sink.old) self.old (S.seen sink.new) self.new }
     {
         self.flush(sink);
         if PAGE < bytes.len() {
@@ -156,9 +148,8 @@ impl Page {
     #[inline(always)]
     fn make_room<S: Sink>(&mut self, sink: &mut S, bytes: usize)
         requires { bytes ≤ 16384 }
-        ensures written { (start : Option (List ℕ)) (text : List ℕ)
-            → IsWritten start text (S.accepted sink.old) self.old → IsWritten start text (S.accepted sink.new) self.new }
-        ensures faults { CountsOn (S.faults sink.old) self.old (S.faults sink.new) self.new }
+        ensures written { (start : Written) (text : List ℕ)
+            → IsWritten start text (S.seen sink.old) self.old → IsWritten start text (S.seen sink.new) self.new }
         ensures room { length self.new.kept + bytes ≤ 16384 }
     {
         if PAGE - self.length < bytes {
@@ -167,9 +158,8 @@ impl Page {
     }
 
     fn flush<S: Sink>(&mut self, sink: &mut S)
-        ensures written { (start : Option (List ℕ)) (text : List ℕ)
-            → IsWritten start text (S.accepted sink.old) self.old → IsWritten start text (S.accepted sink.new) self.new }
-        ensures faults { CountsOn (S.faults sink.old) self.old (S.faults sink.new) self.new }
+        ensures written { (start : Written) (text : List ℕ)
+            → IsWritten start text (S.seen sink.old) self.old → IsWritten start text (S.seen sink.new) self.new }
         ensures empty { self.new.kept ≡ [] }
     {
         self.failed = put_unless(self.failed, sink, &self.bytes[..self.length]);
@@ -312,7 +302,7 @@ impl Page {
 
 /// Puts the bytes, unless the sink has failed before; and whether it has failed by now.
 fn put_unless<S: Sink>(failed: bool, sink: &mut S, bytes: &[u8]) -> bool
-    ensures { IsPut failed (S.accepted sink.old) (S.faults sink.old) bytes.now result (S.accepted sink.new) (S.faults sink.new) }
+    ensures { IsPut failed (S.seen sink.old) bytes.now result (S.seen sink.new) }
 {
     failed || put_all(sink, bytes).is_err()
 }

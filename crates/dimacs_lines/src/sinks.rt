@@ -40,9 +40,7 @@ impl MemorySink {
 }
 
 impl Sink for MemorySink {
-    ghost accepted = { λ s. Some s.bytes };
-
-    ghost faults = { λ s. s.faults };
+    ghost seen = { λ s. record { accepted = Some s.bytes; faults = s.faults } };
 
     fn put(&mut self, bytes: &[u8]) -> Result<usize, DeviceFault>
         ensures whole { IfOk result (λ count. count ≡ length bytes.now) }
@@ -101,9 +99,7 @@ impl<'a> FlakySink<'a> {
 }
 
 impl<'a> Sink for FlakySink<'a> {
-    ghost accepted = { λ s. Some s.bytes };
-
-    ghost faults = { λ s. s.faults };
+    ghost seen = { λ s. record { accepted = Some s.bytes; faults = s.faults } };
 
     fn put(&mut self, bytes: &[u8]) -> Result<usize, DeviceFault>
         ensures fails_as_listed { IsTrue (fails_next self.old) → IsErr result }

@@ -1,9 +1,8 @@
 //! Records as lines in the canonical form: one blank between fields, numbers in decimal, a line end.
 
-ghost use Rattle.std.specs.Prelude.{◌≡◌, ◌<◌, ℕ, List, Option, [], ◌∷◌, ◌++◌, length, slice_get, pos, codes};
-ghost use Rattle.dimacs_lines.specs.Devices.{CountsFault};
+ghost use Rattle.std.specs.Prelude.{◌≡◌, ◌<◌, ℕ, List, [], ◌∷◌, ◌++◌, length, slice_get, pos, codes};
 ghost use Rattle.dimacs_lines.specs.Puts.{Puts};
-ghost use Rattle.dimacs_lines.specs.Pages.{Appends, CountsOn};
+ghost use Rattle.dimacs_lines.specs.Pages.{Appends};
 ghost use Rattle.dimacs_records.specs.declared.printed.Part.TheVariants.{Number};
 ghost use Rattle.dimacs_records.specs.declared.records.Record.{Record};
 ghost use Rattle.dimacs_records.specs.Canonical.{AreLines, canonical_line, canonical_text, line_of, said_lines};
@@ -15,8 +14,7 @@ use dimacs_lines::{DeviceFault, Page, Sink};
 
 /// Puts the line of a record.
 pub fn put_record<S: Sink>(sink: &mut S, said: &Record) -> Result<(), DeviceFault>
-    ensures puts { Puts result (S.accepted sink.old) (canonical_line said.now) (S.accepted sink.new) }
-    ensures fault { CountsFault result (S.faults sink.old) (S.faults sink.new) }
+    ensures { Puts result (S.seen sink.old) (canonical_line said.now) (S.seen sink.new) }
 {
     let mut page = Page::new();
     write_record(&mut page, sink, said);
@@ -31,9 +29,8 @@ pub fn put_text<S: Sink, F: Fn(usize) -> Option<Record>>(
     line: F,
 ) -> Result<(), DeviceFault>
     requires { (i : ℕ) → i < count → F.pre line i }
-    ensures puts { (below : ℕ → List Record) → AreLines (F.post line) count below
-        → Puts result (S.accepted sink.old) (canonical_text (first.now ++ below count)) (S.accepted sink.new) }
-    ensures fault { CountsFault result (S.faults sink.old) (S.faults sink.new) }
+    ensures { (below : ℕ → List Record) → AreLines (F.post line) count below
+        → Puts result (S.seen sink.old) (canonical_text (first.now ++ below count)) (S.seen sink.new) }
 {
     let mut page = Page::new();
     write_all(&mut page, sink, first);
@@ -44,8 +41,7 @@ pub fn put_text<S: Sink, F: Fn(usize) -> Option<Record>>(
 /// Writes the lines of these records. It is apart, since `write_record` is large where the record isn't known.
 #[inline(never)]
 fn write_all<S: Sink>(page: &mut Page, sink: &mut S, records: &[Record])
-    ensures written { Appends (canonical_text records.now) (S.accepted sink.old) page.old (S.accepted sink.new) page.new }
-    ensures faults { CountsOn (S.faults sink.old) page.old (S.faults sink.new) page.new }
+    ensures { Appends (canonical_text records.now) (S.seen sink.old) page.old (S.seen sink.new) page.new }
 {
     write_lines(
         page,
@@ -67,9 +63,8 @@ pub fn write_lines<S: Sink, F: Fn(usize) -> Option<Record>>(
     line: F,
 )
     requires { (i : ℕ) → i < count → F.pre line i }
-    ensures written { (below : ℕ → List Record) → AreLines (F.post line) count below
-        → Appends (canonical_text (below count)) (S.accepted sink.old) page.old (S.accepted sink.new) page.new }
-    ensures faults { CountsOn (S.faults sink.old) page.old (S.faults sink.new) page.new }
+    ensures { (below : ℕ → List Record) → AreLines (F.post line) count below
+        → Appends (canonical_text (below count)) (S.seen sink.old) page.old (S.seen sink.new) page.new }
 {
     for i in 0..count {
         write_said(page, sink, line(i));
@@ -79,8 +74,7 @@ pub fn write_lines<S: Sink, F: Fn(usize) -> Option<Record>>(
 /// Writes the line of a record, if there is one.
 #[inline(always)]
 fn write_said<S: Sink>(page: &mut Page, sink: &mut S, said: Option<Record>)
-    ensures written { Appends (canonical_text (said_lines said)) (S.accepted sink.old) page.old (S.accepted sink.new) page.new }
-    ensures faults { CountsOn (S.faults sink.old) page.old (S.faults sink.new) page.new }
+    ensures { Appends (canonical_text (said_lines said)) (S.seen sink.old) page.old (S.seen sink.new) page.new }
 {
     if let Some(said) = said {
         write_record(page, sink, &said);
@@ -90,8 +84,7 @@ fn write_said<S: Sink>(page: &mut Page, sink: &mut S, said: Option<Record>)
 /// Writes the line of a record after what was written before.
 #[inline(always)]
 pub fn write_record<S: Sink>(page: &mut Page, sink: &mut S, said: &Record)
-    ensures written { Appends (canonical_line said.now) (S.accepted sink.old) page.old (S.accepted sink.new) page.new }
-    ensures faults { CountsOn (S.faults sink.old) page.old (S.faults sink.new) page.new }
+    ensures { Appends (canonical_line said.now) (S.seen sink.old) page.old (S.seen sink.new) page.new }
 {
     match *said {
         Record::MaxProblem { nodes, arcs } => write_problem(page, sink, b"max", nodes, arcs),
@@ -169,9 +162,8 @@ pub fn write_record<S: Sink>(page: &mut Page, sink: &mut S, said: &Record)
 /// Writes a problem line that declares nodes and a count.
 #[inline(always)]
 fn write_problem<S: Sink>(page: &mut Page, sink: &mut S, word: &[u8], nodes: u32, count: u32)
-    ensures written { Appends (line_of (codes "p") (Text word.now ∷ Amount (pos nodes) ∷ Amount (pos count) ∷ []))
-        (S.accepted sink.old) page.old (S.accepted sink.new) page.new }
-    ensures faults { CountsOn (S.faults sink.old) page.old (S.faults sink.new) page.new }
+    ensures { Appends (line_of (codes "p") (Text word.now ∷ Amount (pos nodes) ∷ Amount (pos count) ∷ []))
+        (S.seen sink.old) page.old (S.seen sink.new) page.new }
 {
     write_line(
         page,
@@ -184,9 +176,8 @@ fn write_problem<S: Sink>(page: &mut Page, sink: &mut S, word: &[u8], nodes: u32
 /// Writes a line of two ends and a number.
 #[inline(always)]
 fn write_arc<S: Sink>(page: &mut Page, sink: &mut S, letter: u8, tail: u32, head: u32, n: i64)
-    ensures written { Appends (line_of (letter ∷ []) (Amount (pos tail) ∷ Amount (pos head) ∷ Amount n ∷ []))
-        (S.accepted sink.old) page.old (S.accepted sink.new) page.new }
-    ensures faults { CountsOn (S.faults sink.old) page.old (S.faults sink.new) page.new }
+    ensures { Appends (line_of (letter ∷ []) (Amount (pos tail) ∷ Amount (pos head) ∷ Amount n ∷ []))
+        (S.seen sink.old) page.old (S.seen sink.new) page.new }
 {
     page.line_of_three(sink, letter, i64::from(tail), i64::from(head), n);
 }

@@ -1,8 +1,7 @@
 //! Lines of words and numbers.
 
-ghost use Rattle.std.specs.Prelude.{◌++◌, List, Option, ℕ};
-ghost use Rattle.dimacs_lines.specs.Devices.{CountsFault};
-ghost use Rattle.dimacs_lines.specs.Pages.{Appends, CountsOn};
+ghost use Rattle.std.specs.Prelude.{◌++◌};
+ghost use Rattle.dimacs_lines.specs.Pages.{Appends};
 ghost use Rattle.dimacs_lines.specs.Puts.{Puts};
 ghost use Rattle.dimacs_records.specs.Printed.{after_blank, printed, printed_line};
 
@@ -18,8 +17,7 @@ pub enum Part<'a> {
 
 /// Puts a line: a word, and the fields after it with one blank between them.
 pub fn put_line<S: Sink>(sink: &mut S, word: &[u8], parts: &[Part<'_>]) -> Result<(), DeviceFault>
-    ensures puts { Puts result (S.accepted sink.old) (printed_line word.now parts.now) (S.accepted sink.new) }
-    ensures fault { CountsFault result (S.faults sink.old) (S.faults sink.new) }
+    ensures { Puts result (S.seen sink.old) (printed_line word.now parts.now) (S.seen sink.new) }
 {
     let mut page = Page::new();
     write_line(&mut page, sink, word, parts);
@@ -28,8 +26,7 @@ pub fn put_line<S: Sink>(sink: &mut S, word: &[u8], parts: &[Part<'_>]) -> Resul
 
 /// Writes a line after what was written before.
 pub fn write_line<S: Sink>(page: &mut Page, sink: &mut S, word: &[u8], parts: &[Part<'_>])
-    ensures written { Appends (printed_line word.now parts.now) (S.accepted sink.old) page.old (S.accepted sink.new) page.new }
-    ensures faults { CountsOn (S.faults sink.old) page.old (S.faults sink.new) page.new }
+    ensures { Appends (printed_line word.now parts.now) (S.seen sink.old) page.old (S.seen sink.new) page.new }
 {
     page.write(sink, word);
     for part in parts {
@@ -41,8 +38,7 @@ pub fn write_line<S: Sink>(page: &mut Page, sink: &mut S, word: &[u8], parts: &[
 /// Writes a blank and a field.
 #[inline(always)]
 fn write_part<S: Sink>(page: &mut Page, sink: &mut S, part: &Part<'_>)
-    ensures written { Appends (after_blank (printed part.now)) (S.accepted sink.old) page.old (S.accepted sink.new) page.new }
-    ensures faults { CountsOn (S.faults sink.old) page.old (S.faults sink.new) page.new }
+    ensures { Appends (after_blank (printed part.now)) (S.seen sink.old) page.old (S.seen sink.new) page.new }
 {
     page.write(sink, b" ");
     match part {

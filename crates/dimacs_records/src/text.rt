@@ -1,7 +1,6 @@
 //! What each kind of text has in common: it is read, written and shown.
 
 ghost use Rattle.std.specs.Prelude.{◌≡◌, ℕ, List, Some, IfOk};
-ghost use Rattle.dimacs_lines.specs.Devices.{CountsFault};
 ghost use Rattle.dimacs_lines.specs.Lines.{lines};
 ghost use Rattle.dimacs_lines.specs.Puts.{Puts};
 ghost use Rattle.dimacs_records.specs.declared.kinds.TextKind.{TextKind};
@@ -42,11 +41,9 @@ pub trait Text: Drop {
 
     /// Puts the canonical text.
     fn write<K: Sink>(&self, sink: &mut K) -> Result<(), DeviceFault>
-        ensures puts { Puts result (K.accepted sink.old) (canonical (said self.now)) (K.accepted sink.new) }
-        ensures fault { CountsFault result (K.faults sink.old) (K.faults sink.new) };
+        ensures puts { Puts result (K.seen sink.old) (canonical (said self.now)) (K.seen sink.new) };
 
     /// Puts a line about the value.
     fn show<K: Sink>(&self, sink: &mut K) -> Result<(), DeviceFault>
-        ensures puts { Puts result (K.accepted sink.old) (shown (said self.now)) (K.accepted sink.new) }
-        ensures fault { CountsFault result (K.faults sink.old) (K.faults sink.new) };
+        ensures puts { Puts result (K.seen sink.old) (shown (said self.now)) (K.seen sink.new) };
 }

@@ -1,5 +1,6 @@
 -- What certifying tells of the texts that it was given.
 use Rattle.std.proofs.Common.{◌≡◌, ◌∙◌, ℕ, ℤ, List, [], ◌∷◌, Option, None, Result, Ok, Err, refl, sym, subst, ap, inl, inr, ◌⊎◌, drop}
+use Rattle.dimacs_lines.specs.Devices.{Written}
 use Rattle.dimacs_claims.specs.Cuts.{CutValue, canonical_cut}
 use Rattle.dimacs_claims.specs.Potentials.{PotentialsValue, canonical_potentials}
 use Rattle.dimacs_claims.specs.SolutionTexts.{SolutionValue, canonical_solution, claimed}
@@ -39,7 +40,7 @@ use Rattle.dimacs_runs.specs.Refusals.{refusal_line}
 use Rattle.dimacs_runs.specs.Solved.{FaultAloneOr}
 use Rattle.dimacs_runs.specs.Verdicts.{failure_line, max_line, min_line}
 use Rattle.dimacs_runs.specs.inside.Judgings.{ReadsIn, StopsAt, answer_told, error_told}
-use Rattle.dimacs_runs.specs.inside.Produced.{EndsProducing, MayCertify, produced_texts, reported, unclaimed_texts}
+use Rattle.dimacs_runs.specs.inside.Produced.{EndsProducing, MayCertify, accepted_by, produced_texts, reported, unclaimed_texts}
 use Rattle.dimacs_runs.specs.inside.Told.{told_status}
 
 -- ---- texts in turn
@@ -197,11 +198,15 @@ in_turn_after [] old new never = absurd never
 in_turn_after (text ∷ texts) old new (inl (front, same)) = inl same
 in_turn_after (text ∷ texts) old new (inr (whole, more)) = inr more
 
-pub certified_reports : (tells : Status → List (List ℕ) → Type 0) (produced : Result Produced RunError) (result : Result Status RunError) (old new : List (Option (List ℕ))) (faults counted : List ℕ)
-    → MayCertify tells produced → EndsProducing produced result (None ∷ old) (None ∷ new) faults counted → ReportsAll (TellsAlike tells) result old new
-certified_reports tells (Ok p) (Ok status) old new faults counted may ends = rw ends.0 (unclaimed_texts p, may, accepted_after (produced_texts p) old new ends.1)
-certified_reports tells (Ok p) (Err error) old new faults counted may ends = elim (in_turn_after (produced_texts p) old new ends.1) [
+-- a sink that keeps nothing
+abbrev nowhere : Written
+nowhere = record { accepted = None; faults = 0 }
+
+pub certified_reports : (tells : Status → List (List ℕ) → Type 0) (produced : Result Produced RunError) (result : Result Status RunError) (old new : List Written)
+    → MayCertify tells produced → EndsProducing produced result (nowhere ∷ old) (nowhere ∷ new) → ReportsAll (TellsAlike tells) result (accepted_by old) (accepted_by new)
+certified_reports tells (Ok p) (Ok status) old new may ends = rw ends.0 (unclaimed_texts p, may, accepted_after (produced_texts p) (accepted_by old) (accepted_by new) ends.1)
+certified_reports tells (Ok p) (Err error) old new may ends = elim (in_turn_after (produced_texts p) (accepted_by old) (accepted_by new) ends.1) [
   | inl same ↦ inl same
   | inr more ↦ inr (told_status p.told, unclaimed_texts p, may, more)
 ]
-certified_reports tells (Err error) result old new faults counted may ends = rw ends.0 (let same : None ∷ new ≡ None ∷ old = ends.1 in inl cc)
+certified_reports tells (Err error) result old new may ends = rw ends.0 (let same : nowhere ∷ new ≡ nowhere ∷ old = ends.1 in inl (ap (λ (sinks : List Written). drop 1 (accepted_by sinks)) same))

@@ -43,7 +43,7 @@ AreClosings (event ∷ events) = IsClosing event × AreClosings events
 
 abbrev pub faults_of : FileEvent → ℕ
 faults_of (Read file) = file.faults
-faults_of (Wrote file) = file.faults
+faults_of (Wrote file) = file.seen.faults
 faults_of other = 0
 
 abbrev pub none_of : FileEvent → ℕ
@@ -60,8 +60,8 @@ no_failure (NotCreated name error) closing is = absurd closing
 read_fails : (file : ReadFile) → file.faults ≢ 0 → failures (Read file) ≡ (calls.Read, file.name) ∷ []
 read_fails file other = rw (ne_eqb file.faults 0 other) refl
 
-write_fails : (file : WrittenFile) → file.faults ≢ 0 → failures (Wrote file) ≡ (calls.Write, file.name) ∷ []
-write_fails file other = rw (ne_eqb file.faults 0 other) refl
+write_fails : (file : WrittenFile) → file.seen.faults ≢ 0 → failures (Wrote file) ≡ (calls.Write, file.name) ∷ []
+write_fails file other = rw (ne_eqb file.seen.faults 0 other) refl
 
 a_failure : (event : FileEvent) → IsClosing event → faults_of event ≡ 1 → (failure : FileCall × List ℕ) × (failures event ≡ failure ∷ [])
 a_failure (Read file) closing is = ((calls.Read, file.name), read_fails file (omega (arith, is)))
@@ -153,12 +153,12 @@ first_call (Read file ∷ events) call name rest closings is = elim (eq-zero-or-
       let it : (calls.Read, file.name) ∷ flat_map failures events ≡ (call, name) ∷ rest = rw (read_fails file other) at is in
       inl (same_call call calls.Read name file.name rest (flat_map failures events) (sym it), inl other)
 ]
-first_call (Wrote file ∷ events) call name rest closings is = elim (eq-zero-or-pos file.faults) [
+first_call (Wrote file ∷ events) call name rest closings is = elim (eq-zero-or-pos file.seen.faults) [
   | inl none ↦
       let later : flat_map failures events ≡ (call, name) ∷ rest = rw (no_failure (Wrote file) tt none) at is in
       first_call events call name rest closings.1 later
   | inr some ↦
-      let other : file.faults ≢ 0 = omega (arith, some) in
+      let other : file.seen.faults ≢ 0 = omega (arith, some) in
       let it : (calls.Write, file.name) ∷ flat_map failures events ≡ (call, name) ∷ rest = rw (write_fails file other) at is in
       inr (same_call call calls.Write name file.name rest (flat_map failures events) (sym it))
 ]

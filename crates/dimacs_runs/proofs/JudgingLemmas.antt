@@ -1,5 +1,6 @@
 -- What is told of texts that are judged.
-use Rattle.std.proofs.Common.{◌≡◌, ℕ, List, Option, Result, Ok, Err, refl, sym, subst, ap, ◌∙◌, inl, inr, ◌⊎◌}
+use Rattle.std.proofs.Common.{◌≡◌, ℕ, List, Result, Ok, Err, refl, sym, subst, ap, ◌∙◌, inl, inr, ◌⊎◌}
+use Rattle.dimacs_lines.specs.Devices.{Written}
 use Rattle.dimacs_records.specs.declared.faults.At.{At}
 use Rattle.dimacs_records.specs.declared.faults.ReadError.{ReadError}
 use Rattle.dimacs_records.specs.declared.faults.ReadError.TheVariants as read_errors
@@ -140,8 +141,8 @@ paths_said blocks (queries.Pairs pairs) verdicts.Infeasible is = absurd is
 paths_said blocks (queries.Pairs pairs) (verdicts.Sources count) is = absurd is
 
 -- what is told alone is reported
-pub told_reports : (tells : Status → List ℕ → Type 0) (told : Result Told RunError) (result : Result Status RunError) (old new : Option (List ℕ)) (faults counted : ℕ)
-    → ToldAlone tells told → EndsAfter told result old new faults counted → Reports tells result old new
-told_reports tells (Ok t) (Ok status) old new faults counted alone ends = rw ends.0 (told_lines t, alone, ends.1)
-told_reports tells (Ok t) (Err error) old new faults counted alone ends = inr (told_status t, told_lines t, alone, ends.1)
-told_reports tells (Err error) result old new faults counted alone ends = rw ends.0 (inl ends.1)
+pub told_reports : (tells : Status → List ℕ → Type 0) (told : Result Told RunError) (result : Result Status RunError) (old new : Written)
+    → ToldAlone tells told → EndsAfter told result old new → Reports tells result old.accepted new.accepted
+told_reports tells (Ok t) (Ok status) old new alone ends = rw ends.0 (told_lines t, alone, ends.1)
+told_reports tells (Ok t) (Err error) old new alone ends = inr (told_status t, told_lines t, alone, ends.1)
+told_reports tells (Err error) result old new alone ends = rw ends.0 (inl (ap (λ (w : Written). w.accepted) ends.1))

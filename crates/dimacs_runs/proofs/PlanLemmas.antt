@@ -1,6 +1,7 @@
 -- How a run over the files of a plan ends.
 use Rattle.std.proofs.Common.{ℕ, ◌≡◌, ◌≢◌, ◌++◌, ◌∙◌, List, [], ◌∷◌, Option, None, Some, Result, Ok, Err, refl, sym, ap, append_assoc, append-nil, arith, flat_map, inl, inr, map}
 use Rattle.std.proofs.lemmas.Grind.{flat_map-append}
+use Rattle.dimacs_lines.specs.Devices.{Written}
 use Rattle.dimacs_runs.specs.declared.failure.CommandError.{CommandError}
 use Rattle.dimacs_runs.specs.declared.failure.Failure.{Failure}
 use Rattle.dimacs_runs.specs.declared.jobs.JudgeKind.{JudgeKind}
@@ -51,44 +52,44 @@ sees_nothing seen = record { done = nothing seen.done; faults = refl }
     nothing None = refl
     nothing (Some earlier) = sym (ap Some (append-nil earlier))
 
-module _ (plan : Plan) (holds : Contents) (empty : Option (List ℕ)) (tells : Telling) (result : Result Status CommandError) (a : FilesSeen) (output : Option (List ℕ)) (faults : ℕ) where
+module _ (plan : Plan) (holds : Contents) (empty : Option (List ℕ)) (tells : Telling) (result : Result Status CommandError) (a : FilesSeen) (output : Written) where
   -- a file could not be opened
   pub stops_opening : (before : List (List ℕ)) (name : List ℕ) (after : List (List ℕ)) (error : CommandError) (b c : FilesSeen) → plan.opened ≡ before ++ name ∷ after → result ≡ Err error
-      → Sees (map Opened before) a b → FailsWith (NotOpened name) b c error → RunsFiles plan holds empty tells result (seen_by a output faults) (seen_by c output faults)
+      → Sees (map Opened before) a b → FailsWith (NotOpened name) b c error → RunsFiles plan holds empty tells result (seen_by a output) (seen_by c output)
   stops_opening before name after error b c whole is seen fails = rw is record {
     events = map Opened before ++ NotOpened name fails.cause ∷ [];
     seen = sees_then (map Opened before) (NotOpened name fails.cause ∷ []) a b c seen fails.seen;
     failure = flat_map-append failures (map Opened before) (NotOpened name fails.cause ∷ []) ∙ rw (opened_none before) (append-nil (failures (NotOpened name fails.cause)) ∙ fails.failure);
-    faults = sym (fails.output faults);
+    faults = sym (fails.output output.faults);
     ends = inl (inl (record { before = before; name = name; after = after; error = fails.cause; whole = whole; happened = refl }), refl, refl);
   }
 
   -- a file could not be created, and those before it were closed
   pub stops_creating : (before : List (List ℕ)) (name : List ℕ) (after : List (List ℕ)) (error : CommandError) (b c d : FilesSeen) → plan.created ≡ before ++ name ∷ after → result ≡ Err error
       → Sees (map Opened plan.opened ++ map Created before) a b → FailsWith (NotCreated name) b c error → Sees (map (closed_empty empty) before) c d
-      → RunsFiles plan holds empty tells result (seen_by a output faults) (seen_by d output faults)
+      → RunsFiles plan holds empty tells result (seen_by a output) (seen_by d output)
   stops_creating before name after error b c d whole is seen fails closed = rw is record {
     events = map Opened plan.opened ++ map Created before ++ NotCreated name fails.cause ∷ map (closed_empty empty) before;
     seen = sees_then (map Opened plan.opened ++ map Created before) (NotCreated name fails.cause ∷ map (closed_empty empty) before) a b d seen
         (sees_then (NotCreated name fails.cause ∷ []) (map (closed_empty empty) before) b c d fails.seen closed);
     failure = failures_after plan.opened before (NotCreated name fails.cause ∷ map (closed_empty empty) before) ∙ rw (empty_none empty before) (append-nil (failures (NotCreated name fails.cause)) ∙ fails.failure);
-    faults = sym (fails.output faults);
+    faults = sym (fails.output output.faults);
     ends = inl (inr (record { before = before; name = name; after = after; error = fails.cause; whole = whole; happened = refl }), refl, refl);
   }
 
   -- the files were opened, created, used and closed
-  pub uses_files : (read : List ReadFile) (written : List WrittenFile) (b c : FilesSeen) (new : Option (List ℕ)) (counted : ℕ) (ended : Result Status RunError) (failure : Option Failure)
+  pub uses_files : (read : List ReadFile) (written : List WrittenFile) (b c : FilesSeen) (new : Written) (ended : Result Status RunError) (failure : Option Failure)
       → map (λ (file : ReadFile). file.name) read ≡ plan.opened → map (λ (file : WrittenFile). file.name) written ≡ plan.created
       → Sees (map Opened plan.opened ++ map Created plan.created) a b → Sees (map Read read ++ map Wrote written) b c
       → result ≡ named ended failure → IsFirstOf failure (flat_map failures (map Read read ++ map Wrote written))
-      → CountsDevices ended (all_before faults counted (map Read read ++ map Wrote written)) (all_after faults counted (map Read read ++ map Wrote written))
-      → ((texts : List (List ℕ)) → map holds plan.opened ≡ map Some texts → tells texts (named ended failure) (at_first plan.created empty output) (at_last written new))
-      → (ended ≡ Err Memory → at_last written new ≡ at_first plan.created empty output)
-      → (AnyRead (map Read read ++ map Wrote written) → at_last written new ≡ at_first plan.created empty output)
-      → RunsFiles plan holds empty tells result (seen_by a output faults) (seen_by c new counted)
-  uses_files read written b c new counted ended failure all_read all_written opened closed is first counts told memory unread =
+      → CountsDevices ended (all_before output.faults new.faults (map Read read ++ map Wrote written)) (all_after output.faults new.faults (map Read read ++ map Wrote written))
+      → ((texts : List (List ℕ)) → map holds plan.opened ≡ map Some texts → tells texts (named ended failure) (at_first plan.created empty output.accepted) (at_last written new.accepted))
+      → (ended ≡ Err Memory → at_last written new.accepted ≡ at_first plan.created empty output.accepted)
+      → (AnyRead (map Read read ++ map Wrote written) → at_last written new.accepted ≡ at_first plan.created empty output.accepted)
+      → RunsFiles plan holds empty tells result (seen_by a output) (seen_by c new)
+  uses_files read written b c new ended failure all_read all_written opened closed is first counts told memory unread =
       let closings : List FileEvent = map Read read ++ map Wrote written in
-      let fails = tells_failure faults counted closings ended failure (are_closings read written) first counts in
+      let fails = tells_failure output.faults new.faults closings ended failure (are_closings read written) first counts in
       rw is record {
         events = (map Opened plan.opened ++ map Created plan.created) ++ closings;
         seen = sees_then (map Opened plan.opened ++ map Created plan.created) closings a b c opened closed;

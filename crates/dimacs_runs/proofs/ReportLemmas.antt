@@ -1,5 +1,6 @@
 -- What is told of a text that was read, or refused.
-use Rattle.std.proofs.Common.{◌≡◌, ℕ, List, Option, Result, Ok, Err, refl, ap, ◌∙◌, inl, inr}
+use Rattle.std.proofs.Common.{◌≡◌, ℕ, List, Result, Ok, Err, refl, ap, ◌∙◌, inl, inr}
+use Rattle.dimacs_lines.specs.Devices.{Written}
 use Rattle.dimacs_lines.specs.Lines.{lines}
 use Rattle.dimacs_lines.specs.Puts.{Puts}
 use Rattle.dimacs_lines.specs.declared.device.DeviceFault.{DeviceFault}
@@ -45,15 +46,15 @@ module _ {V : Type 0} (kind : TextKind) (spells : List ℕ → V → Type 0) (to
       alone GaveUp other h = absurd h
 
   -- a value was read, and what it tells was put
-  pub done_reports : (v : V) (put : Result Unit DeviceFault) (result : Result Status RunError) (old new : Option (List ℕ))
-      → Reads (spells bytes) fault (Ok v) → Puts put old (told v) new → result ≡ done_after put → Reports tells result old new
-  done_reports v (Ok done) result old new read puts is = rw is (told v, value_told v read, puts)
-  done_reports v (Err fault) result old new read puts is = rw is (inr (Done, told v, value_told v read, puts))
+  pub done_reports : (v : V) (put : Result Unit DeviceFault) (result : Result Status RunError) (old new : Written)
+      → Reads (spells bytes) fault (Ok v) → Puts put old (told v) new → result ≡ done_after put → Reports tells result old.accepted new.accepted
+  done_reports v (Ok done) result old new read puts is = rw is (told v, value_told v read, puts.accepted)
+  done_reports v (Err fault) result old new read puts is = rw is (inr (Done, told v, value_told v read, puts.accepted))
 
   -- no value was read
-  pub refusal_reports : (error : ReadError) (result : Result Status RunError) (old new : Option (List ℕ)) (faults counted : ℕ)
-      → Reads (spells bytes) fault (Err error) → EndsWith error text result old new faults counted → Reports tells result old new
-  refusal_reports (read_errors.Refused place reason) (Ok status) old new faults counted read ends = rw ends.0 (refusal_line text place.line place.field reason, fault_told place reason read, ends.1)
-  refusal_reports (read_errors.Refused place reason) (Err error) old new faults counted read ends = inr (Refused, refusal_line text place.line place.field reason, fault_told place reason read, ends.1)
-  refusal_reports read_errors.Device result old new faults counted read ends = rw ends.0 (inl ends.1)
-  refusal_reports read_errors.Memory result old new faults counted read ends = rw ends.0 (inl ends.1)
+  pub refusal_reports : (error : ReadError) (result : Result Status RunError) (old new : Written)
+      → Reads (spells bytes) fault (Err error) → EndsWith error text result old new → Reports tells result old.accepted new.accepted
+  refusal_reports (read_errors.Refused place reason) (Ok status) old new read ends = rw ends.0 (refusal_line text place.line place.field reason, fault_told place reason read, ends.1)
+  refusal_reports (read_errors.Refused place reason) (Err error) old new read ends = inr (Refused, refusal_line text place.line place.field reason, fault_told place reason read, ends.1)
+  refusal_reports read_errors.Device result old new read ends = rw ends.0 (inl (ap (λ (w : Written). w.accepted) ends.1))
+  refusal_reports read_errors.Memory result old new read ends = rw ends.0 (inl (ap (λ (w : Written). w.accepted) ends.1))

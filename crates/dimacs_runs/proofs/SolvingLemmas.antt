@@ -1,7 +1,8 @@
 -- What a producer tells of the texts that it was given.
-use Rattle.std.proofs.Common.{◌≡◌, ◌≢◌, ◌∙◌, ◌+◌, ℕ, List, Option, Result, Ok, Err, refl, sym, subst, ap, inl, inr, ◌⊎◌, arith}
+use Rattle.std.proofs.Common.{◌≡◌, ◌≢◌, ◌∙◌, ◌+◌, ℕ, List, Result, Ok, Err, refl, sym, subst, ap, inl, inr, ◌⊎◌, arith}
 use Rattle.std.proofs.lemmas.Int.{ints}
 use Rattle.std.proofs.lemmas.Bool.{cases_order}
+use Rattle.dimacs_lines.specs.Devices.{Written}
 use Rattle.dimacs_instance.specs.declared.network.ArcView.{ArcView}
 use Rattle.dimacs_instance.specs.Arcs.{NetworkValue}
 use Rattle.dimacs_instance.specs.MaxFlows.{MaxValue}
@@ -37,7 +38,7 @@ use Rattle.dimacs_runs.specs.Judgings.{CountsDevices}
 use Rattle.dimacs_runs.specs.Runs.{TextSays}
 use Rattle.dimacs_runs.specs.inside.Judgings.{ReadsIn, StopsAt, error_told}
 use Rattle.dimacs_runs.specs.Outputs.{MayTell, ReportsAll}
-use Rattle.dimacs_runs.specs.inside.Produced.{EndsProducing, MayProduce, least_produced, maximum_produced, produced_texts, refused, reported}
+use Rattle.dimacs_runs.specs.inside.Produced.{EndsProducing, MayProduce, accepted_by, least_produced, maximum_produced, produced_texts, refused, reported}
 use Rattle.dimacs_runs.specs.Refusals.{refusal_line}
 use Rattle.dimacs_runs.specs.Solved.{FaultAloneOr, FindsLeast, FindsMaximum, FindsPaths, RefusesPaths, report_alone}
 use Rattle.dimacs_runs.specs.inside.Told.{told_status}
@@ -134,8 +135,8 @@ counts_none (Err Memory) old new other same = same
 counts_none (Err Device) old new other same = absurd (other refl)
 
 -- what was produced was put
-pub produced_reports : (tells : Status → List (List ℕ) → Type 0) (produced : Result Produced RunError) (result : Result Status RunError) (old new : List (Option (List ℕ))) (faults counted : List ℕ)
-    → MayProduce tells produced → EndsProducing produced result old new faults counted → ReportsAll (MayTell tells) result old new
-produced_reports tells (Ok p) (Ok status) old new faults counted may ends = rw ends.0 (produced_texts p, may, ends.1)
-produced_reports tells (Ok p) (Err error) old new faults counted may ends = inr (told_status p.told, produced_texts p, may, ends.1)
-produced_reports tells (Err error) result old new faults counted may ends = rw ends.0 (inl ends.1)
+pub produced_reports : (tells : Status → List (List ℕ) → Type 0) (produced : Result Produced RunError) (result : Result Status RunError) (old new : List Written)
+    → MayProduce tells produced → EndsProducing produced result old new → ReportsAll (MayTell tells) result (accepted_by old) (accepted_by new)
+produced_reports tells (Ok p) (Ok status) old new may ends = rw ends.0 (produced_texts p, may, ends.1)
+produced_reports tells (Ok p) (Err error) old new may ends = inr (told_status p.told, produced_texts p, may, ends.1)
+produced_reports tells (Err error) result old new may ends = rw ends.0 (inl (ap accepted_by ends.1))

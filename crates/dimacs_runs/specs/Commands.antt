@@ -2,7 +2,7 @@
 use Rattle.std.specs.Prelude.{ℕ, ◌≡◌, ◌⊎◌, ◌++◌, List, [], ◌∷◌, Option, None, Some, Result, Ok, Err, IsErr, drop, map, take}
 use Rattle.std.specs.List.{flat_map}
 use Rattle.std.specs.String.{string_bytes}
-use Rattle.dimacs_lines.specs.Devices.{one_more}
+use Rattle.dimacs_lines.specs.Devices.{Written, one_more}
 use Rattle.dimacs_runs.specs.declared.command.Ending.{Ending}
 use Rattle.dimacs_runs.specs.declared.failure.CommandError.{CommandError}
 use Rattle.dimacs_runs.specs.declared.failure.CommandError.TheVariants.{Device, Memory}
@@ -33,14 +33,13 @@ use Rattle.dimacs_runs.specs.Solved.{Solved}
 abbrev pub Contents : Type 0
 Contents = List ℕ → Option (List ℕ)
 
--- what is seen of the files and of the output: what the output has accepted, where that is told, and its faults
+-- what is seen of the files and of the output
 pub record Seen : Type 0 where
   pub files : FilesSeen
-  pub output : Option (List ℕ)
-  pub faults : ℕ
+  pub output : Written
 
-abbrev pub seen_by : FilesSeen → Option (List ℕ) → ℕ → Seen
-seen_by files output faults = record { files = files; output = output; faults = faults }
+abbrev pub seen_by : FilesSeen → Written → Seen
+seen_by files output = record { files = files; output = output }
 
 -- the files that a run opens, and those that it creates, in the order of its words
 pub record Plan : Type 0 where
@@ -113,7 +112,7 @@ pub record StopsOpening (plan : Plan) (events : List FileEvent) : Type 0 where
   pub happened : events ≡ map Opened before ++ NotOpened name error ∷ []
 
 abbrev pub closed_empty : Option (List ℕ) → List ℕ → FileEvent
-closed_empty empty name = closed_written name empty 0
+closed_empty empty name = closed_written name (record { accepted = empty; faults = 0 })
 
 -- a file could not be created: those before it were, and they were closed with nothing accepted
 pub record StopsCreating (plan : Plan) (empty : Option (List ℕ)) (events : List FileEvent) : Type 0 where
@@ -137,7 +136,7 @@ abbrev pub at_first : List (List ℕ) → Option (List ℕ) → Option (List ℕ
 at_first created empty output = map (λ (name : List ℕ). empty) created ++ output ∷ []
 
 abbrev pub at_last : List WrittenFile → Option (List ℕ) → List (Option (List ℕ))
-at_last written output = map (λ (file : WrittenFile). file.accepted) written ++ output ∷ []
+at_last written output = map (λ (file : WrittenFile). file.seen.accepted) written ++ output ∷ []
 
 -- all files were opened and created, and closed after they were read and written, and what is told of the texts was put
 pub record UsesFiles (plan : Plan) (holds : Contents) (empty : Option (List ℕ)) (tells : Telling) (events : List FileEvent) (result : Result Status CommandError) (old new : Option (List ℕ)) : Type 0 where
@@ -164,8 +163,8 @@ pub record RunsFiles (plan : Plan) (holds : Contents) (empty : Option (List ℕ)
   pub events : List FileEvent
   pub seen : Sees events old.files new.files
   pub failure : flat_map failures events ≡ failures_told result
-  pub faults : new.faults ≡ output_faults result old.faults
-  pub ends : ((StopsOpening plan events ⊎ StopsCreating plan empty events) × IsErr result × (new.output ≡ old.output)) ⊎ UsesFiles plan holds empty tells events result old.output new.output
+  pub faults : new.output.faults ≡ output_faults result old.output.faults
+  pub ends : ((StopsOpening plan events ⊎ StopsCreating plan empty events) × IsErr result × (new.output.accepted ≡ old.output.accepted)) ⊎ UsesFiles plan holds empty tells events result old.output.accepted new.output.accepted
 
 abbrev pub RunsJob : Job → Contents → Option (List ℕ) → Result Status CommandError → Seen → Seen → Type 0
 RunsJob job holds empty result old new = RunsFiles (plan_of job) holds empty (tells_of job) result old new

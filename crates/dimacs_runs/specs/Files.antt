@@ -1,7 +1,7 @@
 -- What is done with files, as far as it is told.
 use Rattle.std.specs.Prelude.{ℕ, ◌++◌, ◌==◌, ◌≡◌, if◌then◌else◌, List, [], ◌∷◌, Option, None, Some, Result, Ok, Err}
 use Rattle.std.specs.List.{flat_map}
-use Rattle.dimacs_lines.specs.Devices.{one_more}
+use Rattle.dimacs_lines.specs.Devices.{Written, one_more}
 use Rattle.dimacs_runs.specs.declared.failure.FileCall.{FileCall}
 use Rattle.dimacs_runs.specs.declared.failure.FileCall.TheVariants as calls
 use Rattle.dimacs_runs.specs.declared.outcome.RunError.{RunError}
@@ -12,11 +12,10 @@ pub record ReadFile : Type 0 where
   pub name : List ℕ
   pub faults : ℕ
 
--- a file that was closed after it was written, with what it has accepted
+-- a file that was closed after it was written, with what it has accepted and its faults
 pub record WrittenFile : Type 0 where
   pub name : List ℕ
-  pub accepted : Option (List ℕ)
-  pub faults : ℕ
+  pub seen : Written
 
 -- a file was opened, to be read, or created, or emptied; or it could not be; or it was closed
 pub data FileEvent : Type 0 where
@@ -40,15 +39,15 @@ creating (Err error) name = NotCreated name error
 abbrev pub closed_read : List ℕ → ℕ → FileEvent
 closed_read name faults = Read (record { name = name; faults = faults })
 
-abbrev pub closed_written : List ℕ → Option (List ℕ) → ℕ → FileEvent
-closed_written name accepted faults = Wrote (record { name = name; accepted = accepted; faults = faults })
+abbrev pub closed_written : List ℕ → Written → FileEvent
+closed_written name seen = Wrote (record { name = name; seen = seen })
 
 -- the call that failed, and the name of the file, where a file with faults was closed, or a device refused one
 abbrev pub failures : FileEvent → List (FileCall × List ℕ)
 failures (NotOpened name Device) = (calls.Open, name) ∷ []
 failures (NotCreated name Device) = (calls.Create, name) ∷ []
 failures (Read file) = if file.faults == 0 then [] else (calls.Read, file.name) ∷ []
-failures (Wrote file) = if file.faults == 0 then [] else (calls.Write, file.name) ∷ []
+failures (Wrote file) = if file.seen.faults == 0 then [] else (calls.Write, file.name) ∷ []
 failures event = []
 
 -- what was done with files, where that is told, and how often one failed: a `u64` that wraps

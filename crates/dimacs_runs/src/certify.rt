@@ -49,14 +49,14 @@ pub fn run_certify<P: Source, Q: Source, C: Sink, K: Sink>(
 ) -> Result<Status, RunError>
     ensures reports { (a b : List ℕ) → P.coming instance.old ≡ Some a → Q.coming solution.old ≡ Some b
         → ReportsAll (TellsAlike (Certified kind a b)) result
-        (C.accepted certificate_out.old ∷ K.accepted report.old ∷ []) (C.accepted certificate_out.new ∷ K.accepted report.new ∷ []) }
+        ((C.seen certificate_out.old).accepted ∷ (K.seen report.old).accepted ∷ [])
+        ((C.seen certificate_out.new).accepted ∷ (K.seen report.new).accepted ∷ []) }
     ensures faults { CountsDevices result
-        (P.faults instance.old ∷ Q.faults solution.old ∷ C.faults certificate_out.old ∷ K.faults report.old ∷ [])
-        (P.faults instance.new ∷ Q.faults solution.new ∷ C.faults certificate_out.new ∷ K.faults report.new ∷ []) }
+        (P.faults instance.old ∷ Q.faults solution.old ∷ (C.seen certificate_out.old).faults ∷ (K.seen report.old).faults ∷ [])
+        (P.faults instance.new ∷ Q.faults solution.new ∷ (C.seen certificate_out.new).faults ∷ (K.seen report.new).faults ∷ []) }
     ensures nothing_written { (P.faults instance.new ≢ P.faults instance.old) ⊎ (Q.faults solution.new ≢ Q.faults solution.old)
-        → (C.accepted certificate_out.new ≡ C.accepted certificate_out.old) × (K.accepted report.new ≡ K.accepted report.old) }
-    ensures memory { result ≡ Err Memory
-        → (C.accepted certificate_out.new ≡ C.accepted certificate_out.old) × (K.accepted report.new ≡ K.accepted report.old) }
+        → (C.seen certificate_out.new ≡ C.seen certificate_out.old) × (K.seen report.new ≡ K.seen report.old) }
+    ensures memory { result ≡ Err Memory → (C.seen certificate_out.new ≡ C.seen certificate_out.old) × (K.seen report.new ≡ K.seen report.old) }
     ensures stops_at_instance { (a : List ℕ) (l f : ℕ) (r : Reason) → P.coming instance.old ≡ Some a → Fault (certified_kind kind) (lines a) l f r
         → solution.new ≡ solution.old }
 {

@@ -60,8 +60,8 @@ pub fn run_command<'a, F: Files, K: Sink>(
     output: &mut K,
 ) -> Ending<'a>
     ensures commands { Commands (map string_bytes words.now) (F.holds files.old) F.empty result
-        (seen_by (F.seen files.old) (K.accepted output.old) (K.faults output.old))
-        (seen_by (F.seen files.new) (K.accepted output.new) (K.faults output.new)) }
+        (seen_by (F.seen files.old) (K.seen output.old))
+        (seen_by (F.seen files.new) (K.seen output.new)) }
 {
     match job(words) {
         Some(wanted) => Ending::of(run_job(alloc, wanted, files, output)),
@@ -80,8 +80,8 @@ fn run_job<'a, F: Files, K: Sink>(
 ) -> Result<Status, CommandError<'a>>
     requires { HasFiles job }
     ensures runs { RunsJob job.entry (F.holds files.old) F.empty result
-        (seen_by (F.seen files.old) (K.accepted output.old) (K.faults output.old))
-        (seen_by (F.seen files.new) (K.accepted output.new) (K.faults output.new)) }
+        (seen_by (F.seen files.old) (K.seen output.old))
+        (seen_by (F.seen files.new) (K.seen output.new)) }
 {
     match job {
         Job::Convert(kind, name) => {

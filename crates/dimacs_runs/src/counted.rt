@@ -48,9 +48,7 @@ impl<S: Source> Source for Counted<S> {
 }
 
 impl<K: Sink> Sink for Counted<K> {
-    ghost accepted = { λ s. K.accepted s.device };
-
-    ghost faults = { λ s. s.faults };
+    ghost seen = { λ s. record { accepted = (K.seen s.device).accepted; faults = s.faults } };
 
     fn put(&mut self, bytes: &[u8]) -> Result<usize, DeviceFault> {
         let taken = self.device.put(bytes);

@@ -9,9 +9,7 @@ use dimacs_lines::{DeviceFault, Sink};
 pub(crate) struct Discard;
 
 impl Sink for Discard {
-    ghost accepted = { λ s. None };
-
-    ghost faults = { λ s. 0 };
+    ghost seen = { λ s. record { accepted = None; faults = 0 } };
 
     fn put(&mut self, bytes: &[u8]) -> Result<usize, DeviceFault> {
         Ok(bytes.len())

@@ -22,7 +22,7 @@ pub(crate) fn refuse<K: Sink>(
     text: &str,
     sink: &mut K,
 ) -> Result<Status, RunError>
-    ensures { EndsWith error text.now result (K.accepted sink.old) (K.accepted sink.new) (K.faults sink.old) (K.faults sink.new) }
+    ensures { EndsWith error text.now result (K.seen sink.old) (K.seen sink.new) }
 {
     match error {
         ReadError::Refused(place, reason) => {

@@ -32,8 +32,7 @@ pub trait Files {
 
     /// Creates a file to be written, or empties it.
     fn create(&mut self, name: &str) -> Result<Self::Output, RunError>
-        ensures empty { IfOk result (λ file. Self.Output.accepted file ≡ empty) }
-        ensures faultless { IfOk result (λ file. Self.Output.faults file ≡ 0) }
+        ensures empty { IfOk result (λ file. Self.Output.seen file ≡ record { accepted = empty; faults = 0 }) }
         ensures seen { Sees (creating result name.now ∷ []) (seen self.old) (seen self.new) };
 
     /// Closes a file of this name that was read, and answers whether it had failed.
@@ -43,6 +42,6 @@ pub trait Files {
 
     /// Closes a file of this name that was written, and answers whether it had failed.
     fn close_output(&mut self, name: &str, file: Self::Output) -> bool
-        ensures failed { IsTrue result ↔ (Self.Output.faults file ≢ 0) }
-        ensures seen { Sees (closed_written name.now (Self.Output.accepted file) (Self.Output.faults file) ∷ []) (seen self.old) (seen self.new) };
+        ensures failed { IsTrue result ↔ ((Self.Output.seen file).faults ≢ 0) }
+        ensures seen { Sees (closed_written name.now (Self.Output.seen file) ∷ []) (seen self.old) (seen self.new) };
 }

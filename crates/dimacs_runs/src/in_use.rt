@@ -38,8 +38,7 @@ pub(crate) fn create<'a, F: Files>(
     name: &'a str,
 ) -> Result<InUse<'a, F::Output>, CommandError<'a>>
     ensures named { IfOk result (λ file. file.name.now ≡ name.now) }
-    ensures empty { IfOk result (λ file. F.Output.accepted file.device ≡ F.empty) }
-    ensures faultless { IfOk result (λ file. F.Output.faults file.device ≡ 0) }
+    ensures empty { IfOk result (λ file. F.Output.seen file.device ≡ record { accepted = F.empty; faults = 0 }) }
     ensures created { IfOk result (λ file. Sees (Created name.now ∷ []) (F.seen files.old) (F.seen files.new)) }
     ensures failed { IfErr result (FailsWith (NotCreated name.now) (F.seen files.old) (F.seen files.new)) }
 {
@@ -69,10 +68,8 @@ pub(crate) fn close_written<'a, F: Files>(
     files: &mut F,
     file: InUse<'a, F::Output>,
 ) -> Option<Failure<'a>>
-    ensures failure { IsFirstOf result (failures
-        (closed_written file.entry.name.now (F.Output.accepted file.entry.device) (F.Output.faults file.entry.device))) }
-    ensures seen { Sees (closed_written file.entry.name.now (F.Output.accepted file.entry.device)
-        (F.Output.faults file.entry.device) ∷ []) (F.seen files.old) (F.seen files.new) }
+    ensures failure { IsFirstOf result (failures (closed_written file.entry.name.now (F.Output.seen file.entry.device))) }
+    ensures seen { Sees (closed_written file.entry.name.now (F.Output.seen file.entry.device) ∷ []) (F.seen files.old) (F.seen files.new) }
 {
     if files.close_output(file.name, file.device) {
         Some(Failure::File(FileCall::Write, file.name))

@@ -40,14 +40,14 @@ pub fn run_judge<P: Source, Q: Source, R: Source, K: Sink>(
 ) -> Result<Status, RunError>
     ensures reports { (a b c : List ℕ) → P.coming instance.old ≡ Some a → IsClaim kind (Q.coming claim.old) b
         → R.coming certificate.old ≡ Some c
-        → Reports (Judged kind a b c) result (K.accepted sink.old) (K.accepted sink.new) }
+        → Reports (Judged kind a b c) result (K.seen sink.old).accepted (K.seen sink.new).accepted }
     ensures faults { CountsDevices result
-        (P.faults instance.old ∷ Q.faults claim.old ∷ R.faults certificate.old ∷ K.faults sink.old ∷ [])
-        (P.faults instance.new ∷ Q.faults claim.new ∷ R.faults certificate.new ∷ K.faults sink.new ∷ []) }
+        (P.faults instance.old ∷ Q.faults claim.old ∷ R.faults certificate.old ∷ (K.seen sink.old).faults ∷ [])
+        (P.faults instance.new ∷ Q.faults claim.new ∷ R.faults certificate.new ∷ (K.seen sink.new).faults ∷ []) }
     ensures nothing_written { (P.faults instance.new ≢ P.faults instance.old)
         ⊎ (Q.faults claim.new ≢ Q.faults claim.old) ⊎ (R.faults certificate.new ≢ R.faults certificate.old)
-        → K.accepted sink.new ≡ K.accepted sink.old }
-    ensures memory { result ≡ Err Memory → K.accepted sink.new ≡ K.accepted sink.old }
+        → K.seen sink.new ≡ K.seen sink.old }
+    ensures memory { result ≡ Err Memory → K.seen sink.new ≡ K.seen sink.old }
     ensures stops_at_instance { (a : List ℕ) (l f : ℕ) (r : Reason) → P.coming instance.old ≡ Some a
         → Fault (instance_kind kind) (lines a) l f r → (claim.new ≡ claim.old) × (certificate.new ≡ certificate.old) }
     ensures stops_at_claim { (claimed : TextKind) (b : List ℕ) (l f : ℕ) (r : Reason) → claim_kind kind ≡ Some claimed

@@ -1,7 +1,7 @@
 //! What a run tells that makes a claim or a certificate, and how it is put.
 
 ghost use Rattle.std.specs.Prelude.{◌≡◌, ◌∷◌, [], IfOk};
-ghost use Rattle.dimacs_runs.specs.inside.Produced.{CountsPuts, EndsProducing, IsClaimless, PutTexts, least_produced, made_texts, maximum_produced, reported};
+ghost use Rattle.dimacs_runs.specs.inside.Produced.{EndsProducing, IsClaimless, PutTexts, least_produced, made_texts, maximum_produced, reported};
 ghost use Rattle.dimacs_runs.specs.inside.Produced as produced;
 
 use crate::outcome::{RunError, Status};
@@ -35,9 +35,7 @@ pub(crate) enum Made {
 impl Made {
     /// Puts the claim, and then the certificate.
     fn put<C: Sink, D: Sink>(&self, claim: &mut C, certificate: &mut D) -> Result<(), DeviceFault>
-        ensures puts { PutTexts result (made_texts self.now) (C.accepted claim.old ∷ D.accepted certificate.old ∷ [])
-            (C.accepted claim.new ∷ D.accepted certificate.new ∷ []) }
-        ensures faults { CountsPuts result (C.faults claim.old ∷ D.faults certificate.old ∷ []) (C.faults claim.new ∷ D.faults certificate.new ∷ []) }
+        ensures puts { PutTexts result (made_texts self.now) (C.seen claim.old ∷ D.seen certificate.old ∷ []) (C.seen claim.new ∷ D.seen certificate.new ∷ []) }
         ensures unclaimed { IsClaimless self.now → claim.new ≡ claim.old }
     {
         match self {
@@ -73,10 +71,7 @@ impl Produced {
         report: &mut K,
     ) -> Result<(), DeviceFault>
         ensures puts { PutTexts result (produced.produced_texts self.now)
-            (C.accepted claim.old ∷ D.accepted certificate.old ∷ K.accepted report.old ∷ [])
-            (C.accepted claim.new ∷ D.accepted certificate.new ∷ K.accepted report.new ∷ []) }
-        ensures faults { CountsPuts result (C.faults claim.old ∷ D.faults certificate.old ∷ K.faults report.old ∷ [])
-            (C.faults claim.new ∷ D.faults certificate.new ∷ K.faults report.new ∷ []) }
+            (C.seen claim.old ∷ D.seen certificate.old ∷ K.seen report.old ∷ []) (C.seen claim.new ∷ D.seen certificate.new ∷ K.seen report.new ∷ []) }
         ensures unclaimed { IsClaimless self.now.made → claim.new ≡ claim.old }
     {
         self.made.put(claim, certificate)?;
@@ -152,10 +147,7 @@ pub(crate) fn put_produced<C: Sink, D: Sink, K: Sink>(
     report: &mut K,
 ) -> Result<Status, RunError>
     ensures ends { EndsProducing produced result
-        (C.accepted claim.old ∷ D.accepted certificate.old ∷ K.accepted report.old ∷ [])
-        (C.accepted claim.new ∷ D.accepted certificate.new ∷ K.accepted report.new ∷ [])
-        (C.faults claim.old ∷ D.faults certificate.old ∷ K.faults report.old ∷ [])
-        (C.faults claim.new ∷ D.faults certificate.new ∷ K.faults report.new ∷ []) }
+        (C.seen claim.old ∷ D.seen certificate.old ∷ K.seen report.old ∷ []) (C.seen claim.new ∷ D.seen certificate.new ∷ K.seen report.new ∷ []) }
     ensures unclaimed { IfOk produced (λ p. IsClaimless p.made) → claim.new ≡ claim.old }
 {
     let produced = produced?;

@@ -1,7 +1,6 @@
 //! The lines of refusals.
 
 ghost use Rattle.std.specs.Prelude.{◌≡◌};
-ghost use Rattle.dimacs_lines.specs.Devices.{CountsFault};
 ghost use Rattle.dimacs_lines.specs.Puts.{Puts};
 ghost use Rattle.dimacs_runs.specs.Refusals.{refusal_line};
 ghost use Rattle.dimacs_runs.specs.Runs.{text_word};
@@ -28,8 +27,7 @@ pub fn put_refusal<K: Sink>(
     place: At,
     reason: Reason,
 ) -> Result<(), DeviceFault>
-    ensures puts { Puts result (K.accepted sink.old) (refusal_line text.now place.line place.field reason) (K.accepted sink.new) }
-    ensures fault { CountsFault result (K.faults sink.old) (K.faults sink.new) }
+    ensures { Puts result (K.seen sink.old) (refusal_line text.now place.line place.field reason) (K.seen sink.new) }
 {
     put_line(
         sink,

@@ -25,8 +25,8 @@ pub(crate) fn certify_files<'a, F: Files, K: Sink>(
 ) -> Result<Status, CommandError<'a>>
     requires { TwoOrThree (length names.now) }
     ensures runs { RunsFiles (reads_first 2 (map string_bytes names.now)) (F.holds files.old) F.empty (TellsCertified kind) result
-        (seen_by (F.seen files.old) (K.accepted output.old) (K.faults output.old))
-        (seen_by (F.seen files.new) (K.accepted output.new) (K.faults output.new)) }
+        (seen_by (F.seen files.old) (K.seen output.old))
+        (seen_by (F.seen files.new) (K.seen output.new)) }
 {
     if let [instance, solution] = names {
         return certify_alone(
@@ -62,8 +62,8 @@ fn certify_alone<'a, F: Files, K: Sink>(
     output: &mut K,
 ) -> Result<Status, CommandError<'a>>
     ensures runs { RunsFiles (reads_first 2 (instance.now ∷ solution.now ∷ [])) (F.holds files.old) F.empty (TellsCertified kind) result
-        (seen_by (F.seen files.old) (K.accepted output.old) (K.faults output.old))
-        (seen_by (F.seen files.new) (K.accepted output.new) (K.faults output.new)) }
+        (seen_by (F.seen files.old) (K.seen output.old))
+        (seen_by (F.seen files.new) (K.seen output.new)) }
 {
     let mut instance = open(files, instance)?;
     let mut solution = open(files, solution)?;
@@ -90,8 +90,8 @@ fn certify_into<'a, F: Files, K: Sink>(
     output: &mut K,
 ) -> Result<Status, CommandError<'a>>
     ensures runs { RunsFiles (reads_first 2 (instance.now ∷ solution.now ∷ certificate.now ∷ [])) (F.holds files.old) F.empty (TellsCertified kind) result
-        (seen_by (F.seen files.old) (K.accepted output.old) (K.faults output.old))
-        (seen_by (F.seen files.new) (K.accepted output.new) (K.faults output.new)) }
+        (seen_by (F.seen files.old) (K.seen output.old))
+        (seen_by (F.seen files.new) (K.seen output.new)) }
 {
     let mut instance = open(files, instance)?;
     let mut solution = open(files, solution)?;

@@ -28,8 +28,8 @@ pub(crate) fn tell_file<'a, F: Files, K: Sink>(
     output: &mut K,
 ) -> Result<Status, CommandError<'a>>
     ensures runs { RunsFiles (reads (name.now ∷ [])) (F.holds files.old) F.empty (TellsOne (Told form kind)) result
-        (seen_by (F.seen files.old) (K.accepted output.old) (K.faults output.old))
-        (seen_by (F.seen files.new) (K.accepted output.new) (K.faults output.new)) }
+        (seen_by (F.seen files.old) (K.seen output.old))
+        (seen_by (F.seen files.new) (K.seen output.new)) }
 {
     let mut text = open(files, name)?;
     let ended = run_text(alloc, form, kind, &mut text.device, output);
@@ -47,8 +47,8 @@ pub(crate) fn judge_files<'a, F: Files, K: Sink>(
 ) -> Result<Status, CommandError<'a>>
     requires { length names.now ≡ file_count kind }
     ensures runs { RunsFiles (reads (map string_bytes names.now)) (F.holds files.old) F.empty (TellsJudged kind) result
-        (seen_by (F.seen files.old) (K.accepted output.old) (K.faults output.old))
-        (seen_by (F.seen files.new) (K.accepted output.new) (K.faults output.new)) }
+        (seen_by (F.seen files.old) (K.seen output.old))
+        (seen_by (F.seen files.new) (K.seen output.new)) }
 {
     if kind == JudgeKind::Infeasible {
         let [instance, set] = names else {
@@ -81,8 +81,8 @@ fn judge_claim<'a, F: Files, K: Sink>(
     output: &mut K,
 ) -> Result<Status, CommandError<'a>>
     ensures runs { RunsFiles (reads (instance.now ∷ claim.now ∷ certificate.now ∷ [])) (F.holds files.old) F.empty (TellsJudged kind) result
-        (seen_by (F.seen files.old) (K.accepted output.old) (K.faults output.old))
-        (seen_by (F.seen files.new) (K.accepted output.new) (K.faults output.new)) }
+        (seen_by (F.seen files.old) (K.seen output.old))
+        (seen_by (F.seen files.new) (K.seen output.new)) }
 {
     let mut instance = open(files, instance)?;
     let mut claim = open(files, claim)?;
@@ -110,8 +110,8 @@ fn judge_set<'a, F: Files, K: Sink>(
     output: &mut K,
 ) -> Result<Status, CommandError<'a>>
     ensures runs { RunsFiles (reads (instance.now ∷ set.now ∷ [])) (F.holds files.old) F.empty (TellsJudged judges.Infeasible) result
-        (seen_by (F.seen files.old) (K.accepted output.old) (K.faults output.old))
-        (seen_by (F.seen files.new) (K.accepted output.new) (K.faults output.new)) }
+        (seen_by (F.seen files.old) (K.seen output.old))
+        (seen_by (F.seen files.new) (K.seen output.new)) }
 {
     let mut instance = open(files, instance)?;
     let mut set = open(files, set)?;

@@ -25,8 +25,8 @@ pub(crate) fn solve_files<'a, F: Files, K: Sink>(
 ) -> Result<Status, CommandError<'a>>
     requires { length names.now ≡ 3 }
     ensures runs { RunsFiles (reads_first (read_count job) (map string_bytes names.now)) (F.holds files.old) F.empty (TellsSolved job) result
-        (seen_by (F.seen files.old) (K.accepted output.old) (K.faults output.old))
-        (seen_by (F.seen files.new) (K.accepted output.new) (K.faults output.new)) }
+        (seen_by (F.seen files.old) (K.seen output.old))
+        (seen_by (F.seen files.new) (K.seen output.new)) }
 {
     let [first, second, third] = names else {
         unreachable!()
@@ -50,8 +50,8 @@ fn solve_flow<'a, F: Files, K: Sink>(
 ) -> Result<Status, CommandError<'a>>
     requires { job ≢ solves.Paths }
     ensures runs { RunsFiles (reads_first 1 (instance.now ∷ claim.now ∷ certificate.now ∷ [])) (F.holds files.old) F.empty (TellsSolved job) result
-        (seen_by (F.seen files.old) (K.accepted output.old) (K.faults output.old))
-        (seen_by (F.seen files.new) (K.accepted output.new) (K.faults output.new)) }
+        (seen_by (F.seen files.old) (K.seen output.old))
+        (seen_by (F.seen files.new) (K.seen output.new)) }
 {
     let mut instance = open(files, instance)?;
     let mut claim = create(files, claim)?;
@@ -87,8 +87,8 @@ fn solve_distances<'a, F: Files, K: Sink>(
     output: &mut K,
 ) -> Result<Status, CommandError<'a>>
     ensures runs { RunsFiles (reads_first 2 (graph.now ∷ queries.now ∷ labels.now ∷ [])) (F.holds files.old) F.empty (TellsSolved solves.Paths) result
-        (seen_by (F.seen files.old) (K.accepted output.old) (K.faults output.old))
-        (seen_by (F.seen files.new) (K.accepted output.new) (K.faults output.new)) }
+        (seen_by (F.seen files.old) (K.seen output.old))
+        (seen_by (F.seen files.new) (K.seen output.new)) }
 {
     let mut graph = open(files, graph)?;
     let mut queries = open(files, queries)?;

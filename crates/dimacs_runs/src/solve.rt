@@ -46,20 +46,15 @@ pub fn run_solve<P: Source, Q: Source, C: Sink, D: Sink, K: Sink>(
 ) -> Result<Status, RunError>
     ensures reports { (a b : List ℕ) → P.coming instance.old ≡ Some a → AreQueries job (Q.coming queries.old) b
         → ReportsAll (MayTell (Solved job a b)) result
-        (C.accepted claim_out.old ∷ D.accepted certificate_out.old ∷ K.accepted report.old ∷ [])
-        (C.accepted claim_out.new ∷ D.accepted certificate_out.new ∷ K.accepted report.new ∷ []) }
-    ensures faults { CountsDevices result (P.faults instance.old ∷ Q.faults queries.old ∷ C.faults claim_out.old ∷
-        D.faults certificate_out.old ∷ K.faults report.old ∷ []) (P.faults instance.new ∷ Q.faults queries.new ∷
-        C.faults claim_out.new ∷ D.faults certificate_out.new ∷ K.faults report.new ∷ []) }
-    ensures nothing_written { (P.faults instance.new ≢ P.faults instance.old)
-        ⊎ (Q.faults queries.new ≢ Q.faults queries.old)
-        → (C.accepted claim_out.new ≡ C.accepted claim_out.old)
-        × (D.accepted certificate_out.new ≡ D.accepted certificate_out.old)
-        × (K.accepted report.new ≡ K.accepted report.old) }
+        ((C.seen claim_out.old).accepted ∷ (D.seen certificate_out.old).accepted ∷ (K.seen report.old).accepted ∷ [])
+        ((C.seen claim_out.new).accepted ∷ (D.seen certificate_out.new).accepted ∷ (K.seen report.new).accepted ∷ []) }
+    ensures faults { CountsDevices result (P.faults instance.old ∷ Q.faults queries.old ∷ (C.seen claim_out.old).faults ∷
+        (D.seen certificate_out.old).faults ∷ (K.seen report.old).faults ∷ []) (P.faults instance.new ∷ Q.faults queries.new ∷
+        (C.seen claim_out.new).faults ∷ (D.seen certificate_out.new).faults ∷ (K.seen report.new).faults ∷ []) }
+    ensures nothing_written { (P.faults instance.new ≢ P.faults instance.old) ⊎ (Q.faults queries.new ≢ Q.faults queries.old)
+        → (C.seen claim_out.new ≡ C.seen claim_out.old) × (D.seen certificate_out.new ≡ D.seen certificate_out.old) × (K.seen report.new ≡ K.seen report.old) }
     ensures memory { result ≡ Err Memory
-        → (C.accepted claim_out.new ≡ C.accepted claim_out.old)
-        × (D.accepted certificate_out.new ≡ D.accepted certificate_out.old)
-        × (K.accepted report.new ≡ K.accepted report.old) }
+        → (C.seen claim_out.new ≡ C.seen claim_out.old) × (D.seen certificate_out.new ≡ D.seen certificate_out.old) × (K.seen report.new ≡ K.seen report.old) }
     ensures stops_at_instance { (a : List ℕ) (l f : ℕ) (r : Reason) → P.coming instance.old ≡ Some a
         → Fault (solved_kind job) (lines a) l f r → queries.new ≡ queries.old }
     ensures unqueried { job ≢ jobs.Paths → queries.new ≡ queries.old }

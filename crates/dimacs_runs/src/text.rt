@@ -1,7 +1,6 @@
 //! What is told of one text: its canonical form, or a line about it.
 
 ghost use Rattle.std.specs.Prelude.{◌≡◌, ◌≢◌, ◌∷◌, [], ℕ, List, Some, Err};
-ghost use Rattle.dimacs_lines.specs.Devices.{CountsFault};
 ghost use Rattle.dimacs_lines.specs.Puts.{Puts};
 ghost use Rattle.dimacs_runs.specs.declared.outcome.RunError.TheVariants.{Memory};
 ghost use Rattle.dimacs_runs.specs.declared.text.TextForm.TheVariants.{Canonical, Summary};
@@ -37,10 +36,10 @@ pub fn run_convert<S: Source, K: Sink>(
     sink: &mut K,
 ) -> Result<Status, RunError>
     ensures reports { (bytes : List ℕ) → S.coming text.old ≡ Some bytes
-        → Reports (Told Canonical kind bytes) result (K.accepted sink.old) (K.accepted sink.new) }
-    ensures faults { CountsDevices result (S.faults text.old ∷ K.faults sink.old ∷ []) (S.faults text.new ∷ K.faults sink.new ∷ []) }
-    ensures nothing_written { S.faults text.new ≢ S.faults text.old → K.accepted sink.new ≡ K.accepted sink.old }
-    ensures memory { result ≡ Err Memory → K.accepted sink.new ≡ K.accepted sink.old }
+        → Reports (Told Canonical kind bytes) result (K.seen sink.old).accepted (K.seen sink.new).accepted }
+    ensures faults { CountsDevices result (S.faults text.old ∷ (K.seen sink.old).faults ∷ []) (S.faults text.new ∷ (K.seen sink.new).faults ∷ []) }
+    ensures nothing_written { S.faults text.new ≢ S.faults text.old → K.seen sink.new ≡ K.seen sink.old }
+    ensures memory { result ≡ Err Memory → K.seen sink.new ≡ K.seen sink.old }
 {
     run_text(alloc, TextForm::Canonical, kind, text, sink)
 }
@@ -52,10 +51,11 @@ pub fn run_show<S: Source, K: Sink>(
     text: &mut S,
     sink: &mut K,
 ) -> Result<Status, RunError>
-    ensures reports { (bytes : List ℕ) → S.coming text.old ≡ Some bytes → Reports (Told Summary kind bytes) result (K.accepted sink.old) (K.accepted sink.new) }
-    ensures faults { CountsDevices result (S.faults text.old ∷ K.faults sink.old ∷ []) (S.faults text.new ∷ K.faults sink.new ∷ []) }
-    ensures nothing_written { S.faults text.new ≢ S.faults text.old → K.accepted sink.new ≡ K.accepted sink.old }
-    ensures memory { result ≡ Err Memory → K.accepted sink.new ≡ K.accepted sink.old }
+    ensures reports { (bytes : List ℕ) → S.coming text.old ≡ Some bytes
+        → Reports (Told Summary kind bytes) result (K.seen sink.old).accepted (K.seen sink.new).accepted }
+    ensures faults { CountsDevices result (S.faults text.old ∷ (K.seen sink.old).faults ∷ []) (S.faults text.new ∷ (K.seen sink.new).faults ∷ []) }
+    ensures nothing_written { S.faults text.new ≢ S.faults text.old → K.seen sink.new ≡ K.seen sink.old }
+    ensures memory { result ≡ Err Memory → K.seen sink.new ≡ K.seen sink.old }
 {
     run_text(alloc, TextForm::Summary, kind, text, sink)
 }
@@ -68,10 +68,11 @@ pub(crate) fn run_text<S: Source, K: Sink>(
     text: &mut S,
     sink: &mut K,
 ) -> Result<Status, RunError>
-    ensures reports { (bytes : List ℕ) → S.coming text.old ≡ Some bytes → Reports (Told form kind bytes) result (K.accepted sink.old) (K.accepted sink.new) }
-    ensures faults { CountsDevices result (S.faults text.old ∷ K.faults sink.old ∷ []) (S.faults text.new ∷ K.faults sink.new ∷ []) }
-    ensures nothing_written { S.faults text.new ≢ S.faults text.old → K.accepted sink.new ≡ K.accepted sink.old }
-    ensures memory { result ≡ Err Memory → K.accepted sink.new ≡ K.accepted sink.old }
+    ensures reports { (bytes : List ℕ) → S.coming text.old ≡ Some bytes
+        → Reports (Told form kind bytes) result (K.seen sink.old).accepted (K.seen sink.new).accepted }
+    ensures faults { CountsDevices result (S.faults text.old ∷ (K.seen sink.old).faults ∷ []) (S.faults text.new ∷ (K.seen sink.new).faults ∷ []) }
+    ensures nothing_written { S.faults text.new ≢ S.faults text.old → K.seen sink.new ≡ K.seen sink.old }
+    ensures memory { result ≡ Err Memory → K.seen sink.new ≡ K.seen sink.old }
 {
     match kind {
         TextKind::Max => tell::<MaxInstance<PlainArcs<CapacityArc>>, S, K>(alloc, form, text, sink),
@@ -92,11 +93,11 @@ fn tell<T: Text, S: Source, K: Sink>(
     sink: &mut K,
 ) -> Result<Status, RunError>
     ensures reports { (bytes : List ℕ) → S.coming text.old ≡ Some bytes
-        → Reports (TellsText (text_says T.kind T.spells bytes) (in_form form T.canonical T.shown)) result (K.accepted sink.old)
-        (K.accepted sink.new) }
-    ensures faults { CountsDevices result (S.faults text.old ∷ K.faults sink.old ∷ []) (S.faults text.new ∷ K.faults sink.new ∷ []) }
-    ensures nothing_written { S.faults text.new ≢ S.faults text.old → K.accepted sink.new ≡ K.accepted sink.old }
-    ensures memory { result ≡ Err Memory → K.accepted sink.new ≡ K.accepted sink.old }
+        → Reports (TellsText (text_says T.kind T.spells bytes) (in_form form T.canonical T.shown)) result
+        (K.seen sink.old).accepted (K.seen sink.new).accepted }
+    ensures faults { CountsDevices result (S.faults text.old ∷ (K.seen sink.old).faults ∷ []) (S.faults text.new ∷ (K.seen sink.new).faults ∷ []) }
+    ensures nothing_written { S.faults text.new ≢ S.faults text.old → K.seen sink.new ≡ K.seen sink.old }
+    ensures memory { result ≡ Err Memory → K.seen sink.new ≡ K.seen sink.old }
 {
     match T::read(alloc, text) {
         Ok(value) => done(put(&value, form, sink)),
@@ -105,8 +106,7 @@ fn tell<T: Text, S: Source, K: Sink>(
 }
 
 fn put<T: Text, K: Sink>(value: &T, form: TextForm, sink: &mut K) -> Result<(), DeviceFault>
-    ensures puts { Puts result (K.accepted sink.old) (in_form form T.canonical T.shown (T.said value.now)) (K.accepted sink.new) }
-    ensures fault { CountsFault result (K.faults sink.old) (K.faults sink.new) }
+    ensures { Puts result (K.seen sink.old) (in_form form T.canonical T.shown (T.said value.now)) (K.seen sink.new) }
 {
     match form {
         TextForm::Canonical => value.write(sink),

@@ -1,7 +1,6 @@
 //! What a run tells of a claim, and how it is put.
 
 ghost use Rattle.std.specs.Prelude.{◌≡◌};
-ghost use Rattle.dimacs_lines.specs.Devices.{CountsFault};
 ghost use Rattle.dimacs_lines.specs.Puts.{Puts};
 ghost use Rattle.dimacs_runs.specs.inside.Judgings as judgings;
 ghost use Rattle.dimacs_runs.specs.inside.Told.{EndsAfter, told_lines, told_status};
@@ -38,8 +37,7 @@ impl Told {
     }
 
     pub(crate) fn put<K: Sink>(&self, sink: &mut K) -> Result<(), DeviceFault>
-        ensures puts { Puts result (K.accepted sink.old) (told_lines self.now) (K.accepted sink.new) }
-        ensures fault { CountsFault result (K.faults sink.old) (K.faults sink.new) }
+        ensures { Puts result (K.seen sink.old) (told_lines self.now) (K.seen sink.new) }
     {
         match self {
             Told::Yes(verdict) => put_verdict(sink, verdict),
@@ -66,7 +64,7 @@ pub(crate) fn put_told<K: Sink>(
     told: Result<Told, RunError>,
     sink: &mut K,
 ) -> Result<Status, RunError>
-    ensures { EndsAfter told result (K.accepted sink.old) (K.accepted sink.new) (K.faults sink.old) (K.faults sink.new) }
+    ensures { EndsAfter told result (K.seen sink.old) (K.seen sink.new) }
 {
     let told = told?;
     told.put(sink)?;

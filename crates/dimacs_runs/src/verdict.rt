@@ -1,9 +1,8 @@
 //! The lines of verdicts, and of a judge's refusals.
 
-ghost use Rattle.std.specs.Prelude.{◌++◌, ℕ, List, Option};
+ghost use Rattle.std.specs.Prelude.{◌++◌};
 ghost use Rattle.std.specs.List.{flat_map};
-ghost use Rattle.dimacs_lines.specs.Devices.{CountsFault};
-ghost use Rattle.dimacs_lines.specs.Pages.{Appends, CountsOn};
+ghost use Rattle.dimacs_lines.specs.Pages.{Appends};
 ghost use Rattle.dimacs_lines.specs.Puts.{Puts};
 ghost use Rattle.dimacs_runs.specs.Verdicts.{failure_line, gave_up_line, numbered_line, answer_line, verdict_lines};
 
@@ -14,8 +13,7 @@ use dimacs_records::{At, Part, Reason, put_line, write_line};
 
 /// Puts the lines of a verdict.
 pub fn put_verdict<K: Sink>(sink: &mut K, verdict: &Verdict) -> Result<(), DeviceFault>
-    ensures puts { Puts result (K.accepted sink.old) (verdict_lines verdict.now) (K.accepted sink.new) }
-    ensures fault { CountsFault result (K.faults sink.old) (K.faults sink.new) }
+    ensures { Puts result (K.seen sink.old) (verdict_lines verdict.now) (K.seen sink.new) }
 {
     match verdict {
         Verdict::Max(value) => put_line(sink, b"v", &[Part::Word(b"max"), Part::Wide(*value)]),
@@ -36,8 +34,7 @@ pub fn put_verdict<K: Sink>(sink: &mut K, verdict: &Verdict) -> Result<(), Devic
 
 /// Puts a line for each answer.
 fn put_answers<K: Sink>(sink: &mut K, answers: &[Answer]) -> Result<(), DeviceFault>
-    ensures puts { Puts result (K.accepted sink.old) (flat_map answer_line answers.now) (K.accepted sink.new) }
-    ensures fault { CountsFault result (K.faults sink.old) (K.faults sink.new) }
+    ensures { Puts result (K.seen sink.old) (flat_map answer_line answers.now) (K.seen sink.new) }
 {
     let mut page = Page::new();
     for answer in answers {
@@ -48,8 +45,7 @@ fn put_answers<K: Sink>(sink: &mut K, answers: &[Answer]) -> Result<(), DeviceFa
 
 /// Writes the line of an answer.
 fn write_answer<K: Sink>(page: &mut Page, sink: &mut K, answer: &Answer)
-    ensures written { Appends (answer_line answer.now) (K.accepted sink.old) page.old (K.accepted sink.new) page.new }
-    ensures faults { CountsOn (K.faults sink.old) page.old (K.faults sink.new) page.new }
+    ensures { Appends (answer_line answer.now) (K.seen sink.old) page.old (K.seen sink.new) page.new }
 {
     let from = Part::Number(i64::from(answer.from));
     let to = Part::Number(i64::from(answer.to));
@@ -67,16 +63,14 @@ fn write_answer<K: Sink>(page: &mut Page, sink: &mut K, answer: &Answer)
 
 /// Puts the line that tells that a limit was reached.
 pub fn put_gave_up<K: Sink>(sink: &mut K) -> Result<(), DeviceFault>
-    ensures puts { Puts result (K.accepted sink.old) gave_up_line (K.accepted sink.new) }
-    ensures fault { CountsFault result (K.faults sink.old) (K.faults sink.new) }
+    ensures { Puts result (K.seen sink.old) gave_up_line (K.seen sink.new) }
 {
     put_line(sink, b"g", &[Part::Word(b"limit")])
 }
 
 /// Puts the line of a test that fails.
 pub fn put_failure<K: Sink>(sink: &mut K, place: Where, reason: Reason) -> Result<(), DeviceFault>
-    ensures puts { Puts result (K.accepted sink.old) (failure_line place reason) (K.accepted sink.new) }
-    ensures fault { CountsFault result (K.faults sink.old) (K.faults sink.new) }
+    ensures { Puts result (K.seen sink.old) (failure_line place reason) (K.seen sink.new) }
 {
     match place {
         Where::Solution { line, field } => {
@@ -94,8 +88,7 @@ fn put_numbered<K: Sink>(
     number: u32,
     reason: Reason,
 ) -> Result<(), DeviceFault>
-    ensures puts { Puts result (K.accepted sink.old) (numbered_line what.now number reason) (K.accepted sink.new) }
-    ensures fault { CountsFault result (K.faults sink.old) (K.faults sink.new) }
+    ensures { Puts result (K.seen sink.old) (numbered_line what.now number reason) (K.seen sink.new) }
 {
     put_line(
         sink,

@@ -58,9 +58,7 @@ impl<S: Source> Source for Quiet<S> {
 }
 
 impl<K: Sink> Sink for Quiet<K> {
-    ghost accepted = { λ s. None };
-
-    ghost faults = { λ s. s.0.faults };
+    ghost seen = { λ s. record { accepted = None; faults = s.0.faults } };
 
     fn put(&mut self, bytes: &[u8]) -> Result<usize, DeviceFault> {
         self.0.put(bytes)

@@ -36,9 +36,7 @@ impl<'a> Comparing<'a> {
 }
 
 impl<'a> Sink for Comparing<'a> {
-    ghost accepted = { λ s. None };
-
-    ghost faults = { λ s. 0 };
+    ghost seen = { λ s. record { accepted = None; faults = 0 } };
 
     fn put(&mut self, bytes: &[u8]) -> Result<usize, DeviceFault> {
         match self.rest.strip_prefix(bytes) {

@@ -1,5 +1,6 @@
 -- Inside: what a producer's run puts, in texts and with a status.
-use Rattle.std.specs.Prelude.{ℕ, ◌≡◌, List, [], ◌∷◌, Option, Result, Ok, Err, drop}
+use Rattle.std.specs.Prelude.{ℕ, ◌≡◌, List, [], ◌∷◌, Option, Result, Ok, Err, drop, map}
+use Rattle.dimacs_lines.specs.Devices.{Written}
 use Rattle.dimacs_lines.specs.declared.device.DeviceFault.{DeviceFault}
 use Rattle.dimacs_claims.specs.Cuts.{canonical_cut}
 use Rattle.dimacs_claims.specs.LabelTexts.{canonical_labels}
@@ -54,15 +55,17 @@ IsClaimless (Slack potentials) = Unit {0}
 IsClaimless (Better solution) = Unit {0}
 IsClaimless (Distances labels) = Unit {0}
 
--- all texts were put, or some of them in turn
-abbrev pub PutTexts : Result Unit DeviceFault → List (List ℕ) → List (Option (List ℕ)) → List (Option (List ℕ)) → Type 0
-PutTexts (Ok done) texts old new = AcceptAll texts old new
-PutTexts (Err fault) texts old new = AcceptInTurn texts old new
+-- what each sink has accepted, and how often each has failed
+abbrev pub accepted_by : List Written → List (Option (List ℕ))
+accepted_by sinks = map (λ (sink : Written). sink.accepted) sinks
 
--- one sink has one more fault where a put failed, and none has otherwise
-abbrev pub CountsPuts : Result Unit DeviceFault → List ℕ → List ℕ → Type 0
-CountsPuts (Ok done) old new = new ≡ old
-CountsPuts (Err fault) old new = OneMore old new
+abbrev pub faults_by : List Written → List ℕ
+faults_by sinks = map (λ (sink : Written). sink.faults) sinks
+
+-- all texts were put, or some of them in turn, and one sink has one fault more
+abbrev pub PutTexts : Result Unit DeviceFault → List (List ℕ) → List Written → List Written → Type 0
+PutTexts (Ok done) texts old new = AcceptAll texts (accepted_by old) (accepted_by new) × (faults_by new ≡ faults_by old)
+PutTexts (Err fault) texts old new = AcceptInTurn texts (accepted_by old) (accepted_by new) × OneMore (faults_by old) (faults_by new)
 
 abbrev pub reported : Result Told RunError → Result Produced RunError
 reported (Ok t) = Ok (record { made = Nothing; told = t })
@@ -102,7 +105,7 @@ MayCertify tells (Ok p) = TellsAlike tells (told_status p.told) (unclaimed_texts
 MayCertify tells (Err error) = Unit {0}
 
 -- how a run ends that was to put this, or had nothing to tell
-abbrev pub EndsProducing : Result Produced RunError → Result Status RunError → List (Option (List ℕ)) → List (Option (List ℕ)) → List ℕ → List ℕ → Type 0
-EndsProducing (Ok p) (Ok status) old new faults counted = (status ≡ told_status p.told) × AcceptAll (produced_texts p) old new × (counted ≡ faults)
-EndsProducing (Ok p) (Err error) old new faults counted = (error ≡ Device) × AcceptInTurn (produced_texts p) old new × OneMore faults counted
-EndsProducing (Err error) result old new faults counted = (result ≡ Err error) × (new ≡ old) × (counted ≡ faults)
+abbrev pub EndsProducing : Result Produced RunError → Result Status RunError → List Written → List Written → Type 0
+EndsProducing (Ok p) (Ok status) old new = (status ≡ told_status p.told) × AcceptAll (produced_texts p) (accepted_by old) (accepted_by new) × (faults_by new ≡ faults_by old)
+EndsProducing (Ok p) (Err error) old new = (error ≡ Device) × AcceptInTurn (produced_texts p) (accepted_by old) (accepted_by new) × OneMore (faults_by old) (faults_by new)
+EndsProducing (Err error) result old new = (result ≡ Err error) × (new ≡ old)

@@ -1,6 +1,6 @@
 -- Inside: what a run tells of a claim, in lines and with a status.
-use Rattle.std.specs.Prelude.{ℕ, ◌≡◌, List, Option, Result, Ok, Err}
-use Rattle.dimacs_lines.specs.Devices.{after_piece, one_more}
+use Rattle.std.specs.Prelude.{ℕ, ◌≡◌, List, Result, Ok, Err}
+use Rattle.dimacs_lines.specs.Devices.{Written, after_piece, one_more}
 use Rattle.dimacs_lines.specs.Puts.{AcceptsFront}
 use Rattle.dimacs_runs.specs.declared.outcome.Status.{Status}
 use Rattle.dimacs_runs.specs.declared.outcome.Status.TheVariants as statuses
@@ -30,7 +30,7 @@ ToldAlone tells (Ok told) = TellsAlone tells (told_status told) (told_lines told
 ToldAlone tells (Err error) = Unit {0}
 
 -- how a run ends that was to put this, or had nothing to tell
-abbrev pub EndsAfter : Result Told RunError → Result Status RunError → Option (List ℕ) → Option (List ℕ) → ℕ → ℕ → Type 0
-EndsAfter (Ok told) (Ok status) old new faults counted = (status ≡ told_status told) × (new ≡ after_piece old (told_lines told)) × (counted ≡ faults)
-EndsAfter (Ok told) (Err error) old new faults counted = (error ≡ Device) × AcceptsFront old (told_lines told) new × (counted ≡ one_more faults)
-EndsAfter (Err error) result old new faults counted = (result ≡ Err error) × (new ≡ old) × (counted ≡ faults)
+abbrev pub EndsAfter : Result Told RunError → Result Status RunError → Written → Written → Type 0
+EndsAfter (Ok told) (Ok status) old new = (status ≡ told_status told) × (new.accepted ≡ after_piece old.accepted (told_lines told)) × (new.faults ≡ old.faults)
+EndsAfter (Ok told) (Err error) old new = (error ≡ Device) × AcceptsFront old.accepted (told_lines told) new.accepted × (new.faults ≡ one_more old.faults)
+EndsAfter (Err error) result old new = (result ≡ Err error) × (new ≡ old)

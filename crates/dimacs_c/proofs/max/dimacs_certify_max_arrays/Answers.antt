@@ -12,7 +12,7 @@ returns-in-Ok c =
     all_answered max_said (CertifiesMaxArrays (max_arrays c.args.instance.now) c.args.flows.now) c.certify_max_arrays-answer.result certified c.in-Ok.status
     (rooms (handed c.args.out.now c.hand_out.new.room c.hand_out.new.told) (handed c.args.inside.now c.hand_out-in-Ok.new.room c.hand_out-in-Ok.new.told) (handed c.args.better.now c.hand_out-in-Ok-2.new.room c.hand_out-in-Ok-2.new.told))
     c.new-line.result.bytes c.put_certified.new.sink.bytes c.inside_of.result.now c.better_of.result.now
-    c.in-Ok.ensures.status (ap (λ (m : InMemory). m.bytes) c.new-line.ensures) c.in-Ok.ensures.line c.inside_of.ensures c.better_of.ensures
+    c.in-Ok.ensures.status (ap (λ (m : InMemory). m.bytes) c.new-line.ensures) c.in-Ok.ensures.line.accepted c.inside_of.ensures c.better_of.ensures
     (rw c.bytes.ensures at c.hand_out.ensures) c.hand_out-in-Ok.ensures c.hand_out-in-Ok-2.ensures
 
 pub returns : goal.returns

@@ -18,7 +18,7 @@ returns-in-Ok c =
     all_answered paths_said (CertifiesPathsArrays (graph_arrays c.args.graph.now) c.args.source c.args.distances.now) c.certify_paths_arrays-answer.result certified c.in-Ok.status
     (rooms (handed c.args.out.now c.hand_out.new.room c.hand_out.new.told) (handed c.args.predecessors.now c.hand_out-in-Ok.new.room c.hand_out-in-Ok.new.told) no_room)
     c.new-line.result.bytes c.put_certified.new.sink.bytes c.predecessors_of.result.now []
-    c.in-Ok.ensures.status (ap (λ (m : InMemory). m.bytes) c.new-line.ensures) c.in-Ok.ensures.line c.predecessors_of.ensures (none_better c.certify_paths_arrays-answer.result)
+    c.in-Ok.ensures.status (ap (λ (m : InMemory). m.bytes) c.new-line.ensures) c.in-Ok.ensures.line.accepted c.predecessors_of.ensures (none_better c.certify_paths_arrays-answer.result)
     (rw c.bytes.ensures at c.hand_out.ensures) c.hand_out-in-Ok.ensures (hands_none [])
 
 pub returns : goal.returns

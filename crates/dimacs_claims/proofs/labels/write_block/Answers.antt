@@ -4,12 +4,12 @@ use Rattle.dimacs_records.proofs.WrittenLemmas.{all_items, line_after, lines_aft
 use Rattle.dimacs_claims.specs.LabelTexts.{label_line, block_lines}
 use Rattle.dimacs_claims.proofs.labels.write_block.Goals as goal
 
-pub returns-clause-written : goal.returns-clause-written
-returns-clause-written g c = λ start text h.
+pub returns : goal.returns
+returns g c = λ start text h.
     let block = c.args.block.now in
     let labels = c.labels-labels.result.now in
     let first = LabelsBlock block.source (length block.labels) block.radius in
     let n = c.len.result in
     lines_after start _ _ text (first ∷ []) (take n (map label_line labels)) (block_lines block) (rw (all_items label_line n labels c.len.ensures, c.labels-labels.ensures) refl)
-        (c.write_lines.ensures.written (λ i. take i (map label_line labels)) (lines_of_items label_line _ n labels (omega (arith, c.len.ensures)) (λ i said within e. e)) start _
-            (line_after start _ _ text first (rw (c.source-source.ensures, c.radius-radius.ensures, c.len-count.ensures, c.labels-labels.ensures) at (c.write_record.ensures.written start text h))))
+    (c.write_lines.ensures (λ i. take i (map label_line labels)) (lines_of_items label_line _ n labels (omega (arith, c.len.ensures)) (λ i said within e. e)) start _
+    (line_after start _ _ text first (rw (c.source-source.ensures, c.radius-radius.ensures, c.len-count.ensures, c.labels-labels.ensures) at (c.write_record.ensures start text h))))

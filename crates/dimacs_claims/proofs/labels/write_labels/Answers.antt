@@ -21,15 +21,12 @@ next_block first bs i d below =
 
 pub loop-block-init : goal.loop-block-init
 loop-block-init g c =
-    let start = g.S.Sink.accepted c.args.sink.now in
-    record {
-      written = line_after start _ _ [] (LabelsProblem c.nodes-nodes.result (length c.blocks-blocks.result.now)) (c.write_record.ensures.written start [] (c.new-page.ensures.written start));
-      faults = c.write_record.ensures.faults _ (c.new-page.ensures.faults _);
-    }
+    let start = g.S.Sink.seen c.args.sink.now in
+    line_after start _ _ [] (LabelsProblem c.nodes-nodes.result (length c.blocks-blocks.result.now)) (c.write_record.ensures start [] (c.new-page.ensures.written start))
 
 pub loop-block-preserved : goal.loop-block-preserved
 loop-block-preserved g c =
-    let start = g.S.Sink.accepted c.args.sink.now in
+    let start = g.S.Sink.seen c.args.sink.now in
     let blocks = c.blocks-blocks.result.now in
     let i = c.loop-block.block-index in
     let b = c.block-item.result in
@@ -37,10 +34,7 @@ loop-block-preserved g c =
     let before = first ∷ flat_map block_lines (take i blocks) in
     let all = first ∷ flat_map block_lines (take (i + 1) blocks) in
     let next : all ≡ before ++ block_lines b = next_block first blocks i b c.loop-block-test.true ∙ ap (λ x. before ++ block_lines x) (sym c.block-item.is) in
-    record {
-      written = lines_after start _ _ [] before (block_lines b) all next (c.write_block.ensures.written start (canonical_text before) c.loop-block.invariant.written);
-      faults = c.write_block.ensures.faults _ c.loop-block.invariant.faults;
-    }
+    lines_after start _ _ [] before (block_lines b) all next (c.write_block.ensures start (canonical_text before) c.loop-block.invariant)
 
 pub write_block-requires : goal.write_block-requires
 write_block-requires g c =

@@ -19,18 +19,18 @@ pub returns-clause-puts : goal.returns-clause-puts
 returns-clause-puts g c =
     let m = c.args.instance.now in
     let law = c.network-network.ensures.lawful in
-    let start = g.S.Sink.accepted c.args.sink.now in
+    let start = g.S.Sink.seen c.args.sink.now in
     let nodes = c.nodes-nodes.result in
     let n = c.arcs-arcs.result in
     let all_nodes : nodes ≡ m.nodes = rw c.network-network.ensures.nodes at c.nodes-nodes.ensures in
     let all_arcs : n ≡ length m.arcs = rw c.network-network.ensures.arcs at c.arcs-arcs.ensures in
     let problem = MinProblem nodes n in
     let supplies = map min_node (supplies_below m (nodes + 1)) in
-    let first = line_after start _ _ [] problem (c.write_record.ensures.written start [] (c.new-page.ensures.written start)) in
-    let second = lines_after start _ _ [] (problem ∷ []) supplies _ refl (c.write_lines.ensures.written (λ i. map min_node (supplies_below m (i + 1))) (supply_lines m law _ nodes (λ i said within e. e)) start _ first) in
+    let first = line_after start _ _ [] problem (c.write_record.ensures start [] (c.new-page.ensures.written start)) in
+    let second = lines_after start _ _ [] (problem ∷ []) supplies _ refl (c.write_lines.ensures (λ i. map min_node (supplies_below m (i + 1))) (supply_lines m law _ nodes (λ i said within e. e)) start _ first) in
     let third = lines_after start _ _ [] (problem ∷ supplies) (take n (map min_arc m.arcs)) _ refl
-    (c.write_lines-2.ensures.written (λ i. take i (map min_arc m.arcs)) (lines_of_items min_arc _ n m.arcs (omega (arith, all_arcs)) (λ i said within e. rw c.network-network.ensures.arcs at e)) start _ second) in
-    rw (all_items min_arc n m.arcs all_arcs, all_nodes, all_arcs, all_supplies m law) at (c.finish.ensures.puts start _ third)
+    (c.write_lines-2.ensures (λ i. take i (map min_arc m.arcs)) (lines_of_items min_arc _ n m.arcs (omega (arith, all_arcs)) (λ i said within e. rw c.network-network.ensures.arcs at e)) start _ second) in
+    rw (all_items min_arc n m.arcs all_arcs, all_nodes, all_arcs, all_supplies m law) at (c.finish.ensures start _ third)
 
 pub returns-clause-round_trip : goal.returns-clause-round_trip
 returns-clause-round_trip g c = min_round_trip c.args.instance.now c.network-network.ensures.lawful

@@ -11,13 +11,13 @@ use Rattle.dimacs_instance.proofs.queries.write_queries.Goals as goal
 
 pub returns-clause-puts : goal.returns-clause-puts
 returns-clause-puts g c =
-    let start = g.S.Sink.accepted c.args.sink.now in
+    let start = g.S.Sink.seen c.args.sink.now in
     let rs = query_lines (asked c.args.queries.now) in
     let problem = QueriesProblem c.kind.result c.len.result in
     let n = c.len-2.result in
-    let first = line_after start _ _ [] problem (c.write_problem.ensures.written start [] (c.new-page.ensures.written start)) in
-    let all = c.write_lines.ensures.written (λ i. take i rs) (lines_of_list _ n rs (omega (arith, c.len-2.ensures)) (λ i said within e. e)) start _ first in
-    rw (take_all n rs (omega (arith, c.len-2.ensures)), c.kind.ensures, c.len.ensures) at (c.finish.ensures.puts start _ (lines_after start _ _ [] (problem ∷ []) (take n rs) _ refl all))
+    let first = line_after start _ _ [] problem (c.write_problem.ensures start [] (c.new-page.ensures.written start)) in
+    let all = c.write_lines.ensures (λ i. take i rs) (lines_of_list _ n rs (omega (arith, c.len-2.ensures)) (λ i said within e. e)) start _ first in
+    rw (take_all n rs (omega (arith, c.len-2.ensures)), c.kind.ensures, c.len.ensures) at (c.finish.ensures start _ (lines_after start _ _ [] (problem ∷ []) (take n rs) _ refl all))
 
 pub returns-clause-round_trip : goal.returns-clause-round_trip
 returns-clause-round_trip g c = queries_round_trip (asked c.args.queries.now)

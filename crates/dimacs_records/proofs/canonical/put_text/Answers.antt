@@ -2,10 +2,10 @@ use Rattle.std.proofs.Common.{◌++◌, [], refl}
 use Rattle.dimacs_records.proofs.WrittenLemmas.{lines_after}
 use Rattle.dimacs_records.proofs.canonical.put_text.Goals as goal
 
-pub returns-clause-puts : goal.returns-clause-puts
-returns-clause-puts g c = λ below are.
-    let start = g.S.Sink.accepted c.args.sink.now in
+pub returns : goal.returns
+returns g c = λ below are.
+    let start = g.S.Sink.seen c.args.sink.now in
     let first = c.args.first.now in
     let rest = below c.args.count in
-    let begun = c.write_all.ensures.written start [] (c.new-page.ensures.written start) in
-    c.finish.ensures.puts start _ (lines_after start _ _ [] first rest (first ++ rest) refl (c.write_lines.ensures.written below are start _ begun))
+    let begun = c.write_all.ensures start [] (c.new-page.ensures.written start) in
+    c.finish.ensures start _ (lines_after start _ _ [] first rest (first ++ rest) refl (c.write_lines.ensures below are start _ begun))

@@ -10,11 +10,10 @@ loop-i-preserved g c = record {
   written = λ below are start text h.
       let i = c.loop-i.i in
       lines_after start _ _ text (below i) (said_lines c.line.result) (below (i + 1)) (are.more i c.line.result c.loop-i-test.true c.line.ensures)
-      (c.write_said.ensures.written start (text ++ canonical_text (below i)) (c.loop-i.invariant.written below are start text h));
-  faults = λ start h. c.write_said.ensures.faults start (c.loop-i.invariant.faults start h);
+      (c.write_said.ensures start (text ++ canonical_text (below i)) (c.loop-i.invariant.written below are start text h));
 }
 
-pub returns-clause-written : goal.returns-clause-written
-returns-clause-written g c = λ below are start text h.
+pub returns : goal.returns
+returns g c = λ below are start text h.
     let end : c.loop-i.i ≡ c.args.count = omega (arith, c.loop-i-test.false, c.loop-i.invariant.within) in
-    subst (λ i. IsWritten start (text ++ canonical_text (below i)) (g.S.Sink.accepted c.loop-i.sink) c.loop-i.page) end (c.loop-i.invariant.written below are start text h)
+    subst (λ i. IsWritten start (text ++ canonical_text (below i)) (g.S.Sink.seen c.loop-i.sink) c.loop-i.page) end (c.loop-i.invariant.written below are start text h)

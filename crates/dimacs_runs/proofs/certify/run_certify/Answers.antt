@@ -10,10 +10,8 @@ use Rattle.dimacs_runs.proofs.certify.run_certify.Goals.{in-Max, in-Min}
 pub returns-clause-reports : goal.returns-clause-reports
 returns-clause-reports g c = λ a b first second.
     certified_reports (Certified c.args.kind a b) c.match-kind.produced c.put_produced.result
-    (g.C.Sink.accepted c.args.certificate_out.now ∷ g.K.Sink.accepted c.args.report.now ∷ [])
-    (g.C.Sink.accepted c.put_produced.new.certificate ∷ g.K.Sink.accepted c.put_produced.new.report ∷ [])
-    (0 ∷ g.C.Sink.faults c.args.certificate_out.now ∷ g.K.Sink.faults c.args.report.now ∷ [])
-    (0 ∷ g.C.Sink.faults c.put_produced.new.certificate ∷ g.K.Sink.faults c.put_produced.new.report ∷ [])
+    (g.C.Sink.seen c.args.certificate_out.now ∷ g.K.Sink.seen c.args.report.now ∷ [])
+    (g.C.Sink.seen c.put_produced.new.certificate ∷ g.K.Sink.seen c.put_produced.new.report ∷ [])
     (elim c.match-kind.branch [
       | in-Max w ↦ rw (w.in-Max.is, w.produced-is) (w.certify_maximum-produced.ensures.certifies a b first second)
       | in-Min w ↦ rw (w.in-Min.is, w.produced-is) (w.certify_least-produced.ensures.certifies a b first second)

@@ -12,7 +12,7 @@ use Rattle.dimacs_runs.proofs.judge.run_judge.Goals.{in-Max, in-Min, in-Infeasib
 
 pub returns-clause-reports : goal.returns-clause-reports
 returns-clause-reports g c = λ a b d first second third.
-    told_reports (Judged c.args.kind a b d) c.match-kind.told c.put_told.result (g.K.Sink.accepted c.args.sink.now) (g.K.Sink.accepted c.put_told.new.sink) (g.K.Sink.faults c.args.sink.now) (g.K.Sink.faults c.put_told.new.sink)
+    told_reports (Judged c.args.kind a b d) c.match-kind.told c.put_told.result (g.K.Sink.seen c.args.sink.now) (g.K.Sink.seen c.put_told.new.sink)
     (elim c.match-kind.branch [
       | in-Max w ↦ let claim = subst (λ (k : JudgeKind). IsClaim k (g.Q.Source.coming c.args.claim.now) b) w.in-Max.is second in rw (w.in-Max.is, w.told-is) (w.tell_max-told.ensures.told a b d first (claim refl) third)
       | in-Min w ↦ let claim = subst (λ (k : JudgeKind). IsClaim k (g.Q.Source.coming c.args.claim.now) b) w.in-Min.is second in rw (w.in-Min.is, w.told-is) (w.tell_min-told.ensures.told a b d first (claim refl) third)

@@ -10,10 +10,8 @@ use Rattle.dimacs_runs.proofs.solve.run_solve.Goals.{in-Max, in-Min, in-Paths}
 pub returns-clause-reports : goal.returns-clause-reports
 returns-clause-reports g c = λ a b first second.
     produced_reports (Solved c.args.job a b) c.match-job.produced c.put_produced.result
-    (g.C.Sink.accepted c.args.claim_out.now ∷ g.D.Sink.accepted c.args.certificate_out.now ∷ g.K.Sink.accepted c.args.report.now ∷ [])
-    (g.C.Sink.accepted c.put_produced.new.claim ∷ g.D.Sink.accepted c.put_produced.new.certificate ∷ g.K.Sink.accepted c.put_produced.new.report ∷ [])
-    (g.C.Sink.faults c.args.claim_out.now ∷ g.D.Sink.faults c.args.certificate_out.now ∷ g.K.Sink.faults c.args.report.now ∷ [])
-    (g.C.Sink.faults c.put_produced.new.claim ∷ g.D.Sink.faults c.put_produced.new.certificate ∷ g.K.Sink.faults c.put_produced.new.report ∷ [])
+    (g.C.Sink.seen c.args.claim_out.now ∷ g.D.Sink.seen c.args.certificate_out.now ∷ g.K.Sink.seen c.args.report.now ∷ [])
+    (g.C.Sink.seen c.put_produced.new.claim ∷ g.D.Sink.seen c.put_produced.new.certificate ∷ g.K.Sink.seen c.put_produced.new.report ∷ [])
     (elim c.match-job.branch [
       | in-Max w ↦ rw (w.in-Max.is, w.produced-is) (w.produce_maximum-produced.ensures.produces a first)
       | in-Min w ↦ rw (w.in-Min.is, w.produced-is) (w.produce_least-produced.ensures.produces a first)
