@@ -5,7 +5,7 @@ use Rattle.std.specs.List.{All, list_any}
 use Rattle.std.specs.Ordering.{nat_cmp}
 use Rattle.std.specs.FinSet as set
 use Rattle.std.proofs.Math.Seq.{get_or-append_seam}
-use Rattle.std.proofs.lemmas.Bool.{cases_eq, eq-eqb, false_from_ne_true, le-leb, leb-false, lt-leb, ltb-false, ne_eqb, not-false, or_parts}
+use Rattle.std.proofs.lemmas.Bool.{cases_eq, eq-eqb, le-leb, leb-false, lt-leb, ltb-false, ne_eqb, not-false, or_parts}
 use Rattle.std.proofs.lemmas.Bool.Decides.{eqb_tells, nat_tests}
 use Rattle.std.proofs.lemmas.List.{length-append, length-map}
 use Rattle.std.proofs.lemmas.List.Elements.{All-pop, All-push, All-nil}
@@ -14,15 +14,15 @@ use Rattle.dimacs_lines.specs.Limits.{most_count, most_nodes}
 use Rattle.dimacs_nodes.specs.declared.node_table.NodeTable.{NodeTable}
 use Rattle.dimacs_nodes.specs.Tables.{value_of}
 use Rattle.dimacs_records.specs.declared.kinds.TextKind.TheVariants.{Labels}
+use Rattle.dimacs_records.specs.declared.order.Earlier.{Earlier}
 use Rattle.dimacs_records.specs.declared.records.Record.{Record}
 use Rattle.dimacs_records.specs.declared.records.Record.TheVariants.{LabelsProblem, LabelsBlock, LabelsNode}
-use Rattle.dimacs_records.specs.declared.reasons.Reason.TheVariants.{RecordOrder, NodeRange, NodeTwice, TooMany, TooFew, PredUnknown, PastRadius}
 use Rattle.dimacs_records.specs.Blocks.{block_in, is_full_block, is_labelled, is_past, is_past_block, is_short_block}
-use Rattle.dimacs_records.specs.Earlier.{is_above, is_full, is_short, names}
+use Rattle.dimacs_records.specs.Earlier.{is_short, names}
 use Rattle.dimacs_records.specs.Ranges.{IsRadius, IsWide}
-use Rattle.dimacs_records.specs.Readings.{IsAllowed, LineRecord, records_of}
+use Rattle.dimacs_records.specs.Readings.{LineRecord, records_of}
 use Rattle.dimacs_records.specs.Spelling.{kind_of}
-use Rattle.dimacs_records.specs.Tests.{Counts, IsToldOf, PassesEnd, TellsEnd, problem_told}
+use Rattle.dimacs_records.specs.Tests.{Passes, PassesEnd, after_records, earlier_of, told_at_end, told_of}
 use Rattle.dimacs_claims.specs.declared.block.Label.{Label}
 use Rattle.dimacs_claims.specs.Labels.{AreSources, BlockValue, EachAfter, IsBlock, IsNewSource, distance_in, label, with_label, has_source}
 use Rattle.dimacs_claims.specs.LabelTexts.{GivesLabels, label_line}
@@ -31,44 +31,36 @@ use Rattle.dimacs_claims.proofs.BlockLemmas.{label_id, near_radius, is_some-labe
 use Rattle.dimacs_claims.proofs.LabelRecords.{source_of, opened_with, last_after, last_cases, last_is, say_taken, short_told, list_any-has_source, lines_of_blocks-push_block, lines_of_blocks-push_label, lines_of_blocks-zero, new_source, push_same}
 
 -- what is told of the records is so
-pub counts : (b : LabelsBegun) → Counts (after_lines b).problem (after_lines b).counted (labels_begun_records b)
-counts b = record { problem_is = (say_taken b).problem; counted_is = (say_taken b).counted ∙ length-map b.blocks source_of }
+lines_told : (b : LabelsBegun) → after_lines b ≡ after_records (labels_begun_records b)
+lines_told b = ap (earlier_of (after_lines b).problem) (sym ((say_taken b).counted ∙ length-map b.blocks source_of))
 
 pub source_told : (begun : LabelsBegun) (source : ℕ) → list_any (names source) (labels_begun_records begun) ≡ list_any (has_source source) begun.blocks
 source_told begun source = (say_taken begun).named source ∙ sym (list_any-has_source source begun.blocks)
 
-pub tells : (b : LabelsBegun) (r : Record) → kind_of r ≡ Labels → IsToldOf (before b r) (labels_begun_records b) r
-tells b (LabelsProblem nodes blocks) of_kind = record { counts = counts b; misplaced = refl; named = refl; end_named = refl; lacks_end = refl; block_full = refl; block_short = refl; valued = refl; pred_unknown = refl; past_radius = refl }
-tells b (LabelsBlock source count radius) of_kind = record { counts = counts b; misplaced = refl; named = refl; end_named = refl; lacks_end = refl; block_full = refl; block_short = refl; valued = refl; pred_unknown = refl; past_radius = refl }
-tells b (LabelsNode id dist pred) of_kind = record { counts = counts b; misplaced = refl; named = refl; end_named = refl; lacks_end = refl; block_full = refl; block_short = refl; valued = refl; pred_unknown = refl; past_radius = refl }
+pub tells : (b : LabelsBegun) (r : Record) → kind_of r ≡ Labels → before b r ≡ told_of (labels_begun_records b) r
+tells b (LabelsProblem nodes blocks) of_kind = lines_told b
+tells b (LabelsBlock source count radius) of_kind = ap (λ (e : Earlier). record (before b (LabelsBlock source count radius)) { problem = e.problem; counted = e.counted }) (lines_told b)
+tells b (LabelsNode id dist pred) of_kind = ap (λ (e : Earlier). record (before b (LabelsNode id dist pred)) { problem = e.problem; counted = e.counted }) (lines_told b)
 tells b r of_kind = absurd (cc)
 
-pub end_tells : (b : LabelsBegun) → TellsEnd Labels (before_end b) (labels_begun_records b)
-end_tells b = record {
-  counts = counts b;
-  lacks_end = refl;
-  unfinished = ap₂ (λ q n. is_short q n || is_short_block (block_in (labels_begun_records b))) (counts b).problem_is (counts b).counted_is ∙ or_swap (is_short (problem_told (after_lines b).problem) (length b.blocks)) (is_short_block (block_in (labels_begun_records b)));
-  valued = refl;
-}
-  where
-    or_swap : (x y : Bool) → (x || y) ≡ (y || x)
-    or_swap true true = refl
-    or_swap true false = refl
-    or_swap false true = refl
-    or_swap false false = refl
+pub end_tells : (b : LabelsBegun) → before_end b ≡ told_at_end Labels (labels_begun_records b)
+end_tells b = ap (λ (e : Earlier). record (before_end b) { problem = e.problem; counted = e.counted }) (lines_told b)
 
 -- what was begun and is whole gives its labels
 pub gives_labels : (b : LabelsBegun) → AreLabelsBegun b → PassesEnd Labels (before_end b) → (rs : List LineRecord) → records_of rs ≡ labels_begun_records b → GivesLabels rs (record { nodes = b.nodes; blocks = b.blocks })
 gives_labels begun are passes rs is =
-    let parts = or_parts (is_short_block (block_in (labels_begun_records begun))) (is_short (problem_told (after_lines begun).problem) (length begun.blocks)) passes.finished in
+    let parts = or_parts (is_short_block (block_in (labels_begun_records begun))) (is_short (after_lines begun).problem (length begun.blocks)) passes.finished in
     let full : begun.declared ≡ length begun.blocks = omega (arith, ltb-false (length begun.blocks) begun.declared parts.1, are.no_more) in
     let none : begun.missing ≡ 0 = omega (arith, ltb-false 0 begun.missing (sym (short_told begun are.none_lack) ∙ parts.0)) in (
       is ∙ ap₂ (λ n rs. LabelsProblem begun.nodes n ∷ rs) full (ap (λ m. lines_of_blocks m begun.blocks) none ∙ lines_of_blocks-zero begun.blocks),
       record { nodes_few = are.nodes_few; blocks_few = omega (arith, are.no_more, are.blocks_few); blocks = are.blocks; sources = are.sources },
     )
 
--- one block more, which is allowed and lacks all of its labels
-module _ (begun : LabelsBegun) (are : AreLabelsBegun begun) (source count : ℕ) (radius : Option ℤ) (allowed : IsAllowed (labels_begun_records begun) (LabelsBlock source count radius)) where
+pub passes_of : (b c : LabelsBegun) (r : Record) → b ≡ c → Passes (before c r) r → Passes (before b r) r
+passes_of b c r same passes = subst (λ (t : LabelsBegun). Passes (before t r) r) (sym same) passes
+
+-- one block more, which passes the tests and lacks all of its labels
+module _ (begun : LabelsBegun) (are : AreLabelsBegun begun) (source count : ℕ) (radius : Option ℤ) (passes : Passes (before begun (LabelsBlock source count radius)) (LabelsBlock source count radius)) where
   abbrev pub opened_block : BlockValue
   opened_block = record { source = source; radius = radius; labels = [] }
 
@@ -77,10 +69,9 @@ module _ (begun : LabelsBegun) (are : AreLabelsBegun begun) (source count : ℕ)
 
   pub begun_block : 1 ≤ source → count ≤ most_count → IfSome radius IsRadius → AreLabelsBegun with_opened
   begun_block least few radius_within =
-      let so = counts begun in
-      let within = ltb-false begun.nodes source (ap (λ p. is_above p source) (sym so.problem_is) ∙ false_from_ne_true _ (allowed 2 NodeRange)) in
-      let new = sym (source_told begun source) ∙ false_from_ne_true _ (allowed 2 NodeTwice) in
-      let room = leb-false begun.declared (length begun.blocks) (ap₂ is_full (sym so.problem_is) (sym so.counted_is) ∙ false_from_ne_true _ (allowed 0 TooMany)) in
+      let within = ltb-false begun.nodes source passes.second_within in
+      let new = sym (source_told begun source) ∙ passes.new_node in
+      let room = leb-false begun.declared (length begun.blocks) passes.room in
       let longer = length-append begun.blocks (opened_block ∷ []) in
       record {
         nodes_few = are.nodes_few;
@@ -94,7 +85,7 @@ module _ (begun : LabelsBegun) (are : AreLabelsBegun begun) (source count : ℕ)
 
   pub pushed_block : labels_begun_records with_opened ≡ labels_begun_records begun ++ LabelsBlock source count radius ∷ []
   pushed_block =
-      let none : begun.missing ≡ 0 = omega (arith, ltb-false _ _ (sym (short_told begun are.none_lack) ∙ false_from_ne_true _ (allowed 0 TooFew))) in
+      let none : begun.missing ≡ 0 = omega (arith, ltb-false _ _ (sym (short_told begun are.none_lack) ∙ passes.full_block)) in
       ap (λ rs. LabelsProblem begun.nodes begun.declared ∷ rs) (lines_of_blocks-push_block begun.blocks source count radius ∙ ap (λ m. lines_of_blocks m begun.blocks ++ LabelsBlock source count radius ∷ []) (sym none))
 
 -- after these blocks, of which b is the last
@@ -121,23 +112,22 @@ pub record Fits (begun : LabelsBegun) (l : Label) : Type 0 where
   pub known : is_some (label b l.pred) ≡ true
   pub near : is_past b.radius l.dist ≡ false
 
-pub fits : (begun : LabelsBegun) (l : Label) → IsAllowed (labels_begun_records begun) (label_line l) → Fits begun l
-fits begun l allowed = elim (last_cases begun.blocks) [
-  | inl none ↦ absurd (allowed 0 RecordOrder (ap is_none ((say_taken begun).block ∙ ap (last_after begun.missing None) none)))
+pub fits : (begun : LabelsBegun) (l : Label) → Passes (before begun (label_line l)) (label_line l) → Fits begun l
+fits begun l passes = elim (last_cases begun.blocks) [
+  | inl none ↦ absurd (cc (passes.placed, ap is_none ((say_taken begun).block ∙ ap (last_after begun.missing None) none)))
   | inr h ↦
-      let problem = sym (counts begun).problem_is in
       let b = h.1 in
       let last = sym (in_last begun h.0 b h.2 l) in
       record {
         front = h.0;
         b = b;
         is = h.2;
-        id = ltb-false begun.nodes l.id (ap (λ p. is_above p l.id) problem ∙ false_from_ne_true _ (allowed 2 NodeRange));
-        pred = ltb-false begun.nodes l.pred (ap (λ p. is_above p l.pred) problem ∙ false_from_ne_true _ (allowed 4 NodeRange));
-        fresh = is_some-label b l.id ∙ (ap (λ o. is_labelled o l.id) last ∙ false_from_ne_true _ (allowed 2 NodeTwice));
-        lacks = omega (arith, leb-false _ _ (ap is_full_block last ∙ false_from_ne_true _ (allowed 0 TooMany)), length-map b.labels label_id);
-        known = is_some-label b l.pred ∙ (ap (λ o. is_labelled o l.pred) last ∙ not-false _ (false_from_ne_true _ (allowed 0 PredUnknown)));
-        near = ap (λ o. is_past_block o l.dist) last ∙ false_from_ne_true _ (allowed 3 PastRadius);
+        id = ltb-false begun.nodes l.id passes.second_within;
+        pred = ltb-false begun.nodes l.pred passes.fourth_within;
+        fresh = is_some-label b l.id ∙ (ap (λ o. is_labelled o l.id) last ∙ passes.new_node);
+        lacks = omega (arith, leb-false _ _ (ap is_full_block last ∙ passes.room), length-map b.labels label_id);
+        known = is_some-label b l.pred ∙ (ap (λ o. is_labelled o l.pred) last ∙ not-false _ passes.pred_known);
+        near = ap (λ o. is_past_block o l.dist) last ∙ passes.near;
       }
 ]
 

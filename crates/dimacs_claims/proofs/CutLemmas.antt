@@ -16,7 +16,8 @@ use Rattle.dimacs_nodes.proofs.Nodes.{contains-insert, contains-empty}
 use Rattle.dimacs_records.specs.declared.kinds.TextKind.TheVariants as kinds
 use Rattle.dimacs_records.specs.declared.records.Record.{Record}
 use Rattle.dimacs_records.specs.declared.records.Record.TheVariants.{CutProblem, CutNode}
-use Rattle.dimacs_records.specs.Earlier.{names, counted_in, is_short}
+use Rattle.dimacs_records.specs.declared.order.Earlier.{Earlier}
+use Rattle.dimacs_records.specs.Earlier.{names, counted_in}
 use Rattle.dimacs_records.specs.Canonical.{CanBeSpelled}
 use Rattle.dimacs_records.specs.Forms.{form, Word, Nodes, Count, Id}
 use Rattle.dimacs_records.specs.Readings.{LineRecord, records_of, IsAllowed, IsComplete}
@@ -26,7 +27,7 @@ use Rattle.dimacs_records.proofs.ConditionLemmas.{is_allowed, is_complete, allow
 use Rattle.dimacs_records.proofs.SplitLemmas.{image_at, All-at}
 use Rattle.dimacs_claims.specs.Cuts.{CutValue, IsCut, AreNamed, GivesCut, SpellsCut, canonical_cut, cut_records, empty_cut, ids_in, is_id, with_node}
 use Rattle.dimacs_records.specs.Ranges.{IsNode}
-use Rattle.dimacs_records.specs.Tests.{Counts, Passes, IsToldOf, TellsEnd}
+use Rattle.dimacs_records.specs.Tests.{Passes, after_records, earlier_of, told_of}
 use Rattle.dimacs_claims.specs.CutReading.{CutBegun, IsCutBegunBy, after_lines, before}
 use Rattle.dimacs_records.specs.Spelling.{kind_of}
 use Rattle.dimacs_claims.proofs.NodeLists.{passing_once, passing_few, none_passing, All-passing, passing_listed, passing_more}
@@ -88,19 +89,16 @@ law_with_node c id law node = record { nodes_few = law.nodes_few; within = λ ot
     by_test other false apart e = law.within other (sym (ap (λ b. b || contains c.ids other) apart) ∙ e)
 
 -- what is told of the records is so
-counts : (b : CutBegun) (rs : List Record) → IsCutBegunBy b rs → Counts (after_lines b).problem (after_lines b).counted rs
-counts b rs h = rw h.records (record { problem_is = refl; counted_is = counted h.named ∙ sym h.count })
+pub lines_told : (b : CutBegun) (rs : List Record) → IsCutBegunBy b rs → after_lines b ≡ after_records rs
+lines_told b rs h = rw h.records (ap (earlier_of (after_lines b).problem) (h.count ∙ sym (counted h.named)))
 
 named_told : (b : CutBegun) (rs : List Record) (id : ℕ) → IsCutBegunBy b rs → list_any (names id) rs ≡ contains b.cut.ids id
 named_told b rs id h = rw h.records (any_names id h.named ∙ sym (contains_named b.cut.ids h.named id h.ids))
 
-pub tells : (b : CutBegun) (r : Record) → kind_of r ≡ kinds.Cut → (rs : List Record) → IsCutBegunBy b rs → IsToldOf (before b r) rs r
-tells b (CutProblem n k) of_kind rs h = record { counts = counts b rs h; misplaced = refl; named = refl; end_named = refl; lacks_end = refl; block_full = refl; block_short = refl; valued = refl; pred_unknown = refl; past_radius = refl }
-tells b (CutNode id) of_kind rs h = record { counts = counts b rs h; misplaced = refl; named = named_told b rs id h; end_named = refl; lacks_end = refl; block_full = refl; block_short = refl; valued = refl; pred_unknown = refl; past_radius = refl }
+pub tells : (b : CutBegun) (r : Record) → kind_of r ≡ kinds.Cut → (rs : List Record) → IsCutBegunBy b rs → before b r ≡ told_of rs r
+tells b (CutProblem n k) of_kind rs h = lines_told b rs h
+tells b (CutNode id) of_kind rs h = ap₂ (λ (e : Earlier) t. record e { named = t }) (lines_told b rs h) (sym (named_told b rs id h))
 tells b r of_kind rs h = absurd (cc)
-
-pub end_tells : (b : CutBegun) (rs : List Record) → IsCutBegunBy b rs → TellsEnd kinds.Cut (after_lines b) rs
-end_tells b rs h = record { counts = counts b rs h; lacks_end = refl; unfinished = ap₂ is_short (counts b rs h).problem_is (counts b rs h).counted_is; valued = refl }
 
 -- a problem line begins a set
 pub begins : (n k : ℕ) → n ≤ most_nodes → IsCutBegunBy (record { declared = k; cut = empty_cut n }) (CutProblem n k ∷ [])

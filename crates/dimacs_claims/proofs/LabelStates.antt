@@ -12,7 +12,8 @@ use Rattle.dimacs_records.specs.declared.kinds.TextKind.TheVariants.{Labels}
 use Rattle.dimacs_records.specs.declared.records.Record.{Record}
 use Rattle.dimacs_records.specs.declared.records.Record.TheVariants.{LabelsProblem, LabelsBlock, LabelsNode}
 use Rattle.dimacs_records.specs.Blocks.{Block, block_in, block_after, is_labelled, is_full_block, is_past_block, is_short_block}
-use Rattle.dimacs_records.specs.Earlier.{Problem, declares, problem_in, problem_of, or_else, counted_in, is_counted, names}
+use Rattle.dimacs_records.specs.declared.order.Declared.{Declared}
+use Rattle.dimacs_records.specs.Earlier.{declares, problem_in, problem_of, or_else, counted_in, is_counted, names}
 use Rattle.dimacs_records.specs.Readings.{IsAllowed, IsComplete}
 use Rattle.dimacs_records.proofs.ConditionLemmas.{is_allowed, is_complete}
 
@@ -29,11 +30,11 @@ pub record Say (earlier : List Record) (nodes declared : ℕ) (sources : List �
 abbrev pub opened : ℕ → ℕ → Option ℤ → List ℕ → Block
 opened source count radius ids = record { source = source; count = count; radius = radius; ids = ids }
 
-problem_in-append : (rs more : List Record) (p : Problem) → problem_in rs ≡ Some p → problem_in (rs ++ more) ≡ Some p
+problem_in-append : (rs more : List Record) (p : Declared) → problem_in rs ≡ Some p → problem_in (rs ++ more) ≡ Some p
 problem_in-append [] more p h = absurd (cc)
 problem_in-append (r ∷ rs) more p h = by_first (problem_of r) refl h (problem_in-append rs more p)
   where
-    by_first : (first : Option Problem) → problem_of r ≡ first → or_else first (problem_in rs) ≡ Some p → (problem_in rs ≡ Some p → problem_in (rs ++ more) ≡ Some p) → or_else (problem_of r) (problem_in (rs ++ more)) ≡ Some p
+    by_first : (first : Option Declared) → problem_of r ≡ first → or_else first (problem_in rs) ≡ Some p → (problem_in rs ≡ Some p → problem_in (rs ++ more) ≡ Some p) → or_else (problem_of r) (problem_in (rs ++ more)) ≡ Some p
     by_first None e t after = rw e (after t)
     by_first (Some q) e t after = rw e t
 

@@ -16,7 +16,8 @@ use Rattle.dimacs_lines.specs.Limits.{most_count, most_nodes}
 use Rattle.dimacs_records.specs.declared.kinds.TextKind.TheVariants as kinds
 use Rattle.dimacs_records.specs.declared.records.Record.{Record}
 use Rattle.dimacs_records.specs.declared.records.Record.TheVariants.{PotentialsProblem, PotentialsNode}
-use Rattle.dimacs_records.specs.Earlier.{names, counted_in, is_short}
+use Rattle.dimacs_records.specs.declared.order.Earlier.{Earlier}
+use Rattle.dimacs_records.specs.Earlier.{names, counted_in}
 use Rattle.dimacs_records.specs.Canonical.{CanBeSpelled, AreLines, said_lines}
 use Rattle.dimacs_records.specs.Forms.{form, Word, Nodes, Count, Id, Wide}
 use Rattle.dimacs_records.specs.Readings.{LineRecord, records_of, IsAllowed, IsComplete}
@@ -29,7 +30,7 @@ use Rattle.dimacs_records.specs.Ranges.{IsNode, IsWide}
 use Rattle.dimacs_claims.specs.Potentials.{PotentialsValue, ArePotentials, GivesPotentials, SpellsPotentials, canonical_potentials, node_line, nonzero_ids, potential_of, potentials_records, with_values, zero_potentials}
 use Rattle.dimacs_records.specs.NodeValues.{NameNodes, has_value, is_nonzero, is_of, without_zeros}
 use Rattle.dimacs_claims.specs.PotentialsReading.{PotentialsBegun, ArePotentialsBegunBy, potentials_begun, after_lines, before, has_line}
-use Rattle.dimacs_records.specs.Tests.{Counts, Passes, PassesEnd, IsToldOf, TellsEnd}
+use Rattle.dimacs_records.specs.Tests.{Passes, PassesEnd, after_records, earlier_of, told_of}
 use Rattle.dimacs_records.specs.Spelling.{kind_of}
 use Rattle.dimacs_claims.proofs.NodeLists.{All-passing, count_map, passing, passing_below, passing_few, passing_listed, passing_once, lines_of_passing}
 use Rattle.dimacs_records.proofs.CountLemmas.{once_before, same_test}
@@ -63,8 +64,8 @@ allows_problem : (n k : ℕ) → IsAllowed [] (PotentialsProblem n k)
 allows_problem n k = is_allowed [] (PotentialsProblem n k) refl
 
 -- what is told of the records is so
-counts : (b : PotentialsBegun) (rs : List Record) → ArePotentialsBegunBy b rs → Counts (after_lines b).problem (after_lines b).counted rs
-counts b rs h = rw h.records (record { problem_is = refl; counted_is = counted h.named ∙ sym h.count })
+pub lines_told : (b : PotentialsBegun) (rs : List Record) → ArePotentialsBegunBy b rs → after_lines b ≡ after_records rs
+lines_told b rs h = rw h.records (ap (earlier_of (after_lines b).problem) (h.count ∙ sym (counted h.named)))
 
 has_named : (b : PotentialsBegun) (id : ℕ) {rs : List Record} (h : ArePotentialsBegunBy b rs) → has_line b id ≡ list_any (is_of id) h.named
 has_named b id h = ap (λ m. is_some (get m id)) h.values ∙ has-from_entries h.named id
@@ -72,13 +73,10 @@ has_named b id h = ap (λ m. is_some (get m id)) h.values ∙ has-from_entries h
 named_told : (b : PotentialsBegun) (rs : List Record) (id : ℕ) → ArePotentialsBegunBy b rs → list_any (names id) rs ≡ has_line b id
 named_told b rs id h = rw h.records (any_names id h.named ∙ sym (has_named b id h))
 
-pub tells : (b : PotentialsBegun) (r : Record) → kind_of r ≡ kinds.Potentials → (rs : List Record) → ArePotentialsBegunBy b rs → IsToldOf (before b r) rs r
-tells b (PotentialsProblem n k) of_kind rs h = record { counts = counts b rs h; misplaced = refl; named = refl; end_named = refl; lacks_end = refl; block_full = refl; block_short = refl; valued = refl; pred_unknown = refl; past_radius = refl }
-tells b (PotentialsNode id v) of_kind rs h = record { counts = counts b rs h; misplaced = refl; named = named_told b rs id h; end_named = refl; lacks_end = refl; block_full = refl; block_short = refl; valued = refl; pred_unknown = refl; past_radius = refl }
+pub tells : (b : PotentialsBegun) (r : Record) → kind_of r ≡ kinds.Potentials → (rs : List Record) → ArePotentialsBegunBy b rs → before b r ≡ told_of rs r
+tells b (PotentialsProblem n k) of_kind rs h = lines_told b rs h
+tells b (PotentialsNode id v) of_kind rs h = ap₂ (λ (e : Earlier) t. record e { named = t }) (lines_told b rs h) (sym (named_told b rs id h))
 tells b r of_kind rs h = absurd (cc)
-
-pub end_tells : (b : PotentialsBegun) (rs : List Record) → ArePotentialsBegunBy b rs → TellsEnd kinds.Potentials (after_lines b) rs
-end_tells b rs h = record { counts = counts b rs h; lacks_end = refl; unfinished = ap₂ is_short (counts b rs h).problem_is (counts b rs h).counted_is; valued = refl }
 
 -- a problem line begins potentials
 pub begins : (n k : ℕ) → ArePotentialsBegunBy (record { nodes = n; declared = k; taken = 0; values = empty }) (PotentialsProblem n k ∷ [])

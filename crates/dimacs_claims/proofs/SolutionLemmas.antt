@@ -1,6 +1,6 @@
 -- The records of a solution.
-use Rattle.std.proofs.Common.{◌≡◌, ℕ, suc, ◌≤◌, ◌∷◌, ◌++◌, [], List, Bool, true, false, Option, Some, None, Result, Ok, Err, length, map, ◌+◌, refl, ap, ap₂, sym, ◌∙◌, arith, append_assoc}
-use Rattle.std.specs.Prelude.{ℤ, pos, neg_ℤ, ◌^◌, codes, is_some, not, IfOk, IfErr, OnOk, OnErr, IsErrAnd, ◌↔◌}
+use Rattle.std.proofs.Common.{◌≡◌, ℕ, suc, ◌≤◌, ◌∷◌, ◌++◌, [], List, Bool, true, false, Option, Some, None, Result, Ok, Err, length, map, ◌+◌, refl, ap, sym, ◌∙◌, arith, append_assoc}
+use Rattle.std.specs.Prelude.{ℤ, pos, neg_ℤ, ◌^◌, codes, is_some, IfOk, IfErr, OnOk, OnErr, IsErrAnd, ◌↔◌}
 use Rattle.std.specs.List.{All, list_any}
 use Rattle.std.specs.Result.{result_map_both}
 use Rattle.std.proofs.lemmas.Int.{ints}
@@ -15,13 +15,13 @@ use Rattle.dimacs_records.specs.declared.records.Record.TheVariants as records
 use Rattle.dimacs_records.specs.declared.faults.TakeError.{TakeError}
 use Rattle.dimacs_records.specs.declared.faults.ReadError.{ReadError}
 use Rattle.dimacs_records.specs.declared.faults.ReadError.TheVariants as read_errors
-use Rattle.dimacs_records.specs.Earlier.{counted_in, is_short, is_value, problem_in}
+use Rattle.dimacs_records.specs.Earlier.{counted_in, is_value, problem_in}
 use Rattle.dimacs_records.specs.Faults.{Spell}
 use Rattle.dimacs_records.specs.Spelling.{parts_of, texts_in}
 use Rattle.dimacs_records.specs.Forms.{form, Wide, Id, Whole}
 use Rattle.dimacs_records.specs.Canonical.{CanBeSpelled, FitAll, canonical_text}
 use Rattle.dimacs_records.specs.Readings.{LineRecord, AreBefore, AreSpelledBefore, IsOfKind, ReadsLines, IsAllowed, RefusesRecord, on_line, records_of, numbered}
-use Rattle.dimacs_records.specs.Tests.{Passes, IsToldOf, TellsEnd}
+use Rattle.dimacs_records.specs.Tests.{Passes, told_at_end, told_of}
 use Rattle.dimacs_records.specs.Texts.{AreSpelled, AreFaultless}
 use Rattle.dimacs_records.proofs.CanonicalLaws.{canonical_spelled}
 use Rattle.dimacs_records.proofs.ConditionLemmas.{is_allowed, is_complete}
@@ -282,15 +282,11 @@ module _ (holds : List Entry → Type 0) (rs : List LineRecord) where
   say None h = rw h.2 (entries_say h.0)
   say (Some v) h = rw h.2.all_are (value_says h.0 h.2.before h.2.after v.line v.value h.2.others_are)
 
-  pub value_tells : (value : Option ValueLine) (other : ℤ) → StandsForSolution value holds rs → IsToldOf (earlier_value value) (records_of rs) (value_record other)
-  value_tells value other h =
-      let says = say value h in
-      record { counts = record { problem_is = says.0; counted_is = says.1.0 }; misplaced = refl; named = refl; end_named = refl; lacks_end = refl; block_full = refl; block_short = refl; valued = says.1.1; pred_unknown = refl; past_radius = refl }
+  pub value_tells : (value : Option ValueLine) (other : ℤ) → StandsForSolution value holds rs → earlier_value value ≡ told_of (records_of rs) (value_record other)
+  value_tells value other h = let says = say value h in rw (says.0, says.1.0, says.1.1) refl
 
-  pub end_tells : (value : Option ValueLine) → StandsForSolution value holds rs → TellsEnd kinds.Solution (earlier_value value) (records_of rs)
-  end_tells value h =
-      let says = say value h in
-      record { counts = record { problem_is = says.0; counted_is = says.1.0 }; lacks_end = refl; unfinished = ap₂ is_short says.0 says.1.0; valued = ap not says.1.1 }
+  pub end_tells : (value : Option ValueLine) → StandsForSolution value holds rs → earlier_value value ≡ told_at_end kinds.Solution (records_of rs)
+  end_tells value h = let says = say value h in rw (says.0, says.1.0, says.1.1) refl
 
   pub value_placed : (value : Option ValueLine) (line : ℕ) (said : ℤ) → Passes (earlier_value value) (value_record said) → StandsForSolution value holds rs
       → IsAllowed (records_of rs) (value_record said) × StandsForSolution (Some (record { value = said; line = line })) holds (rs ++ on_line line (value_record said) ∷ [])

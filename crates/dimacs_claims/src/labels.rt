@@ -9,7 +9,8 @@ ghost use Rattle.dimacs_records.specs.declared.kinds.TextKind.TheVariants as kin
 ghost use Rattle.dimacs_records.specs.declared.records.Record.TheVariants.{LabelsBlock};
 ghost use Rattle.dimacs_records.specs.Canonical.{canonical_text};
 ghost use Rattle.dimacs_records.specs.Faults.{Fault};
-ghost use Rattle.dimacs_records.specs.Readings.{CountsRead, IsAllowed};
+ghost use Rattle.dimacs_records.specs.Readings.{CountsRead};
+ghost use Rattle.dimacs_records.specs.Tests.{Passes};
 ghost use Rattle.dimacs_records.specs.Texts.{Reads};
 ghost use Rattle.dimacs_claims.specs.ById.{AreIndexed};
 ghost use Rattle.dimacs_claims.specs.Labels as claims;
@@ -214,7 +215,7 @@ impl BegunLabels {
         requires source { 1 ≤ source }
         requires count { count ≤ most_count }
         requires radius { IfSome radius IsRadius }
-        requires allowed { IsAllowed (labels_begun_records self.old) (LabelsBlock source count radius) }
+        requires passes { Passes (before self.old (LabelsBlock source count radius)) (LabelsBlock source count radius) }
         ensures opened { OnOk result (labels_begun_records self.new ≡ labels_begun_records self.old ++ LabelsBlock source count radius ∷ []) }
         ensures unchanged { OnErr result (self.new ≡ self.old) }
     {
@@ -234,7 +235,7 @@ impl BegunLabels {
         requires id { 1 ≤ label.id }
         requires pred { 1 ≤ label.pred }
         requires dist { IsWide label.dist }
-        requires allowed { IsAllowed (labels_begun_records self.old) (label_line label) }
+        requires passes { Passes (before self.old (label_line label)) (label_line label) }
         ensures kept { OnOk result (labels_begun_records self.new ≡ labels_begun_records self.old ++ label_line label ∷ []) }
         ensures unchanged { OnErr result (self.new ≡ self.old) }
     {

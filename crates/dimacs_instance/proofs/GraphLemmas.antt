@@ -11,9 +11,9 @@ use Rattle.dimacs_lines.specs.Limits.{most_nodes}
 use Rattle.dimacs_records.specs.declared.kinds.TextKind.TheVariants.{Graph}
 use Rattle.dimacs_records.specs.declared.records.Record.{Record}
 use Rattle.dimacs_records.specs.declared.records.Record.TheVariants.{GraphProblem, GraphArc}
-use Rattle.dimacs_records.specs.Earlier.{counted_in, is_short}
+use Rattle.dimacs_records.specs.Earlier.{counted_in}
 use Rattle.dimacs_records.specs.Spelling.{kind_of}
-use Rattle.dimacs_records.specs.Tests.{Counts, IsToldOf, TellsEnd}
+use Rattle.dimacs_records.specs.Tests.{after_records, earlier_of, told_of}
 use Rattle.dimacs_records.specs.Readings.{IsAllowed, IsComplete}
 use Rattle.dimacs_records.proofs.ConditionLemmas.{is_allowed, is_complete}
 use Rattle.dimacs_instance.specs.declared.network.ArcView.{ArcView}
@@ -51,16 +51,13 @@ pub first_problem : (n m : ℕ) → IsAllowed [] (GraphProblem n m)
 first_problem n m = is_allowed [] (GraphProblem n m) refl
 
 -- what is told of the records is so
-counts : (b : GraphBegun) → Counts (after_lines b).problem (after_lines b).counted (graph_begun_records b)
-counts b = record { problem_is = refl; counted_is = counted_in-arcs b.arcs }
+pub lines_told : (b : GraphBegun) → after_lines b ≡ after_records (graph_begun_records b)
+lines_told b = ap (earlier_of (after_lines b).problem) (sym (counted_in-arcs b.arcs))
 
-pub tells : (b : GraphBegun) (r : Record) → kind_of r ≡ Graph → IsToldOf (after_lines b) (graph_begun_records b) r
-tells b (GraphProblem n m) of_kind = record { counts = counts b; misplaced = refl; named = refl; end_named = refl; lacks_end = refl; block_full = refl; block_short = refl; valued = refl; pred_unknown = refl; past_radius = refl }
-tells b (GraphArc t h w) of_kind = record { counts = counts b; misplaced = refl; named = refl; end_named = refl; lacks_end = refl; block_full = refl; block_short = refl; valued = refl; pred_unknown = refl; past_radius = refl }
+pub tells : (b : GraphBegun) (r : Record) → kind_of r ≡ Graph → after_lines b ≡ told_of (graph_begun_records b) r
+tells b (GraphProblem n m) of_kind = lines_told b
+tells b (GraphArc t h w) of_kind = lines_told b
 tells b r of_kind = absurd (cc)
-
-pub end_tells : (b : GraphBegun) → TellsEnd Graph (after_lines b) (graph_begun_records b)
-end_tells b = record { counts = counts b; lacks_end = refl; unfinished = ap₂ is_short (counts b).problem_is (counts b).counted_is; valued = refl }
 
 arc_allowed : (nodes declared : ℕ) (arcs : List ArcView) (a : ArcView) (before : List Record) (r : Record) → before ≡ GraphProblem nodes declared ∷ map graph_arc arcs → r ≡ graph_arc a
     → JoinsNodes nodes a → length arcs < declared → IsAllowed before r

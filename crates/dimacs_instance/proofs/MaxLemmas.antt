@@ -8,14 +8,15 @@ use Rattle.std.proofs.lemmas.Bool.Decides.{nat_tests}
 use Rattle.std.proofs.lemmas.List.Folds.{list_any-append}
 use Rattle.std.proofs.lemmas.List.Sums.{length-filter}
 use Rattle.dimacs_records.specs.declared.kinds.TextKind.TheVariants.{Max}
+use Rattle.dimacs_records.specs.declared.order.Earlier.{Earlier}
 use Rattle.dimacs_records.specs.declared.records.End.{End}
 use Rattle.dimacs_records.specs.declared.records.End.TheVariants.{Source, Sink}
 use Rattle.dimacs_records.specs.declared.records.Record.{Record}
 use Rattle.dimacs_records.specs.declared.records.Record.TheVariants.{MaxProblem, MaxNode, MaxArc}
-use Rattle.dimacs_records.specs.Earlier.{counted_in, is_counted, is_short, names, is_end_node, is_flow_arc, is_max_node}
+use Rattle.dimacs_records.specs.Earlier.{counted_in, is_counted, names, is_end_node, is_flow_arc, is_max_node}
 use Rattle.dimacs_records.specs.Conditions.{lacks_end}
 use Rattle.dimacs_records.specs.Readings.{IsAllowed, IsComplete}
-use Rattle.dimacs_records.specs.Tests.{Counts, IsToldOf, TellsEnd}
+use Rattle.dimacs_records.specs.Tests.{after_records, earlier_of, told_at_end, told_of}
 use Rattle.dimacs_records.proofs.ConditionLemmas.{is_allowed, is_complete}
 use Rattle.dimacs_records.specs.Spelling.{kind_of}
 use Rattle.dimacs_instance.specs.declared.network.ArcView.{ArcView}
@@ -112,14 +113,15 @@ pub first_problem : (n m : ℕ) → IsAllowed [] (MaxProblem n m)
 first_problem n m = is_allowed [] (MaxProblem n m) refl
 
 -- what is told of the records is so
-counts : (b : MaxBegun) → Counts (after_lines b).problem (after_lines b).counted (max_begun_records b)
-counts b = record { problem_is = refl; counted_is = counted b.nodes b.declared b.ends b.arcs }
+lines_told : (b : MaxBegun) → after_lines b ≡ after_records (max_begun_records b)
+lines_told b = ap (earlier_of (after_lines b).problem) (sym (counted b.nodes b.declared b.ends b.arcs))
 
-pub tells : (b : MaxBegun) (r : Record) → kind_of r ≡ Max → IsToldOf (before b r) (max_begun_records b) r
-tells b (MaxProblem n m) of_kind = record { counts = counts b; misplaced = refl; named = refl; end_named = refl; lacks_end = refl; block_full = refl; block_short = refl; valued = refl; pred_unknown = refl; past_radius = refl }
-tells b (MaxNode id end) of_kind = record { counts = counts b; misplaced = any_flow_arc b.nodes b.declared b.ends b.arcs; named = named b.nodes b.declared b.ends b.arcs id; end_named = ended b.nodes b.declared b.ends b.arcs end; lacks_end = refl; block_full = refl; block_short = refl; valued = refl; pred_unknown = refl; past_radius = refl }
-tells b (MaxArc t h cap) of_kind = record { counts = counts b; misplaced = refl; named = refl; end_named = refl; lacks_end = lacking b.nodes b.declared b.ends b.arcs; block_full = refl; block_short = refl; valued = refl; pred_unknown = refl; past_radius = refl }
+pub end_tells : (b : MaxBegun) → before_end b ≡ told_at_end Max (max_begun_records b)
+end_tells b = ap₂ (λ (e : Earlier) t. record e { lacks_end = t }) (lines_told b) (sym (lacking b.nodes b.declared b.ends b.arcs))
+
+pub tells : (b : MaxBegun) (r : Record) → kind_of r ≡ Max → before b r ≡ told_of (max_begun_records b) r
+tells b (MaxProblem n m) of_kind = lines_told b
+tells b (MaxNode id end) of_kind =
+    rw (any_flow_arc b.nodes b.declared b.ends b.arcs, named b.nodes b.declared b.ends b.arcs id, ended b.nodes b.declared b.ends b.arcs end, counted b.nodes b.declared b.ends b.arcs) refl
+tells b (MaxArc t h cap) of_kind = end_tells b
 tells b r of_kind = absurd (cc)
-
-pub end_tells : (b : MaxBegun) → TellsEnd Max (before_end b) (max_begun_records b)
-end_tells b = record { counts = counts b; lacks_end = lacking b.nodes b.declared b.ends b.arcs; unfinished = ap₂ is_short (counts b).problem_is (counts b).counted_is; valued = refl }

@@ -1,5 +1,5 @@
 -- Records after those of a minimum cost flow instance that was begun.
-use Rattle.std.proofs.Common.{◌≡◌, ℕ, suc, ◌+◌, ◌<◌, ◌≤◌, ◌∷◌, ◌++◌, [], List, false, Option, Some, None, length, map, ◌==◌, ◌||◌, refl, ap, ap₂, sym, ◌∙◌, subst, arith}
+use Rattle.std.proofs.Common.{◌≡◌, ℕ, suc, ◌+◌, ◌<◌, ◌≤◌, ◌∷◌, ◌++◌, [], List, false, Option, Some, None, length, map, ◌==◌, ◌||◌, refl, ap, sym, ◌∙◌, subst, arith}
 use Rattle.std.specs.Prelude.{ℤ, pos, ◌≤ℤ◌, is_some, nat_lt, nat_le, int_lt, Result, Ok, Err, OnOk, OnErr}
 use Rattle.std.specs.List.{list_any}
 use Rattle.std.specs.Ordering.{nat_cmp}
@@ -12,11 +12,12 @@ use Rattle.std.proofs.lemmas.Bool.Decides.{nat_tests}
 use Rattle.dimacs_lines.specs.Limits.{most_count, most_nodes}
 use Rattle.dimacs_nodes.proofs.Entries.{All-empty, All-entries, All-get, All-insert}
 use Rattle.dimacs_records.specs.declared.kinds.TextKind.TheVariants.{Min}
+use Rattle.dimacs_records.specs.declared.order.Earlier.{Earlier}
 use Rattle.dimacs_records.specs.declared.records.Record.{Record}
 use Rattle.dimacs_records.specs.declared.records.Record.TheVariants.{MinArc, MinProblem, MinNode}
-use Rattle.dimacs_records.specs.Earlier.{is_flow_arc, is_short, names, counted_in}
+use Rattle.dimacs_records.specs.Earlier.{is_flow_arc, names, counted_in}
 use Rattle.dimacs_records.specs.Readings.{LineRecord, IsAllowed, IsComplete, records_of}
-use Rattle.dimacs_records.specs.Tests.{Counts, Passes, PassesEnd, IsToldOf, TellsEnd}
+use Rattle.dimacs_records.specs.Tests.{Passes, PassesEnd, after_records, earlier_of, told_of}
 use Rattle.dimacs_records.proofs.ConditionLemmas.{is_allowed, is_complete}
 use Rattle.dimacs_instance.specs.declared.network.ArcView.{ArcView}
 use Rattle.dimacs_instance.specs.Arcs.{JoinsNodes, NetworkValue}
@@ -72,8 +73,8 @@ pub allows_problem : (n m : ℕ) → IsAllowed [] (MinProblem n m)
 allows_problem n m = is_allowed [] (MinProblem n m) refl
 
 -- what is told of the records is so
-counts : (b : MinBegun) (rs : List Record) → IsMinBegunBy b rs → Counts (after_lines b).problem (after_lines b).counted rs
-counts b rs h = rw h.records (record { problem_is = refl; counted_is = counted h.named b.arcs })
+pub lines_told : (b : MinBegun) (rs : List Record) → IsMinBegunBy b rs → after_lines b ≡ after_records rs
+lines_told b rs h = rw h.records (ap (earlier_of (after_lines b).problem) (sym (counted h.named b.arcs)))
 
 has_named : (b : MinBegun) (id : ℕ) {rs : List Record} (h : IsMinBegunBy b rs) → has_line b id ≡ list_any (is_of id) h.named
 has_named b id h = ap (λ m. is_some (get m id)) h.supplies ∙ has-from_entries h.named id
@@ -84,14 +85,11 @@ arcs_told b rs h = rw h.records (any_flow_arc h.named b.arcs)
 named_told : (b : MinBegun) (rs : List Record) (id : ℕ) → IsMinBegunBy b rs → list_any (names id) rs ≡ has_line b id
 named_told b rs id h = rw h.records (any_names id h.named b.arcs ∙ sym (has_named b id h))
 
-pub tells : (b : MinBegun) (r : Record) → kind_of r ≡ Min → (rs : List Record) → IsMinBegunBy b rs → IsToldOf (before b r) rs r
-tells b (MinProblem n m) of_kind rs h = record { counts = counts b rs h; misplaced = refl; named = refl; end_named = refl; lacks_end = refl; block_full = refl; block_short = refl; valued = refl; pred_unknown = refl; past_radius = refl }
-tells b (MinNode id s) of_kind rs h = record { counts = counts b rs h; misplaced = arcs_told b rs h; named = named_told b rs id h; end_named = refl; lacks_end = refl; block_full = refl; block_short = refl; valued = refl; pred_unknown = refl; past_radius = refl }
-tells b (MinArc tail head low cap cost) of_kind rs h = record { counts = counts b rs h; misplaced = refl; named = refl; end_named = refl; lacks_end = refl; block_full = refl; block_short = refl; valued = refl; pred_unknown = refl; past_radius = refl }
+pub tells : (b : MinBegun) (r : Record) → kind_of r ≡ Min → (rs : List Record) → IsMinBegunBy b rs → before b r ≡ told_of rs r
+tells b (MinProblem n m) of_kind rs h = lines_told b rs h
+tells b (MinNode id s) of_kind rs h = rw (arcs_told b rs h, named_told b rs id h) (ap (λ (e : Earlier). record (before b (MinNode id s)) { problem = e.problem; counted = e.counted }) (lines_told b rs h))
+tells b (MinArc tail head low cap cost) of_kind rs h = lines_told b rs h
 tells b r of_kind rs h = absurd (cc)
-
-pub end_tells : (b : MinBegun) (rs : List Record) → IsMinBegunBy b rs → TellsEnd Min (after_lines b) rs
-end_tells b rs h = record { counts = counts b rs h; lacks_end = refl; unfinished = ap₂ is_short (counts b rs h).problem_is (counts b rs h).counted_is; valued = refl }
 
 -- a problem line begins an instance
 pub begins : (n m : ℕ) → IsMinBegunBy (record { nodes = n; declared = m; supplies = empty; arcs = [] }) (MinProblem n m ∷ [])

@@ -8,17 +8,18 @@ use Rattle.std.proofs.lemmas.List.Elements.{All-cons, All-map, All-weaker}
 use Rattle.std.proofs.lemmas.Bool.Decides.{nat_tests}
 use Rattle.dimacs_lines.specs.Limits.{most_count}
 use Rattle.dimacs_records.specs.declared.kinds.TextKind.TheVariants as kinds
+use Rattle.dimacs_records.specs.declared.order.Earlier.{Earlier}
 use Rattle.dimacs_records.specs.declared.records.QueryKind.{QueryKind}
 use Rattle.dimacs_records.specs.declared.records.QueryKind.TheVariants as asks
 use Rattle.dimacs_records.specs.declared.records.Record.{Record}
 use Rattle.dimacs_records.specs.declared.records.Record.TheVariants.{QueriesProblem, SourceQuery, PairQuery}
-use Rattle.dimacs_records.specs.Earlier.{asks_for, counted_in, is_counted, is_short}
+use Rattle.dimacs_records.specs.Earlier.{asks_for, counted_in, is_counted}
 use Rattle.dimacs_records.specs.Forms.{form, Word, Either, Count, Id}
 use Rattle.dimacs_records.specs.Canonical.{CanBeSpelled}
 use Rattle.dimacs_records.specs.Ranges.{IsId}
 use Rattle.dimacs_records.specs.Readings.{LineRecord, IsAllowed, IsComplete, records_of}
 use Rattle.dimacs_records.specs.Spelling.{kind_of, query_word}
-use Rattle.dimacs_records.specs.Tests.{Counts, IsToldOf, TellsEnd}
+use Rattle.dimacs_records.specs.Tests.{after_records, earlier_of, told_of}
 use Rattle.dimacs_records.specs.Texts.{AreFaultless}
 use Rattle.dimacs_records.proofs.CanonicalLaws.{canonical_spelled, numbered_all}
 use Rattle.dimacs_records.proofs.ConditionLemmas.{is_allowed, is_complete, allowed_at}
@@ -57,8 +58,8 @@ module _ (n : ℕ) (queries : QueriesValue) where
       is_complete kinds.Queries earlier (rw counted refl)
 
 -- what is told of the records is so
-counts : (b : QueriesBegun) → Counts (after_lines b).problem (after_lines b).counted (queries_begun_records b)
-counts b = record { problem_is = refl; counted_is = counted_in-query_lines b.queries }
+pub lines_told : (b : QueriesBegun) → after_lines b ≡ after_records (queries_begun_records b)
+lines_told b = ap (earlier_of (after_lines b).problem) (sym (counted_in-query_lines b.queries))
 
 -- the problem line alone says which queries are asked
 source_told : (id n : ℕ) (queries : QueriesValue) → list_any (asks_for asks.Pairs) (earlier n queries) ≡ are_others (SourceQuery id) queries
@@ -69,14 +70,11 @@ pair_told : (from to n : ℕ) (queries : QueriesValue) → list_any (asks_for as
 pair_told from to n (Sources ids) = refl
 pair_told from to n (Pairs pairs) = no_problem_in_pairs pairs
 
-pub tells : (b : QueriesBegun) (r : Record) → kind_of r ≡ kinds.Queries → IsToldOf (before b r) (queries_begun_records b) r
-tells b (QueriesProblem kind n) of_kind = record { counts = counts b; misplaced = refl; named = refl; end_named = refl; lacks_end = refl; block_full = refl; block_short = refl; valued = refl; pred_unknown = refl; past_radius = refl }
-tells b (SourceQuery id) of_kind = record { counts = counts b; misplaced = source_told id b.declared b.queries; named = refl; end_named = refl; lacks_end = refl; block_full = refl; block_short = refl; valued = refl; pred_unknown = refl; past_radius = refl }
-tells b (PairQuery from to) of_kind = record { counts = counts b; misplaced = pair_told from to b.declared b.queries; named = refl; end_named = refl; lacks_end = refl; block_full = refl; block_short = refl; valued = refl; pred_unknown = refl; past_radius = refl }
+pub tells : (b : QueriesBegun) (r : Record) → kind_of r ≡ kinds.Queries → before b r ≡ told_of (queries_begun_records b) r
+tells b (QueriesProblem kind n) of_kind = lines_told b
+tells b (SourceQuery id) of_kind = ap₂ (λ (e : Earlier) t. record e { misplaced = t }) (lines_told b) (sym (source_told id b.declared b.queries))
+tells b (PairQuery from to) of_kind = ap₂ (λ (e : Earlier) t. record e { misplaced = t }) (lines_told b) (sym (pair_told from to b.declared b.queries))
 tells b r of_kind = absurd (cc)
-
-pub end_tells : (b : QueriesBegun) → TellsEnd kinds.Queries (after_lines b) (queries_begun_records b)
-end_tells b = record { counts = counts b; lacks_end = refl; unfinished = ap₂ is_short (counts b).problem_is (counts b).counted_is; valued = refl }
 
 -- the records of queries are refused for nothing
 source_allowed : (n : ℕ) (ids : List ℕ) (id : ℕ) → length (map SourceQuery ids) < n → IsAllowed (earlier n (Sources ids)) (SourceQuery id)

@@ -9,7 +9,8 @@ use Rattle.dimacs_records.specs.declared.records.Record.TheVariants.{MaxNode, Ma
 use Rattle.dimacs_records.specs.declared.reasons.Reason.{Reason}
 use Rattle.dimacs_records.specs.declared.reasons.Reason.TheVariants.{ProblemMissing, ProblemTwice, RecordOrder, NodeRange, NodeTwice, EndTwice, EndMissing, BoundOrder, TooMany, TooFew, SolutionMissing, SolutionTwice, PredUnknown, PastRadius}
 use Rattle.dimacs_records.specs.declared.faults.LineFault.{LineFault}
-use Rattle.dimacs_records.specs.Earlier.{Problem, problem_in}
+use Rattle.dimacs_records.specs.declared.order.Declared.{Declared}
+use Rattle.dimacs_records.specs.Earlier.{problem_in}
 use Rattle.dimacs_records.specs.Conditions.{condition, end_condition, is_above_at, bounded_ids, is_bound_wrong}
 use Rattle.dimacs_records.specs.Order.{Place, at, record_places, end_reasons}
 use Rattle.dimacs_records.specs.Faults.{FirstAtEnd}
@@ -41,13 +42,13 @@ chosen f g b a h = by_test (f == g) refl h
     by_test true e h = inl (eqb-true f g e)
     by_test false e h = inr h
 
-above_one : (f g i : ℕ) (p : Option Problem) → is_above_at f p ((g, i) ∷ []) ≡ true → f ≡ g
+above_one : (f g i : ℕ) (p : Option Declared) → is_above_at f p ((g, i) ∷ []) ≡ true → f ≡ g
 above_one f g i p h = elim (chosen f g false _ h) [ inl e ↦ e | inr e ↦ absurd (cc) ]
 
-above_two : (f g i k j : ℕ) (p : Option Problem) → is_above_at f p ((g, i) ∷ (k, j) ∷ []) ≡ true → (f ≡ g) ⊎ (f ≡ k)
+above_two : (f g i k j : ℕ) (p : Option Declared) → is_above_at f p ((g, i) ∷ (k, j) ∷ []) ≡ true → (f ≡ g) ⊎ (f ≡ k)
 above_two f g i k j p h = elim (chosen f g _ _ h) [ inl e ↦ inl e | inr e ↦ inr (above_one f k j p e) ]
 
-above_fields : (f : ℕ) (p : Option Problem) (r : Record) → is_above_at f p (bounded_ids r) ≡ true → (f ≡ 2) ⊎ ((f ≡ 3) ⊎ (f ≡ 4))
+above_fields : (f : ℕ) (p : Option Declared) (r : Record) → is_above_at f p (bounded_ids r) ≡ true → (f ≡ 2) ⊎ ((f ≡ 3) ⊎ (f ≡ 4))
 above_fields f p (MaxNode id end) h = inl (above_one f 2 id p h)
 above_fields f p (MaxArc tail head cap) h = elim (above_two f 2 tail 3 head p h) [ inl e ↦ inl e | inr e ↦ inr (inl e) ]
 above_fields f p (MinNode id supply) h = inl (above_one f 2 id p h)

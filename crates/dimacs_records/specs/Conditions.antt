@@ -4,13 +4,14 @@ use Rattle.std.specs.List.{list_any}
 use Rattle.dimacs_lines.specs.Limits.{longest_line, most_lines}
 use Rattle.dimacs_records.specs.declared.kinds.TextKind.{TextKind}
 use Rattle.dimacs_records.specs.declared.kinds.TextKind.TheVariants.{Max, Solution, Labels}
+use Rattle.dimacs_records.specs.declared.order.Declared.{Declared}
 use Rattle.dimacs_records.specs.declared.records.QueryKind.TheVariants.{Sources, Pairs}
 use Rattle.dimacs_records.specs.declared.records.Record.{Record}
 use Rattle.dimacs_records.specs.declared.records.Record.TheVariants.{MaxNode, MaxArc, MinNode, MinArc, GraphArc, SourceQuery, PairQuery, SolutionValue, CutNode, PotentialsNode, LabelsBlock, LabelsNode}
 use Rattle.dimacs_records.specs.declared.reasons.Reason.{Reason}
 use Rattle.dimacs_records.specs.declared.reasons.Reason.TheVariants.{LineTooLong, ProblemMissing, ProblemTwice, RecordOrder, NodeRange, NodeTwice, EndTwice, EndMissing, BoundOrder, TooMany, TooFew, SolutionMissing, SolutionTwice, PredUnknown, LineLimit, PastRadius}
 use Rattle.dimacs_records.specs.Spelling.{kind_of}
-use Rattle.dimacs_records.specs.Earlier.{Problem, problem_in, is_problem, is_above, is_full, is_short, is_counted, counted_in, asks_for, names, is_max_node, is_end_node, is_flow_arc, is_value}
+use Rattle.dimacs_records.specs.Earlier.{problem_in, is_problem, is_above, is_full, is_short, is_counted, counted_in, asks_for, names, is_max_node, is_end_node, is_flow_arc, is_value}
 use Rattle.dimacs_records.specs.Blocks.{block_in, is_labelled, is_full_block, is_short_block, is_past_block}
 
 -- at field f of a line with this number the condition of a limit holds
@@ -38,7 +39,7 @@ bounded_ids (LabelsNode id dist pred) = (2, id) ∷ (4, pred) ∷ []
 bounded_ids r = []
 
 -- the ID in field f is above NODES
-abbrev pub is_above_at : ℕ → Option Problem → List (ℕ × ℕ) → Bool
+abbrev pub is_above_at : ℕ → Option Declared → List (ℕ × ℕ) → Bool
 is_above_at f p [] = false
 is_above_at f p ((g, id) ∷ more) = if f == g then is_above p id else is_above_at f p more
 
@@ -90,7 +91,7 @@ condition earlier r f reason = (f == 0) && is_refused_for reason earlier r
 abbrev pub end_condition : TextKind → List Record → Reason → Bool
 end_condition kind all ProblemMissing = needs_problem kind && is_none (problem_in all)
 end_condition Max all EndMissing = lacks_end all
-end_condition Labels all TooFew = is_short (problem_in all) (counted_in all) || is_short_block (block_in all)
+end_condition Labels all TooFew = is_short_block (block_in all) || is_short (problem_in all) (counted_in all)
 end_condition kind all TooFew = is_short (problem_in all) (counted_in all)
 end_condition Solution all SolutionMissing = not (list_any is_value all)
 end_condition kind all reason = false

@@ -1,6 +1,7 @@
 -- What the earlier records of a text say.
 use Rattle.std.specs.Prelude.{ℕ, ◌==◌, Bool, true, false, List, [], ◌∷◌, Option, Some, None, is_some, length, nat_lt, nat_le}
 use Rattle.std.specs.List.{filter}
+use Rattle.dimacs_records.specs.declared.order.Declared.{Declared}
 use Rattle.dimacs_records.specs.declared.records.End.{End}
 use Rattle.dimacs_records.specs.declared.records.End.TheVariants.{Source, Sink}
 use Rattle.dimacs_records.specs.declared.records.QueryKind.{QueryKind}
@@ -9,14 +10,10 @@ use Rattle.dimacs_records.specs.declared.records.Record.{Record}
 use Rattle.dimacs_records.specs.declared.records.Record.TheVariants.{MaxProblem, MaxNode, MaxArc, MinProblem, MinNode, MinArc, GraphProblem, GraphArc, QueriesProblem, SourceQuery, PairQuery, SolutionValue, CutProblem, CutNode, PotentialsProblem, PotentialsNode, LabelsProblem, LabelsBlock}
 
 -- what a problem line declares; that of queries has no NODES
-pub record Problem : Type 0 where
-  pub nodes : Option ℕ
-  pub count : ℕ
-
-abbrev pub declares : ℕ → ℕ → Option Problem
+abbrev pub declares : ℕ → ℕ → Option Declared
 declares nodes count = Some (record { nodes = Some nodes; count = count })
 
-abbrev pub problem_of : Record → Option Problem
+abbrev pub problem_of : Record → Option Declared
 problem_of (MaxProblem nodes arcs) = declares nodes arcs
 problem_of (MinProblem nodes arcs) = declares nodes arcs
 problem_of (GraphProblem nodes arcs) = declares nodes arcs
@@ -34,7 +31,7 @@ or_else None other = other
 or_else (Some x) other = Some x
 
 -- the problem line of a text
-abbrev pub problem_in : List Record → Option Problem
+abbrev pub problem_in : List Record → Option Declared
 problem_in [] = None
 problem_in (r ∷ rs) = or_else (problem_of r) (problem_in rs)
 
@@ -44,16 +41,16 @@ is_so f None = false
 is_so f (Some x) = f x
 
 -- above NODES
-abbrev pub is_above : Option Problem → ℕ → Bool
-is_above p id = is_so (λ (q : Problem). is_so (λ (nodes : ℕ). nat_lt nodes id) q.nodes) p
+abbrev pub is_above : Option Declared → ℕ → Bool
+is_above p id = is_so (λ (q : Declared). is_so (λ (nodes : ℕ). nat_lt nodes id) q.nodes) p
 
 -- not below the declared count
-abbrev pub is_full : Option Problem → ℕ → Bool
-is_full p n = is_so (λ (q : Problem). nat_le q.count n) p
+abbrev pub is_full : Option Declared → ℕ → Bool
+is_full p n = is_so (λ (q : Declared). nat_le q.count n) p
 
 -- below the declared count
-abbrev pub is_short : Option Problem → ℕ → Bool
-is_short p n = is_so (λ (q : Problem). nat_lt n q.count) p
+abbrev pub is_short : Option Declared → ℕ → Bool
+is_short p n = is_so (λ (q : Declared). nat_lt n q.count) p
 
 -- a line that the problem line counts
 abbrev pub is_counted : Record → Bool

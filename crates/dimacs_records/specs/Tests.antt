@@ -1,61 +1,102 @@
 -- What is told of the earlier records, and what a record has that passes the tests.
-use Rattle.std.specs.Prelude.{ℕ, ◌≡◌, ◌&&◌, ◌||◌, Bool, true, false, List, Option, Some, None, is_some, is_none, not}
+use Rattle.std.specs.Prelude.{ℕ, ◌≡◌, ◌&&◌, ◌||◌, Bool, true, false, List, Option, Some, None, is_some, is_none, not, if◌then◌else◌, Result, Ok, Err}
+use Rattle.std.specs.List.{list_any}
+use Rattle.dimacs_records.specs.declared.faults.TakeError.{TakeError}
+use Rattle.dimacs_records.specs.declared.faults.TakeError.TheVariants.{Refused}
 use Rattle.dimacs_records.specs.declared.kinds.TextKind.{TextKind}
-use Rattle.dimacs_records.specs.declared.kinds.TextKind.TheVariants.{Solution}
+use Rattle.dimacs_records.specs.declared.kinds.TextKind.TheVariants.{Max, Labels, Solution}
 use Rattle.dimacs_records.specs.declared.order.Declared.{Declared}
 use Rattle.dimacs_records.specs.declared.order.Earlier.{Earlier}
-use Rattle.dimacs_records.specs.declared.reasons.Reason.TheVariants.{RecordOrder, NodeTwice, EndTwice, EndMissing, TooFew, SolutionMissing, SolutionTwice, PredUnknown, PastRadius}
+use Rattle.dimacs_records.specs.declared.reasons.Reason.{Reason}
+use Rattle.dimacs_records.specs.declared.reasons.Reason.TheVariants.{ProblemMissing, ProblemTwice, RecordOrder, NodeRange, NodeTwice, EndTwice, EndMissing, BoundOrder, TooMany, TooFew, SolutionMissing, SolutionTwice, PredUnknown, PastRadius}
 use Rattle.dimacs_records.specs.declared.records.Record.{Record}
 use Rattle.dimacs_records.specs.declared.records.Record.TheVariants.{LabelsNode}
-use Rattle.dimacs_records.specs.Blocks.{block_in, is_full_block}
-use Rattle.dimacs_records.specs.Conditions.{bounded_ids, end_condition, is_above_at, is_bound_wrong, is_refused_for, needs_problem}
-use Rattle.dimacs_records.specs.Earlier.{Problem, counted_in, is_counted, is_full, is_problem, is_short, problem_in}
+use Rattle.dimacs_records.specs.Blocks.{block_in, is_full_block, is_short_block}
+use Rattle.dimacs_records.specs.Conditions.{bounded_ids, is_above_at, is_bound_wrong, is_refused_for, lacks_end, needs_problem}
+use Rattle.dimacs_records.specs.Earlier.{counted_in, is_counted, is_full, is_problem, is_short, is_value, problem_in}
+use Rattle.dimacs_records.specs.Order.{Place, at}
 use Rattle.dimacs_records.specs.Spelling.{kind_of}
-
--- the problem line that is told
-abbrev pub problem_told : Option Declared → Option Problem
-problem_told None = None
-problem_told (Some p) = Some (record { nodes = p.nodes; count = p.count })
 
 -- after this problem line and so many lines that it counts
 abbrev pub earlier_of : Option Declared → ℕ → Earlier
 earlier_of problem counted = record { problem = problem; counted = counted; misplaced = false; named = false; end_named = false; lacks_end = false; block_full = false; block_short = false; valued = false; pred_unknown = false; past_radius = false }
+
+-- after these records, for one that asks for their lines alone
+abbrev pub after_records : List Record → Earlier
+after_records rs = earlier_of (problem_in rs) (counted_in rs)
 
 -- a label in a block that has as many as it declares
 abbrev pub is_full_label : List Record → Record → Bool
 is_full_label earlier (LabelsNode id dist pred) = is_full_block (block_in earlier)
 is_full_label earlier r = false
 
+-- what the earlier records say of one more
+abbrev pub told_of : List Record → Record → Earlier
+told_of earlier r = record {
+  problem = problem_in earlier;
+  counted = counted_in earlier;
+  misplaced = is_refused_for RecordOrder earlier r;
+  named = is_refused_for NodeTwice earlier r;
+  end_named = is_refused_for EndTwice earlier r;
+  lacks_end = is_refused_for EndMissing earlier r;
+  block_full = is_full_label earlier r;
+  block_short = is_refused_for TooFew earlier r;
+  valued = is_refused_for SolutionTwice earlier r;
+  pred_unknown = is_refused_for PredUnknown earlier r;
+  past_radius = is_refused_for PastRadius earlier r;
+}
+
+-- what all records of a text say of its end
+abbrev pub told_at_end : TextKind → List Record → Earlier
+told_at_end Max all = record (after_records all) { lacks_end = lacks_end all }
+told_at_end Labels all = record (after_records all) { block_short = is_short_block (block_in all) }
+told_at_end Solution all = record (after_records all) { valued = list_any is_value all }
+told_at_end kind all = after_records all
+
 abbrev pub is_too_many_told : Earlier → Record → Bool
 is_too_many_told e (LabelsNode id dist pred) = e.block_full
-is_too_many_told e r = is_counted r && is_full (problem_told e.problem) e.counted
+is_too_many_told e r = is_counted r && is_full e.problem e.counted
 
--- this is the problem line of these records, and the number of lines that it counts
-pub record Counts (problem : Option Declared) (counted : ℕ) (rs : List Record) : Type 0 where
-  pub problem_is : problem_in rs ≡ problem_told problem
-  pub counted_is : counted_in rs ≡ counted
+-- the place of the first test of record r that fails
+abbrev pub place_told : Earlier → Record → Option Place
+place_told e r =
+    if (needs_problem (kind_of r) && not (is_problem r)) && is_none e.problem then Some (at 0 ProblemMissing)
+    else if is_problem r && is_some e.problem then Some (at 0 ProblemTwice) else if e.misplaced then Some (at 0 RecordOrder)
+    else if is_above_at 2 e.problem (bounded_ids r) then Some (at 2 NodeRange)
+    else if is_above_at 3 e.problem (bounded_ids r) then Some (at 3 NodeRange)
+    else if is_above_at 4 e.problem (bounded_ids r) then Some (at 4 NodeRange)
+    else if e.named then Some (at 2 NodeTwice) else if e.end_named then Some (at 3 EndTwice) else if e.lacks_end then Some (at 0 EndMissing)
+    else if is_bound_wrong 4 r then Some (at 4 BoundOrder) else if is_bound_wrong 5 r then Some (at 5 BoundOrder)
+    else if is_too_many_told e r then Some (at 0 TooMany) else if e.block_short then Some (at 0 TooFew) else if e.valued then Some (at 0 SolutionTwice)
+    else if e.pred_unknown then Some (at 0 PredUnknown) else if e.past_radius then Some (at 3 PastRadius) else None
 
--- this is so of the earlier records, as far as record r asks for it
-pub record IsToldOf (e : Earlier) (earlier : List Record) (r : Record) : Type 0 where
-  pub counts : Counts e.problem e.counted earlier
-  pub misplaced : is_refused_for RecordOrder earlier r ≡ e.misplaced
-  pub named : is_refused_for NodeTwice earlier r ≡ e.named
-  pub end_named : is_refused_for EndTwice earlier r ≡ e.end_named
-  pub lacks_end : is_refused_for EndMissing earlier r ≡ e.lacks_end
-  pub block_full : is_full_label earlier r ≡ e.block_full
-  pub block_short : is_refused_for TooFew earlier r ≡ e.block_short
-  pub valued : is_refused_for SolutionTwice earlier r ≡ e.valued
-  pub pred_unknown : is_refused_for PredUnknown earlier r ≡ e.pred_unknown
-  pub past_radius : is_refused_for PastRadius earlier r ≡ e.past_radius
+abbrev pub needs_value : TextKind → Bool
+needs_value Solution = true
+needs_value kind = false
+
+-- the first test of the end that fails
+abbrev pub reason_told : TextKind → Earlier → Option Reason
+reason_told kind e =
+    if needs_problem kind && is_none e.problem then Some ProblemMissing else if e.lacks_end then Some EndMissing
+    else if e.block_short || is_short e.problem e.counted then Some TooFew else if needs_value kind && not e.valued then Some SolutionMissing else None
+
+-- what is answered of a place, or of the end
+abbrev pub answer_at : Option Place → Result Unit TakeError
+answer_at None = Ok tt
+answer_at (Some p) = Err (Refused (record { field = p.field; reason = p.reason }))
+
+abbrev pub answer_at_end : Option Reason → Result Unit TakeError
+answer_at_end None = Ok tt
+answer_at_end (Some reason) = Err (Refused (record { field = 0; reason = reason }))
 
 -- no test of record r fails
 pub record Passes (e : Earlier) (r : Record) : Type 0 where
-  pub after_problem : ((needs_problem (kind_of r) && not (is_problem r)) && is_none (problem_told e.problem)) ≡ false
-  pub one_problem : (is_problem r && is_some (problem_told e.problem)) ≡ false
+  pub after_problem : ((needs_problem (kind_of r) && not (is_problem r)) && is_none e.problem) ≡ false
+  pub one_problem : (is_problem r && is_some e.problem) ≡ false
   pub placed : e.misplaced ≡ false
-  pub second_within : is_above_at 2 (problem_told e.problem) (bounded_ids r) ≡ false
-  pub third_within : is_above_at 3 (problem_told e.problem) (bounded_ids r) ≡ false
-  pub fourth_within : is_above_at 4 (problem_told e.problem) (bounded_ids r) ≡ false
+  pub second_within : is_above_at 2 e.problem (bounded_ids r) ≡ false
+  pub third_within : is_above_at 3 e.problem (bounded_ids r) ≡ false
+  pub fourth_within : is_above_at 4 e.problem (bounded_ids r) ≡ false
   pub new_node : e.named ≡ false
   pub new_end : e.end_named ≡ false
   pub both_ends : e.lacks_end ≡ false
@@ -67,20 +108,9 @@ pub record Passes (e : Earlier) (r : Record) : Type 0 where
   pub pred_known : e.pred_unknown ≡ false
   pub near : e.past_radius ≡ false
 
-abbrev pub needs_value : TextKind → Bool
-needs_value Solution = true
-needs_value kind = false
-
--- this is so of all records of a text
-pub record TellsEnd (kind : TextKind) (e : Earlier) (all : List Record) : Type 0 where
-  pub counts : Counts e.problem e.counted all
-  pub lacks_end : end_condition kind all EndMissing ≡ e.lacks_end
-  pub unfinished : end_condition kind all TooFew ≡ (e.block_short || is_short (problem_told e.problem) e.counted)
-  pub valued : end_condition kind all SolutionMissing ≡ (needs_value kind && not e.valued)
-
 -- no test of the end fails
 pub record PassesEnd (kind : TextKind) (e : Earlier) : Type 0 where
-  pub problem : (needs_problem kind && is_none (problem_told e.problem)) ≡ false
+  pub problem : (needs_problem kind && is_none e.problem) ≡ false
   pub ends : e.lacks_end ≡ false
-  pub finished : (e.block_short || is_short (problem_told e.problem) e.counted) ≡ false
+  pub finished : (e.block_short || is_short e.problem e.counted) ≡ false
   pub value : (needs_value kind && not e.valued) ≡ false

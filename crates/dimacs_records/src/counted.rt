@@ -11,7 +11,7 @@ ghost use Rattle.dimacs_records.specs.Faults.{Fault};
 ghost use Rattle.dimacs_records.specs.Readings.{CountsRead, LineRecord, IsAllowed, IsOfKind, RefusesRecord, records_of};
 ghost use Rattle.dimacs_records.specs.Spelling.{kind_of};
 ghost use Rattle.dimacs_records.specs.Takings.{StandsFor};
-ghost use Rattle.dimacs_records.specs.Tests.{IsToldOf, Passes, PassesEnd, TellsEnd};
+ghost use Rattle.dimacs_records.specs.Tests.{Passes, PassesEnd, told_at_end, told_of};
 ghost use Rattle.dimacs_records.specs.Texts.{Reads, SpellsValue, AreFaultless};
 
 use crate::driver::read_text;
@@ -58,7 +58,7 @@ pub trait Begun: Drop {
     fn before(&self, said: Record) -> Earlier
         requires { IsOfKind kind said }
         ensures told { result ≡ told self.now said }
-        ensures so { (rs : List Record) → begun_by self.now rs → IsToldOf result rs said };
+        ensures so { (rs : List Record) → begun_by self.now rs → result ≡ told_of rs said };
 
     /// Keeps a record that no test refuses.
     fn keep(&mut self, said: Record) -> Result<(), Memory>
@@ -70,7 +70,7 @@ pub trait Begun: Drop {
     /// What the records that were taken say of the end.
     fn before_end(&self) -> Earlier
         ensures told { result ≡ told_end self.now }
-        ensures so { (rs : List Record) → begun_by self.now rs → TellsEnd kind result rs };
+        ensures so { (rs : List Record) → begun_by self.now rs → result ≡ told_at_end kind rs };
 
     /// The value of all records, which no test refuses.
     fn value(self, alloc: Global) -> Result<Self::Value, Memory>

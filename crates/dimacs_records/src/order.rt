@@ -3,12 +3,12 @@
 ghost use Rattle.std.specs.Prelude.{◌≡◌, ◌&&◌, ◌||◌, not, false, true, List, Option, None, is_some, is_none, OnOk, OnErr, IfErr};
 ghost use Rattle.dimacs_records.specs.declared.faults.TakeError.TheVariants.{Refused};
 ghost use Rattle.dimacs_records.specs.declared.kinds.TextKind.{TextKind};
+ghost use Rattle.dimacs_records.specs.declared.order.Declared.{Declared};
 ghost use Rattle.dimacs_records.specs.declared.records.Record.{Record};
 ghost use Rattle.dimacs_records.specs.Conditions.{is_above_at, bounded_ids, is_bound_wrong, needs_problem};
-ghost use Rattle.dimacs_records.specs.Earlier.{Problem, is_above, is_counted, is_full, is_problem, is_short, is_so};
-ghost use Rattle.dimacs_records.specs.Readings.{RefusesRecord, RefusesEnd};
+ghost use Rattle.dimacs_records.specs.Earlier.{is_above, is_counted, is_full, is_problem, is_short, is_so};
 ghost use Rattle.dimacs_records.specs.Spelling.{kind_of};
-ghost use Rattle.dimacs_records.specs.Tests.{Passes, PassesEnd, IsToldOf, TellsEnd, earlier_of, is_too_many_told, needs_value, problem_told};
+ghost use Rattle.dimacs_records.specs.Tests.{Passes, PassesEnd, answer_at, answer_at_end, earlier_of, is_too_many_told, needs_value, place_told, reason_told};
 
 use crate::faults::TakeError;
 use crate::kinds::TextKind;
@@ -72,7 +72,7 @@ impl Earlier {
     /// No problem line came before this record, which has to come after one.
     #[inline(always)]
     fn is_without_problem(self, said: Record) -> bool
-        ensures { result ≡ ((needs_problem (kind_of said) && not (is_problem said)) && is_none (problem_told self.problem)) }
+        ensures { result ≡ ((needs_problem (kind_of said) && not (is_problem said)) && is_none self.problem) }
     {
         match self.problem {
             Some(_) => false,
@@ -83,7 +83,7 @@ impl Earlier {
     /// A problem line came before this one.
     #[inline(always)]
     fn is_second_problem(self, said: Record) -> bool
-        ensures { result ≡ (is_problem said && is_some (problem_told self.problem)) }
+        ensures { result ≡ (is_problem said && is_some self.problem) }
     {
         match self.problem {
             Some(_) => declares(said),
@@ -105,7 +105,7 @@ impl Earlier {
     /// No problem line came, and the kind needs one.
     #[inline(always)]
     fn is_without_any(self, kind: TextKind) -> bool
-        ensures { result ≡ (needs_problem kind && is_none (problem_told self.problem)) }
+        ensures { result ≡ (needs_problem kind && is_none self.problem) }
     {
         match self.problem {
             Some(_) => false,
@@ -116,7 +116,7 @@ impl Earlier {
     /// Fewer lines came than are declared, or fewer labels in the last block.
     #[inline(always)]
     fn is_unfinished(self) -> bool
-        ensures { result ≡ (self.block_short || is_short (problem_told self.problem) self.counted) }
+        ensures { result ≡ (self.block_short || is_short self.problem self.counted) }
     {
         self.block_short || self.is_short()
     }
@@ -135,7 +135,7 @@ impl Earlier {
     /// An ID is above NODES.
     #[inline(always)]
     fn is_above(self, id: u32) -> bool
-        ensures { result ≡ is_above (problem_told self.problem) id }
+        ensures { result ≡ is_above self.problem id }
     {
         match self.problem {
             Some(
@@ -151,7 +151,7 @@ impl Earlier {
     /// There is such an ID, and it is above NODES.
     #[inline(always)]
     fn has_above(self, id: Option<u32>) -> bool
-        ensures { result ≡ is_so (is_above (problem_told self.problem)) id }
+        ensures { result ≡ is_so (is_above self.problem) id }
     {
         match id {
             Some(id) => self.is_above(id),
@@ -162,7 +162,7 @@ impl Earlier {
     /// As many lines came as are declared.
     #[inline(always)]
     fn is_full(self) -> bool
-        ensures { result ≡ is_full (problem_told self.problem) self.counted }
+        ensures { result ≡ is_full self.problem self.counted }
     {
         match self.problem {
             Some(problem) => problem.count <= self.counted,
@@ -173,7 +173,7 @@ impl Earlier {
     /// Fewer lines came than are declared.
     #[inline(always)]
     fn is_short(self) -> bool
-        ensures { result ≡ is_short (problem_told self.problem) self.counted }
+        ensures { result ≡ is_short self.problem self.counted }
     {
         match self.problem {
             Some(problem) => self.counted < problem.count,
@@ -186,7 +186,7 @@ impl Earlier {
 #[inline(always)]
 pub fn test_record(earlier: Earlier, said: Record) -> Result<(), TakeError>
     ensures passes { OnOk result (Passes earlier said) }
-    ensures refused { IfErr result (λ error. (rs : List Record) → IsToldOf earlier rs said → RefusesRecord rs said error) }
+    ensures told { result ≡ answer_at (place_told earlier said) }
 {
     refuse_if(earlier.is_without_problem(said), 0, Reason::ProblemMissing)?;
     refuse_if(earlier.is_second_problem(said), 0, Reason::ProblemTwice)?;
@@ -211,7 +211,7 @@ pub fn test_record(earlier: Earlier, said: Record) -> Result<(), TakeError>
 #[inline(always)]
 pub fn test_end(kind: TextKind, earlier: Earlier) -> Result<(), TakeError>
     ensures passes { OnOk result (PassesEnd kind earlier) }
-    ensures refused { IfErr result (λ error. (all : List Record) → TellsEnd kind earlier all → RefusesEnd kind all error) }
+    ensures told { result ≡ answer_at_end (reason_told kind earlier) }
 {
     refuse_if(earlier.is_without_any(kind), 0, Reason::ProblemMissing)?;
     refuse_if(earlier.lacks_end, 0, Reason::EndMissing)?;
@@ -276,7 +276,7 @@ pub(crate) fn declares(said: Record) -> bool
 /// The ID in field 2, where NODES bounds it.
 #[inline(always)]
 fn second_id(said: Record) -> Option<u32>
-    ensures { (p : Option Problem) → is_above_at 2 p (bounded_ids said) ≡ is_so (is_above p) result }
+    ensures { (p : Option Declared) → is_above_at 2 p (bounded_ids said) ≡ is_so (is_above p) result }
 {
     match said {
         Record::MaxNode { id, .. }
@@ -294,7 +294,7 @@ fn second_id(said: Record) -> Option<u32>
 /// The ID in field 3, where NODES bounds it.
 #[inline(always)]
 fn third_id(said: Record) -> Option<u32>
-    ensures { (p : Option Problem) → is_above_at 3 p (bounded_ids said) ≡ is_so (is_above p) result }
+    ensures { (p : Option Declared) → is_above_at 3 p (bounded_ids said) ≡ is_so (is_above p) result }
 {
     match said {
         Record::MaxArc { head, .. } | Record::MinArc { head, .. } | Record::GraphArc { head, .. } =>
@@ -306,7 +306,7 @@ fn third_id(said: Record) -> Option<u32>
 /// The ID in field 4, where NODES bounds it.
 #[inline(always)]
 fn fourth_id(said: Record) -> Option<u32>
-    ensures { (p : Option Problem) → is_above_at 4 p (bounded_ids said) ≡ is_so (is_above p) result }
+    ensures { (p : Option Declared) → is_above_at 4 p (bounded_ids said) ≡ is_so (is_above p) result }
 {
     match said {
         Record::LabelsNode { pred, .. } => Some(pred),

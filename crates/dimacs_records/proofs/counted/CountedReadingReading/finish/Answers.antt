@@ -1,9 +1,17 @@
 use Rattle.std.proofs.Common.{◌≡◌, [], refl}
+use Rattle.std.proofs.lemmas.Result.{err_from_is_err_and}
 use Rattle.dimacs_records.specs.Readings.{records_of}
-use Rattle.dimacs_records.proofs.OrderLemmas.{none_at_end}
+use Rattle.dimacs_records.proofs.OrderLemmas.{end_refused_told, none_at_end}
 use Rattle.dimacs_records.proofs.counted.CountedReadingReading.finish.Goals as goal
 
 pub returns-in_default-clause-refused : goal.returns-in_default-clause-refused
 returns-in_default-clause-refused g c = λ rs h.
     let none : records_of rs ≡ [] = rw c.in_default.is at h in
     rw c.refused.ensures (refl, rw none (none_at_end g.B.Begun.kind g.met.B.Begun.has_problem))
+
+pub returns-in_err-test_end-clause-refused : goal.returns-in_err-test_end-clause-refused
+returns-in_err-test_end-clause-refused g c =
+    let p = err_from_is_err_and c.from_residual.result c.from_residual.ensures.1 in
+    let told = rw c.kind.ensures.kind at c.in_err-test_end.ensures.told in
+    let so = rw c.in-Some.is at c.before_end.ensures.so in
+    rw (p.1, p.2) (λ rs h. end_refused_told g.B.Begun.kind c.before_end.result (records_of rs) _ told (so (records_of rs) (rw c.in-Some.is at h)))
