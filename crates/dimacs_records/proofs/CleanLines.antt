@@ -13,10 +13,11 @@ use Rattle.dimacs_records.specs.Spelling.{SpellsRecord, texts_in, is_skip}
 use Rattle.dimacs_records.specs.Shapes.{fields_condition, types_in, letter_condition, shape_condition}
 use Rattle.dimacs_records.specs.Conditions.{limit_condition, condition}
 use Rattle.dimacs_records.specs.Order.{Place, at, limit_places, shape_places, record_places, places, FirstOf}
+use Rattle.dimacs_records.specs.Readings.{IsAllowed}
 use Rattle.dimacs_records.specs.Faults.{Condition, of_limit, of_shape, of_record, Spell, records_in, IsClean}
 use Rattle.dimacs_records.proofs.FirstLemmas.{none_is}
 use Rattle.dimacs_records.proofs.PlaceLemmas.{test_at}
-use Rattle.dimacs_records.proofs.FirstLaws.{first_after, first_before}
+use Rattle.dimacs_records.proofs.FirstLaws.{first_after, first_before, first_listed}
 use Rattle.dimacs_records.proofs.SplitLemmas.{same, sooner, later, two_places}
 use Rattle.dimacs_records.proofs.SpellLaws.{spells_one}
 use Rattle.dimacs_records.proofs.ShapeLaws.{spelled_shape}
@@ -69,12 +70,12 @@ clean_skip kind before said line clean skip within = clean_push kind before said
 ])
 
 pub clean_record : (kind : TextKind) (before : List (List ℕ)) (said : List (Option Record)) (line : List ℕ) (r : Record) → IsClean kind before said
-    → is_skip (texts_in line) ≡ false → SpellsRecord kind (texts_in line) r → NoneHolds (limit_condition (length before + 1) line) → NoneHolds (condition (records_in said) r)
+    → is_skip (texts_in line) ≡ false → SpellsRecord kind (texts_in line) r → NoneHolds (limit_condition (length before + 1) line) → IsAllowed (records_in said) r
     → IsClean kind (before ++ line ∷ []) (said ++ Some r ∷ [])
 clean_record kind before said line r clean solid spells within fits = clean_push kind before said line (Some r) clean (solid, spells, tt) (λ p c. elim c [
   | of_limit h ↦ within p.field p.reason h
   | of_shape again h ↦ spelled_shape kind (texts_in line) r spells p.field p.reason h
-  | of_record s again other h ↦ fits p.field p.reason (rw (spells_one kind (texts_in line) s r other spells) at h)
+  | of_record s again other h ↦ fits p (rw (spells_one kind (texts_in line) s r other spells) at h)
 ])
 
 -- the whole line is none of its fields
@@ -107,7 +108,7 @@ first_limit kind earlier number line f reason =
       | of_shape solid h ↦ absurd (All-contains (λ q. ¬ Holds (shape_condition kind (texts_in line)) q) limit_places p (no_shape kind (texts_in line)) inside h)
       | of_record r solid spells h ↦
           let within = Contains-append_left limit_places shape_places p inside in
-          absurd (All-contains (λ q. ¬ Holds (condition earlier r) q) (limit_places ++ shape_places) p (no_refusal earlier r) within h)
+          absurd (All-contains (λ q. ¬ Holds (condition earlier r) q) (limit_places ++ shape_places) p (no_refusal earlier r) within h.1)
     ]) of_limit
 
 pub first_shape : (kind : TextKind) (earlier : List Record) (number : ℕ) (line : List ℕ) (f : ℕ) (reason : Reason)
@@ -131,5 +132,5 @@ first_record kind earlier number line r f reason within solid spells first =
     (λ p inside c. elim c [
       | of_limit h ↦ absurd (within p.field p.reason h)
       | of_shape again h ↦ absurd (spelled_shape kind (texts_in line) r spells p.field p.reason h)
-      | of_record s again other h ↦ rw (spells_one kind (texts_in line) s r other spells) at h
-    ]) (of_record r solid spells) (first_after Refused (limit_places ++ shape_places) record_places (at f reason) (no_refusal earlier r) first)
+      | of_record s again other h ↦ (rw (spells_one kind (texts_in line) s r other spells) at h).1
+    ]) (λ h. of_record r solid spells (first_listed Refused record_places (at f reason) first, h)) (first_after Refused (limit_places ++ shape_places) record_places (at f reason) (no_refusal earlier r) first)

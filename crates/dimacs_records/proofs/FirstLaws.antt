@@ -1,8 +1,12 @@
 -- What comes first in a part of a list comes first in the whole.
-use Rattle.std.proofs.Common.{◌∷◌, ◌++◌, List, get_or, ap, sym, ◌∙◌, append_assoc}
+use Rattle.std.proofs.Common.{◌∷◌, ◌++◌, List, get_or, ap, refl, sym, ◌∙◌, append_assoc, arith}
 use Rattle.std.specs.List.{All, Contains}
-use Rattle.std.proofs.lemmas.List.Elements.{All-append, Contains-append_left, Contains-get_or}
+use Rattle.std.proofs.lemmas.List.Elements.{All-append, Contains-append_left, Contains-append_right, Contains-get_or}
 use Rattle.dimacs_records.specs.Order.{FirstOf}
+
+-- it is in the list
+pub first_listed : {X : Type 0} (P : X → Type 0) (all : List X) (x : X) → FirstOf P all x → Contains all x
+first_listed P all x h = rw h.all_is (Contains-append_right h.before (x ∷ h.after) x (0, omega arith, refl))
 
 -- after others that lack the property
 pub first_after : {X : Type 0} (P : X → Type 0) (front all : List X) (x : X) → All (λ y. ¬ P y) front → FirstOf P all x → FirstOf P (front ++ all) x

@@ -77,7 +77,7 @@ no_condition kind earlier number line None p says within_limits allowed c = elim
 no_condition kind earlier number line (Some r) p says within_limits allowed c = elim c [
   | of_limit h ↦ within_limits p.field p.reason h
   | of_shape solid h ↦ spelled_shape kind (texts_in line) r says.1 p.field p.reason h
-  | of_record s solid other h ↦ allowed s (ap Some (spells_one kind (texts_in line) r s says.1 other)) p.field p.reason h
+  | of_record s solid other h ↦ allowed s (ap Some (spells_one kind (texts_in line) r s says.1 other)) p h
 ]
 
 -- the record of a line, and those before it and after it

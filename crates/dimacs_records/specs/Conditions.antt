@@ -78,14 +78,11 @@ is_refused_for PredUnknown earlier (LabelsNode id dist pred) = not (is_labelled 
 is_refused_for PastRadius earlier (LabelsNode id dist pred) = is_past_block (block_in earlier) dist
 is_refused_for reason earlier r = false
 
--- at field f of record r, after the earlier records, the condition of a reason holds
+-- after the earlier records the condition of a reason holds of record r: at field f, where the reason tells of several fields
 abbrev pub condition : List Record → Record → ℕ → Reason → Bool
 condition earlier r f NodeRange = is_above_at f (problem_in earlier) (bounded_ids r)
 condition earlier r f BoundOrder = is_bound_wrong f r
-condition earlier r f NodeTwice = (f == 2) && is_refused_for NodeTwice earlier r
-condition earlier r f EndTwice = (f == 3) && is_refused_for EndTwice earlier r
-condition earlier r f PastRadius = (f == 3) && is_refused_for PastRadius earlier r
-condition earlier r f reason = (f == 0) && is_refused_for reason earlier r
+condition earlier r f reason = is_refused_for reason earlier r
 
 -- at the end of a text of these records the condition of a reason holds: in the last block there may be fewer labels than declared
 abbrev pub end_condition : TextKind → List Record → Reason → Bool

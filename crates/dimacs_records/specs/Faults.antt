@@ -5,14 +5,14 @@ use Rattle.dimacs_records.specs.declared.records.Record.{Record}
 use Rattle.dimacs_records.specs.declared.reasons.Reason.{Reason}
 use Rattle.dimacs_records.specs.Spelling.{SpellsRecord, texts_in, is_skip}
 use Rattle.dimacs_records.specs.Shapes.{shape_condition}
-use Rattle.dimacs_records.specs.Conditions.{limit_condition, condition, end_condition}
-use Rattle.dimacs_records.specs.Order.{Place, at, places, end_reasons, FirstOf}
+use Rattle.dimacs_records.specs.Conditions.{limit_condition, end_condition}
+use Rattle.dimacs_records.specs.Order.{IsRefusedAt, Place, at, places, end_reasons, FirstOf}
 
 -- at a place of a line, after the earlier records, the condition of its reason holds
 pub data Condition (kind : TextKind) (earlier : List Record) (number : ℕ) (line : List ℕ) (p : Place) : Type 0 where
   of_limit : IsTrue (limit_condition number line p.field p.reason) → Condition kind earlier number line p
   of_shape : is_skip (texts_in line) ≡ false → IsTrue (shape_condition kind (texts_in line) p.field p.reason) → Condition kind earlier number line p
-  of_record : (r : Record) → is_skip (texts_in line) ≡ false → SpellsRecord kind (texts_in line) r → IsTrue (condition earlier r p.field p.reason) → Condition kind earlier number line p
+  of_record : (r : Record) → is_skip (texts_in line) ≡ false → SpellsRecord kind (texts_in line) r → IsRefusedAt earlier r p → Condition kind earlier number line p
 
 -- each line is skipped, or spells the record beside it
 abbrev pub Spell : TextKind → List (List ℕ) → List (Option Record) → Type 0

@@ -1,7 +1,9 @@
 -- The order of the conditions at a line, and what comes first in an order.
-use Rattle.std.specs.Prelude.{ℕ, ◌≡◌, List, [], ◌∷◌, ◌++◌}
-use Rattle.std.specs.List.{All}
+use Rattle.std.specs.Prelude.{ℕ, ◌≡◌, List, [], ◌∷◌, ◌++◌, IsTrue}
+use Rattle.std.specs.List.{All, Contains}
+use Rattle.dimacs_records.specs.declared.records.Record.{Record}
 use Rattle.dimacs_records.specs.declared.reasons.Reason.{Reason}
+use Rattle.dimacs_records.specs.Conditions.{condition}
 use Rattle.dimacs_records.specs.declared.reasons.Reason.TheVariants.{LineTooLong, UnknownLine, FieldCount, BadNumber, NumberRange, BadWord, ProblemMissing, ProblemTwice, RecordOrder, NodeRange, NodeTwice, EndTwice, EndMissing, BoundOrder, TooMany, TooFew, SolutionMissing, SolutionTwice, PredUnknown, LineLimit, PastRadius}
 
 -- a field, 0 being the whole line, and a reason
@@ -29,6 +31,10 @@ record_places = at 0 ProblemMissing ∷ at 0 ProblemTwice ∷ at 0 RecordOrder
     ∷ at 2 NodeTwice ∷ at 3 EndTwice ∷ at 0 EndMissing
     ∷ at 4 BoundOrder ∷ at 5 BoundOrder
     ∷ at 0 TooMany ∷ at 0 TooFew ∷ at 0 SolutionTwice ∷ at 0 PredUnknown ∷ at 3 PastRadius ∷ []
+
+-- at this place of the order record r is refused after the earlier ones
+abbrev pub IsRefusedAt : List Record → Record → Place → Type 0
+IsRefusedAt earlier r p = Contains record_places p × IsTrue (condition earlier r p.field p.reason)
 
 -- the order at a line
 abbrev pub places : List Place

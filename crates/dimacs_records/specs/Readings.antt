@@ -13,7 +13,7 @@ use Rattle.dimacs_records.specs.declared.faults.ReadError.{ReadError}
 use Rattle.dimacs_records.specs.declared.faults.ReadError.TheVariants as read_errors
 use Rattle.dimacs_records.specs.Spelling.{SpellsRecord}
 use Rattle.dimacs_records.specs.Conditions.{condition, end_condition}
-use Rattle.dimacs_records.specs.Order.{Place, at, record_places, FirstOf}
+use Rattle.dimacs_records.specs.Order.{IsRefusedAt, Place, at, record_places, FirstOf}
 use Rattle.dimacs_records.specs.Faults.{IsFaultless, FirstAtEnd, Fault}
 
 -- a record of a text, and the number of its line
@@ -52,9 +52,9 @@ pub record AreSpelledBefore (kind : TextKind) (line : ℕ) (rs : List LineRecord
 abbrev pub IsGivenByLines : {V : Type 0} → TextKind → (List LineRecord → V → Type 0) → V → Type 0
 IsGivenByLines kind gives v = (rs : List LineRecord) × gives rs v × AreSpelledBefore kind (most_lines + 1) rs
 
--- no condition holds of a record after the earlier ones
+-- a record is refused at no place after the earlier ones
 abbrev pub IsAllowed : List Record → Record → Type 0
-IsAllowed earlier r = (field : ℕ) (reason : Reason) → ¬ IsTrue (condition earlier r field reason)
+IsAllowed earlier r = (p : Place) → ¬ IsRefusedAt earlier r p
 
 abbrev pub IsFirstCondition : List Record → Record → LineFault → Type 0
 IsFirstCondition earlier r fault = FirstOf (λ (p : Place). IsTrue (condition earlier r p.field p.reason)) record_places (at fault.field fault.reason)

@@ -1,5 +1,5 @@
 -- What is told of the earlier records, and what a record has that passes the tests.
-use Rattle.std.specs.Prelude.{ℕ, ◌≡◌, ◌&&◌, ◌||◌, Bool, true, false, List, Option, Some, None, is_some, is_none, not, if◌then◌else◌, Result, Ok, Err}
+use Rattle.std.specs.Prelude.{ℕ, ◌≡◌, ◌&&◌, ◌||◌, Bool, true, false, List, [], ◌∷◌, Option, Some, None, is_some, is_none, not, if◌then◌else◌, Result, Ok, Err}
 use Rattle.std.specs.List.{list_any}
 use Rattle.dimacs_records.specs.declared.faults.TakeError.{TakeError}
 use Rattle.dimacs_records.specs.declared.faults.TakeError.TheVariants.{Refused}
@@ -8,13 +8,13 @@ use Rattle.dimacs_records.specs.declared.kinds.TextKind.TheVariants.{Max, Labels
 use Rattle.dimacs_records.specs.declared.order.Declared.{Declared}
 use Rattle.dimacs_records.specs.declared.order.Earlier.{Earlier}
 use Rattle.dimacs_records.specs.declared.reasons.Reason.{Reason}
-use Rattle.dimacs_records.specs.declared.reasons.Reason.TheVariants.{ProblemMissing, ProblemTwice, RecordOrder, NodeRange, NodeTwice, EndTwice, EndMissing, BoundOrder, TooMany, TooFew, SolutionMissing, SolutionTwice, PredUnknown, PastRadius}
+use Rattle.dimacs_records.specs.declared.reasons.Reason.TheVariants.{RecordOrder, NodeTwice, EndTwice, EndMissing, TooFew, SolutionTwice, PredUnknown, PastRadius}
 use Rattle.dimacs_records.specs.declared.records.Record.{Record}
 use Rattle.dimacs_records.specs.declared.records.Record.TheVariants.{LabelsNode}
 use Rattle.dimacs_records.specs.Blocks.{block_in, is_full_block, is_short_block}
 use Rattle.dimacs_records.specs.Conditions.{bounded_ids, is_above_at, is_bound_wrong, is_refused_for, lacks_end, needs_problem}
 use Rattle.dimacs_records.specs.Earlier.{counted_in, is_counted, is_full, is_problem, is_short, is_value, problem_in}
-use Rattle.dimacs_records.specs.Order.{Place, at}
+use Rattle.dimacs_records.specs.Order.{Place, end_reasons, record_places}
 use Rattle.dimacs_records.specs.Spelling.{kind_of}
 
 -- after this problem line and so many lines that it counts
@@ -57,28 +57,29 @@ abbrev pub is_too_many_told : Earlier → Record → Bool
 is_too_many_told e (LabelsNode id dist pred) = e.block_full
 is_too_many_told e r = is_counted r && is_full e.problem e.counted
 
+-- the first whose test fails: it is true where something is wrong
+abbrev pub first_failing : {X : Type 0} → List X → List Bool → Option X
+first_failing (x ∷ xs) (wrong ∷ more) = if wrong then Some x else first_failing xs more
+first_failing xs tests = None
+
 -- the place of the first test of record r that fails
 abbrev pub place_told : Earlier → Record → Option Place
 place_told e r =
-    if (needs_problem (kind_of r) && not (is_problem r)) && is_none e.problem then Some (at 0 ProblemMissing)
-    else if is_problem r && is_some e.problem then Some (at 0 ProblemTwice) else if e.misplaced then Some (at 0 RecordOrder)
-    else if is_above_at 2 e.problem (bounded_ids r) then Some (at 2 NodeRange)
-    else if is_above_at 3 e.problem (bounded_ids r) then Some (at 3 NodeRange)
-    else if is_above_at 4 e.problem (bounded_ids r) then Some (at 4 NodeRange)
-    else if e.named then Some (at 2 NodeTwice) else if e.end_named then Some (at 3 EndTwice) else if e.lacks_end then Some (at 0 EndMissing)
-    else if is_bound_wrong 4 r then Some (at 4 BoundOrder) else if is_bound_wrong 5 r then Some (at 5 BoundOrder)
-    else if is_too_many_told e r then Some (at 0 TooMany) else if e.block_short then Some (at 0 TooFew) else if e.valued then Some (at 0 SolutionTwice)
-    else if e.pred_unknown then Some (at 0 PredUnknown) else if e.past_radius then Some (at 3 PastRadius) else None
+    first_failing record_places (
+    ((needs_problem (kind_of r) && not (is_problem r)) && is_none e.problem) ∷ (is_problem r && is_some e.problem) ∷ e.misplaced
+    ∷ is_above_at 2 e.problem (bounded_ids r) ∷ is_above_at 3 e.problem (bounded_ids r) ∷ is_above_at 4 e.problem (bounded_ids r)
+    ∷ e.named ∷ e.end_named ∷ e.lacks_end ∷ is_bound_wrong 4 r ∷ is_bound_wrong 5 r
+    ∷ is_too_many_told e r ∷ e.block_short ∷ e.valued ∷ e.pred_unknown ∷ e.past_radius ∷ []
+    )
 
 abbrev pub needs_value : TextKind → Bool
 needs_value Solution = true
 needs_value kind = false
 
--- the first test of the end that fails
+-- the reason of the first test of the end that fails
 abbrev pub reason_told : TextKind → Earlier → Option Reason
 reason_told kind e =
-    if needs_problem kind && is_none e.problem then Some ProblemMissing else if e.lacks_end then Some EndMissing
-    else if e.block_short || is_short e.problem e.counted then Some TooFew else if needs_value kind && not e.valued then Some SolutionMissing else None
+    first_failing end_reasons ((needs_problem kind && is_none e.problem) ∷ e.lacks_end ∷ (e.block_short || is_short e.problem e.counted) ∷ (needs_value kind && not e.valued) ∷ [])
 
 -- what is answered of a place, or of the end
 abbrev pub answer_at : Option Place → Result Unit TakeError

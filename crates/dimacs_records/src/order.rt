@@ -1,6 +1,6 @@
 //! Which fault comes first: the tests of one more record, and those of the end of a text, in their order.
 
-ghost use Rattle.std.specs.Prelude.{◌≡◌, ◌&&◌, ◌||◌, not, false, true, List, Option, None, is_some, is_none, OnOk, OnErr, IfErr};
+ghost use Rattle.std.specs.Prelude.{◌≡◌, ◌&&◌, ◌||◌, not, false, true, Option, None, is_some, is_none, OnOk, OnErr, IfErr};
 ghost use Rattle.dimacs_records.specs.declared.faults.TakeError.TheVariants.{Refused};
 ghost use Rattle.dimacs_records.specs.declared.kinds.TextKind.{TextKind};
 ghost use Rattle.dimacs_records.specs.declared.order.Declared.{Declared};
