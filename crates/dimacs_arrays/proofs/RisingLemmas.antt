@@ -88,7 +88,7 @@ wide_claim : (distances : List ℤ) (v : ℕ) (d : ℤ) → claimed_by_node dist
 wide_claim distances zero d is low = absurd (cc)
 wide_claim distances (suc k) d is low = let less = below_greatest (slice_get distances k) d is in (omega (arith, ints, low), omega (arith, ints, less))
 
-module _ (g : NetworkValue) (s : ℕ) (distances : List ℤ) (preds : List ℕ) (node : IsNode g.nodes s) (small : g.nodes ≤ most_nodes) (joined : All (JoinsNodes g.nodes) g.arcs) (are : AreRisingBy g.nodes s g.arcs (claimed_by_node distances) distances preds) where
+module _ (g : NetworkValue) (s : ℕ) (distances : List ℤ) (preds : List ℕ) (node : IsNode g.nodes s) (small : g.nodes ≤ most_nodes) (joined : All (JoinsNodes g.nodes) g.arcs) (are : AreRisingBy g.nodes s g.arcs distances preds) where
   abbrev claim : ℕ → Option ℤ
   claim = claimed_by_node distances
 

@@ -16,7 +16,7 @@ use std::alloc::Global;
 /// Where an arc leads, by the distances of its ends.
 #[derive(Clone, Copy)]
 pub(crate) enum Step {
-    /// From no distance, or to one that is less than by the arc, or not greater than that of the tail.
+    /// From no distance, or to one that isn't too great; all that isn't known to rise.
     Flat,
     /// From a distance that isn't negative to a greater one, which the arc makes.
     Rising,
@@ -35,8 +35,8 @@ pub(crate) fn rising_predecessors<N: Network>(
 ) -> Result<Option<Vec<u32>>, Memory>
     requires few_nodes { N.node_count network.now ≤ most_nodes }
     requires joined { All (JoinsNodes (N.node_count network.now)) (N.list network.now) }
-    ensures { IfOk result (λ found. IfSome found (λ predecessors. AreRisingBy (N.node_count network.now) source
-        (N.list network.now) (claimed_by_node distances.now) distances.now predecessors.items)) }
+    ensures { IfOk result (λ found. IfSome found (λ predecessors. AreRisingBy (N.node_count network.now) source (N.list network.now)
+        distances.now predecessors.items)) }
 {
     if !is_begun(network.nodes(), source, distances) {
         return Ok(None);
@@ -62,8 +62,8 @@ pub(crate) fn rise_by<N: Network>(
 ) -> Result<bool, Memory>
     requires few_nodes { N.node_count network.now ≤ most_nodes }
     requires joined { All (JoinsNodes (N.node_count network.now)) (N.list network.now) }
-    ensures { IfOk result (λ yes. IsTrue yes → AreRisingBy (N.node_count network.now) source
-        (N.list network.now) (claimed_by_node distances.now) distances.now predecessors.now) }
+    ensures { IfOk result (λ yes. IsTrue yes → AreRisingBy (N.node_count network.now) source (N.list network.now)
+        distances.now predecessors.now) }
 {
     if !is_begun(network.nodes(), source, distances)
         || !all_reached(source, distances, predecessors)

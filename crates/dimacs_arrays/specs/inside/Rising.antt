@@ -1,6 +1,7 @@
 -- Inside: distances that rise along the arcs that make them.
 use Rattle.std.specs.Prelude.{ℕ, ◌≡◌, ◌≢◌, List, All, Contains, length, Option, Some, ℤ, pos, ◌+ℤ◌, ◌≤ℤ◌, ◌<ℤ◌}
 use Rattle.dimacs_instance.specs.declared.network.ArcView.{ArcView}
+use Rattle.dimacs_decide.specs.Claims.{claimed_by_node}
 use Rattle.dimacs_arrays.specs.Paths.{IsDue, pred_by_node}
 use Rattle.dimacs_arrays.specs.declared.rising.Step.{Step}
 use Rattle.dimacs_arrays.specs.declared.rising.Step.TheVariants.{Flat, Rising, Short}
@@ -41,9 +42,9 @@ abbrev pub AreReached : ℕ → (ℕ → Option ℤ) → (ℕ → ℕ) → Type 
 AreReached s claim pred = (v : ℕ) → IsDue s claim v → pred v ≢ 0
 
 -- the predecessors of all nodes, which show that the distances are true
-pub record AreRisingBy (nodes s : ℕ) (arcs : List ArcView) (claim : ℕ → Option ℤ) (distances : List ℤ) (preds : List ℕ) : Type 0 where
+pub record AreRisingBy (nodes s : ℕ) (arcs : List ArcView) (distances : List ℤ) (preds : List ℕ) : Type 0 where
   pub whole : length distances ≡ nodes
   pub each : length preds ≡ nodes
-  pub source : claim s ≡ Some (pos 0)
-  pub rising : AreRising arcs claim (pred_by_node preds)
-  pub reached : AreReached s claim (pred_by_node preds)
+  pub source : claimed_by_node distances s ≡ Some (pos 0)
+  pub rising : AreRising arcs (claimed_by_node distances) (pred_by_node preds)
+  pub reached : AreReached s (claimed_by_node distances) (pred_by_node preds)
