@@ -240,9 +240,9 @@ impl BegunLabels {
         ensures unchanged { OnErr result (self.new ≡ self.old) }
     {
         let number = self.len();
-        self.labelled.reserve(label.id)?;
+        let place = self.labelled.reserve(label.id)?;
         add_to_last(&mut self.blocks, label)?;
-        self.labelled.put(label.id, number);
+        self.labelled.put(place, number);
         self.missing -= 1;
         Ok(())
     }

@@ -62,7 +62,7 @@ fn add_at(sums: &mut NodeTable<i128>, node: u32, amount: i128) -> Result<(), Mem
     ensures { OnOk result ((v : ℕ) → value_of sums.new v ≡ value_of sums.old v +ℤ when (node == v) amount) }
 {
     if let Some(sum) = sums.get_placed(node) {
-        sums.put(node, sum + amount);
+        sums.put(sum.place, sum.value + amount);
         return Ok(());
     }
     let sum = sums.get(node);

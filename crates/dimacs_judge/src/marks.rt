@@ -25,7 +25,7 @@ use crate::verdict::{JudgeError, Where};
 use dimacs_claims::{Block, LabelList, Labels};
 use dimacs_instance::{ArcView, Network};
 use dimacs_lines::Memory;
-use dimacs_nodes::NodeTable;
+use dimacs_nodes::{NodeTable, Placed};
 use dimacs_records::Reason;
 use std::alloc::Global;
 
@@ -321,15 +321,15 @@ pub(crate) fn pass_arc<D: Distance>(
     ensures told { TellsReason (RelaxFails block.now.radius (known D.value marks.old arc.tail).dist (known D.value marks.old arc.head).dist arc.cost)
         (result_err result) }
     ensures marks { MarksArc arc (known D.value marks.old) (known D.value marks.new) }
-    ensures made { IfOk result (λ made. IsTrue made → IsTight arc (known D.value marks.old)) }
+    ensures made { IfOk result (λ made. IsTrue made ↔ IsTight arc (known D.value marks.old)) }
     ensures blank { IsBlank D.value marks.new }
 {
     let from = match marks.get_placed(arc.tail) {
-        Some(tail) if tail.dist.is_some() => tail.dist,
+        Some(Placed { value, .. }) if value.dist.is_some() => value.dist,
         _ => return Ok(false),
     };
-    let head = match marks.get_placed(arc.head) {
-        Some(head) if !leads_aside(from, head.dist, arc.cost) => head,
+    let (head, place) = match marks.get_placed(arc.head) {
+        Some(Placed { value, place }) if !leads_aside(from, value.dist, arc.cost) => (value, place),
         _ => {
             return match arc_fault(arc.tail, arc.head, arc.cost, block, marks) {
                 Some(reason) => Err(reason),
@@ -338,7 +338,7 @@ pub(crate) fn pass_arc<D: Distance>(
         }
     };
     let made = leads_to(from, head.dist, arc.cost) & head.waits_for(arc.tail);
-    marks.put(arc.head, head.made_if(made));
+    marks.put(place, head.made_if(made));
     Ok(made)
 }
 

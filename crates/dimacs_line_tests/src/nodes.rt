@@ -154,7 +154,8 @@ fn a_table_tells_its_values_and_the_pages_that_were_taken(rt: HostRuntime) -> Re
         same_at(&rt, "a blank node", id as u64, table.get(id), 5);
     }
     for &(id, value) in &PLACED {
-        same_at(&rt, "placed, node", id as u64, table.get_placed(id), value);
+        let placed = table.get_placed(id).map(|placed| placed.value);
+        same_at(&rt, "placed, node", id as u64, placed, value);
     }
     for &(id, wanted) in &SKIPS {
         same_at(&rt, "from node", id as u64, table.skip_blank(id), wanted);

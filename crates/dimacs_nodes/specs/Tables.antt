@@ -16,6 +16,10 @@ module _ {T : Type 0} where
   abbrev pub HasPlace : NodeTable T → ℕ → Type 0
   HasPlace table id = place_of table.directory.items id < length table.slots.items
 
+  -- it is at this place
+  abbrev pub IsPlace : NodeTable T → ℕ → ℕ → Type 0
+  IsPlace table id place = (place ≡ place_of table.directory.items id) × HasPlace table id
+
   abbrev pub SameValues : NodeTable T → NodeTable T → Type 0
   SameValues old new = (id : ℕ) → value_of new id ≡ value_of old id
 

@@ -1,6 +1,6 @@
 //! A value for each node, blank but for those that were set.
 
-ghost use Rattle.std.specs.Prelude.{◌≡◌, ◌≢◌, ◌<◌, ◌≤◌, ◌+◌, ◌/◌, ℕ, length, max, IsOk, MatchOption, OnOk, OnErr};
+ghost use Rattle.std.specs.Prelude.{◌≡◌, ◌≢◌, ◌<◌, ◌≤◌, ◌+◌, ◌/◌, ℕ, length, max, IfOk, IsOk, MatchOption, OnOk, OnErr};
 ghost use Rattle.dimacs_nodes.specs.Slots.{place_of};
 ghost use Rattle.dimacs_nodes.specs.inside.Slots.{IsDirectory, SameNumbers};
 
@@ -25,8 +25,15 @@ pub struct NodeTable<T> {
     ghost numbered: { IsDirectory directory.items (length slots.items) },
 }
 
+/// A value for which memory was taken, and its place in the table.
+#[derive(Clone, Copy)]
+pub struct Placed<T> {
+    pub value: T,
+    pub place: usize,
+}
+
 impl<T: Copy> NodeTable<T> {
-    ghost use Rattle.dimacs_nodes.specs.Tables.{HasPlace, SameValues, TakesPageAlone, blank_of, reach_of, slots_in, value_of};
+    ghost use Rattle.dimacs_nodes.specs.Tables.{HasPlace, IsPlace, SameValues, TakesPageAlone, blank_of, reach_of, slots_in, value_of};
 
     /// All values are blank. Takes no memory.
     pub fn new(alloc: Global, blank: T) -> NodeTable<T>
@@ -45,16 +52,21 @@ impl<T: Copy> NodeTable<T> {
     pub fn get(&self, id: u32) -> T
         ensures value { result ≡ value_of self.now id }
     {
-        self.get_placed(id).unwrap_or(self.blank)
+        match self.get_placed(id) {
+            Some(placed) => placed.value,
+            None => self.blank,
+        }
     }
 
     /// The value of a node for which memory was taken, which may be blank.
     #[inline]
-    pub fn get_placed(&self, id: u32) -> Option<T>
+    pub fn get_placed(&self, id: u32) -> Option<Placed<T>>
         ensures { MatchOption result ((value_of self.now id ≡ blank_of self.now) × (¬ HasPlace self.now id))
-            (λ value. (value ≡ value_of self.now id) × HasPlace self.now id) }
+            (λ placed. (placed.value ≡ value_of self.now id) × IsPlace self.now id placed.place) }
     {
-        self.slots.get(place(&self.directory, id)).copied()
+        let place = place(&self.directory, id);
+        let value = *self.slots.get(place)?;
+        Some(Placed { value, place })
     }
 
     /// Sets the value of a node. Only the first value on a page takes memory.
@@ -70,39 +82,39 @@ impl<T: Copy> NodeTable<T> {
         match self.slots.get_mut(place(&self.directory, id)) {
             Some(slot) => *slot = value,
             None => {
-                self.take_page(id)?;
-                self.put(id, value);
+                let place = self.take_page(id)?;
+                self.put(place, value);
             }
         }
         Ok(())
     }
 
-    /// Takes memory for the value of a node, as far as it needs some, and leaves the value.
+    /// The place of a node's value, for which it takes memory, as far as it needs some. Leaves the value.
     #[inline]
-    pub fn reserve(&mut self, id: u32) -> Result<(), Memory>
+    pub fn reserve(&mut self, id: u32) -> Result<usize, Memory>
         ensures same { SameValues self.old self.new }
-        ensures place { OnOk result (HasPlace self.new id) }
+        ensures place { IfOk result (IsPlace self.new id) }
         ensures blank { blank_of self.new ≡ blank_of self.old }
         ensures memory { TakesPageAlone self.old self.new id }
         ensures repeats { HasPlace self.old id → IsOk result }
     {
-        if place(&self.directory, id) < self.slots.len() {
-            return Ok(());
+        let place = place(&self.directory, id);
+        if place < self.slots.len() {
+            return Ok(place);
         }
         self.take_page(id)
     }
 
-    /// Sets the value of a node for which memory was taken.
+    /// Sets the value at a place.
     #[inline]
-    pub fn put(&mut self, id: u32, value: T)
-        requires { HasPlace self.old id }
-        ensures set { value_of self.new id ≡ value }
-        ensures others { (other : ℕ) → other ≢ id → value_of self.new other ≡ value_of self.old other }
+    pub fn put(&mut self, place: usize, value: T)
+        requires { place < slots_in self.old }
+        ensures set { (id : ℕ) → IsPlace self.old id place → value_of self.new id ≡ value }
+        ensures others { (id other : ℕ) → IsPlace self.old id place → other ≢ id → value_of self.new other ≡ value_of self.old other }
         ensures places { (other : ℕ) → HasPlace self.old other → HasPlace self.new other }
         ensures blank { blank_of self.new ≡ blank_of self.old }
         ensures no_memory { (reach_of self.new ≡ reach_of self.old) × (slots_in self.new ≡ slots_in self.old) }
     {
-        let place = place(&self.directory, id);
         self.slots[place] = value;
     }
 
@@ -130,10 +142,10 @@ impl<T: Copy> NodeTable<T> {
     /// Takes the page of an ID that has none.
     #[cold]
     #[inline(never)]
-    fn take_page(&mut self, id: u32) -> Result<(), Memory>
+    fn take_page(&mut self, id: u32) -> Result<usize, Memory>
         requires { ¬ HasPlace self.old id }
         ensures same { SameValues self.old self.new }
-        ensures place { OnOk result (HasPlace self.new id) }
+        ensures place { IfOk result (IsPlace self.new id) }
         ensures blank { blank_of self.new ≡ blank_of self.old }
         ensures memory { TakesPageAlone self.old self.new id }
     {
@@ -144,7 +156,7 @@ impl<T: Copy> NodeTable<T> {
         extend_directory(&mut self.directory, id)?;
         self.slots.resize((number + 1) * PAGE, self.blank)?;
         self.directory[id as usize / PAGE] = number as u32;
-        Ok(())
+        Ok(place(&self.directory, id))
     }
 }
 

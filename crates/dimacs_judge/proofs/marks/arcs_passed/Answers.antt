@@ -35,7 +35,7 @@ loop-i-preserved g c =
     record {
       marked = record { blank = c.pass_arc.ensures.blank; known = known_after a old new b passes arcs is.marked.known i c.arc.ensures };
       made = made_after a old new b passes arcs is.marked.known i c.arc.ensures is.made;
-      count = count_on a old new b passes arcs is.marked.known c.in-Ok.made c.loop-i.count c.from-count.result made is.count c.from-count.ensures;
+      count = count_on a old new b passes arcs is.marked.known c.in-Ok.made c.loop-i.count c.from-count.result made.0 is.count c.from-count.ensures;
       clear = clear_after a old new b passes arcs is.marked.known i c.arc.ensures is.clear told;
     }
 

@@ -20,11 +20,12 @@ invariant_of-self-2 c =
     let l = c.args.label in
     let begun : LabelsBegun = record { nodes = inside.nodes; declared = inside.declared; missing = inside.missing; blocks = inside.blocks.items } in
     let fit = fits begun l (passes_of begun _ (label_line l) c.self.view_is c.requires.passes) in
+    let there = c.in_ok-place.ensures.place in
     let number = c.len-number.ensures ∙ ap (λ (t : LabelsBegun). length t.blocks) (sym c.self.view_is) in
     rw (c.in_ok-add_to_last.ensures.added fit.front fit.b fit.is) (
       begun_label begun l fit c.self.invariant.0 c.requires.id c.requires.pred c.requires.dist,
       sources_stay begun l fit inside.sources c.self.invariant.1,
-      labelled_more inside.labelled c.put.new.self begun.blocks fit.front fit.b l fit.is c.self.invariant.2 (c.put.ensures.set ∙ number) (λ id off. c.put.ensures.others id off ∙ c.in_ok-reserve.ensures.same id),
+      labelled_more inside.labelled c.put.new.self begun.blocks fit.front fit.b l fit.is c.self.invariant.2 (c.put.ensures.set l.id there ∙ number) (λ id off. c.put.ensures.others l.id id there off ∙ c.in_ok-place.ensures.same id),
     )
 
 pub returns-clause-kept : goal.returns-clause-kept

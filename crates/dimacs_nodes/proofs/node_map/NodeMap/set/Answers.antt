@@ -1,4 +1,3 @@
-use Rattle.std.proofs.Common.{sym, ◌∙◌}
 use Rattle.std.proofs.lemmas.Result.{on_err_weaker}
 use Rattle.dimacs_nodes.proofs.MapLemmas.{HasPlace-value, values_in-same, values_in-set_ok}
 use Rattle.dimacs_nodes.proofs.node_map.NodeMap.set.Goals as goal

@@ -4,9 +4,9 @@ use Rattle.dimacs_nodes.proofs.node_table.NodeTable.put.Goals as goal
 pub returns-clause-set : goal.returns-clause-set
 returns-clause-set g c =
     let table = c.args.self.now in
-    rw (c.place-place.ensures, c.deref.ensures.value) (slot_value-put table.blank table.directory.items table.slots.items c.args.id c.args.value c.requires)
+    λ id is. rw is.0 (slot_value-put table.blank table.directory.items table.slots.items id c.args.value is.1)
 
 pub returns-clause-others : goal.returns-clause-others
 returns-clause-others g c =
     let table = c.args.self.now in
-    rw (c.place-place.ensures, c.deref.ensures.value) (λ other. slot_value-put_other table.blank table.directory.items table.slots.items c.args.id other c.args.value table.numbered c.requires)
+    λ id other is. rw is.0 (slot_value-put_other table.blank table.directory.items table.slots.items id other c.args.value table.numbered is.1)
