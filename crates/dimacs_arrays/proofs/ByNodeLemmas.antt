@@ -13,7 +13,8 @@ use Rattle.std.proofs.lemmas.List.Elements.{All-cons, All-nil}
 use Rattle.std.proofs.lemmas.List.FromFn.{get_or-map-range_with_len, length-map-range_with_len}
 use Rattle.dimacs_nodes.proofs.Nodes.{contains-empty, contains-insert, get-empty, get-insert}
 use Rattle.std.proofs.lemmas.Int.{by_lt_z, ints}
-use Rattle.dimacs_records.specs.Ranges.{IsNode, IsWide}
+use Rattle.dimacs_records.specs.Ranges.{IsWide}
+use Rattle.dimacs_lines.specs.Limits.{IsNode}
 use Rattle.dimacs_records.proofs.ZeroLemmas.{get-removed}
 use Rattle.dimacs_claims.specs.Cuts.{CutValue, empty_cut, with_node}
 use Rattle.dimacs_claims.specs.Potentials.{PotentialsValue, potential_of, with_potential, zero_potentials}

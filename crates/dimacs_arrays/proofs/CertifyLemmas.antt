@@ -3,11 +3,11 @@ use Rattle.std.proofs.Common.{◌≡◌, ℕ, Bool, List, [], ◌∷◌, All, �
 use Rattle.std.specs.Prelude.{IsErrAnd}
 use Rattle.std.specs.List.{AllZip}
 use Rattle.std.proofs.lemmas.List.Elements.{All-head, All-tail}
-use Rattle.dimacs_records.specs.Ranges.{IsNode}
+use Rattle.dimacs_lines.specs.Limits.{IsNode}
 use Rattle.dimacs_records.specs.declared.reasons.Reason.{Reason}
 use Rattle.dimacs_claims.specs.Potentials.{PotentialsValue, potential_of}
-use Rattle.dimacs_instance.specs.declared.network.ArcView.{ArcView}
-use Rattle.dimacs_instance.specs.Arcs.{JoinsNodes}
+use Rattle.dimacs_network.specs.declared.network.ArcView.{ArcView}
+use Rattle.dimacs_network.specs.Arcs.{JoinsNodes}
 use Rattle.dimacs_instance.specs.MaxFlows.{MaxValue, IsMax}
 use Rattle.dimacs_instance.specs.MinFlows.{MinValue}
 use Rattle.dimacs_judge.specs.declared.verdict.JudgeError.{JudgeError}

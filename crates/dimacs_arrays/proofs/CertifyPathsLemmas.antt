@@ -5,8 +5,8 @@ use Rattle.std.proofs.lemmas.Bool.{cases_eq, ne_eqb}
 use Rattle.std.proofs.lemmas.List.{append_assoc}
 use Rattle.std.proofs.lemmas.List.Elements.{All-cons, All-head, All-nil, All-tail}
 use Rattle.dimacs_claims.specs.declared.block.Label.{Label}
-use Rattle.dimacs_records.specs.Ranges.{IsNode}
-use Rattle.dimacs_instance.specs.Arcs.{NetworkValue}
+use Rattle.dimacs_lines.specs.Limits.{IsNode}
+use Rattle.dimacs_network.specs.Arcs.{NetworkValue}
 use Rattle.dimacs_claims.specs.Labels.{BlockValue, EachAfter, IsBlock, IsFresh, LabelsValue, distance_in, label, label_in}
 use Rattle.dimacs_judge.specs.Answers.{block_of}
 use Rattle.dimacs_judge.specs.QueryTests.{HasFullBlock}

@@ -6,11 +6,10 @@ use Rattle.std.proofs.lemmas.List.Elements.{All-weaker}
 use Rattle.std.proofs.lemmas.List.FromFn.{get_or-map-range_with_len, length-map-range_with_len, map-range_with_len_more}
 use Rattle.dimacs_records.specs.declared.reasons.Reason.{Reason}
 use Rattle.dimacs_records.specs.declared.reasons.Reason.TheVariants.{NodeRange}
-use Rattle.dimacs_instance.specs.declared.network.ArcView.{ArcView}
-use Rattle.dimacs_instance.specs.Arcs.{NetworkValue}
+use Rattle.dimacs_network.specs.declared.network.ArcView.{ArcView}
+use Rattle.dimacs_network.specs.Arcs.{NetworkValue, arc_at, no_arc}
 use Rattle.dimacs_instance.specs.Graph.{HasWeightAlone}
 use Rattle.dimacs_judge.specs.declared.verdict.Where.TheVariants.{Arc, Node}
-use Rattle.dimacs_judge.specs.Rows.{arc_at, no_arc}
 use Rattle.dimacs_judge.specs.Tests.{AllClear, ClearBelow, First}
 use Rattle.dimacs_judge.proofs.Firsts.{AllOneWay, one_test_one_way}
 use Rattle.dimacs_judge.proofs.RowLemmas.{arc_clear_more, arc_first}

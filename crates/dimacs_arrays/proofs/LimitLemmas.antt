@@ -6,11 +6,11 @@ use Rattle.std.proofs.lemmas.List.Elements.{All-get_or}
 use Rattle.dimacs_lines.specs.Limits.{most_count, most_nodes}
 use Rattle.dimacs_records.specs.declared.reasons.Reason.{Reason}
 use Rattle.dimacs_records.specs.declared.reasons.Reason.TheVariants.{NumberRange}
-use Rattle.dimacs_instance.specs.declared.network.ArcView.{ArcView}
-use Rattle.dimacs_instance.specs.Arcs.{JoinsNodes}
+use Rattle.dimacs_network.specs.declared.network.ArcView.{ArcView}
+use Rattle.dimacs_network.specs.Arcs.{JoinsNodes, arc_at, no_arc}
 use Rattle.dimacs_judge.specs.declared.verdict.Where.{Where}
 use Rattle.dimacs_judge.specs.declared.verdict.Where.TheVariants.{Arc, Node}
-use Rattle.dimacs_judge.specs.Rows.{arc_at, no_arc, one_test}
+use Rattle.dimacs_judge.specs.Rows.{one_test}
 use Rattle.dimacs_judge.specs.Tests.{AllClear, Clear, FirstOfRow}
 use Rattle.dimacs_judge.proofs.Firsts.{AllOneWay, OneWay, arc_one_way, one_test_one_way}
 use Rattle.dimacs_arrays.specs.Limits.{ArcFails, count_rows, limit_row}

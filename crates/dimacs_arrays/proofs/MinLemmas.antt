@@ -11,10 +11,10 @@ use Rattle.dimacs_records.specs.NodeValues.{is_of, without_zeros}
 use Rattle.dimacs_records.specs.declared.reasons.Reason.{Reason}
 use Rattle.dimacs_records.proofs.NameLemmas.{map_more, without_zeros-empty}
 use Rattle.dimacs_records.proofs.ZeroLemmas.{without_zeros-insert}
-use Rattle.dimacs_instance.specs.declared.network.ArcView.{ArcView}
+use Rattle.dimacs_network.specs.declared.network.ArcView.{ArcView}
 use Rattle.dimacs_instance.specs.MinFlows.{MinValue, IsMin, HasBounds, with_supply}
 use Rattle.dimacs_judge.specs.declared.verdict.Where.TheVariants.{Arc}
-use Rattle.dimacs_judge.specs.Rows.{arc_at, no_arc}
+use Rattle.dimacs_network.specs.Arcs.{arc_at, no_arc}
 use Rattle.dimacs_judge.specs.Tests.{AllClear, ClearBelow, First}
 use Rattle.dimacs_judge.proofs.Firsts.{AllOneWay}
 use Rattle.dimacs_judge.proofs.RowLemmas.{arc_clear_more, arc_first}

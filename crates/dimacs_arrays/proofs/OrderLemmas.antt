@@ -3,8 +3,8 @@ use Rattle.std.proofs.Common.{◌≡◌, ◌≢◌, inl, inr, ℕ, suc, ◌<◌,
 use Rattle.std.proofs.lemmas.Bool.{ne_eqb}
 use Rattle.std.proofs.lemmas.Bool.Decides.{eqb_tells}
 use Rattle.std.proofs.lemmas.List.Elements.{All-cons, All-contains, All-from_get_or, All-get_or, All-head, All-nil}
-use Rattle.dimacs_records.specs.Ranges.{IsNode}
-use Rattle.dimacs_instance.specs.Arcs.{JoinsNodes, NetworkValue}
+use Rattle.dimacs_lines.specs.Limits.{IsNode}
+use Rattle.dimacs_network.specs.Arcs.{JoinsNodes, NetworkValue, arc_at, no_arc}
 use Rattle.dimacs_instance.specs.QueryTexts.{Sources}
 use Rattle.dimacs_claims.specs.declared.block.Label.{Label}
 use Rattle.dimacs_claims.specs.Labels.{BlockValue, IsLabel, IsNear, LabelsValue, distance_in, label, no_label}
@@ -13,7 +13,6 @@ use Rattle.dimacs_judge.specs.Answers.{block_of}
 use Rattle.dimacs_judge.specs.Labels.{HasTightArc, IsReached, IsRelaxed, LabelsOk}
 use Rattle.dimacs_judge.specs.PathsJudge.{PassesPaths}
 use Rattle.dimacs_judge.specs.QueryTests.{HasFullBlock}
-use Rattle.dimacs_judge.specs.Rows.{arc_at, no_arc}
 use Rattle.dimacs_arrays.specs.Paths.{AreLabelsBy}
 use Rattle.dimacs_arrays.proofs.CertifyPathsLemmas.{not_source}
 

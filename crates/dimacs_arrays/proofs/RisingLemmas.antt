@@ -5,10 +5,10 @@ use Rattle.std.proofs.lemmas.Bool.{cases_Bool, cases_eq, cases_order}
 use Rattle.std.proofs.lemmas.Bool.Decides.{eqb_tells}
 use Rattle.std.proofs.lemmas.Int.{ints}
 use Rattle.std.proofs.lemmas.List.Elements.{All-cons, All-from_get_or, All-get_or, All-nil, Contains-get_or}
-use Rattle.dimacs_lines.specs.Limits.{most_nodes}
-use Rattle.dimacs_records.specs.Ranges.{IsNode, IsWide}
-use Rattle.dimacs_instance.specs.declared.network.ArcView.{ArcView}
-use Rattle.dimacs_instance.specs.Arcs.{JoinsNodes, NetworkValue}
+use Rattle.dimacs_lines.specs.Limits.{most_nodes, IsNode}
+use Rattle.dimacs_records.specs.Ranges.{IsWide}
+use Rattle.dimacs_network.specs.declared.network.ArcView.{ArcView}
+use Rattle.dimacs_network.specs.Arcs.{JoinsNodes, NetworkValue, arc_at, no_arc}
 use Rattle.dimacs_instance.specs.QueryTexts.{Sources}
 use Rattle.dimacs_claims.specs.declared.block.Label.{Label}
 use Rattle.dimacs_claims.specs.Labels.{BlockValue, AreLabels, IsLabel, LabelsValue, distance_in, label, no_label}
@@ -21,7 +21,6 @@ use Rattle.dimacs_judge.specs.Answers.{block_of}
 use Rattle.dimacs_judge.specs.Labels.{HasTightArc, IsRelaxed, LabelsOk}
 use Rattle.dimacs_judge.specs.PathsJudge.{PassesPaths, paths_rows}
 use Rattle.dimacs_judge.specs.QueryTests.{HasFullBlock}
-use Rattle.dimacs_judge.specs.Rows.{arc_at, no_arc}
 use Rattle.dimacs_judge.specs.Tests.{AllClear}
 use Rattle.dimacs_judge.specs.Walks.{IsDistance}
 use Rattle.dimacs_judge.proofs.Distances.{labels_are_distances}

@@ -2,12 +2,12 @@
 use Rattle.std.specs.Prelude.{ℕ, List, [], ◌∷◌, ◌++◌, length, get_or, map, ℤ, pos, Result}
 use Rattle.std.specs.Global.{Vec}
 use Rattle.std.specs.List.{range_with_len}
-use Rattle.dimacs_records.specs.Ranges.{IsNode}
+use Rattle.dimacs_lines.specs.Limits.{IsNode}
 use Rattle.dimacs_records.specs.declared.reasons.Reason.TheVariants.{NodeRange}
-use Rattle.dimacs_instance.specs.declared.network.ArcView.{ArcView}
-use Rattle.dimacs_instance.specs.Arcs.{NetworkValue}
+use Rattle.dimacs_network.specs.declared.network.ArcView.{ArcView}
+use Rattle.dimacs_network.specs.Arcs.{NetworkValue}
 use Rattle.dimacs_instance.specs.Graph.{IsGraph}
-use Rattle.dimacs_instance.specs.Plain.{weight_arc}
+use Rattle.dimacs_network.specs.KeptArcs.{weight_arc}
 use Rattle.dimacs_judge.specs.declared.verdict.Verdict.{Verdict}
 use Rattle.dimacs_judge.specs.declared.verdict.Where.TheVariants.{Node}
 use Rattle.dimacs_judge.specs.Rows.{one_test}

@@ -4,11 +4,12 @@ use Rattle.std.specs.List.{range_with_len, zip}
 use Rattle.std.specs.Ordering.{nat_cmp}
 use Rattle.std.specs.FinMap.{FinMap, from_entries}
 use Rattle.dimacs_records.specs.NodeValues.{without_zeros}
-use Rattle.dimacs_records.specs.Ranges.{IsNode, IsWide}
+use Rattle.dimacs_records.specs.Ranges.{IsWide}
+use Rattle.dimacs_lines.specs.Limits.{IsNode}
 use Rattle.dimacs_claims.specs.Potentials.{PotentialsValue, potential_of}
-use Rattle.dimacs_instance.specs.declared.network.ArcView.{ArcView}
+use Rattle.dimacs_network.specs.declared.network.ArcView.{ArcView}
 use Rattle.dimacs_instance.specs.MinFlows.{MinValue, IsMin}
-use Rattle.dimacs_instance.specs.Plain.{cost_arc}
+use Rattle.dimacs_network.specs.KeptArcs.{cost_arc}
 use Rattle.dimacs_judge.specs.declared.verdict.JudgeError.{JudgeError}
 use Rattle.dimacs_judge.specs.declared.verdict.Verdict.{Verdict}
 use Rattle.dimacs_judge.specs.declared.verdict.Verdict.TheVariants.{Infeasible, Min}

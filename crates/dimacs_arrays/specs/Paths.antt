@@ -2,9 +2,9 @@
 use Rattle.std.specs.Prelude.{ℕ, zero, suc, ◌≡◌, ◌≢◌, ◌<◌, ◌⊎◌, List, [], ◌∷◌, All, get_or, length, Option, None, IsSome, Result, Ok, Err, ℤ}
 use Rattle.std.specs.Global.{Vec}
 use Rattle.std.specs.Result.{IsErrAnd}
-use Rattle.dimacs_records.specs.Ranges.{IsNode}
+use Rattle.dimacs_lines.specs.Limits.{IsNode}
 use Rattle.dimacs_records.specs.declared.reasons.Reason.TheVariants.{NodeRange, PredUnknown}
-use Rattle.dimacs_instance.specs.Arcs.{NetworkValue}
+use Rattle.dimacs_network.specs.Arcs.{NetworkValue}
 use Rattle.dimacs_instance.specs.QueryTexts.{Sources}
 use Rattle.dimacs_claims.specs.declared.block.Label.{Label}
 use Rattle.dimacs_claims.specs.Labels.{BlockValue, EachAfter, IsBlock, LabelsValue, distance_in, label}

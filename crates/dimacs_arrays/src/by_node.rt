@@ -1,8 +1,8 @@
 //! Certificates that are said by node, to and from arrays.
 
 ghost use Rattle.std.specs.Prelude.{◌≡◌, ◌≤◌, ◌⊎◌, ◌^◌, ◌+ℤ◌, ◌≤ℤ◌, ℕ, ℤ, pos, neg_ℤ, length, IfNone, IfOk, IfSome};
-ghost use Rattle.dimacs_lines.specs.Limits.{most_nodes};
-ghost use Rattle.dimacs_records.specs.Ranges.{IsNode, IsWhole, IsWide};
+ghost use Rattle.dimacs_lines.specs.Limits.{most_nodes, IsNode};
+ghost use Rattle.dimacs_records.specs.Ranges.{IsWhole, IsWide};
 ghost use Rattle.dimacs_claims.specs.Potentials.{potential_of};
 ghost use Rattle.dimacs_judge.specs.Cuts.{members};
 ghost use Rattle.dimacs_arrays.specs.ByNode.{AreBits, marked, number_of};

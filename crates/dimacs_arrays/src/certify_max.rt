@@ -10,8 +10,9 @@ use crate::error::{Array, ArrayError};
 use crate::lengths::{ArrayLength, lengths_hold};
 use crate::max::MaxArrays;
 use dimacs_decide::{MaxDecision, decide_max};
-use dimacs_instance::{MaxInstance, Network};
+use dimacs_instance::MaxInstance;
 use dimacs_judge::{Flow, JudgeError, feasible_max, value_of};
+use dimacs_network::Network;
 use std::alloc::Global;
 
 /// What certifying says of a flow.

@@ -11,9 +11,10 @@ use crate::lengths::{ArrayLength, lengths_hold};
 use crate::min::MinArrays;
 use dimacs_claims::Potentials;
 use dimacs_decide::{MinDecision, decide_min};
-use dimacs_instance::{MinInstance, Network};
+use dimacs_instance::MinInstance;
 use dimacs_judge::{Flow, JudgeError, cost_within, feasible_min};
 use dimacs_lines::Memory;
+use dimacs_network::Network;
 use std::alloc::Global;
 
 /// What certifying says of a flow.

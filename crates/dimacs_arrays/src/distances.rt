@@ -1,7 +1,7 @@
 //! Distances and predecessors by node, judged, and certified without predecessors.
 
 ghost use Rattle.std.specs.Prelude.{◌≡◌, ◌∷◌, [], length, IfOk};
-ghost use Rattle.dimacs_records.specs.Ranges.{IsNode};
+ghost use Rattle.dimacs_lines.specs.Limits.{IsNode};
 ghost use Rattle.dimacs_instance.specs.QueryTexts.{Sources, asked};
 ghost use Rattle.dimacs_decide.specs.Claims.{claimed_by_node};
 ghost use Rattle.dimacs_arrays.specs.Paths.{CertifiesByNode, JudgesByNode, pred_by_node};
@@ -10,9 +10,10 @@ use crate::labels::labels_by_node;
 use crate::predecessors::predecessors_of;
 use crate::rising::{rise_by, rising_predecessors};
 use dimacs_decide::{DistancesByNode, decide_distances};
-use dimacs_instance::{Graph, Network, Queries};
+use dimacs_instance::{Graph, Queries};
 use dimacs_judge::{JudgeError, Verdict, judge_paths};
 use dimacs_lines::Memory;
+use dimacs_network::Network;
 use std::alloc::Global;
 
 /// Whether these are the distances from the source, `i64::MAX` where there is none, by these predecessors, 0 at the source

@@ -1,16 +1,17 @@
 //! Graphs as arrays.
 
 ghost use Rattle.std.specs.Prelude.{◌≡◌, ◌<◌, length, OnOk};
-ghost use Rattle.dimacs_records.specs.Ranges.{IsNode};
-ghost use Rattle.dimacs_instance.specs.Plain.{weight_arc};
+ghost use Rattle.dimacs_lines.specs.Limits.{IsNode};
+ghost use Rattle.dimacs_network.specs.KeptArcs.{weight_arc};
 ghost use Rattle.dimacs_arrays.specs.GraphArrays.{graph_lengths, graph_limits, graph_spelled, source_rows, weighted_arc};
 ghost use Rattle.dimacs_arrays.specs.inside.Answers.{Spells, TellsLengths, TellsLimits};
 
 use crate::error::{Array, ArrayError};
 use crate::lengths::{ArrayLength, lengths_hold};
 use crate::limits::{PastLimit, arc_fault, counts_hold};
-use dimacs_instance::{Graph, KeptArc, PlainArcs, WeightArc};
+use dimacs_instance::Graph;
 use dimacs_judge::Where;
+use dimacs_network::{KeptArc, PlainArcs, WeightArc};
 use dimacs_records::Reason;
 use std::alloc::Global;
 

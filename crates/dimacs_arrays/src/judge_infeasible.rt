@@ -8,8 +8,9 @@ use crate::by_node::cut_of;
 use crate::error::{Array, ArrayError};
 use crate::lengths::{ArrayLength, lengths_hold};
 use crate::min::MinArrays;
-use dimacs_instance::{MinInstance, Network};
+use dimacs_instance::MinInstance;
 use dimacs_judge::{JudgeError, Verdict, judge_infeasible};
+use dimacs_network::Network;
 use std::alloc::Global;
 
 /// Whether the nodes inside show that no flow is feasible: those whose byte isn't 0. A yes, `Infeasible`, means that there

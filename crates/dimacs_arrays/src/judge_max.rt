@@ -8,8 +8,9 @@ use crate::by_node::cut_of;
 use crate::error::{Array, ArrayError};
 use crate::lengths::{ArrayLength, lengths_hold};
 use crate::max::MaxArrays;
-use dimacs_instance::{MaxInstance, Network};
+use dimacs_instance::MaxInstance;
 use dimacs_judge::{Flow, JudgeError, Verdict, judge_max_flow};
+use dimacs_network::Network;
 use std::alloc::Global;
 
 /// Whether the nodes inside show that the flow is maximum: those whose byte isn't 0. A yes, `Max` with the flow's value,

@@ -8,8 +8,9 @@ use crate::by_node::potentials_of;
 use crate::error::{Array, ArrayError};
 use crate::lengths::{ArrayLength, lengths_hold};
 use crate::min::MinArrays;
-use dimacs_instance::{MinInstance, Network};
+use dimacs_instance::MinInstance;
 use dimacs_judge::{Flow, JudgeError, Verdict, judge_min_flow};
+use dimacs_network::Network;
 use std::alloc::Global;
 
 /// Whether the potentials show that the flow is least; that of node 1 comes first. A yes, `Min` with the flow's cost, means

@@ -1,8 +1,8 @@
 //! The labels of nodes that lead back to the source, predecessor by predecessor.
 
 ghost use Rattle.std.specs.Prelude.{◌≡◌, ◌≤◌, Some, true, length, IfOk, IfSome, IsSome, OnOk, pos};
-ghost use Rattle.dimacs_lines.specs.Limits.{most_nodes};
-ghost use Rattle.dimacs_records.specs.Ranges.{IsNode, IsWide};
+ghost use Rattle.dimacs_lines.specs.Limits.{most_nodes, IsNode};
+ghost use Rattle.dimacs_records.specs.Ranges.{IsWide};
 ghost use Rattle.dimacs_claims.specs.declared.block.Label.{Label};
 ghost use Rattle.dimacs_nodes.specs.Tables.{value_of};
 ghost use Rattle.dimacs_decide.specs.Claims.{claimed_by_node};

@@ -1,8 +1,7 @@
 //! Labels from distances and predecessors by node.
 
 ghost use Rattle.std.specs.Prelude.{ℕ, ◌≡◌, ◌≤◌, ◌↔◌, None, Some, length, IfErr, IfOk, IsTrue, pos};
-ghost use Rattle.dimacs_lines.specs.Limits.{most_nodes};
-ghost use Rattle.dimacs_records.specs.Ranges.{IsNode};
+ghost use Rattle.dimacs_lines.specs.Limits.{most_nodes, IsNode};
 ghost use Rattle.dimacs_nodes.specs.Tables.{value_of};
 ghost use Rattle.dimacs_judge.specs.Tests.{FirstOfRow, Settles, TellsRow};
 ghost use Rattle.dimacs_judge.specs.inside.Tests.{Refuses};

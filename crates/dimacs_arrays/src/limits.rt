@@ -4,11 +4,11 @@ ghost use Rattle.std.specs.Prelude.{◌≤◌, ◌≤ℤ◌, pos, IfNone, OnOk};
 ghost use Rattle.dimacs_lines.specs.Limits.{most_count, most_nodes};
 ghost use Rattle.dimacs_arrays.specs.Limits.{ArcFails, count_rows};
 ghost use Rattle.dimacs_arrays.specs.inside.Answers.{TellsLimits};
-ghost use Rattle.dimacs_instance.specs.Arcs.{JoinsNodes};
+ghost use Rattle.dimacs_network.specs.Arcs.{JoinsNodes};
 ghost use Rattle.dimacs_judge.specs.inside.Tests.{TellsReason};
 
-use dimacs_instance::{ArcView, MAX_ARCS};
 use dimacs_judge::Where;
+use dimacs_network::{ArcView, MAX_ARCS};
 use dimacs_records::{MAX_NODES, Reason};
 
 /// Where a number is past its limit, and why.

@@ -1,16 +1,17 @@
 //! Maximum flow instances as arrays.
 
 ghost use Rattle.std.specs.Prelude.{◌≡◌, ◌≢◌, ◌<◌, length, OnOk};
-ghost use Rattle.dimacs_records.specs.Ranges.{IsNode};
-ghost use Rattle.dimacs_instance.specs.Plain.{capacity_arc};
+ghost use Rattle.dimacs_lines.specs.Limits.{IsNode};
+ghost use Rattle.dimacs_network.specs.KeptArcs.{capacity_arc};
 ghost use Rattle.dimacs_arrays.specs.MaxArrays.{end_rows, max_arc, max_lengths, max_limits, max_spelled};
 ghost use Rattle.dimacs_arrays.specs.inside.Answers.{Spells, TellsLengths, TellsLimits};
 
 use crate::error::{Array, ArrayError};
 use crate::lengths::{ArrayLength, lengths_hold};
 use crate::limits::{PastLimit, arc_fault, counts_hold};
-use dimacs_instance::{CapacityArc, MaxInstance, PlainArcs};
+use dimacs_instance::MaxInstance;
 use dimacs_judge::Where;
+use dimacs_network::{CapacityArc, PlainArcs};
 use dimacs_records::Reason;
 use std::alloc::Global;
 

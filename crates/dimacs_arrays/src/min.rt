@@ -8,9 +8,10 @@ ghost use Rattle.dimacs_arrays.specs.inside.Answers.{Spells, TellsLengths};
 use crate::error::{Array, ArrayError};
 use crate::lengths::{ArrayLength, lengths_hold};
 use crate::limits::{arc_fault, counts_hold};
-use dimacs_instance::{ArcView, MinInstance, PlainArcs};
+use dimacs_instance::MinInstance;
 use dimacs_judge::Where;
 use dimacs_lines::Memory;
+use dimacs_network::{ArcView, PlainArcs};
 use std::alloc::Global;
 
 /// A minimum cost flow instance as arrays: the k-th arc goes from the k-th tail to the k-th head and has the k-th lower

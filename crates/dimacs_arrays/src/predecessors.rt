@@ -1,7 +1,7 @@
 //! The predecessors of labels by node.
 
 ghost use Rattle.std.specs.Prelude.{ℕ, ◌≡◌, ◌≢◌, ◌≤◌, All, Contains, length, IfOk};
-ghost use Rattle.dimacs_records.specs.Ranges.{IsNode};
+ghost use Rattle.dimacs_lines.specs.Limits.{IsNode};
 ghost use Rattle.dimacs_claims.specs.declared.block.Label.{Label};
 ghost use Rattle.dimacs_claims.specs.Labels.{IsBlock};
 ghost use Rattle.dimacs_arrays.specs.inside.LabelTrees.{ArePredsOf};

@@ -2,15 +2,15 @@
 
 ghost use Rattle.std.specs.Prelude.{◌≡◌, ◌≤◌, ◌↔◌, length, All, IfOk, IfSome, IsTrue, Some, pos};
 ghost use Rattle.dimacs_lines.specs.Limits.{most_nodes};
-ghost use Rattle.dimacs_instance.specs.Arcs.{JoinsNodes};
+ghost use Rattle.dimacs_network.specs.Arcs.{JoinsNodes};
 ghost use Rattle.dimacs_records.specs.Ranges.{IsWide};
 ghost use Rattle.dimacs_decide.specs.Claims.{claimed_by_node};
 ghost use Rattle.dimacs_arrays.specs.Paths.{IsDue, pred_by_node};
 ghost use Rattle.dimacs_arrays.specs.inside.Rising.{AreReached, AreRising, AreRisingBy, Spans, Steps};
 
 use crate::label_tree::{distance_of, predecessor_of};
-use dimacs_instance::{ArcView, Network};
 use dimacs_lines::Memory;
+use dimacs_network::{ArcView, Network};
 use std::alloc::Global;
 
 /// Where an arc leads, by the distances of its ends.

@@ -6,13 +6,13 @@ use Rattle.std.proofs.lemmas.Bool.{eqb-true, eq-eqb, false_from_ne_true}
 use Rattle.std.proofs.lemmas.List.{length-append}
 use Rattle.std.proofs.lemmas.Int.{ints}
 use Rattle.std.proofs.lemmas.List.Elements.{All-head, All-nil, All-push, All-tail}
-use Rattle.dimacs_lines.specs.Limits.{most_count}
+use Rattle.dimacs_lines.specs.Limits.{most_count, IsNode}
 use Rattle.dimacs_records.specs.Blocks.{is_past}
 use Rattle.dimacs_records.specs.Earlier.{or_else}
 use Rattle.dimacs_records.proofs.SplitLemmas.{two_places, same, sooner, later}
 use Rattle.dimacs_claims.specs.declared.block.Label.{Label}
 use Rattle.dimacs_claims.specs.Labels.{BlockValue, label, label_at, distance_in, with_label, EachAfter, IsFresh, HasPred, IsLabel, IsBlock, IsNear, IsNewSource, AreLabels}
-use Rattle.dimacs_records.specs.Ranges.{IsNode, IsRadius, IsWide}
+use Rattle.dimacs_records.specs.Ranges.{IsRadius, IsWide}
 
 -- a test before a choice
 test_first : (b : Bool) (d : ℤ) (rest other : Option ℤ) → (if b then Some d else or_else rest other) ≡ or_else (if b then Some d else rest) other

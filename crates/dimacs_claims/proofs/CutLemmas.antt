@@ -11,7 +11,7 @@ use Rattle.std.proofs.lemmas.List.Elements.{All-nil, All-cons, All-head, All-tai
 use Rattle.std.proofs.lemmas.Bool.{le-ltb, eqb-true}
 use Rattle.std.proofs.lemmas.Bool.Decides.{nat_tests}
 use Rattle.std.proofs.lemmas.Int.{ints}
-use Rattle.dimacs_lines.specs.Limits.{most_count, most_nodes}
+use Rattle.dimacs_lines.specs.Limits.{most_count, most_nodes, IsNode}
 use Rattle.dimacs_nodes.proofs.Nodes.{contains-insert, contains-empty}
 use Rattle.dimacs_records.specs.declared.kinds.TextKind.TheVariants as kinds
 use Rattle.dimacs_records.specs.declared.records.Record.{Record}
@@ -26,7 +26,6 @@ use Rattle.dimacs_records.proofs.CanonicalLaws.{canonical_spelled, numbered_all}
 use Rattle.dimacs_records.proofs.ConditionLemmas.{is_allowed, is_complete, allowed_at}
 use Rattle.dimacs_records.proofs.SplitLemmas.{image_at, All-at}
 use Rattle.dimacs_claims.specs.Cuts.{CutValue, IsCut, AreNamed, GivesCut, SpellsCut, canonical_cut, cut_records, empty_cut, ids_in, is_id, with_node}
-use Rattle.dimacs_records.specs.Ranges.{IsNode}
 use Rattle.dimacs_records.specs.Tests.{Passes, after_records, earlier_of, told_of}
 use Rattle.dimacs_claims.specs.CutReading.{CutBegun, IsCutBegunBy, after_lines, before}
 use Rattle.dimacs_records.specs.Spelling.{kind_of}

@@ -3,8 +3,8 @@ use Rattle.std.specs.Prelude.{ℕ, ◌≡◌, ◌≢◌, ◌≤◌, ◌⊎◌, �
 use Rattle.std.specs.List.{All, Contains, list_any}
 use Rattle.std.specs.Ordering.{nat_cmp}
 use Rattle.std.specs.FinSet as set
-use Rattle.dimacs_lines.specs.Limits.{most_count, most_nodes}
-use Rattle.dimacs_records.specs.Ranges.{IsNode, IsRadius, IsWide}
+use Rattle.dimacs_lines.specs.Limits.{most_count, most_nodes, IsNode}
+use Rattle.dimacs_records.specs.Ranges.{IsRadius, IsWide}
 use Rattle.dimacs_claims.specs.declared.block.Label.{Label}
 
 -- the labels of the nodes that are claimed to be reached from the source, or of those up to a radius

@@ -1,9 +1,8 @@
 //! The labels of one source.
 
 ghost use Rattle.std.specs.Prelude.{◌≡◌, ◌==◌, ◌<◌, if◌then◌else◌, ℕ, [], length, OnOk, OnErr, IsSome, Option, Some, None};
-ghost use Rattle.dimacs_lines.specs.Limits.{most_count};
+ghost use Rattle.dimacs_lines.specs.Limits.{most_count, IsNode};
 ghost use Rattle.dimacs_records.specs.Blocks.{is_past};
-ghost use Rattle.dimacs_records.specs.Ranges.{IsNode};
 ghost use Rattle.dimacs_claims.specs.Labels.{BlockValue, IsBlock, IsLabel, IsNear, with_label};
 ghost use Rattle.dimacs_claims.specs.Labels as claims;
 

@@ -2,7 +2,7 @@
 
 ghost use Rattle.std.specs.Prelude.{◌≡◌, ◌≤◌, ◌<◌, ◌+◌, ◌++◌, ◌∷◌, [], ℕ, List, None, Some, OnOk, OnErr, if◌then◌else◌, length, refl};
 ghost use Rattle.std.specs.FinSet as set;
-ghost use Rattle.dimacs_lines.specs.Limits.{most_nodes};
+ghost use Rattle.dimacs_lines.specs.Limits.{most_nodes, IsNode};
 ghost use Rattle.dimacs_lines.specs.Lines.{lines};
 ghost use Rattle.dimacs_lines.specs.Puts.{Puts};
 ghost use Rattle.dimacs_records.specs.declared.kinds.TextKind.TheVariants as kinds;
@@ -11,7 +11,6 @@ ghost use Rattle.dimacs_records.specs.Faults.{Fault};
 ghost use Rattle.dimacs_records.specs.Readings.{CountsRead};
 ghost use Rattle.dimacs_records.specs.Texts.{Reads};
 ghost use Rattle.dimacs_claims.specs.Cuts.{CutValue, IsCut, GivesCut, SpellsCut, canonical_cut, empty_cut, ids_in, with_node};
-ghost use Rattle.dimacs_records.specs.Ranges.{IsNode};
 ghost use Rattle.dimacs_claims.specs.CutReading.{IsCutBegunBy, after_lines, before};
 
 use dimacs_lines::{DeviceFault, Memory, Sink, Source};

@@ -1,7 +1,7 @@
 //! Potentials of nodes.
 
 ghost use Rattle.std.specs.Prelude.{◌≡◌, ◌≤◌, ◌<◌, ◌+◌, ◌++◌, ◌∷◌, [], ℕ, List, None, Some, OnOk, OnErr, if◌then◌else◌, length, refl};
-ghost use Rattle.dimacs_lines.specs.Limits.{most_nodes};
+ghost use Rattle.dimacs_lines.specs.Limits.{most_nodes, IsNode};
 ghost use Rattle.dimacs_lines.specs.Lines.{lines};
 ghost use Rattle.dimacs_lines.specs.Puts.{Puts};
 ghost use Rattle.dimacs_records.specs.declared.kinds.TextKind.TheVariants as kinds;
@@ -9,7 +9,7 @@ ghost use Rattle.dimacs_records.specs.declared.records.Record.TheVariants.{Poten
 ghost use Rattle.dimacs_records.specs.Faults.{Fault};
 ghost use Rattle.dimacs_records.specs.Readings.{CountsRead};
 ghost use Rattle.dimacs_records.specs.Texts.{Reads};
-ghost use Rattle.dimacs_records.specs.Ranges.{IsNode, IsWide};
+ghost use Rattle.dimacs_records.specs.Ranges.{IsWide};
 ghost use Rattle.dimacs_claims.specs.Potentials.{PotentialsValue, ArePotentials, GivesPotentials, SpellsPotentials, canonical_potentials, nonzero_ids, potential_of, with_potential, zero_potentials};
 ghost use Rattle.dimacs_records.specs.NodeValues.{is_nonzero};
 ghost use Rattle.dimacs_claims.specs.PotentialsReading.{ArePotentialsBegunBy, after_lines, before};

@@ -4,15 +4,16 @@ use Rattle.std.proofs.lemmas.Int.{ints}
 use Rattle.std.proofs.lemmas.Bool.{cases_eq, cases_order}
 use Rattle.std.proofs.lemmas.List.{get_or-set_other, get_or-set_same}
 use Rattle.std.proofs.lemmas.Slice.Zip.{AllZip-long}
-use Rattle.dimacs_instance.specs.declared.network.ArcView.{ArcView}
+use Rattle.dimacs_network.specs.declared.network.ArcView.{ArcView}
 use Rattle.dimacs_methods.specs.declared.potentials.claim.ResidualArc.{ResidualArc}
 use Rattle.dimacs_judge.specs.Flows.{net, cost}
-use Rattle.dimacs_judge.specs.Rows.{arc_at, amount_at, no_arc}
+use Rattle.dimacs_judge.specs.Rows.{amount_at}
+use Rattle.dimacs_network.specs.Arcs.{arc_at, no_arc}
 use Rattle.dimacs_judge.proofs.Products.{mul_add, mul_neg, mul_comm, mul_le, mul_zero}
 use Rattle.dimacs_judge.proofs.Passing.{pair_at}
-use Rattle.dimacs_instance.specs.declared.links.Side.{Side}
-use Rattle.dimacs_instance.specs.declared.links.Side.TheVariants.{Tail, Head}
-use Rattle.dimacs_instance.specs.Links.{end_of, other_end}
+use Rattle.dimacs_network.specs.declared.links.Side.{Side}
+use Rattle.dimacs_network.specs.declared.links.Side.TheVariants.{Tail, Head}
+use Rattle.dimacs_network.specs.Links.{end_of, other_end}
 use Rattle.dimacs_decide.specs.Bounds.{KeepsBounds}
 use Rattle.dimacs_decide.specs.inside.Heights.{gain_at}
 use Rattle.dimacs_decide.specs.inside.Rooms.{carried_after, room_at, room_on}

@@ -5,9 +5,9 @@ use Rattle.std.proofs.lemmas.Bool.{cases_Bool}
 use Rattle.std.proofs.lemmas.Bool.Decides.{eqb_tells}
 use Rattle.std.proofs.lemmas.Int.{ints, by_lt_z}
 use Rattle.std.proofs.lemmas.List.Elements.{All-nil, All-cons, All-contains, All-get_or, All-from_get_or, Contains-get_or}
-use Rattle.dimacs_instance.specs.declared.network.ArcView.{ArcView}
-use Rattle.dimacs_instance.specs.Arcs.{JoinsNodes, NetworkValue}
-use Rattle.dimacs_records.specs.Ranges.{IsNode}
+use Rattle.dimacs_network.specs.declared.network.ArcView.{ArcView}
+use Rattle.dimacs_network.specs.Arcs.{JoinsNodes, NetworkValue, arc_at, no_arc}
+use Rattle.dimacs_lines.specs.Limits.{IsNode}
 use Rattle.dimacs_records.specs.declared.reasons.Reason.{Reason}
 use Rattle.dimacs_records.specs.declared.reasons.Reason.TheVariants.{Escapes, NotShortest, NoTightArc}
 use Rattle.dimacs_claims.specs.Labels.{BlockValue, LabelsValue, label, label_in}
@@ -19,7 +19,6 @@ use Rattle.dimacs_judge.specs.Answers.{block_of}
 use Rattle.dimacs_judge.specs.CertificateTests.{RelaxFails}
 use Rattle.dimacs_judge.specs.Labels.{IsRelaxed, LabelsOk}
 use Rattle.dimacs_judge.specs.QueryTests.{HasFullBlock}
-use Rattle.dimacs_judge.specs.Rows.{arc_at, no_arc}
 use Rattle.dimacs_judge.specs.Tests.{Clear, First, FirstOfRow, FirstAlone}
 use Rattle.dimacs_judge.specs.Walks.{Dist, IsDistance, IsWalk, weight}
 use Rattle.dimacs_judge.proofs.Distances.{labels_are_distances}

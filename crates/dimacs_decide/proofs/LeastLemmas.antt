@@ -8,17 +8,18 @@ use Rattle.std.specs.Prelude.{unwrap_or}
 use Rattle.std.specs.Ordering.{int_eq}
 use Rattle.std.specs.FinMap.{get, insert, remove}
 use Rattle.dimacs_nodes.proofs.Nodes.{get-empty, get-insert}
-use Rattle.dimacs_records.specs.Ranges.{IsNode}
+use Rattle.dimacs_lines.specs.Limits.{IsNode}
 use Rattle.dimacs_claims.specs.Potentials.{PotentialsValue, potential_of, with_potential, zero_potentials}
 use Rattle.dimacs_instance.specs.MinFlows.{MinValue, IsMin}
 use Rattle.dimacs_judge.specs.Feasible.{FeasibleMin}
 use Rattle.dimacs_judge.specs.Flows.{cost, net}
 use Rattle.dimacs_judge.specs.Optimum.{Least}
 use Rattle.dimacs_judge.specs.Potentials.{IsSlackAt, Slack}
-use Rattle.dimacs_judge.specs.Rows.{no_arc, arc_at, amount_at}
+use Rattle.dimacs_judge.specs.Rows.{amount_at}
+use Rattle.dimacs_network.specs.Arcs.{no_arc, arc_at}
 use Rattle.dimacs_judge.proofs.Duality.{slack_is_least}
 use Rattle.dimacs_judge.proofs.Passing.{pair_at, pairs_from}
-use Rattle.dimacs_instance.specs.declared.links.Side.TheVariants.{Tail, Head}
+use Rattle.dimacs_network.specs.declared.links.Side.TheVariants.{Tail, Head}
 use Rattle.dimacs_decide.specs.Bounds.{KeepsBounds}
 use Rattle.dimacs_decide.specs.declared.heights.Label.{Label}
 use Rattle.dimacs_decide.specs.inside.Heights.{AreSettled, height_of}

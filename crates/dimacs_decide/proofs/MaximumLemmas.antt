@@ -4,7 +4,7 @@ use Rattle.std.proofs.lemmas.Int.{ints}
 use Rattle.std.proofs.lemmas.Bool.{cases_Bool, cases_eq, ne_eqb}
 use Rattle.std.proofs.lemmas.List.Elements.{All-head, All-tail, All-weaker}
 use Rattle.std.specs.List.{AllZip}
-use Rattle.dimacs_instance.specs.declared.network.ArcView.{ArcView}
+use Rattle.dimacs_network.specs.declared.network.ArcView.{ArcView}
 use Rattle.dimacs_instance.specs.MaxFlows.{HasCapacityAlone, IsMax, MaxValue}
 use Rattle.dimacs_instance.specs.MinFlows.{HasBounds}
 use Rattle.dimacs_judge.specs.Cuts.{CutTight, IsTightAt}

@@ -4,15 +4,16 @@ use Rattle.std.proofs.lemmas.Int.{ints}
 use Rattle.std.proofs.lemmas.List.{get_or-set_other, get_or-set_same}
 use Rattle.std.proofs.lemmas.Slice.Zip.{AllZip-long}
 use Rattle.std.specs.List.{AllZip}
-use Rattle.dimacs_instance.specs.declared.network.ArcView.{ArcView}
+use Rattle.dimacs_network.specs.declared.network.ArcView.{ArcView}
 use Rattle.dimacs_records.specs.Ranges.{IsWhole}
 use Rattle.dimacs_judge.specs.Flows.{sum_arcs, when, net}
-use Rattle.dimacs_judge.specs.Rows.{no_arc, arc_at, amount_at}
+use Rattle.dimacs_judge.specs.Rows.{amount_at}
+use Rattle.dimacs_network.specs.Arcs.{no_arc, arc_at}
 use Rattle.dimacs_judge.proofs.Passing.{pair_at}
-use Rattle.dimacs_instance.specs.declared.links.Side.{Side}
-use Rattle.dimacs_instance.specs.declared.links.Side.TheVariants.{Tail, Head}
+use Rattle.dimacs_network.specs.declared.links.Side.{Side}
+use Rattle.dimacs_network.specs.declared.links.Side.TheVariants.{Tail, Head}
 use Rattle.dimacs_decide.specs.declared.search.Visit.{Visit}
-use Rattle.dimacs_instance.specs.Links.{end_of, other_end}
+use Rattle.dimacs_network.specs.Links.{end_of, other_end}
 use Rattle.dimacs_decide.specs.inside.Rooms.{carried_after, room_at}
 use Rattle.dimacs_decide.specs.Bounds.{KeepsBounds}
 use Rattle.dimacs_decide.specs.inside.Residual.{IsReachedBy, rank_of, room_of, via_of}

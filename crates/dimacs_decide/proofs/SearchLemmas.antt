@@ -5,14 +5,14 @@ use Rattle.std.proofs.lemmas.Int.{ints}
 use Rattle.std.proofs.lemmas.Bool.{cases_eq, cases_order}
 use Rattle.std.proofs.lemmas.List.{length-append, get_or_append_left}
 use Rattle.std.proofs.Math.Seq.{get_or-append_seam}
-use Rattle.dimacs_instance.specs.declared.network.ArcView.{ArcView}
-use Rattle.dimacs_records.specs.Ranges.{IsNode}
-use Rattle.dimacs_judge.specs.Rows.{arc_at}
-use Rattle.dimacs_instance.specs.declared.links.Side.{Side}
-use Rattle.dimacs_instance.specs.declared.links.Side.TheVariants.{Tail, Head}
+use Rattle.dimacs_network.specs.declared.network.ArcView.{ArcView}
+use Rattle.dimacs_lines.specs.Limits.{IsNode}
+use Rattle.dimacs_network.specs.Arcs.{arc_at}
+use Rattle.dimacs_network.specs.declared.links.Side.{Side}
+use Rattle.dimacs_network.specs.declared.links.Side.TheVariants.{Tail, Head}
 use Rattle.dimacs_decide.specs.declared.search.Visit.{Visit}
-use Rattle.dimacs_instance.specs.Links.{end_of, other_end}
-use Rattle.dimacs_instance.specs.Links.{IsLast}
+use Rattle.dimacs_network.specs.Links.{end_of, other_end}
+use Rattle.dimacs_network.specs.Links.{IsLast}
 use Rattle.dimacs_decide.specs.inside.Residual.{unvisited, rank_of, room_of, via_of, IsReachedBy, unreached, IsSidePassed, IsDone, IsQueued, IsResidualSearch, IsNext, Becomes, Reaches, Grows, IsExplored}
 use Rattle.dimacs_decide.specs.inside.Rooms.{room_on}
 use Rattle.dimacs_decide.proofs.CountLemmas.{count_most, one_zero_fewer}

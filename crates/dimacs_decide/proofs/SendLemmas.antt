@@ -8,13 +8,13 @@ use Rattle.std.specs.FinSet.{contains-empty}
 use Rattle.std.specs.Ordering.{nat_cmp}
 use Rattle.dimacs_nodes.proofs.Nodes.{contains-insert}
 use Rattle.dimacs_claims.specs.Cuts.{CutValue, empty_cut, with_node}
-use Rattle.dimacs_records.specs.Ranges.{IsNode}
-use Rattle.dimacs_instance.specs.declared.network.ArcView.{ArcView}
-use Rattle.dimacs_instance.specs.Arcs.{JoinsNodes}
+use Rattle.dimacs_lines.specs.Limits.{IsNode}
+use Rattle.dimacs_network.specs.declared.network.ArcView.{ArcView}
+use Rattle.dimacs_network.specs.Arcs.{JoinsNodes, no_arc, arc_at}
 use Rattle.dimacs_judge.specs.Cuts.{members}
-use Rattle.dimacs_judge.specs.Rows.{no_arc, arc_at, amount_at}
+use Rattle.dimacs_judge.specs.Rows.{amount_at}
 use Rattle.dimacs_judge.proofs.Passing.{pair_at, pairs_from}
-use Rattle.dimacs_instance.specs.declared.links.Side.TheVariants.{Tail, Head}
+use Rattle.dimacs_network.specs.declared.links.Side.TheVariants.{Tail, Head}
 use Rattle.dimacs_decide.specs.Bounds.{KeepsBounds}
 use Rattle.dimacs_decide.specs.declared.search.Visit.{Visit}
 use Rattle.dimacs_decide.specs.inside.Raising.{Shifts}

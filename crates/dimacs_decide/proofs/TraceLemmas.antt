@@ -5,13 +5,12 @@ use Rattle.std.proofs.lemmas.Int.{ints}
 use Rattle.std.proofs.lemmas.Bool.{cases_eq, cases_order, ne_eqb}
 use Rattle.std.proofs.lemmas.List.{length-append, get_or_append_left}
 use Rattle.std.proofs.Math.Seq.{get_or-append_seam}
-use Rattle.dimacs_instance.specs.declared.network.ArcView.{ArcView}
-use Rattle.dimacs_instance.specs.Arcs.{JoinsNodes}
+use Rattle.dimacs_network.specs.declared.network.ArcView.{ArcView}
+use Rattle.dimacs_network.specs.Arcs.{JoinsNodes, arc_at}
 use Rattle.dimacs_instance.specs.MinFlows.{HasBounds}
-use Rattle.dimacs_judge.specs.Rows.{arc_at}
-use Rattle.dimacs_instance.specs.declared.links.Side.{Side}
-use Rattle.dimacs_instance.specs.declared.links.Side.TheVariants.{Tail, Head}
-use Rattle.dimacs_instance.specs.Links.{end_of, other_end}
+use Rattle.dimacs_network.specs.declared.links.Side.{Side}
+use Rattle.dimacs_network.specs.declared.links.Side.TheVariants.{Tail, Head}
+use Rattle.dimacs_network.specs.Links.{end_of, other_end}
 use Rattle.dimacs_decide.specs.declared.heights.Label.{Label}
 use Rattle.dimacs_decide.specs.inside.Heights.{AreHeights, BelowBound, below_of, bound, height_of}
 use Rattle.dimacs_decide.specs.inside.Traces.{IsCycle, IsFollowing, IsTrace}

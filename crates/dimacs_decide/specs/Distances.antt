@@ -1,15 +1,15 @@
 -- Claimed distances from a source, and what a decision says of them.
 use Rattle.std.specs.Prelude.{ℕ, ◌≡◌, ◌≢◌, List, [], ◌∷◌, length, All, Option, Some, None, IsSome, ℤ, pos, ◌+ℤ◌, Result, Ok, Err}
-use Rattle.dimacs_instance.specs.declared.network.ArcView.{ArcView}
-use Rattle.dimacs_instance.specs.Arcs.{NetworkValue}
+use Rattle.dimacs_network.specs.declared.network.ArcView.{ArcView}
+use Rattle.dimacs_network.specs.Arcs.{NetworkValue, arc_at}
 use Rattle.dimacs_instance.specs.QueryTexts.{Sources}
-use Rattle.dimacs_records.specs.Ranges.{IsNode}
+use Rattle.dimacs_lines.specs.Limits.{IsNode}
 use Rattle.dimacs_records.specs.declared.reasons.Reason.TheVariants.{NoTightArc, NotShortest}
 use Rattle.dimacs_claims.specs.Labels.{LabelsValue}
 use Rattle.dimacs_judge.specs.CertificateTests.{RelaxFails}
 use Rattle.dimacs_judge.specs.Answers.{distance_from}
 use Rattle.dimacs_judge.specs.PathsJudge.{PassesPaths}
-use Rattle.dimacs_judge.specs.Rows.{arc_at, arc_row, node_row, one_test}
+use Rattle.dimacs_judge.specs.Rows.{arc_row, node_row, one_test}
 use Rattle.dimacs_judge.specs.Tests.{Row, FirstAlone}
 use Rattle.dimacs_judge.specs.Walks.{IsDistance, IsWalk}
 use Rattle.dimacs_judge.specs.declared.verdict.Where.TheVariants.{Node}

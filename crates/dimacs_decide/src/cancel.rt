@@ -8,9 +8,9 @@ ghost use Rattle.dimacs_decide.specs.inside.Cancelling.{IsRoomFor};
 ghost use Rattle.dimacs_decide.specs.inside.Cycles.{IsSaving};
 
 use crate::room::{room_from, send_from};
-use dimacs_instance::Network;
 use dimacs_judge::Flow;
 use dimacs_methods::ResidualArc;
+use dimacs_network::Network;
 
 #[inline(always)]
 fn lesser(a: i64, b: i64) -> i64

@@ -10,8 +10,9 @@ ghost use Rattle.dimacs_decide.specs.CertifiedMax.{CertifiesMax};
 
 use crate::maximum::{MaxDecision, decide_max};
 use dimacs_claims::{Placed, Solution};
-use dimacs_instance::{MaxInstance, Network};
+use dimacs_instance::MaxInstance;
 use dimacs_judge::{FlowPlaces, JudgeError, max_claim_tests, placed};
+use dimacs_network::Network;
 use std::alloc::Global;
 
 /// Whether the solution's flow is maximum. `Optimal` with a cut with which `judge_max` says yes to the solution; `Better`

@@ -10,8 +10,9 @@ ghost use Rattle.dimacs_decide.specs.CertifiedMin.{CertifiesMin};
 
 use crate::least::{MinDecision, decide_min};
 use dimacs_claims::{Placed, Solution};
-use dimacs_instance::{MinInstance, Network};
+use dimacs_instance::MinInstance;
 use dimacs_judge::{FlowPlaces, JudgeError, min_claim_tests, placed};
+use dimacs_network::Network;
 use std::alloc::Global;
 
 /// Whether the solution's flow is of least cost. `Optimal` with potentials with which `judge_min` says yes to the

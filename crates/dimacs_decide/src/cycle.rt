@@ -12,10 +12,10 @@ ghost use Rattle.dimacs_decide.specs.inside.Traces.{IsCycle};
 use crate::heights::{Label, gain};
 use crate::room::room_from;
 use crate::trace::Cycle;
-use dimacs_instance::Network;
 use dimacs_judge::Flow;
 use dimacs_lines::Memory;
 use dimacs_methods::ResidualArc;
+use dimacs_network::Network;
 use dimacs_nodes::NodeTable;
 use std::alloc::Global;
 

@@ -1,10 +1,10 @@
 //! Whether claimed distances are true, by a search over the arcs that are tight.
 
 ghost use Rattle.std.specs.Prelude.{◌≤◌, ◌+ℤ◌, ◌<ℤ◌, ◌↔◌, IsTrue, None};
-ghost use Rattle.dimacs_lines.specs.Limits.{most_nodes};
-ghost use Rattle.dimacs_records.specs.Ranges.{IsNode, IsWide};
-ghost use Rattle.dimacs_instance.specs.Links.{AreLinksOf};
-ghost use Rattle.dimacs_instance.specs.declared.links.Side.TheVariants.{Tail};
+ghost use Rattle.dimacs_lines.specs.Limits.{most_nodes, IsNode};
+ghost use Rattle.dimacs_records.specs.Ranges.{IsWide};
+ghost use Rattle.dimacs_network.specs.Links.{AreLinksOf};
+ghost use Rattle.dimacs_network.specs.declared.links.Side.TheVariants.{Tail};
 ghost use Rattle.dimacs_judge.specs.Tests.{TellsRow};
 ghost use Rattle.dimacs_judge.specs.inside.Tests.{TellsReason};
 ghost use Rattle.dimacs_judge.specs.CertificateTests.{RelaxFails};
@@ -15,8 +15,9 @@ ghost use Rattle.dimacs_decide.specs.inside.TightTrees.{IsWholeTightTree};
 use crate::claim::DistanceClaim;
 use crate::tight_tree::{TightTree, tight_tree};
 use dimacs_claims::Labels;
-use dimacs_instance::{ArcView, Graph, Links, Network, Side};
+use dimacs_instance::Graph;
 use dimacs_judge::{JudgeError, Where};
+use dimacs_network::{ArcView, Links, Network, Side};
 use dimacs_records::Reason;
 use std::alloc::Global;
 

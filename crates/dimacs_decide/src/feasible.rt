@@ -1,8 +1,7 @@
 //! Whether a flow that keeps the bounds is feasible, by a search from its excesses to its deficits.
 
 ghost use Rattle.std.specs.Prelude.{◌≡◌, ◌≤◌, ◌+◌, ◌<ℤ◌, ℕ, pos, true, IfOk};
-ghost use Rattle.dimacs_lines.specs.Limits.{most_nodes};
-ghost use Rattle.dimacs_records.specs.Ranges.{IsNode};
+ghost use Rattle.dimacs_lines.specs.Limits.{most_nodes, IsNode};
 ghost use Rattle.dimacs_judge.specs.Cuts.{members};
 ghost use Rattle.dimacs_nodes.specs.Tables.{value_of};
 ghost use Rattle.dimacs_decide.specs.Bounds.{KeepsBounds};
@@ -15,9 +14,10 @@ use crate::search::Search;
 use crate::send::{Sending, send};
 use crate::surplus::{Standing, assess, surpluses};
 use dimacs_claims::Cut;
-use dimacs_instance::{MinInstance, Network};
+use dimacs_instance::MinInstance;
 use dimacs_judge::Flow;
 use dimacs_lines::Memory;
+use dimacs_network::Network;
 use dimacs_nodes::NodeTable;
 use std::alloc::Global;
 

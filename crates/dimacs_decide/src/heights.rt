@@ -3,20 +3,20 @@
 ghost use Rattle.std.specs.Prelude.{ℕ, ℤ, List, ◌≡◌, ◌<◌, ◌≤◌, ◌+◌, ◌*◌, ◌<ℤ◌, ◌≤ℤ◌, pos, All, length, IfOk, OnOk};
 ghost use Rattle.std.specs.List.{AllZip};
 ghost use Rattle.dimacs_lines.specs.Limits.{most_count, most_nodes};
-ghost use Rattle.dimacs_instance.specs.declared.network.ArcView.{ArcView};
-ghost use Rattle.dimacs_instance.specs.Arcs.{JoinsNodes};
-ghost use Rattle.dimacs_instance.specs.Links.{end_of, other_end};
+ghost use Rattle.dimacs_network.specs.declared.network.ArcView.{ArcView};
+ghost use Rattle.dimacs_network.specs.Arcs.{JoinsNodes, arc_at};
+ghost use Rattle.dimacs_network.specs.Links.{end_of, other_end};
 ghost use Rattle.dimacs_instance.specs.MinFlows.{HasBounds};
 ghost use Rattle.dimacs_records.specs.Ranges.{IsWhole};
-ghost use Rattle.dimacs_judge.specs.Rows.{arc_at, amount_at};
+ghost use Rattle.dimacs_judge.specs.Rows.{amount_at};
 ghost use Rattle.dimacs_nodes.specs.Tables.{value_of};
 ghost use Rattle.dimacs_decide.specs.Bounds.{KeepsBounds};
 ghost use Rattle.dimacs_decide.specs.inside.Heights.{AreHeights, BelowBound, IsRound, Lifts, below_of, either_of, gain_at, height_of, unraised};
 
 use crate::room::room_from;
-use dimacs_instance::{ArcView, Network, Side};
 use dimacs_judge::Flow;
 use dimacs_lines::Memory;
+use dimacs_network::{ArcView, Network, Side};
 use dimacs_nodes::NodeTable;
 
 /// How high a node's potential was raised, and by which arc: 1 + its index, 0 for none, and the end from which it is

@@ -2,12 +2,12 @@
 //! potentials over the steps that it leaves.
 
 ghost use Rattle.std.specs.Prelude.{◌≡◌, ◌≤◌, ◌≤ℤ◌, ◌+◌, ℕ, pos, IfOk, OnOk, IsTrue};
-ghost use Rattle.dimacs_lines.specs.Limits.{most_nodes};
+ghost use Rattle.dimacs_lines.specs.Limits.{most_nodes, IsNode};
 ghost use Rattle.dimacs_claims.specs.Potentials.{potential_of};
-ghost use Rattle.dimacs_records.specs.Ranges.{IsNode, IsWide};
+ghost use Rattle.dimacs_records.specs.Ranges.{IsWide};
 ghost use Rattle.dimacs_judge.specs.Feasible.{FeasibleMin};
 ghost use Rattle.dimacs_nodes.specs.Tables.{value_of};
-ghost use Rattle.dimacs_instance.specs.declared.links.Side.TheVariants.{Tail};
+ghost use Rattle.dimacs_network.specs.declared.links.Side.TheVariants.{Tail};
 ghost use Rattle.dimacs_decide.specs.MinDecision.{DecidesMin};
 ghost use Rattle.dimacs_decide.specs.inside.Cycles.{IsSaving};
 ghost use Rattle.dimacs_decide.specs.inside.Heights.{AreStarted, BelowBound, bound, height_of};
@@ -17,10 +17,11 @@ use crate::cycle::{is_saving, raised_along};
 use crate::heights::{Label, round, unraised_label};
 use crate::trace::cycle_in;
 use dimacs_claims::Potentials;
-use dimacs_instance::{MinInstance, Network, Side};
+use dimacs_instance::MinInstance;
 use dimacs_judge::{Flow, slack_tests};
 use dimacs_lines::Memory;
 use dimacs_methods::{Guess, ResidualArc, guess_potentials};
+use dimacs_network::{Network, Side};
 use dimacs_nodes::NodeTable;
 use std::alloc::Global;
 

@@ -1,8 +1,8 @@
 //! Whether a flow is maximum, by a search of the steps that it leaves.
 
 ghost use Rattle.std.specs.Prelude.{◌≢◌, ◌<◌, ℕ, List, ℤ, IfOk};
-ghost use Rattle.dimacs_records.specs.Ranges.{IsNode};
-ghost use Rattle.dimacs_instance.specs.declared.network.ArcView.{ArcView};
+ghost use Rattle.dimacs_lines.specs.Limits.{IsNode};
+ghost use Rattle.dimacs_network.specs.declared.network.ArcView.{ArcView};
 ghost use Rattle.dimacs_judge.specs.Feasible.{FeasibleMax};
 ghost use Rattle.dimacs_nodes.specs.Tables.{value_of};
 ghost use Rattle.dimacs_decide.specs.MaxDecision.{DecidesMax};
@@ -14,9 +14,10 @@ use crate::links::Incidence;
 use crate::search::{MOST, Search};
 use crate::send::{Sending, send};
 use dimacs_claims::Cut;
-use dimacs_instance::{MaxInstance, Network};
+use dimacs_instance::MaxInstance;
 use dimacs_judge::Flow;
 use dimacs_lines::Memory;
+use dimacs_network::Network;
 use dimacs_nodes::NodeTable;
 use std::alloc::Global;
 

@@ -1,20 +1,19 @@
 //! The search over tight arcs: those whose weight leads from the distance that is claimed of the tail to that of the head.
 
 ghost use Rattle.std.specs.Prelude.{◌≡◌, ◌<◌, ◌≤◌, ◌+ℤ◌, ◌↔◌, IsTrue, All, length, true, Some, IfOk, IfSome, OnOk, MatchOption, pos};
-ghost use Rattle.dimacs_lines.specs.Limits.{most_nodes};
-ghost use Rattle.dimacs_records.specs.Ranges.{IsNode, IsWide};
-ghost use Rattle.dimacs_instance.specs.Arcs.{JoinsNodes};
-ghost use Rattle.dimacs_instance.specs.Links.{AreLinksOf};
-ghost use Rattle.dimacs_instance.specs.declared.links.Side.TheVariants.{Tail};
-ghost use Rattle.dimacs_judge.specs.Rows.{arc_at};
+ghost use Rattle.dimacs_lines.specs.Limits.{most_nodes, IsNode};
+ghost use Rattle.dimacs_records.specs.Ranges.{IsWide};
+ghost use Rattle.dimacs_network.specs.Arcs.{JoinsNodes, arc_at};
+ghost use Rattle.dimacs_network.specs.Links.{AreLinksOf};
+ghost use Rattle.dimacs_network.specs.declared.links.Side.TheVariants.{Tail};
 ghost use Rattle.dimacs_nodes.specs.Tables.{value_of};
 ghost use Rattle.dimacs_decide.specs.Distances.{IsTight};
 ghost use Rattle.dimacs_decide.specs.inside.TightTrees.{IsPassed, IsTightTree, IsWholeTightTree, TreeGrows, node_at};
 
 use crate::claim::DistanceClaim;
 use dimacs_claims::{Block, Label};
-use dimacs_instance::{ArcView, Links, Network};
 use dimacs_lines::Memory;
+use dimacs_network::{ArcView, Links, Network};
 use dimacs_nodes::NodeTable;
 use std::alloc::Global;
 

@@ -9,7 +9,7 @@ use Rattle.std.proofs.lemmas.Int.{ints}
 use Rattle.std.proofs.lemmas.List.Elements.{All-nil, All-push}
 use Rattle.std.proofs.lemmas.Bool.{lt-ltb, le-ltb}
 use Rattle.std.proofs.lemmas.Bool.Decides.{nat_tests}
-use Rattle.dimacs_lines.specs.Limits.{most_count, most_nodes}
+use Rattle.dimacs_lines.specs.Limits.{most_count, most_nodes, IsNode}
 use Rattle.dimacs_nodes.proofs.Entries.{All-empty, All-entries, All-get, All-insert}
 use Rattle.dimacs_records.specs.declared.kinds.TextKind.TheVariants.{Min}
 use Rattle.dimacs_records.specs.declared.order.Earlier.{Earlier}
@@ -19,9 +19,9 @@ use Rattle.dimacs_records.specs.Earlier.{is_flow_arc, names, counted_in}
 use Rattle.dimacs_records.specs.Readings.{LineRecord, IsAllowed, IsComplete, records_of}
 use Rattle.dimacs_records.specs.Tests.{Passes, PassesEnd, after_records, earlier_of, told_of}
 use Rattle.dimacs_records.proofs.ConditionLemmas.{is_allowed, is_complete}
-use Rattle.dimacs_instance.specs.declared.network.ArcView.{ArcView}
-use Rattle.dimacs_instance.specs.Arcs.{JoinsNodes, NetworkValue}
-use Rattle.dimacs_records.specs.Ranges.{IsNode, IsWhole}
+use Rattle.dimacs_network.specs.declared.network.ArcView.{ArcView}
+use Rattle.dimacs_network.specs.Arcs.{JoinsNodes, NetworkValue}
+use Rattle.dimacs_records.specs.Ranges.{IsWhole}
 use Rattle.dimacs_instance.specs.MinFlows.{IsMin, IsSupply, HasBounds}
 use Rattle.dimacs_instance.specs.MinTexts.{GivesMin, min_node, min_arc, min_records}
 use Rattle.dimacs_records.specs.NodeValues.{is_of, without_zeros}

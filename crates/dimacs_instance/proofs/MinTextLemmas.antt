@@ -8,7 +8,7 @@ use Rattle.std.proofs.lemmas.Bool.{eq-eqb, false_from_ne_true}
 use Rattle.std.proofs.lemmas.Int.{ints}
 use Rattle.std.proofs.lemmas.List.{append-nil, length-append, length-map}
 use Rattle.std.proofs.lemmas.List.Elements.{All-nil, All-cons, All-head, All-tail, All-append, All-map, All-weaker}
-use Rattle.dimacs_lines.specs.Limits.{most_nodes}
+use Rattle.dimacs_lines.specs.Limits.{most_nodes, IsNode}
 use Rattle.dimacs_nodes.proofs.Entries.{from_entries-entries, entries_once, length-entries, All-get}
 use Rattle.dimacs_records.specs.declared.kinds.TextKind.TheVariants.{Min}
 use Rattle.dimacs_records.specs.declared.records.Record.{Record}
@@ -19,9 +19,8 @@ use Rattle.dimacs_records.specs.Readings.{LineRecord, records_of, IsAllowed}
 use Rattle.dimacs_records.specs.Texts.{AreFaultless}
 use Rattle.dimacs_records.proofs.SplitLemmas.{image_at, All-at}
 use Rattle.dimacs_records.proofs.CanonicalLaws.{canonical_spelled, numbered_all}
-use Rattle.dimacs_instance.specs.declared.network.ArcView.{ArcView}
-use Rattle.dimacs_instance.specs.Arcs.{JoinsNodes}
-use Rattle.dimacs_records.specs.Ranges.{IsNode}
+use Rattle.dimacs_network.specs.declared.network.ArcView.{ArcView}
+use Rattle.dimacs_network.specs.Arcs.{JoinsNodes}
 use Rattle.dimacs_instance.specs.MinFlows.{MinValue, IsMin, IsSupply, HasBounds}
 use Rattle.dimacs_instance.specs.MinTexts.{min_node, min_arc, min_records, GivesMin, SpellsMin, canonical_min, canonical_min_records}
 use Rattle.dimacs_records.specs.NodeValues.{is_of, has_value, NameNodes}

@@ -12,8 +12,8 @@ use Rattle.dimacs_records.specs.Printed.{shown}
 use Rattle.dimacs_records.specs.Ranges.{IsWhole}
 use Rattle.dimacs_records.specs.Readings.{LineRecord, records_of}
 use Rattle.dimacs_records.specs.Texts.{SpellsValue}
-use Rattle.dimacs_instance.specs.declared.network.ArcView.{ArcView}
-use Rattle.dimacs_instance.specs.Arcs.{NetworkValue, JoinsNodes}
+use Rattle.dimacs_network.specs.declared.network.ArcView.{ArcView}
+use Rattle.dimacs_network.specs.Arcs.{NetworkValue, JoinsNodes}
 
 -- an arc with a weight alone
 abbrev pub HasWeightAlone : ArcView → Type 0

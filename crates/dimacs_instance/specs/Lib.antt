@@ -1,16 +1,11 @@
-pub mod Arcs
 pub mod MaxFlows
 pub mod Graph
 pub mod GraphReading
-pub mod Links
 pub mod MaxReading
 pub mod MaxTexts
 pub mod MinCodes
 pub mod MinFlows
 pub mod MinReading
 pub mod MinTexts
-pub mod Plain
 pub mod QueriesReading
 pub mod QueryTexts
-pub mod Star
-pub mod inside

@@ -1,10 +1,10 @@
 -- What maximum flow instances are.
 use Rattle.std.specs.Prelude.{ℕ, ◌≡◌, ◌≢◌, ◌≤◌, ◌≤ℤ◌, List, length, pos}
 use Rattle.std.specs.List.{All}
-use Rattle.dimacs_lines.specs.Limits.{most_count, most_nodes}
-use Rattle.dimacs_records.specs.Ranges.{IsNode, IsWhole}
-use Rattle.dimacs_instance.specs.declared.network.ArcView.{ArcView}
-use Rattle.dimacs_instance.specs.Arcs.{JoinsNodes}
+use Rattle.dimacs_lines.specs.Limits.{most_count, most_nodes, IsNode}
+use Rattle.dimacs_records.specs.Ranges.{IsWhole}
+use Rattle.dimacs_network.specs.declared.network.ArcView.{ArcView}
+use Rattle.dimacs_network.specs.Arcs.{JoinsNodes}
 
 -- a capacity that isn't negative, and nothing else
 abbrev pub HasCapacityAlone : ArcView → Type 0

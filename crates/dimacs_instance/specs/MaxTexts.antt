@@ -10,7 +10,7 @@ use Rattle.dimacs_records.specs.Canonical.{canonical_text}
 use Rattle.dimacs_records.specs.Printed.{shown}
 use Rattle.dimacs_records.specs.Readings.{LineRecord, records_of}
 use Rattle.dimacs_records.specs.Texts.{SpellsValue}
-use Rattle.dimacs_instance.specs.declared.network.ArcView.{ArcView}
+use Rattle.dimacs_network.specs.declared.network.ArcView.{ArcView}
 use Rattle.dimacs_instance.specs.MaxFlows.{MaxValue, IsMax}
 
 abbrev pub max_arc : ArcView → Record

@@ -3,10 +3,10 @@ use Rattle.std.specs.Prelude.{ℕ, suc, ℤ, ◌≢◌, ◌≤◌, ◌≤ℤ◌,
 use Rattle.std.specs.List.{All}
 use Rattle.std.specs.Ordering.{int_eq, nat_cmp}
 use Rattle.std.specs.FinMap.{FinMap, get, insert, remove, entries, values}
-use Rattle.dimacs_lines.specs.Limits.{most_count, most_nodes}
-use Rattle.dimacs_instance.specs.declared.network.ArcView.{ArcView}
-use Rattle.dimacs_instance.specs.Arcs.{JoinsNodes}
-use Rattle.dimacs_records.specs.Ranges.{IsWhole, IsNode}
+use Rattle.dimacs_lines.specs.Limits.{most_count, most_nodes, IsNode}
+use Rattle.dimacs_network.specs.declared.network.ArcView.{ArcView}
+use Rattle.dimacs_network.specs.Arcs.{JoinsNodes}
+use Rattle.dimacs_records.specs.Ranges.{IsWhole}
 
 -- a minimum cost flow instance; the map has the supplies that aren't 0, by node
 pub record MinValue : Type 0 where

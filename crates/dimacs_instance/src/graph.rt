@@ -8,16 +8,13 @@ ghost use Rattle.dimacs_records.specs.Faults.{Fault};
 ghost use Rattle.dimacs_records.specs.Texts.{Reads};
 ghost use Rattle.dimacs_lines.specs.Lines.{lines};
 ghost use Rattle.dimacs_instance.specs.Graph.{IsGraph, GivesGraph, SpellsGraph, canonical_graph, graph_arc};
-ghost use Rattle.dimacs_instance.specs.Arcs.{NetworkValue};
+ghost use Rattle.dimacs_network.specs.Arcs.{NetworkValue};
 ghost use Rattle.dimacs_instance.specs.GraphReading.{graph_begun_records, after_lines};
 
 mod build;
 
-use crate::network::{ArcView, Network};
-use crate::of_arcs::OfWeightArcs;
-use crate::plain::{KeptArc, PlainArcs, WeightArc};
-use crate::star::ForwardStar;
 use dimacs_lines::{DeviceFault, Memory, Sink, Source};
+use dimacs_network::{ArcView, ForwardStar, KeptArc, Network, OfWeightArcs, PlainArcs, WeightArc};
 use dimacs_records::{
     Begun, CountedReading, Declared, Earlier, ReadError, Record, TextKind, put_text, read_counted,
 };
@@ -32,7 +29,7 @@ pub struct Graph<N: Network> {
 
 impl<N: Network> Model for Graph<N> {
     ghost use Rattle.dimacs_instance.specs.Graph.{IsGraph};
-    ghost use Rattle.dimacs_instance.specs.Arcs.{NetworkValue};
+    ghost use Rattle.dimacs_network.specs.Arcs.{NetworkValue};
 
     ghost Value = { NetworkValue };
 

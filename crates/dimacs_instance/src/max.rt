@@ -16,11 +16,10 @@ ghost use Rattle.dimacs_instance.specs.MaxReading.{EndsAreApart, end_records, ma
 
 mod build;
 
-use crate::network::{ArcView, Network};
-use crate::of_arcs::OfCapacityArcs;
-use crate::plain::{CapacityArc, KeptArc, PlainArcs};
-use crate::star::ForwardStar;
 use dimacs_lines::{DeviceFault, Memory, Sink, Source};
+use dimacs_network::{
+    ArcView, CapacityArc, ForwardStar, KeptArc, Network, OfCapacityArcs, PlainArcs,
+};
 use dimacs_records::{
     Begun, CountedReading, Declared, Earlier, End, ReadError, Record, TextKind, put_text,
     read_counted,

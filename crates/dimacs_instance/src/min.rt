@@ -16,11 +16,8 @@ ghost use Rattle.dimacs_instance.specs.MinReading.{IsMinBegunBy, after_lines, be
 
 mod build;
 
-use crate::network::{ArcView, Network};
-use crate::of_arcs::OfCostArcs;
-use crate::plain::{KeptArc, PlainArcs};
-use crate::star::ForwardStar;
 use dimacs_lines::{DeviceFault, Memory, Page, Sink, Source};
+use dimacs_network::{ArcView, ForwardStar, KeptArc, Network, OfCostArcs, PlainArcs};
 use dimacs_nodes::NodeMap;
 use dimacs_records::{
     Begun, CountedReading, Declared, Earlier, ReadError, Record, TextKind, read_counted,

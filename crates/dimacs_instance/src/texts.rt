@@ -7,7 +7,7 @@ ghost use Rattle.dimacs_records.specs.declared.kinds.TextKind.TheVariants as kin
 ghost use Rattle.dimacs_records.specs.Printed.{shown};
 ghost use Rattle.dimacs_instance.specs.MaxFlows.{MaxValue};
 ghost use Rattle.dimacs_instance.specs.Graph.{SpellsGraph, canonical_graph, shown_graph};
-ghost use Rattle.dimacs_instance.specs.Arcs.{NetworkValue};
+ghost use Rattle.dimacs_network.specs.Arcs.{NetworkValue};
 ghost use Rattle.dimacs_instance.specs.MaxTexts.{SpellsMax, canonical_max, shown_max};
 ghost use Rattle.dimacs_instance.specs.MinFlows.{MinValue};
 ghost use Rattle.dimacs_instance.specs.MinTexts.{SpellsMin, canonical_min, shown_min};
@@ -16,10 +16,9 @@ ghost use Rattle.dimacs_instance.specs.QueryTexts.{AreLawful, QueriesValue, Spel
 use crate::graph::{BegunGraph, Graph, write_graph};
 use crate::max::{BegunMax, MaxInstance, write_max};
 use crate::min::{BegunMin, MinInstance, write_min};
-use crate::network::Network;
-use crate::of_arcs::{OfCapacityArcs, OfCostArcs, OfWeightArcs};
 use crate::queries::{Queries, read_queries, write_queries};
 use dimacs_lines::{DeviceFault, Sink, Source};
+use dimacs_network::{Network, OfCapacityArcs, OfCostArcs, OfWeightArcs};
 use dimacs_records::{Part, ReadError, Text, TextKind, put_line, read_counted};
 use std::alloc::Global;
 

@@ -3,7 +3,7 @@ use Rattle.std.proofs.Common.{◌≡◌, ℕ, ◌+◌, ◌-◌, ◌*◌, ◌^◌
 use Rattle.std.specs.Int.{w128}
 use Rattle.std.proofs.lemmas.Int.{ints, to_z-of_z}
 use Rattle.dimacs_lines.specs.Limits.{most_nodes}
-use Rattle.dimacs_instance.specs.declared.network.ArcView.{ArcView}
+use Rattle.dimacs_network.specs.declared.network.ArcView.{ArcView}
 use Rattle.dimacs_judge.specs.inside.Ranges.{IsOfSize}
 use Rattle.dimacs_judge.specs.Flows.{when}
 use Rattle.dimacs_judge.specs.Cuts.{leaves, enters}

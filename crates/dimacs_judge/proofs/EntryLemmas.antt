@@ -6,14 +6,13 @@ use Rattle.std.proofs.lemmas.List.{append-nil, length-set, length-replicate, len
 use Rattle.std.proofs.lemmas.List.Elements.{filter-append}
 use Rattle.std.proofs.lemmas.List.FromFn.{fill_by_all, get_or-map-range_with_len}
 use Rattle.std.proofs.lemmas.List.Sums.{length-filter}
-use Rattle.dimacs_instance.specs.declared.network.ArcView.{ArcView}
-use Rattle.dimacs_instance.specs.Arcs.{joins, IsKthBetween}
+use Rattle.dimacs_network.specs.declared.network.ArcView.{ArcView}
+use Rattle.dimacs_network.specs.Arcs.{joins, IsKthBetween, no_arc, arc_at}
 use Rattle.dimacs_claims.specs.declared.solution.Entry.{Entry}
 use Rattle.dimacs_records.specs.declared.reasons.Reason.{Reason}
 use Rattle.dimacs_judge.specs.declared.verdict.Where.{Where}
 use Rattle.dimacs_judge.specs.declared.verdict.Where.TheVariants.{Solution}
 use Rattle.dimacs_judge.specs.Claims.{is_between, no_entry, entry_at, entries_between, parallels_before, claimed_of, claimed_flow, EntryFails, entry_row}
-use Rattle.dimacs_judge.specs.Rows.{no_arc, arc_at}
 use Rattle.dimacs_judge.specs.Tests.{Clear, FirstOfRow}
 use Rattle.dimacs_judge.proofs.Claims.{length-claimed_flow}
 use Rattle.dimacs_judge.proofs.SupportLemmas.{ends_joined, counted_before}

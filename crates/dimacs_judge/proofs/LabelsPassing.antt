@@ -5,7 +5,7 @@ use Rattle.std.specs.Result.{OnOk}
 use Rattle.std.proofs.lemmas.Int.{ints, by_lt_z}
 use Rattle.std.proofs.lemmas.Bool.Decides.{eqb_tells}
 use Rattle.std.proofs.lemmas.List.Elements.{All-nil, All-cons, All-head, All-tail, All-contains, Contains-get_or, Contains-append_right, Contains-append_cases}
-use Rattle.dimacs_instance.specs.declared.network.ArcView.{ArcView}
+use Rattle.dimacs_network.specs.declared.network.ArcView.{ArcView}
 use Rattle.dimacs_records.specs.Ranges.{IsRadius}
 use Rattle.dimacs_records.specs.declared.reasons.Reason.{Reason}
 use Rattle.dimacs_records.specs.declared.reasons.Reason.TheVariants as reasons
@@ -16,7 +16,7 @@ use Rattle.dimacs_claims.specs.Labels.{BlockValue, LabelsValue, AreLabels, IsBlo
 use Rattle.dimacs_judge.specs.Labels.{HasArcOfWeight, HasTightArc, HasWeights, IsReached, IsRelaxed, LabelsOk, AreDistances, StaysNear}
 use Rattle.dimacs_judge.specs.Tests.{Clear, AllClear}
 use Rattle.dimacs_judge.specs.inside.Tests.{Tells}
-use Rattle.dimacs_judge.specs.Rows.{no_arc, arc_at}
+use Rattle.dimacs_network.specs.Arcs.{no_arc, arc_at}
 use Rattle.dimacs_judge.specs.CertificateTests.{support_row, RelaxFails, relax_row, label_rows, weight_row}
 use Rattle.dimacs_judge.proofs.Distances.{labels_are_distances}
 

@@ -8,16 +8,16 @@ use Rattle.std.specs.Result.{is_err, result_err}
 use Rattle.std.specs.Prelude.{Result, Ok, Err}
 use Rattle.dimacs_records.specs.declared.reasons.Reason.{Reason}
 use Rattle.dimacs_records.specs.declared.reasons.Reason.TheVariants.{NotShortest}
-use Rattle.dimacs_instance.specs.declared.network.ArcView.{ArcView}
-use Rattle.dimacs_instance.specs.declared.links.Side.TheVariants.{Tail}
-use Rattle.dimacs_instance.specs.Links.{IsLast}
+use Rattle.dimacs_network.specs.declared.network.ArcView.{ArcView}
+use Rattle.dimacs_network.specs.declared.links.Side.TheVariants.{Tail}
+use Rattle.dimacs_network.specs.Links.{IsLast}
 use Rattle.dimacs_claims.specs.declared.block.Label.{Label}
 use Rattle.dimacs_claims.specs.Labels.{BlockValue, IsBlock, IsNear, label, no_label}
 use Rattle.dimacs_claims.proofs.BlockLemmas.{has_pred}
 use Rattle.dimacs_judge.specs.CertificateTests.{RelaxFails, relax_row}
 use Rattle.dimacs_judge.specs.inside.Leaving.{AreCovering, ArePassedFrom, Covers, IsPassed, WeightsFall, arcs_in}
 use Rattle.dimacs_judge.specs.inside.Marks.{AreMade, IsKnown, Known, MarksArc}
-use Rattle.dimacs_judge.specs.Rows.{arc_at, no_arc}
+use Rattle.dimacs_network.specs.Arcs.{arc_at, no_arc}
 use Rattle.dimacs_judge.specs.Tests.{Clear}
 use Rattle.dimacs_judge.specs.inside.Tests.{TellsReason}
 use Rattle.dimacs_judge.proofs.Distances.{near_label}

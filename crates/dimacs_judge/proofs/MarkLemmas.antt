@@ -14,7 +14,7 @@ use Rattle.dimacs_nodes.specs.declared.node_table.NodeTable.{NodeTable}
 use Rattle.dimacs_nodes.specs.Tables.{blank_of, value_of}
 use Rattle.dimacs_records.specs.declared.reasons.Reason.{Reason}
 use Rattle.dimacs_records.specs.Ranges.{IsWide}
-use Rattle.dimacs_instance.specs.declared.network.ArcView.{ArcView}
+use Rattle.dimacs_network.specs.declared.network.ArcView.{ArcView}
 use Rattle.dimacs_claims.specs.declared.block.Label.{Label}
 use Rattle.dimacs_claims.specs.Labels.{BlockValue, IsBlock, IsFresh, distance_in, label, no_label}
 use Rattle.dimacs_claims.proofs.BegunLemmas.{unlabelled}
@@ -28,7 +28,7 @@ use Rattle.dimacs_judge.specs.inside.CertificateTests.{distance_rows}
 use Rattle.dimacs_judge.specs.Labels.{HasTightArc}
 use Rattle.dimacs_judge.specs.inside.Distances.{LeadsAside, LeadsTo}
 use Rattle.dimacs_judge.specs.inside.Marks.{AreBlank, AreMade, AreMadeAlone, AreMadeBelow, AreWide, IsBlank, IsKnown, IsTight, Known, Makes, MarksArc, MarksMade, SaysSame, is_made, made_count}
-use Rattle.dimacs_judge.specs.Rows.{arc_at, no_arc}
+use Rattle.dimacs_network.specs.Arcs.{arc_at, no_arc}
 use Rattle.dimacs_judge.specs.Tests.{Clear, ClearBelow, FirstOfRow, TellsRow}
 use Rattle.dimacs_judge.specs.inside.Tests.{Tells, TellsReason}
 use Rattle.dimacs_judge.proofs.RowLemmas.{relax_clear_more, relax_first}

@@ -6,14 +6,15 @@ use Rattle.std.proofs.lemmas.Int.{ints, by_lt_z}
 use Rattle.std.proofs.lemmas.List.Elements.{All-head, All-tail, All-weaker}
 use Rattle.std.proofs.lemmas.Bool.{ne_eqb}
 use Rattle.std.proofs.lemmas.Bool.Decides.{eqb_tells}
-use Rattle.dimacs_instance.specs.declared.network.ArcView.{ArcView}
+use Rattle.dimacs_network.specs.declared.network.ArcView.{ArcView}
 use Rattle.dimacs_records.specs.declared.reasons.Reason.{Reason}
 use Rattle.dimacs_records.specs.declared.reasons.Reason.TheVariants as reasons
 use Rattle.dimacs_judge.specs.declared.verdict.Where.{Where}
 use Rattle.dimacs_judge.specs.declared.verdict.Where.TheVariants as places
 use Rattle.dimacs_judge.specs.Flows.{net}
 use Rattle.dimacs_instance.specs.MaxFlows.{MaxValue, IsMax, HasCapacityAlone}
-use Rattle.dimacs_records.specs.Ranges.{IsNode, IsWide}
+use Rattle.dimacs_records.specs.Ranges.{IsWide}
+use Rattle.dimacs_lines.specs.Limits.{IsNode}
 use Rattle.dimacs_instance.specs.MinFlows.{MinValue, supply_of}
 use Rattle.dimacs_judge.specs.Feasible.{FeasibleMax, FeasibleMin}
 use Rattle.dimacs_judge.specs.Cuts.{IsTightAt, CutTight}
@@ -23,7 +24,8 @@ use Rattle.dimacs_judge.specs.Agreement.{value_row, nodes_row}
 use Rattle.dimacs_judge.specs.inside.Ranges.{IsOfSize}
 use Rattle.dimacs_judge.specs.Tests.{Clear, AllClear, TellsRow}
 use Rattle.dimacs_judge.specs.inside.Tests.{Tells}
-use Rattle.dimacs_judge.specs.Rows.{one_test, no_arc, arc_at, amount_at, flow_row}
+use Rattle.dimacs_judge.specs.Rows.{one_test, amount_at, flow_row}
+use Rattle.dimacs_network.specs.Arcs.{no_arc, arc_at}
 use Rattle.dimacs_judge.specs.FlowTests.{BoundFails, bound_row, balance_row, cost_through, cost_row, feasible_max_rows, feasible_min_rows, max_demand, min_demand}
 use Rattle.dimacs_judge.specs.CertificateTests.{TightFails, tight_row, cut_rows, SlackFails, slack_row, violated_row}
 

@@ -8,10 +8,10 @@ use Rattle.std.proofs.lemmas.List.{get_or_append_left, length-map}
 use Rattle.std.proofs.lemmas.List.FromFn.{fill_by_all}
 use Rattle.dimacs_records.proofs.CountLemmas.{count_by-cons, count_yes, count_no}
 use Rattle.dimacs_claims.specs.declared.solution.Entry.{Entry}
-use Rattle.dimacs_instance.specs.declared.network.ArcView.{ArcView}
-use Rattle.dimacs_instance.specs.Arcs.{joins}
+use Rattle.dimacs_network.specs.declared.network.ArcView.{ArcView}
+use Rattle.dimacs_network.specs.Arcs.{joins, no_arc, arc_at}
 use Rattle.dimacs_judge.specs.Claims.{is_between, entry_at, no_entry, claimed_of, HasArc, Carries}
-use Rattle.dimacs_judge.specs.Rows.{no_arc, arc_at, amount_at}
+use Rattle.dimacs_judge.specs.Rows.{amount_at}
 use Rattle.dimacs_judge.specs.Entries.{IsEntryOf, AreEntriesOf}
 
 -- ---- an entry of the next arc after those of the arcs before it

@@ -4,10 +4,10 @@ use Rattle.std.proofs.lemmas.Int.{ints}
 use Rattle.std.proofs.lemmas.Bool.{cases_eq, ne_eqb}
 use Rattle.std.specs.List.{All, AllZip}
 use Rattle.std.proofs.lemmas.List.Elements.{All-head, All-tail}
-use Rattle.dimacs_instance.specs.declared.network.ArcView.{ArcView}
-use Rattle.dimacs_instance.specs.Arcs.{JoinsNodes}
+use Rattle.dimacs_network.specs.declared.network.ArcView.{ArcView}
+use Rattle.dimacs_network.specs.Arcs.{JoinsNodes}
 use Rattle.dimacs_judge.specs.Flows.{sum_arcs, sum_nodes, when, net}
-use Rattle.dimacs_records.specs.Ranges.{IsNode}
+use Rattle.dimacs_lines.specs.Limits.{IsNode}
 use Rattle.dimacs_judge.proofs.Products.{mul_sub, mul_zero, mul_comm, mul_net}
 
 pub sum_arcs-add : (f g : ArcView → ℤ → ℤ) (arcs : List ArcView) (y : List ℤ) → sum_arcs (λ a x. f a x +ℤ g a x) arcs y ≡ sum_arcs f arcs y +ℤ sum_arcs g arcs y

@@ -1,6 +1,6 @@
 -- The tests of cuts, of potentials and of labels.
 use Rattle.std.specs.Prelude.{ℕ, ◌≡◌, ◌≢◌, ◌<◌, ◌⊎◌, Bool, true, false, List, [], ◌∷◌, length, get_or, Option, Some, None, IsSome, ℤ, pos, ◌+ℤ◌, ◌<ℤ◌}
-use Rattle.dimacs_instance.specs.declared.network.ArcView.{ArcView}
+use Rattle.dimacs_network.specs.declared.network.ArcView.{ArcView}
 use Rattle.dimacs_records.specs.declared.reasons.Reason.{Reason}
 use Rattle.dimacs_records.specs.declared.reasons.Reason.TheVariants.{SourceOutside, SinkInside, NotSaturated, BackFlow, NotTight, NotViolated, NoTightArc, Escapes, NotShortest, NegativeWeight}
 use Rattle.dimacs_judge.specs.declared.verdict.Where.TheVariants.{Certificate, Node}
@@ -11,7 +11,8 @@ use Rattle.dimacs_judge.specs.Cuts.{leaves, enters}
 use Rattle.dimacs_judge.specs.Potentials.{reduced_cost}
 use Rattle.dimacs_claims.specs.Labels.{BlockValue, IsNear, label, no_label}
 use Rattle.dimacs_judge.specs.Labels.{HasTightArc}
-use Rattle.dimacs_judge.specs.Rows.{arc_row, flow_row, one_test, arc_at}
+use Rattle.dimacs_judge.specs.Rows.{arc_row, flow_row, one_test}
+use Rattle.dimacs_network.specs.Arcs.{arc_at}
 use Rattle.dimacs_judge.specs.Tests.{Row}
 
 -- an arc that leaves the set is not full, or one that enters it is not empty

@@ -2,13 +2,13 @@
 use Rattle.std.specs.Prelude.{ℕ, ◌≡◌, ◌+◌, ◌<◌, List, length, ℤ}
 use Rattle.dimacs_claims.specs.declared.solution.Entry.{Entry}
 use Rattle.dimacs_claims.specs.SolutionTexts.{SolutionValue}
-use Rattle.dimacs_instance.specs.declared.network.ArcView.{ArcView}
+use Rattle.dimacs_network.specs.declared.network.ArcView.{ArcView}
 use Rattle.dimacs_instance.specs.MaxFlows.{MaxValue}
 use Rattle.dimacs_instance.specs.MinFlows.{MinValue}
 use Rattle.dimacs_judge.specs.Claims.{entry_at}
 use Rattle.dimacs_judge.specs.MaxJudge.{IsMaxClaim}
 use Rattle.dimacs_judge.specs.MinJudge.{IsMinClaim}
-use Rattle.dimacs_judge.specs.Rows.{arc_at}
+use Rattle.dimacs_network.specs.Arcs.{arc_at}
 
 -- the entry is of this arc, and stands on this line
 pub record IsEntryOf (a : ArcView) (on_line : ℕ) (e : Entry) : Type 0 where

@@ -2,7 +2,7 @@
 use Rattle.std.specs.Prelude.{ℕ, ◌≡◌, ◌≢◌, List, ℤ, pos, ◌≤ℤ◌}
 use Rattle.std.specs.List.{AllZip}
 use Rattle.dimacs_instance.specs.MaxFlows.{MaxValue}
-use Rattle.dimacs_records.specs.Ranges.{IsNode}
+use Rattle.dimacs_lines.specs.Limits.{IsNode}
 use Rattle.dimacs_instance.specs.MinFlows.{MinValue, supply_of}
 use Rattle.dimacs_judge.specs.Flows.{net}
 

@@ -1,6 +1,6 @@
 -- The tests of a flow: its bounds, its balances, its cost.
 use Rattle.std.specs.Prelude.{ℕ, ◌≡◌, ◌≢◌, ◌+◌, ◌<◌, ◌⊎◌, ◌==◌, if◌then◌else◌, List, [], ◌∷◌, length, take, Option, Some, None, Result, Ok, Err, ℤ, pos, ◌≤ℤ◌, ◌<ℤ◌}
-use Rattle.dimacs_instance.specs.declared.network.ArcView.{ArcView}
+use Rattle.dimacs_network.specs.declared.network.ArcView.{ArcView}
 use Rattle.dimacs_records.specs.declared.reasons.Reason.{Reason}
 use Rattle.dimacs_records.specs.declared.reasons.Reason.TheVariants.{BelowLow, AboveCap, Balance, CostRange}
 use Rattle.dimacs_nodes.specs.Tables.{value_of}

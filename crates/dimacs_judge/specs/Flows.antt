@@ -1,6 +1,6 @@
 -- Flows on a network: beside each arc a whole number, of any size and sign.
 use Rattle.std.specs.Prelude.{ℕ, suc, zero, ◌==◌, Bool, if◌then◌else◌, List, [], ◌∷◌, ℤ, pos, ◌+ℤ◌, ◌-ℤ◌, ◌*ℤ◌}
-use Rattle.dimacs_instance.specs.declared.network.ArcView.{ArcView}
+use Rattle.dimacs_network.specs.declared.network.ArcView.{ArcView}
 
 -- x where the test holds, else 0
 abbrev pub when : Bool → ℤ → ℤ

@@ -1,6 +1,6 @@
 -- What labels must meet to be distances.
 use Rattle.std.specs.Prelude.{ℕ, ◌≡◌, ◌⊎◌, List, All, Contains, Option, Some, None, ℤ, pos, ◌+ℤ◌, ◌≤ℤ◌}
-use Rattle.dimacs_instance.specs.declared.network.ArcView.{ArcView}
+use Rattle.dimacs_network.specs.declared.network.ArcView.{ArcView}
 use Rattle.dimacs_claims.specs.declared.block.Label.{Label}
 use Rattle.dimacs_claims.specs.Labels.{BlockValue, IsNear, label}
 use Rattle.dimacs_judge.specs.Walks.{IsDistance}

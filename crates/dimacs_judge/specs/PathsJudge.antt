@@ -1,7 +1,7 @@
 -- The tests of distances, what passes them, and what then holds.
 use Rattle.std.specs.Prelude.{◌≡◌, ◌≤◌, List, ◌∷◌, All}
-use Rattle.dimacs_instance.specs.declared.network.ArcView.{ArcView}
-use Rattle.dimacs_instance.specs.Arcs.{NetworkValue}
+use Rattle.dimacs_network.specs.declared.network.ArcView.{ArcView}
+use Rattle.dimacs_network.specs.Arcs.{NetworkValue}
 use Rattle.dimacs_instance.specs.QueryTexts.{QueriesValue, Sources, Pairs}
 use Rattle.dimacs_claims.specs.Labels.{BlockValue, LabelsValue}
 use Rattle.dimacs_judge.specs.Agreement.{nodes_row}

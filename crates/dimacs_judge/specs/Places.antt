@@ -1,9 +1,9 @@
 -- A flow while entries are put on their arcs, one after another.
 use Rattle.std.specs.Prelude.{ℕ, zero, suc, ◌≡◌, ◌<◌, ◌≤◌, ◌^◌, Bool, true, false, List, length, take, get_or, count_by, ℤ, Option, None, Some}
-use Rattle.dimacs_instance.specs.declared.network.ArcView.{ArcView}
-use Rattle.dimacs_instance.specs.declared.arc_index.ArcIndex.{ArcIndex}
-use Rattle.dimacs_instance.specs.Arcs.{joins, IsKthBetween}
-use Rattle.dimacs_instance.specs.Star.{HasRoom, Indexes}
+use Rattle.dimacs_network.specs.declared.network.ArcView.{ArcView}
+use Rattle.dimacs_network.specs.declared.arc_index.ArcIndex.{ArcIndex}
+use Rattle.dimacs_network.specs.Arcs.{joins, IsKthBetween}
+use Rattle.dimacs_network.specs.ArcOrder.{HasRoom, Indexes}
 use Rattle.dimacs_claims.specs.declared.solution.Entry.{Entry}
 use Rattle.dimacs_records.specs.declared.reasons.Reason.{Reason}
 use Rattle.dimacs_judge.specs.declared.verdict.Where.{Where}

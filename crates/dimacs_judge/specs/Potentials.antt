@@ -1,7 +1,7 @@
 -- Potentials: a whole number at each node.
 use Rattle.std.specs.Prelude.{ℕ, ◌≡◌, List, ℤ, pos, ◌+ℤ◌, ◌-ℤ◌, ◌<ℤ◌}
 use Rattle.std.specs.List.{AllZip}
-use Rattle.dimacs_instance.specs.declared.network.ArcView.{ArcView}
+use Rattle.dimacs_network.specs.declared.network.ArcView.{ArcView}
 
 -- the arc's cost, less the potential of its tail, and with that of its head
 abbrev pub reduced_cost : (ℕ → ℤ) → ArcView → ℤ

@@ -1,18 +1,12 @@
 -- Tests of each arc, of each node, and single ones.
 use Rattle.std.specs.Prelude.{ℕ, ◌≡◌, ◌+◌, ◌<◌, List, length, get_or, ℤ, pos}
-use Rattle.dimacs_instance.specs.declared.network.ArcView.{ArcView}
+use Rattle.dimacs_network.specs.declared.network.ArcView.{ArcView}
+use Rattle.dimacs_network.specs.Arcs.{arc_at}
 use Rattle.dimacs_records.specs.declared.reasons.Reason.{Reason}
 use Rattle.dimacs_judge.specs.declared.verdict.Where.{Where}
 use Rattle.dimacs_judge.specs.declared.verdict.Where.TheVariants.{Arc, Node}
-use Rattle.dimacs_records.specs.Ranges.{IsNode}
+use Rattle.dimacs_lines.specs.Limits.{IsNode}
 use Rattle.dimacs_judge.specs.Tests.{Row}
-
-abbrev pub no_arc : ArcView
-no_arc = record { tail = 0; head = 0; low = pos 0; cap = pos 0; cost = pos 0 }
-
--- the arc of this index
-abbrev pub arc_at : List ArcView → ℕ → ArcView
-arc_at arcs k = get_or arcs k no_arc
 
 -- the amount on the arc of this index
 abbrev pub amount_at : List ℤ → ℕ → ℤ

@@ -1,6 +1,6 @@
 -- Sets of nodes whose supply cannot be met.
 use Rattle.std.specs.Prelude.{ℕ, ◌⊎◌, Bool, List, [], ◌∷◌, ℤ, pos, ◌+ℤ◌, ◌-ℤ◌, ◌<ℤ◌}
-use Rattle.dimacs_instance.specs.declared.network.ArcView.{ArcView}
+use Rattle.dimacs_network.specs.declared.network.ArcView.{ArcView}
 use Rattle.dimacs_judge.specs.Flows.{when, sum_nodes}
 use Rattle.dimacs_judge.specs.Cuts.{leaves, enters}
 use Rattle.dimacs_instance.specs.MinFlows.{MinValue, supply_of}

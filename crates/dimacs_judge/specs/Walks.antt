@@ -1,6 +1,6 @@
 -- Walks and distances.
 use Rattle.std.specs.Prelude.{ℕ, ◌≡◌, List, [], ◌∷◌, Contains, Option, Some, None, ℤ, pos, ◌+ℤ◌, ◌≤ℤ◌, ◌<ℤ◌}
-use Rattle.dimacs_instance.specs.declared.network.ArcView.{ArcView}
+use Rattle.dimacs_network.specs.declared.network.ArcView.{ArcView}
 
 -- a list of arcs of g from s to t, each beginning where the one before ended
 abbrev pub IsWalk : List ArcView → ℕ → ℕ → List ArcView → Type 0

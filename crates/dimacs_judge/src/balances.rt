@@ -9,8 +9,8 @@ ghost use Rattle.dimacs_judge.specs.FlowTests.{AreBalances};
 ghost use Rattle.dimacs_judge.specs.inside.Ranges.{IsOfSize};
 
 use crate::flow::Flow;
-use dimacs_instance::{ArcView, Network};
 use dimacs_lines::Memory;
+use dimacs_network::{ArcView, Network};
 use dimacs_nodes::NodeTable;
 use std::alloc::Global;
 

@@ -7,8 +7,8 @@ ghost use Rattle.dimacs_records.specs.Ranges.{IsWide};
 
 use crate::flow::Flow;
 use crate::verdict::Where;
-use dimacs_instance::Network;
 use dimacs_lines::WIDE;
+use dimacs_network::Network;
 use dimacs_records::Reason;
 
 /// The cost of the flow, or the first arc at which the costs so far leave the wide range.

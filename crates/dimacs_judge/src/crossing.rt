@@ -13,7 +13,8 @@ ghost use Rattle.dimacs_judge.specs.ViolatedSets.{most_out, least_out};
 
 use crate::verdict::Where;
 use dimacs_claims::Cut;
-use dimacs_instance::{ArcView, MinInstance, Network};
+use dimacs_instance::MinInstance;
+use dimacs_network::{ArcView, Network};
 use dimacs_records::Reason;
 
 /// The bounds of what leaves a set, less what enters it.

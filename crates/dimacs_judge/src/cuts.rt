@@ -9,7 +9,8 @@ ghost use Rattle.dimacs_judge.specs.inside.Tests.{TellsReason};
 use crate::flow::Flow;
 use crate::verdict::Where;
 use dimacs_claims::Cut;
-use dimacs_instance::{ArcView, MaxInstance, Network};
+use dimacs_instance::MaxInstance;
+use dimacs_network::{ArcView, Network};
 use dimacs_records::Reason;
 
 /// Whether the cut is tight: the source is inside and the sink outside, each arc that leaves the cut carries its

@@ -11,8 +11,8 @@ use crate::flow::Flow;
 use crate::places::FlowPlaces;
 use crate::verdict::JudgeError;
 use dimacs_claims::{Entry, Placed, Solution};
-use dimacs_instance::Network;
 use dimacs_lines::Memory;
+use dimacs_network::Network;
 use std::alloc::Global;
 
 /// The flow that a solution claims. The k-th entry with given ends, in the order of the solution, gives the flow of the

@@ -11,7 +11,8 @@ ghost use Rattle.dimacs_judge.specs.inside.Tests.{TellsReason};
 use crate::balances::Balances;
 use crate::flow::Flow;
 use crate::verdict::{JudgeError, Where};
-use dimacs_instance::{ArcView, MaxInstance, MinInstance, Network};
+use dimacs_instance::{MaxInstance, MinInstance};
+use dimacs_network::{ArcView, Network};
 use dimacs_records::Reason;
 use std::alloc::Global;
 

@@ -16,7 +16,8 @@ use crate::flow::Flow;
 use crate::potentials::slack_tests;
 use crate::verdict::{JudgeError, Verdict};
 use dimacs_claims::{Cut, Potentials};
-use dimacs_instance::{MaxInstance, MinInstance, Network};
+use dimacs_instance::{MaxInstance, MinInstance};
+use dimacs_network::Network;
 use std::alloc::Global;
 
 /// Whether the cut shows that the flow is maximum. A yes, `Max` with the flow's value, means that the flow is feasible,

@@ -10,7 +10,8 @@ use crate::agreement::nodes_agree;
 use crate::crossing::set_is_violated;
 use crate::verdict::{JudgeError, Verdict};
 use dimacs_claims::Cut;
-use dimacs_instance::{MinInstance, Network};
+use dimacs_instance::MinInstance;
+use dimacs_network::Network;
 
 /// Whether the set shows that no flow is feasible. A yes, `Infeasible`, means that there is none, of whole numbers of
 /// any size and sign. Takes no memory, so it never answers `Memory`.

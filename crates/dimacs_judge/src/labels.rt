@@ -13,7 +13,8 @@ ghost use Rattle.dimacs_judge.specs.inside.Tests.{TellsReason, Tells};
 
 use crate::verdict::Where;
 use dimacs_claims::{Label, LabelList, Labels};
-use dimacs_instance::{ArcView, Graph, Network};
+use dimacs_instance::Graph;
+use dimacs_network::{ArcView, Network};
 use dimacs_records::Reason;
 
 /// Whether all labels hold, in every block: an arc from the predecessor of each label makes it, and each arc with a

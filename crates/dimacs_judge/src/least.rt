@@ -18,7 +18,8 @@ use crate::places::FlowPlaces;
 use crate::potentials::slack_tests;
 use crate::verdict::{JudgeError, Verdict};
 use dimacs_claims::{Placed, Potentials, Solution};
-use dimacs_instance::{MinInstance, Network};
+use dimacs_instance::MinInstance;
+use dimacs_network::Network;
 use std::alloc::Global;
 
 /// Whether the potentials show that the solution's flow is least. A yes, `Min` with the claimed cost, means that the

@@ -1,7 +1,7 @@
 //! The arcs that leave the nodes of a block, where it labels few.
 
 ghost use Rattle.std.specs.Prelude.{◌≡◌, ◌≤◌, ◌+ℤ◌, ℕ, Some, IsTrue};
-ghost use Rattle.dimacs_instance.specs.declared.network.ArcView.{ArcView};
+ghost use Rattle.dimacs_network.specs.declared.network.ArcView.{ArcView};
 ghost use Rattle.dimacs_claims.specs.Labels.{IsBlock, IsNear, label};
 ghost use Rattle.dimacs_records.specs.Ranges.{IsWide};
 ghost use Rattle.dimacs_judge.specs.CertificateTests.{relax_row};
@@ -15,7 +15,7 @@ use crate::least_arcs::LeastArcs;
 use crate::mark::Mark;
 use crate::marks::pass_arc;
 use dimacs_claims::Block;
-use dimacs_instance::Network;
+use dimacs_network::Network;
 use dimacs_nodes::NodeTable;
 
 /// A block labels few nodes where there are more than this many arcs for each label.

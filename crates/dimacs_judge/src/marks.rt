@@ -4,7 +4,7 @@
 ghost use Rattle.std.specs.Prelude.{◌≡◌, ◌<◌, ◌≤◌, ◌↔◌, ℕ, List, All, Option, IfOk, IfSome, OnOk, IsTrue, ℤ};
 ghost use Rattle.std.specs.Result.{result_err};
 ghost use Rattle.dimacs_lines.specs.Limits.{most_nodes};
-ghost use Rattle.dimacs_instance.specs.declared.network.ArcView.{ArcView};
+ghost use Rattle.dimacs_network.specs.declared.network.ArcView.{ArcView};
 ghost use Rattle.dimacs_claims.specs.declared.block.Label.{Label};
 ghost use Rattle.dimacs_claims.specs.Labels.{AreLabels, BlockValue, IsBlock};
 ghost use Rattle.dimacs_nodes.specs.Tables.{blank_of};
@@ -23,8 +23,8 @@ use crate::leaving::{labels_few, leaving_passed};
 use crate::mark::Mark;
 use crate::verdict::{JudgeError, Where};
 use dimacs_claims::{Block, LabelList, Labels};
-use dimacs_instance::{ArcView, Network};
 use dimacs_lines::Memory;
+use dimacs_network::{ArcView, Network};
 use dimacs_nodes::{NodeTable, Placed};
 use dimacs_records::Reason;
 use std::alloc::Global;

@@ -20,7 +20,8 @@ use crate::flow::Flow;
 use crate::places::FlowPlaces;
 use crate::verdict::{JudgeError, Verdict, Where};
 use dimacs_claims::{Cut, Place, Placed, Solution};
-use dimacs_instance::{MaxInstance, Network};
+use dimacs_instance::MaxInstance;
+use dimacs_network::Network;
 use dimacs_records::Reason;
 use std::alloc::Global;
 

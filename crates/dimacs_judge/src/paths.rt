@@ -10,7 +10,8 @@ use crate::marks::marked_blocks_hold;
 use crate::queries::{answers, blocks_exist, query_nodes_hold};
 use crate::verdict::{JudgeError, Verdict};
 use dimacs_claims::Labels;
-use dimacs_instance::{Graph, Network, Queries};
+use dimacs_instance::{Graph, Queries};
+use dimacs_network::Network;
 use std::alloc::Global;
 
 /// Whether the labels are distances, and what they answer to the queries. A yes means that in every block, whether or not

@@ -2,19 +2,18 @@
 
 ghost use Rattle.std.specs.Prelude.{◌≡◌, ◌≤◌, ◌<◌, ◌+◌, ◌++◌, ◌∷◌, [], List, Result, Some, None, true, false, length, take, count_by, IfOk, IfErr, IsOk, IsTrue, OnOk, OnErr, ◌↔◌};
 ghost use Rattle.dimacs_claims.specs.declared.solution.Entry.{Entry};
-ghost use Rattle.dimacs_instance.specs.declared.network.ArcView.{ArcView};
-ghost use Rattle.dimacs_instance.specs.Arcs.{joins, IsKthBetween};
+ghost use Rattle.dimacs_network.specs.declared.network.ArcView.{ArcView};
+ghost use Rattle.dimacs_network.specs.Arcs.{joins, IsKthBetween, arc_at};
 ghost use Rattle.dimacs_judge.specs.Claims.{Carries, entry_row};
 ghost use Rattle.dimacs_judge.specs.Places.{ArePlaced, HavePlaced, IsIndexFor, came_between};
 ghost use Rattle.dimacs_judge.specs.inside.Places.{PutsEntry, TellsFlow};
-ghost use Rattle.dimacs_judge.specs.Rows.{arc_at};
 ghost use Rattle.dimacs_judge.specs.Tests.{FirstOfRow};
 
 use crate::flow::Flow;
 use crate::verdict::Where;
 use dimacs_claims::{Entry, Place};
-use dimacs_instance::{ArcIndex, Network};
 use dimacs_lines::Memory;
+use dimacs_network::{ArcIndex, Network};
 use dimacs_records::Reason;
 use std::alloc::Global;
 use std::marker::Model;

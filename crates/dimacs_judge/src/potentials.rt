@@ -12,7 +12,8 @@ ghost use Rattle.dimacs_judge.specs.inside.Tests.{TellsReason};
 use crate::flow::Flow;
 use crate::verdict::Where;
 use dimacs_claims::Potentials;
-use dimacs_instance::{ArcView, MinInstance, Network};
+use dimacs_instance::MinInstance;
+use dimacs_network::{ArcView, Network};
 use dimacs_records::Reason;
 
 /// Whether the potentials are slack: each arc of positive reduced cost carries its lower bound, and each of negative

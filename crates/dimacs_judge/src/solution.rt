@@ -12,8 +12,9 @@ use crate::costs::cost_within;
 use crate::flow::Flow;
 use crate::value::value_of;
 use dimacs_claims::{Entry, Solution};
-use dimacs_instance::{ArcView, MaxInstance, MinInstance, Network};
+use dimacs_instance::{MaxInstance, MinInstance};
 use dimacs_lines::Memory;
+use dimacs_network::{ArcView, Network};
 use std::alloc::Global;
 
 /// The solution that claims a feasible flow, with its value on line 1 and then an entry for every arc, in the order of the

@@ -6,7 +6,8 @@ ghost use Rattle.dimacs_judge.specs.Feasible.{value};
 ghost use Rattle.dimacs_judge.specs.Flows.{net, when};
 
 use crate::flow::Flow;
-use dimacs_instance::{ArcView, MaxInstance, Network};
+use dimacs_instance::MaxInstance;
+use dimacs_network::{ArcView, Network};
 
 /// The value of a flow: what leaves the source less what enters it. Takes no memory.
 pub fn value_of<N: Network>(instance: &MaxInstance<N>, flow: &Flow) -> i128

@@ -6,8 +6,9 @@ use crate::problem::Problem;
 use crate::scaling::Scaling;
 use crate::simplex::Simplex;
 use dimacs_claims::Potentials;
-use dimacs_instance::{MinInstance, Network};
+use dimacs_instance::MinInstance;
 use dimacs_lines::Memory;
+use dimacs_network::Network;
 use std::alloc::Global;
 
 /// An amount for each arc, and a potential for each node.

@@ -1,7 +1,8 @@
 //! Numbers for the nodes that occur.
 
-use dimacs_instance::{MinInstance, Network};
+use dimacs_instance::MinInstance;
 use dimacs_lines::Memory;
+use dimacs_network::Network;
 use dimacs_nodes::NodeMap;
 use std::alloc::Global;
 

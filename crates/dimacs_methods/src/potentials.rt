@@ -42,8 +42,9 @@ use crate::potentials::tables::member;
 use crate::potentials::tree::Tree;
 pub use claim::ResidualArc;
 use dimacs_claims::Potentials;
-use dimacs_instance::{MinInstance, Network};
+use dimacs_instance::MinInstance;
 use dimacs_lines::{Memory, WIDE};
+use dimacs_network::Network;
 use std::alloc::Global;
 
 /// What is thought of a flow.

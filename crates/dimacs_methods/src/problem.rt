@@ -1,8 +1,9 @@
 //! An instance, as a method reckons with it.
 
 use crate::node_numbers::NodeNumbers;
-use dimacs_instance::{MinInstance, Network};
+use dimacs_instance::MinInstance;
 use dimacs_lines::Memory;
+use dimacs_network::Network;
 use std::alloc::Global;
 
 /// A minimum cost flow instance, and how great the numbers in it are.

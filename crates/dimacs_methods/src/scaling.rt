@@ -18,8 +18,8 @@ use crate::number::Number;
 use crate::problem::Problem;
 use crate::scaling::ranks::Ranks;
 use crate::scaling::residual::{Node, Residual};
-use dimacs_instance::Network;
 use dimacs_lines::Memory;
+use dimacs_network::Network;
 use std::alloc::Global;
 use std::collections::VecDeque;
 

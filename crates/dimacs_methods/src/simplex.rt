@@ -23,8 +23,8 @@ use crate::simplex::cycle::{Cycle, Leaving};
 use crate::simplex::mixing::Mixing;
 use crate::simplex::numbering::number_of;
 use crate::simplex::tree::{Hook, Tree};
-use dimacs_instance::Network;
 use dimacs_lines::Memory;
+use dimacs_network::Network;
 use std::alloc::Global;
 
 /// Nodes are numbered again whenever so many have moved for each arc and node.

@@ -10,7 +10,7 @@ use Rattle.std.proofs.lemmas.Bool.{eqb-true, false_from_ne_true}
 use Rattle.std.proofs.lemmas.Option.{cond_some}
 use Rattle.std.proofs.lemmas.List.Elements.{All-push}
 use Rattle.dimacs_records.specs.NodeValues.{NameNodes, has_value, is_nonzero, is_of, without_zeros}
-use Rattle.dimacs_records.specs.Ranges.{IsNode}
+use Rattle.dimacs_lines.specs.Limits.{IsNode}
 use Rattle.dimacs_records.proofs.CountLemmas.{count_by-cons, count_yes, none_passes, once_more, same_test}
 
 pub not_zero : (n : ℤ) → n ≢ pos 0 → int_eq n (pos 0) ≡ false

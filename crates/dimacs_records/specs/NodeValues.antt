@@ -3,7 +3,7 @@ use Rattle.std.specs.Prelude.{ℕ, ℤ, ◌==◌, ◌≤◌, Bool, not, List, co
 use Rattle.std.specs.List.{All}
 use Rattle.std.specs.Ordering.{int_eq, nat_cmp}
 use Rattle.std.specs.FinMap.{FinMap, get, retain_keys}
-use Rattle.dimacs_records.specs.Ranges.{IsNode}
+use Rattle.dimacs_lines.specs.Limits.{IsNode}
 
 abbrev pub is_of : ℕ → ℕ × ℤ → Bool
 is_of id n = n.0 == id

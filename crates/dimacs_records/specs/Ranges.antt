@@ -1,11 +1,7 @@
 -- The ranges of the numbers in texts.
-use Rattle.std.specs.Prelude.{ℕ, ◌≤◌, ◌^◌, ◌-◌, ℤ, pos, neg_ℤ}
-use Rattle.dimacs_lines.specs.Limits.{most_nodes}
+use Rattle.std.specs.Prelude.{ℕ, ◌^◌, ◌-◌, ℤ, pos, neg_ℤ}
+use Rattle.dimacs_lines.specs.Limits.{most_nodes, IsNode}
 use Rattle.dimacs_lines.specs.Number.{IsWithin}
-
--- the ID of one of so many nodes
-abbrev pub IsNode : ℕ → ℕ → Type 0
-IsNode nodes id = (1 ≤ id) × (id ≤ nodes)
 
 -- an ID in a text that doesn't say how many nodes there are
 abbrev pub IsId : ℕ → Type 0

@@ -18,13 +18,12 @@ use crate::outcome::{RunError, Status};
 use crate::texts_in_turn::{read, read_placed, read_three, read_two};
 use crate::told::{Told, answer_told, put_told};
 use dimacs_claims::{Cut, Labels, Potentials};
-use dimacs_instance::{
-    ArcView, CapacityArc, Graph, MaxInstance, MinInstance, PlainArcs, Queries, WeightArc,
-};
+use dimacs_instance::{Graph, MaxInstance, MinInstance, Queries};
 use dimacs_judge::{
     FlowPlaces, index_for, judge_infeasible, judge_max_placed, judge_min_placed, judge_paths,
 };
 use dimacs_lines::{Sink, Source};
+use dimacs_network::{ArcView, CapacityArc, PlainArcs, WeightArc};
 use std::alloc::Global;
 
 /// Reads an instance, a claim about it and a certificate, in this order, and puts the verdict of the judge, the line of

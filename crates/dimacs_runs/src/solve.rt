@@ -20,11 +20,10 @@ use crate::produced::{
 };
 use crate::texts_in_turn::{read, read_two};
 use crate::told::Told;
-use dimacs_instance::{
-    ArcView, CapacityArc, Graph, MaxInstance, MinInstance, Network, PlainArcs, Queries, WeightArc,
-};
+use dimacs_instance::{Graph, MaxInstance, MinInstance, Queries};
 use dimacs_judge::{answer_queries, index_for};
 use dimacs_lines::{Sink, Source};
+use dimacs_network::{ArcView, CapacityArc, Network, PlainArcs, WeightArc};
 use dimacs_solve::{solve_max, solve_min, solve_paths};
 use std::alloc::Global;
 

@@ -12,10 +12,9 @@ use crate::ending::{done, refuse};
 use crate::outcome::{RunError, Status};
 use crate::refusal::text_name;
 use dimacs_claims::{Cut, Labels, Potentials, Solution};
-use dimacs_instance::{
-    ArcView, CapacityArc, Graph, MaxInstance, MinInstance, PlainArcs, Queries, WeightArc,
-};
+use dimacs_instance::{Graph, MaxInstance, MinInstance, Queries};
 use dimacs_lines::{DeviceFault, Sink, Source};
+use dimacs_network::{ArcView, CapacityArc, PlainArcs, WeightArc};
 use dimacs_records::{Text, TextKind};
 use std::alloc::Global;
 

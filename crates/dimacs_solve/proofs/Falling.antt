@@ -5,13 +5,14 @@ use Rattle.std.specs.Int.Signed.{lt_z}
 use Rattle.std.specs.Prelude.{if◌then◌else◌}
 use Rattle.std.proofs.lemmas.List.{length-append}
 use Rattle.std.proofs.lemmas.List.Elements.{All-push, All-nil, All-weaker, All-head, All-tail}
-use Rattle.dimacs_records.specs.Ranges.{IsNode}
-use Rattle.dimacs_instance.specs.declared.network.ArcView.{ArcView}
+use Rattle.dimacs_lines.specs.Limits.{IsNode}
+use Rattle.dimacs_network.specs.declared.network.ArcView.{ArcView}
 use Rattle.dimacs_instance.specs.MinFlows.{HasBounds, IsMin, MinValue, positive_part}
 use Rattle.dimacs_judge.specs.Feasible.{FeasibleMin}
 use Rattle.dimacs_judge.specs.Flows.{sum_nodes}
 use Rattle.dimacs_judge.specs.Optimum.{Least}
-use Rattle.dimacs_judge.specs.Rows.{arc_at, amount_at}
+use Rattle.dimacs_judge.specs.Rows.{amount_at}
+use Rattle.dimacs_network.specs.Arcs.{arc_at}
 use Rattle.dimacs_decide.specs.Bounds.{KeepsBounds}
 use Rattle.dimacs_decide.specs.FeasibilityDecision.{surplus_at, total_excess}
 use Rattle.dimacs_solve.specs.Descending.{AreFalling, IsBetter, StartsCheap, TakesMoreSteps, start_flow}

@@ -6,9 +6,10 @@ ghost use Rattle.dimacs_solve.specs.inside.Climbing.{Climbs};
 use crate::improve::improve_max;
 use dimacs_claims::Cut;
 use dimacs_decide::{Incidence, MaxDecision, decide_max_over};
-use dimacs_instance::{MaxInstance, Network};
+use dimacs_instance::MaxInstance;
 use dimacs_judge::Flow;
 use dimacs_lines::Memory;
+use dimacs_network::Network;
 use std::alloc::Global;
 
 /// Where a climb ends.

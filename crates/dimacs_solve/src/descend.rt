@@ -7,9 +7,10 @@ ghost use Rattle.dimacs_solve.specs.inside.Descending.{Descends};
 use crate::jump::jump;
 use crate::question::{Reply, ask};
 use dimacs_claims::{Cut, Potentials};
-use dimacs_instance::{ArcView, MinInstance, Network};
+use dimacs_instance::MinInstance;
 use dimacs_judge::Flow;
 use dimacs_lines::Memory;
+use dimacs_network::{ArcView, Network};
 use std::alloc::Global;
 
 /// Where a descent ends.

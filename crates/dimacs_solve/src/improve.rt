@@ -4,8 +4,9 @@ ghost use Rattle.std.specs.Prelude.{◌≡◌, ◌≤ℤ◌, length, IsTrue};
 ghost use Rattle.dimacs_judge.specs.Feasible.{FeasibleMax, value};
 
 use crate::preflow::pushed;
-use dimacs_instance::{MaxInstance, Network};
+use dimacs_instance::MaxInstance;
 use dimacs_judge::{Flow, feasible_max, value_of};
+use dimacs_network::Network;
 use std::alloc::Global;
 
 /// A feasible flow of no less value: what the preflows make of this one, if it passes the test; else, and where memory

@@ -7,10 +7,11 @@ ghost use Rattle.dimacs_solve.specs.inside.Descending.{Descends};
 use crate::descend::Descent;
 use crate::question::{Reply, ask};
 use dimacs_claims::Potentials;
-use dimacs_instance::{MinInstance, Network};
+use dimacs_instance::MinInstance;
 use dimacs_judge::{Flow, bounds_hold};
 use dimacs_lines::Memory;
 use dimacs_methods::make_least_flow;
+use dimacs_network::Network;
 use std::alloc::Global;
 
 /// Where one step may lead to, if the flow that the method makes is least, or shows that no flow is feasible.

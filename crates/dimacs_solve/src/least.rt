@@ -10,8 +10,9 @@ ghost use Rattle.dimacs_solve.specs.SolveMin.{SolvesMin};
 use crate::descend::{Descent, descend};
 use crate::error::SolveError;
 use dimacs_claims::{Cut, Potentials, Solution};
-use dimacs_instance::{MinInstance, Network};
+use dimacs_instance::MinInstance;
 use dimacs_judge::{Flow, min_solution};
+use dimacs_network::Network;
 use std::alloc::Global;
 
 /// A least flow with potentials that show it, a set of nodes that shows that there is no feasible flow, or neither.

@@ -5,8 +5,9 @@ ghost use Rattle.dimacs_solve.specs.SolveMax.{SolvesMax};
 use crate::climb::{Ascent, climb};
 use crate::error::SolveError;
 use dimacs_claims::{Cut, Solution};
-use dimacs_instance::{MaxInstance, Network};
+use dimacs_instance::MaxInstance;
 use dimacs_judge::max_solution;
+use dimacs_network::Network;
 use std::alloc::Global;
 
 /// A maximum flow and a cut that shows it, or none within the limit.

@@ -1,8 +1,7 @@
 //! Labels for queries.
 
 ghost use Rattle.std.specs.Prelude.{◌≡◌, ◌<◌, ◌≤◌, ◌*◌, [], ℕ, All, length, IfOk, OnOk, MatchOption};
-ghost use Rattle.dimacs_lines.specs.Limits.{most_count};
-ghost use Rattle.dimacs_records.specs.Ranges.{IsNode};
+ghost use Rattle.dimacs_lines.specs.Limits.{most_count, IsNode};
 ghost use Rattle.dimacs_instance.specs.QueryTexts.{AreLawful, asked, query_lines};
 ghost use Rattle.dimacs_claims.specs.Labels.{AreLabels, BlockValue, IsNewSource};
 ghost use Rattle.dimacs_judge.specs.QueryTests.{sources_asked};
@@ -17,9 +16,10 @@ use crate::frontier::Frontier;
 use crate::marks::Marks;
 use crate::search::search;
 use dimacs_claims::Labels;
-use dimacs_instance::{Graph, Network, Queries};
+use dimacs_instance::{Graph, Queries};
 use dimacs_judge::{passing_shows, query_nodes_hold, source_asked};
 use dimacs_lines::Memory;
+use dimacs_network::Network;
 use dimacs_nodes::NodeSet;
 use std::alloc::Global;
 

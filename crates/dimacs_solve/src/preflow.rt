@@ -14,9 +14,10 @@ use crate::preflow::levels::Levels;
 use crate::preflow::residual::{Half, Residual};
 use crate::preflow::tables::{member, set_member};
 use crate::preflow::waiting::Waiting;
-use dimacs_instance::{MaxInstance, Network};
+use dimacs_instance::MaxInstance;
 use dimacs_judge::Flow;
 use dimacs_lines::Memory;
+use dimacs_network::Network;
 use std::alloc::Global;
 
 /// The height of a node from which the target can't be reached.

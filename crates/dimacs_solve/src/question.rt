@@ -7,9 +7,10 @@ ghost use Rattle.dimacs_solve.specs.inside.Descending.{IsReply};
 
 use dimacs_claims::{Cut, Potentials};
 use dimacs_decide::{FeasibilityDecision, MinDecision, decide_feasible, decide_min_from};
-use dimacs_instance::{MinInstance, Network};
+use dimacs_instance::MinInstance;
 use dimacs_judge::Flow;
 use dimacs_lines::Memory;
+use dimacs_network::Network;
 use std::alloc::Global;
 
 /// What is replied about a flow that keeps the bounds.

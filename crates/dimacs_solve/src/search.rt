@@ -1,7 +1,7 @@
 //! A search from one source: labels of the nodes that walks lead to, the nearest first.
 
 ghost use Rattle.std.specs.Prelude.{◌≡◌, ◌<◌, ◌≤◌, ◌+◌, ◌*◌, [], IfOk, OnOk};
-ghost use Rattle.dimacs_records.specs.Ranges.{IsNode};
+ghost use Rattle.dimacs_lines.specs.Limits.{IsNode};
 ghost use Rattle.dimacs_solve.specs.Adjacency.{AreByNode};
 ghost use Rattle.dimacs_solve.specs.Frontiers.{way_of};
 ghost use Rattle.dimacs_solve.specs.inside.Marks.{known};

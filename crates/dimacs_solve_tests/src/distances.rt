@@ -6,9 +6,10 @@ use dimacs_claims::{Labels, read_labels, write_labels};
 use dimacs_decide::{
     DistanceClaim, DistancesByNode, DistancesOfBlock, decide_distances, decide_distances_over,
 };
-use dimacs_instance::{Graph, Links, Network, Side, read_graph};
+use dimacs_instance::{Graph, read_graph};
 use dimacs_judge::JudgeError;
 use dimacs_lines::{MemorySink, MemorySource};
+use dimacs_network::{Links, Network, Side};
 use dimacs_nodes::NodeMap;
 use std::alloc::Global;
 use std::process::Abort;

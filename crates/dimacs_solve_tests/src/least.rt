@@ -2,9 +2,10 @@
 
 use crate::checks::same;
 use crate::tables::{case, cell, number, rows};
-use dimacs_instance::{ArcView, ForwardStar, MinInstance, read_min};
+use dimacs_instance::{MinInstance, read_min};
 use dimacs_judge::{Verdict, judge_infeasible, judge_min};
 use dimacs_lines::MemorySource;
+use dimacs_network::{ArcView, ForwardStar};
 use dimacs_solve::{MinAnswer, solve_min};
 use std::alloc::Global;
 use std::process::Abort;

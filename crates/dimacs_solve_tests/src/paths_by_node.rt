@@ -3,8 +3,9 @@
 use crate::checks::same;
 use crate::tables::{case, cell, ids, numbers, rows};
 use dimacs_arrays::{certify_paths_by_node, judge_paths_by_node};
-use dimacs_instance::{Network, read_graph};
+use dimacs_instance::read_graph;
 use dimacs_lines::MemorySource;
+use dimacs_network::Network;
 use std::test::Fail;
 
 /// Distances from node 1 and their predecessors in each line: what it shows, the lines of the graph, a distance for each

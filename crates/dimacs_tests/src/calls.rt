@@ -8,8 +8,7 @@ use dimacs_claims::{
     read_solution_into,
 };
 use dimacs_instance::{
-    ArcView, CapacityArc, ForwardStar, Graph, MaxInstance, MinInstance, Network, WeightArc,
-    read_graph, read_max, read_min, read_queries,
+    Graph, MaxInstance, MinInstance, read_graph, read_max, read_min, read_queries,
 };
 use dimacs_judge::{
     Answer, Flow, FlowPlaces, JudgeError, Verdict, Where, cut_tests, feasible_max, feasible_min,
@@ -17,6 +16,7 @@ use dimacs_judge::{
     judge_paths, label_tests, slack_tests,
 };
 use dimacs_lines::MemorySource;
+use dimacs_network::{ArcView, CapacityArc, ForwardStar, Network, WeightArc};
 use dimacs_records::{ReadError, Reason};
 use std::alloc::Global;
 use std::test::Fail;

@@ -5,8 +5,8 @@ use crate::texts::{
     Weights, becomes, converts_each, is_made_of, spelled, tells_each_failed_pull,
     tells_each_failed_put, tells_failed_pulls,
 };
-use dimacs_instance::Network;
 use dimacs_lines::{DeviceFault, FlakySink, FlakySource};
+use dimacs_network::Network;
 use dimacs_records::Text;
 use std::alloc::Global;
 use std::test::Fail;

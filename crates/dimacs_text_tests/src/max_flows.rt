@@ -5,7 +5,8 @@ use crate::texts::{
     MaxFlow, converts_each, is_made_of, read_each, refuses_each, spelled, tells_each_failed_pull,
     tells_each_failed_put,
 };
-use dimacs_instance::{MaxReading, Network};
+use dimacs_instance::MaxReading;
+use dimacs_network::Network;
 use dimacs_records::TextKind;
 use std::test::Fail;
 

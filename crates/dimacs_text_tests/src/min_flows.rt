@@ -5,7 +5,8 @@ use crate::texts::{
     MinFlow, converts_each, is_made_of, refuses_each, spelled, tells_each_failed_pull,
     tells_each_failed_put,
 };
-use dimacs_instance::{Network, SupplySums};
+use dimacs_instance::SupplySums;
+use dimacs_network::Network;
 use std::test::Fail;
 
 const SHIPPING: &str =

@@ -2,8 +2,8 @@
 
 use crate::checks::same;
 use crate::texts::is_made_of;
-use dimacs_instance::{ArcIndex, ForwardStar, MAX_ARCS, Network, PlainArcs, WeightArc};
 use dimacs_lines::Memory;
+use dimacs_network::{ArcIndex, ForwardStar, MAX_ARCS, Network, PlainArcs, WeightArc};
 use std::alloc::Global;
 use std::process::Abort;
 use std::test::Fail;

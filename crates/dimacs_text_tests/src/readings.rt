@@ -2,8 +2,9 @@
 
 use crate::checks::same;
 use crate::texts::{ends_with, is_made_of, read_each, take_line, told};
-use dimacs_instance::{GraphReading, Network};
+use dimacs_instance::GraphReading;
 use dimacs_lines::{FlakySource, MemorySource};
+use dimacs_network::Network;
 use dimacs_records::{TextKind, read_text};
 use std::test::Fail;
 

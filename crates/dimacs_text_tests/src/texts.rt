@@ -4,10 +4,9 @@ ghost use Rattle.std.specs.Prelude.{◌≡◌};
 
 use crate::checks::{holds, holds_at, same, same_at};
 use crate::tables::{case, cell, number, rows};
-use dimacs_instance::{
-    ArcView, CapacityArc, ForwardStar, Graph, MaxInstance, MinInstance, Network, WeightArc,
-};
+use dimacs_instance::{Graph, MaxInstance, MinInstance};
 use dimacs_lines::{DeviceFault, FlakySink, FlakySource};
+use dimacs_network::{ArcView, CapacityArc, ForwardStar, Network, WeightArc};
 use dimacs_records::{ReadError, Reading, TakeError, Text, TextKind, record};
 use std::alloc::{AllocError, Global};
 use std::process::Abort;

@@ -1,6 +1,6 @@
 -- Inside: labels of the nodes that are known to lead back to the source, and the way back from one more.
 use Rattle.std.specs.Prelude.{ℕ, ◌≡◌, ◌≢◌, ◌<◌, ◌≤◌, ◌+◌, ◌⊎◌, ◌==◌, Bool, true, false, not, List, [], ◌∷◌, All, length, Option, Some, None, IsSome, is_some, ℤ}
-use Rattle.dimacs_records.specs.Ranges.{IsNode}
+use Rattle.dimacs_lines.specs.Limits.{IsNode}
 use Rattle.dimacs_claims.specs.declared.block.Label.{Label}
 use Rattle.dimacs_claims.specs.Labels.{BlockValue, EachAfter, IsBlock, distance_in, label}
 use Rattle.dimacs_decide.specs.inside.Counting.{count_below}

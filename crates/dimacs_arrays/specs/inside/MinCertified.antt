@@ -1,7 +1,8 @@
 -- Inside: what is said of a flow that potentials show least.
 use Rattle.std.specs.Prelude.{ℕ, ◌≡◌, ◌≤◌, ◌^◌, List, length, ℤ, pos, neg_ℤ, ◌+ℤ◌, ◌≤ℤ◌}
 use Rattle.dimacs_lines.specs.Number.{IsWithin}
-use Rattle.dimacs_records.specs.Ranges.{IsNode, IsWhole}
+use Rattle.dimacs_records.specs.Ranges.{IsWhole}
+use Rattle.dimacs_lines.specs.Limits.{IsNode}
 use Rattle.dimacs_claims.specs.Potentials.{PotentialsValue, potential_of}
 use Rattle.dimacs_arrays.specs.declared.certify_min.MinCertified.{MinCertified}
 use Rattle.dimacs_arrays.specs.declared.certify_min.MinCertified.TheVariants.{Optimal, Wide, Better}

@@ -1,6 +1,6 @@
 -- Inside: distances that rise along the arcs that make them.
 use Rattle.std.specs.Prelude.{ℕ, ◌≡◌, ◌≢◌, List, All, Contains, length, Option, Some, ℤ, pos, ◌+ℤ◌, ◌≤ℤ◌, ◌<ℤ◌}
-use Rattle.dimacs_instance.specs.declared.network.ArcView.{ArcView}
+use Rattle.dimacs_network.specs.declared.network.ArcView.{ArcView}
 use Rattle.dimacs_decide.specs.Claims.{claimed_by_node}
 use Rattle.dimacs_arrays.specs.Paths.{IsDue, pred_by_node}
 use Rattle.dimacs_arrays.specs.declared.rising.Step.{Step}

@@ -1,9 +1,10 @@
 -- Inside: a flow that is sent round a cycle.
 use Rattle.std.specs.Prelude.{ℕ, ◌≡◌, ◌≢◌, ◌==◌, ◌<◌, List, length, ℤ, pos, ◌+ℤ◌, ◌-ℤ◌, ◌*ℤ◌, ◌≤ℤ◌, ◌<ℤ◌}
-use Rattle.dimacs_instance.specs.declared.network.ArcView.{ArcView}
+use Rattle.dimacs_network.specs.declared.network.ArcView.{ArcView}
 use Rattle.dimacs_methods.specs.declared.potentials.claim.ResidualArc.{ResidualArc}
 use Rattle.dimacs_judge.specs.Flows.{net, cost, when}
-use Rattle.dimacs_judge.specs.Rows.{arc_at, amount_at}
+use Rattle.dimacs_judge.specs.Rows.{amount_at}
+use Rattle.dimacs_network.specs.Arcs.{arc_at}
 use Rattle.dimacs_decide.specs.Bounds.{KeepsBounds}
 use Rattle.dimacs_decide.specs.inside.Cycles.{ending_of, gain_after, node_after, residual_at}
 use Rattle.dimacs_decide.specs.inside.Rooms.{room_on}

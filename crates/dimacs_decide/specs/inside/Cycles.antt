@@ -1,10 +1,10 @@
 -- Inside: cycles of residual arcs.
 use Rattle.std.specs.Prelude.{ℕ, suc, zero, ◌≡◌, ◌≢◌, ◌<◌, ◌-◌, List, length, get_or, ℤ, pos, ◌+ℤ◌, ◌<ℤ◌}
-use Rattle.dimacs_instance.specs.declared.network.ArcView.{ArcView}
-use Rattle.dimacs_instance.specs.declared.links.Side.TheVariants.{Tail}
-use Rattle.dimacs_instance.specs.Links.{end_of, other_end}
+use Rattle.dimacs_network.specs.declared.network.ArcView.{ArcView}
+use Rattle.dimacs_network.specs.declared.links.Side.TheVariants.{Tail}
+use Rattle.dimacs_network.specs.Links.{end_of, other_end}
 use Rattle.dimacs_methods.specs.declared.potentials.claim.ResidualArc.{ResidualArc}
-use Rattle.dimacs_judge.specs.Rows.{arc_at}
+use Rattle.dimacs_network.specs.Arcs.{arc_at}
 use Rattle.dimacs_decide.specs.inside.Heights.{gain_at}
 use Rattle.dimacs_decide.specs.inside.Rooms.{room_on}
 

@@ -1,11 +1,11 @@
 -- Inside: potentials that were raised over the steps that a flow leaves.
 use Rattle.std.specs.Prelude.{ℕ, suc, zero, ◌≡◌, ◌≢◌, ◌⊎◌, ◌<◌, ◌≤◌, ◌+◌, ◌-◌, ◌*◌, ◌==◌, if◌then◌else◌, Bool, true, false, List, length, ℤ, pos, neg_ℤ, ◌+ℤ◌, ◌-ℤ◌, ◌≤ℤ◌, ◌<ℤ◌}
-use Rattle.dimacs_instance.specs.declared.network.ArcView.{ArcView}
+use Rattle.dimacs_network.specs.declared.network.ArcView.{ArcView}
 use Rattle.dimacs_instance.specs.MinFlows.{positive_part}
-use Rattle.dimacs_judge.specs.Rows.{arc_at}
-use Rattle.dimacs_instance.specs.declared.links.Side.{Side}
-use Rattle.dimacs_instance.specs.declared.links.Side.TheVariants.{Tail, Head}
-use Rattle.dimacs_instance.specs.Links.{end_of, other_end}
+use Rattle.dimacs_network.specs.Arcs.{arc_at}
+use Rattle.dimacs_network.specs.declared.links.Side.{Side}
+use Rattle.dimacs_network.specs.declared.links.Side.TheVariants.{Tail, Head}
+use Rattle.dimacs_network.specs.Links.{end_of, other_end}
 use Rattle.dimacs_decide.specs.declared.heights.Label.{Label}
 use Rattle.dimacs_decide.specs.inside.Rooms.{room_on}
 

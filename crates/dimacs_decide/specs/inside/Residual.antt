@@ -1,12 +1,12 @@
 -- Inside: what a search over the steps that a flow leaves has found.
 use Rattle.std.specs.Prelude.{ℕ, ◌≡◌, ◌≢◌, ◌⊎◌, ◌<◌, ◌≤◌, ◌+◌, ◌==◌, Bool, nat_lt, List, [], ◌∷◌, ◌++◌, length, slice_index, ℤ, pos, ◌≤ℤ◌, ◌<ℤ◌, Option, Some, None}
-use Rattle.dimacs_instance.specs.declared.network.ArcView.{ArcView}
-use Rattle.dimacs_records.specs.Ranges.{IsNode}
-use Rattle.dimacs_judge.specs.Rows.{arc_at}
-use Rattle.dimacs_instance.specs.declared.links.Side.{Side}
+use Rattle.dimacs_network.specs.declared.network.ArcView.{ArcView}
+use Rattle.dimacs_lines.specs.Limits.{IsNode}
+use Rattle.dimacs_network.specs.Arcs.{arc_at}
+use Rattle.dimacs_network.specs.declared.links.Side.{Side}
 use Rattle.dimacs_decide.specs.declared.search.Visit.{Visit}
 use Rattle.dimacs_decide.specs.inside.Counting.{count_below}
-use Rattle.dimacs_instance.specs.Links.{end_of, other_end}
+use Rattle.dimacs_network.specs.Links.{end_of, other_end}
 use Rattle.dimacs_decide.specs.inside.Rooms.{room_on}
 
 abbrev pub unvisited : Visit

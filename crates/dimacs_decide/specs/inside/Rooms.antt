@@ -1,9 +1,10 @@
 -- Inside: how much more arcs can carry, and what they carry after it was sent.
 use Rattle.std.specs.Prelude.{ℕ, List, ℤ, ◌+ℤ◌, ◌-ℤ◌}
-use Rattle.dimacs_instance.specs.declared.network.ArcView.{ArcView}
-use Rattle.dimacs_instance.specs.declared.links.Side.{Side}
-use Rattle.dimacs_instance.specs.declared.links.Side.TheVariants.{Tail, Head}
-use Rattle.dimacs_judge.specs.Rows.{arc_at, amount_at}
+use Rattle.dimacs_network.specs.declared.network.ArcView.{ArcView}
+use Rattle.dimacs_network.specs.declared.links.Side.{Side}
+use Rattle.dimacs_network.specs.declared.links.Side.TheVariants.{Tail, Head}
+use Rattle.dimacs_judge.specs.Rows.{amount_at}
+use Rattle.dimacs_network.specs.Arcs.{arc_at}
 
 -- how much more can be sent along the arc from this end
 abbrev pub room_at : Side → ArcView → ℤ → ℤ

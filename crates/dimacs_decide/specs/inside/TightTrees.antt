@@ -1,6 +1,6 @@
 -- Inside: what a search over tight arcs has reached.
 use Rattle.std.specs.Prelude.{ℕ, zero, suc, ◌≡◌, ◌≤◌, ◌+◌, Bool, true, not, List, All, length, get_or, Option, Some, None, is_some, ℤ}
-use Rattle.dimacs_instance.specs.declared.network.ArcView.{ArcView}
+use Rattle.dimacs_network.specs.declared.network.ArcView.{ArcView}
 use Rattle.dimacs_claims.specs.Labels.{BlockValue, IsBlock, label, no_label}
 use Rattle.dimacs_judge.specs.Labels.{HasTightArc}
 use Rattle.dimacs_decide.specs.Distances.{IsTight, IsTightlyReached}

@@ -1,6 +1,6 @@
 -- Inside: the ways down from nodes that were raised.
 use Rattle.std.specs.Prelude.{ℕ, ◌≡◌, ◌≢◌, ◌⊎◌, ◌<◌, ◌≤◌, ◌+◌, ◌-◌, ◌==◌, List, length, slice_index, ◌+ℤ◌, ◌≤ℤ◌, Option, Some, None}
-use Rattle.dimacs_instance.specs.declared.network.ArcView.{ArcView}
+use Rattle.dimacs_network.specs.declared.network.ArcView.{ArcView}
 use Rattle.dimacs_decide.specs.declared.heights.Label.{Label}
 use Rattle.dimacs_decide.specs.inside.Counting.{count_below}
 use Rattle.dimacs_decide.specs.inside.Heights.{below_of, bound, height_of}

@@ -1,13 +1,12 @@
 //! Graphs that are built an arc at a time.
 
 ghost use Rattle.std.specs.Prelude.{◌≡◌, ◌≤◌, ◌<◌, ◌++◌, ◌∷◌, [], OnOk, OnErr, length};
-ghost use Rattle.dimacs_lines.specs.Limits.{most_count, most_nodes};
-ghost use Rattle.dimacs_records.specs.Ranges.{IsNode};
-ghost use Rattle.dimacs_instance.specs.Plain.{weight_arc};
+ghost use Rattle.dimacs_lines.specs.Limits.{most_count, most_nodes, IsNode};
+ghost use Rattle.dimacs_network.specs.KeptArcs.{weight_arc};
 
 use crate::graph::Graph;
-use crate::plain::{PlainArcs, WeightArc};
 use dimacs_lines::Memory;
+use dimacs_network::{PlainArcs, WeightArc};
 use std::alloc::Global;
 
 impl Graph<PlainArcs<WeightArc>> {

@@ -1,13 +1,12 @@
 //! Maximum flow instances that are built an arc at a time.
 
 ghost use Rattle.std.specs.Prelude.{◌≡◌, ◌≢◌, ◌≤◌, ◌<◌, ◌≤ℤ◌, ◌++◌, ◌∷◌, [], OnOk, OnErr, length, pos};
-ghost use Rattle.dimacs_lines.specs.Limits.{most_count, most_nodes};
-ghost use Rattle.dimacs_records.specs.Ranges.{IsNode};
-ghost use Rattle.dimacs_instance.specs.Plain.{capacity_arc};
+ghost use Rattle.dimacs_lines.specs.Limits.{most_count, most_nodes, IsNode};
+ghost use Rattle.dimacs_network.specs.KeptArcs.{capacity_arc};
 
 use crate::max::MaxInstance;
-use crate::plain::{CapacityArc, PlainArcs};
 use dimacs_lines::Memory;
+use dimacs_network::{CapacityArc, PlainArcs};
 use std::alloc::Global;
 
 impl MaxInstance<PlainArcs<CapacityArc>> {

@@ -2,15 +2,13 @@
 
 ghost use Rattle.std.specs.Prelude.{◌≡◌, ◌≤◌, ◌<◌, ◌++◌, ◌∷◌, [], OnOk, OnErr, length};
 ghost use Rattle.std.specs.FinMap.{empty};
-ghost use Rattle.dimacs_lines.specs.Limits.{most_count, most_nodes};
-ghost use Rattle.dimacs_records.specs.Ranges.{IsNode};
-ghost use Rattle.dimacs_instance.specs.Arcs.{JoinsNodes};
+ghost use Rattle.dimacs_lines.specs.Limits.{most_count, most_nodes, IsNode};
+ghost use Rattle.dimacs_network.specs.Arcs.{JoinsNodes};
 ghost use Rattle.dimacs_instance.specs.MinFlows.{HasBounds, with_supply};
 
 use crate::min::MinInstance;
-use crate::network::ArcView;
-use crate::plain::PlainArcs;
 use dimacs_lines::Memory;
+use dimacs_network::{ArcView, PlainArcs};
 use dimacs_nodes::NodeMap;
 use std::alloc::Global;
 

@@ -1,6 +1,6 @@
 -- Inside: the tests of cuts, of potentials and of labels.
 use Rattle.std.specs.Prelude.{List, [], ◌∷◌}
-use Rattle.dimacs_instance.specs.declared.network.ArcView.{ArcView}
+use Rattle.dimacs_network.specs.declared.network.ArcView.{ArcView}
 use Rattle.dimacs_claims.specs.Labels.{BlockValue}
 use Rattle.dimacs_judge.specs.Tests.{Row}
 use Rattle.dimacs_judge.specs.CertificateTests.{weight_row, support_row, relax_row}

@@ -1,6 +1,6 @@
 -- Inside: the tests of a flow: its bounds and its balances.
 use Rattle.std.specs.Prelude.{ℕ, List, Option, Result, Ok, Err, ℤ}
-use Rattle.dimacs_instance.specs.declared.network.ArcView.{ArcView}
+use Rattle.dimacs_network.specs.declared.network.ArcView.{ArcView}
 use Rattle.dimacs_judge.specs.Tests.{AllClear, First}
 use Rattle.dimacs_judge.specs.inside.Tests.{Refuses}
 use Rattle.dimacs_judge.specs.declared.balances.Balances.{Balances}

@@ -3,7 +3,7 @@ use Rattle.std.specs.Prelude.{ℕ, ◌≡◌, ◌≢◌, ◌<◌, ◌≤◌, ◌
 use Rattle.dimacs_nodes.specs.declared.node_table.NodeTable.{NodeTable}
 use Rattle.dimacs_nodes.specs.Tables.{blank_of, value_of}
 use Rattle.dimacs_records.specs.Ranges.{IsWide}
-use Rattle.dimacs_instance.specs.declared.network.ArcView.{ArcView}
+use Rattle.dimacs_network.specs.declared.network.ArcView.{ArcView}
 use Rattle.dimacs_claims.specs.declared.block.Label.{Label}
 use Rattle.dimacs_claims.specs.Labels.{BlockValue, label}
 use Rattle.dimacs_judge.specs.declared.mark.Mark.{Mark}
@@ -11,7 +11,7 @@ use Rattle.dimacs_judge.specs.declared.marks.Tables.{Tables}
 use Rattle.dimacs_judge.specs.declared.marks.Weights.{Weights}
 use Rattle.dimacs_judge.specs.declared.marks.Weights.TheVariants.{Untested, NotNegative}
 use Rattle.dimacs_judge.specs.CertificateTests.{negative_row, relax_row}
-use Rattle.dimacs_judge.specs.Rows.{arc_at}
+use Rattle.dimacs_network.specs.Arcs.{arc_at}
 use Rattle.dimacs_judge.specs.Labels.{HasTightArc}
 use Rattle.dimacs_judge.specs.Tests.{Clear, ClearBelow}
 use Rattle.dimacs_judge.specs.inside.Distances.{below}

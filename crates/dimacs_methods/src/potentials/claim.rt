@@ -1,8 +1,9 @@
 //! The flow that is claimed to be least, and the residual arcs that it leaves.
 
 use crate::potentials::numbering::Numbering;
-use dimacs_instance::{ArcView, MinInstance, Network, Side};
+use dimacs_instance::MinInstance;
 use dimacs_lines::Memory;
+use dimacs_network::{ArcView, Network, Side};
 use std::alloc::Global;
 
 /// An arc along which more can be sent: from its tail, or back from its head.

@@ -6,8 +6,8 @@ use crate::potentials::groups::Places;
 use crate::potentials::step::Step;
 use crate::potentials::tables::{member, set_member};
 use crate::potentials::tight::Tight;
-use dimacs_instance::{Network, Side};
 use dimacs_lines::Memory;
+use dimacs_network::{Network, Side};
 use std::alloc::Global;
 
 /// The cheapest step from a group to the next one of a cycle.

@@ -3,8 +3,8 @@
 use crate::number::Number;
 use crate::potentials::claim::Claim;
 use crate::potentials::tables::{count_of, member, set_member};
-use dimacs_instance::Network;
 use dimacs_lines::Memory;
+use dimacs_network::Network;
 use std::alloc::Global;
 
 /// Where a node stands in a group.

@@ -5,8 +5,8 @@ use crate::potentials::claim::Claim;
 use crate::potentials::groups::{Place, Places};
 use crate::potentials::listing::Listed;
 use crate::potentials::tables::{member, set_member};
-use dimacs_instance::Network;
 use dimacs_lines::Memory;
+use dimacs_network::Network;
 use std::alloc::Global;
 
 /// A residual arc from one group to another, which is at most so much farther.

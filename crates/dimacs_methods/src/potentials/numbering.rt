@@ -1,8 +1,8 @@
 //! Numbers of nodes in tables.
 
 use crate::node_numbers::NodeNumbers;
-use dimacs_instance::Network;
 use dimacs_lines::Memory;
+use dimacs_network::Network;
 use std::alloc::Global;
 
 /// A number for each node that has an arc.

@@ -5,7 +5,7 @@ use crate::potentials::claim::{Claim, ResidualArc};
 use crate::potentials::groups::Places;
 use crate::potentials::links::Link;
 use crate::potentials::listing::Listed;
-use dimacs_instance::{Network, Side};
+use dimacs_network::{Network, Side};
 
 /// A residual arc, between nodes by their numbers.
 #[derive(Clone, Copy)]

@@ -6,8 +6,8 @@ use crate::potentials::groups::Places;
 use crate::potentials::listing::Listing;
 use crate::potentials::step::Step;
 use crate::potentials::tables::{member, set_member};
-use dimacs_instance::{Network, Side};
 use dimacs_lines::Memory;
+use dimacs_network::{Network, Side};
 use std::alloc::Global;
 
 /// The steps within groups that cost no more than the way from their beginning to their end, and the ways over them that

@@ -3,8 +3,8 @@
 use crate::number::Number;
 use crate::problem::Problem;
 use crate::simplex::mixing::Mixing;
-use dimacs_instance::Network;
 use dimacs_lines::Memory;
+use dimacs_network::Network;
 use std::alloc::Global;
 
 /// What the search for an entering arc reads of an arc.

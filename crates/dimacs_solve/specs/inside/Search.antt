@@ -1,6 +1,6 @@
 -- Inside: a search from one source.
 use Rattle.std.specs.Prelude.{ℕ, zero, suc, ◌≡◌, ◌≤◌, ◌+◌, ◌-◌, ◌*◌, ◌⊎◌, ◌&&◌, if◌then◌else◌, cond, Bool, true, false, List, ◌∷◌, All, Contains, Option, Some, None, length, IsPermutation, ℤ, pos, ◌≤ℤ◌}
-use Rattle.dimacs_records.specs.Ranges.{IsNode}
+use Rattle.dimacs_lines.specs.Limits.{IsNode}
 use Rattle.dimacs_claims.specs.declared.block.Label.{Label}
 use Rattle.dimacs_claims.specs.Labels.{BlockValue, IsBlock, label}
 use Rattle.dimacs_solve.specs.declared.adjacency.Adjacency.{Adjacency}

@@ -1,7 +1,7 @@
 use Rattle.std.proofs.Common.{List, [], ◌∷◌, ℕ, ℤ, length, subst}
 use Rattle.std.specs.Global.{Vec}
-use Rattle.dimacs_records.specs.Ranges.{IsNode}
-use Rattle.dimacs_instance.specs.Arcs.{NetworkValue}
+use Rattle.dimacs_lines.specs.Limits.{IsNode}
+use Rattle.dimacs_network.specs.Arcs.{NetworkValue}
 use Rattle.dimacs_instance.specs.Graph.{IsGraph}
 use Rattle.dimacs_decide.specs.Claims.{claimed_by_node}
 use Rattle.dimacs_arrays.specs.declared.error.Array.TheVariants.{Distances}

@@ -1,6 +1,6 @@
 use Rattle.std.proofs.Common.{List, [], ◌∷◌, ℕ, ℤ, length, subst}
-use Rattle.dimacs_records.specs.Ranges.{IsNode}
-use Rattle.dimacs_instance.specs.Arcs.{NetworkValue}
+use Rattle.dimacs_lines.specs.Limits.{IsNode}
+use Rattle.dimacs_network.specs.Arcs.{NetworkValue}
 use Rattle.dimacs_instance.specs.Graph.{IsGraph}
 use Rattle.dimacs_judge.specs.declared.verdict.Verdict.{Verdict}
 use Rattle.dimacs_decide.specs.Claims.{claimed_by_node}

@@ -1,7 +1,7 @@
 use Rattle.std.proofs.Common.{◌∙◌, ◌<◌, length, subst, sym, arith, ap}
 use Rattle.std.proofs.lemmas.List.{length-set}
 use Rattle.std.proofs.lemmas.List.Elements.{All-get_or}
-use Rattle.dimacs_records.specs.Ranges.{IsNode}
+use Rattle.dimacs_lines.specs.Limits.{IsNode}
 use Rattle.dimacs_claims.specs.Labels.{IsLabel, no_label}
 use Rattle.dimacs_claims.proofs.ByIdLemmas.{fresh_apart}
 use Rattle.dimacs_arrays.proofs.PredLemmas.{at_place, filled_all, filled_more}

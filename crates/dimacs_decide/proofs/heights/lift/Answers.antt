@@ -3,10 +3,11 @@ use Rattle.std.specs.Int.{w128}
 use Rattle.std.proofs.lemmas.Int.{ints, to_z-of_z}
 use Rattle.std.proofs.lemmas.Option.{get_or_from_slice_get}
 use Rattle.std.proofs.lemmas.Slice.Zip.{AllZip-long}
-use Rattle.dimacs_instance.specs.declared.network.ArcView.{ArcView}
+use Rattle.dimacs_network.specs.declared.network.ArcView.{ArcView}
 use Rattle.dimacs_instance.specs.MinFlows.{HasBounds}
-use Rattle.dimacs_instance.specs.Links.{end_of, other_end}
-use Rattle.dimacs_judge.specs.Rows.{arc_at, amount_at, no_arc}
+use Rattle.dimacs_network.specs.Links.{end_of, other_end}
+use Rattle.dimacs_judge.specs.Rows.{amount_at}
+use Rattle.dimacs_network.specs.Arcs.{arc_at, no_arc}
 use Rattle.dimacs_judge.proofs.Passing.{pair_at}
 use Rattle.dimacs_nodes.specs.Tables.{value_of}
 use Rattle.dimacs_decide.specs.declared.heights.Label.{Label}

@@ -1,5 +1,5 @@
 use Rattle.std.proofs.Common.{◌≡◌, ◌+◌, ◌∙◌, ap, arith, ℕ, cond}
-use Rattle.dimacs_records.specs.Ranges.{IsNode}
+use Rattle.dimacs_lines.specs.Limits.{IsNode}
 use Rattle.dimacs_claims.specs.Potentials.{potential_of}
 use Rattle.dimacs_nodes.specs.Tables.{value_of}
 use Rattle.dimacs_decide.specs.inside.Heights.{BelowBound, bound, height_of}

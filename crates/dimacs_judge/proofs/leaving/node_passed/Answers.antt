@@ -3,13 +3,13 @@ use Rattle.std.specs.Int.{w64, w128}
 use Rattle.std.proofs.lemmas.Int.{to_z-of_z}
 use Rattle.std.proofs.lemmas.Option.{get_or_from_slice_get}
 use Rattle.dimacs_records.specs.Ranges.{IsWide}
-use Rattle.dimacs_instance.specs.declared.network.ArcView.{ArcView}
-use Rattle.dimacs_instance.specs.declared.links.Side.TheVariants.{Tail}
-use Rattle.dimacs_instance.specs.Links.{IsLast}
+use Rattle.dimacs_network.specs.declared.network.ArcView.{ArcView}
+use Rattle.dimacs_network.specs.declared.links.Side.TheVariants.{Tail}
+use Rattle.dimacs_network.specs.Links.{IsLast}
 use Rattle.dimacs_claims.specs.Labels.{IsNear}
 use Rattle.dimacs_judge.specs.inside.Leaving.{IsPassed, WeightsFall, arcs_in}
 use Rattle.dimacs_judge.specs.inside.Marks.{known}
-use Rattle.dimacs_judge.specs.Rows.{arc_at, no_arc}
+use Rattle.dimacs_network.specs.Arcs.{arc_at, no_arc}
 use Rattle.dimacs_judge.proofs.LeavingLemmas.{ArePassedOn, at_place, no_reason, node_beyond, node_done, node_more, passed_still, passed_this}
 use Rattle.dimacs_judge.proofs.MarkLemmas.{known_after, known_wide, label_wide}
 use Rattle.dimacs_judge.proofs.leaving.node_passed.Goals as goal

@@ -1,8 +1,8 @@
 use Rattle.std.proofs.Common.{◌≡◌, ◌<◌, ◌≤◌, ◌-◌, length}
-use Rattle.dimacs_instance.specs.declared.network.ArcView.{ArcView}
+use Rattle.dimacs_network.specs.declared.network.ArcView.{ArcView}
 use Rattle.dimacs_judge.specs.inside.Leaving.{IsPassed, arcs_in}
 use Rattle.dimacs_judge.specs.inside.Marks.{IsMarked, known}
-use Rattle.dimacs_judge.specs.Rows.{arc_at}
+use Rattle.dimacs_network.specs.Arcs.{arc_at}
 use Rattle.dimacs_judge.proofs.LeavingLemmas.{ArePassedOn}
 use Rattle.dimacs_judge.proofs.leaving.node_passed.Given as goal
 

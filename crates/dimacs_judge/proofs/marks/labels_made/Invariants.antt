@@ -1,5 +1,5 @@
 use Rattle.std.proofs.Common.{◌≡◌, List}
-use Rattle.dimacs_instance.specs.declared.network.ArcView.{ArcView}
+use Rattle.dimacs_network.specs.declared.network.ArcView.{ArcView}
 use Rattle.dimacs_claims.specs.Labels.{BlockValue}
 use Rattle.dimacs_judge.specs.CertificateTests.{support_row}
 use Rattle.dimacs_judge.specs.inside.Marks.{AreMade, known}

@@ -1,5 +1,5 @@
 use Rattle.std.proofs.Common.{List, Err, inl, inr, subst}
-use Rattle.dimacs_instance.specs.declared.network.ArcView.{ArcView}
+use Rattle.dimacs_network.specs.declared.network.ArcView.{ArcView}
 use Rattle.dimacs_instance.specs.QueryTexts.{asked}
 use Rattle.dimacs_judge.specs.CertificateTests.{label_rows}
 use Rattle.dimacs_judge.specs.PathsJudge.{paths_rows}

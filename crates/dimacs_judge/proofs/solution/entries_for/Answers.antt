@@ -3,7 +3,8 @@ use Rattle.std.proofs.lemmas.Int.{to_z-of_z}
 use Rattle.std.proofs.lemmas.List.{length-append, map-append, take_more}
 use Rattle.std.proofs.lemmas.Option.{get_or_from_slice_get}
 use Rattle.dimacs_claims.specs.declared.solution.Entry.{Entry}
-use Rattle.dimacs_judge.specs.Rows.{arc_at, amount_at, no_arc}
+use Rattle.dimacs_judge.specs.Rows.{amount_at}
+use Rattle.dimacs_network.specs.Arcs.{arc_at, no_arc}
 use Rattle.dimacs_judge.proofs.SolutionLemmas.{entries_more}
 use Rattle.dimacs_judge.proofs.solution.entries_for.Goals as goal
 

@@ -1,5 +1,5 @@
 use Rattle.std.proofs.Common.{ℕ, ◌<◌}
-use Rattle.dimacs_judge.specs.Rows.{arc_at}
+use Rattle.dimacs_network.specs.Arcs.{arc_at}
 use Rattle.dimacs_solve.specs.Paths.{HasNoNegativeWeight}
 use Rattle.dimacs_solve.proofs.paths.first_negative.Given as goal
 

@@ -5,7 +5,7 @@ use Rattle.std.proofs.lemmas.Option.{get_or_from_slice_get}
 use Rattle.std.specs.FinSet.{contains-empty}
 use Rattle.std.specs.List.{list_any}
 use Rattle.std.specs.Ordering.{nat_cmp}
-use Rattle.dimacs_records.specs.Ranges.{IsNode}
+use Rattle.dimacs_lines.specs.Limits.{IsNode}
 use Rattle.dimacs_instance.specs.QueryTexts.{asked}
 use Rattle.dimacs_claims.specs.Labels.{LabelsValue, has_source}
 use Rattle.dimacs_judge.specs.QueryTests.{sources_asked}

@@ -1,7 +1,7 @@
 use Rattle.std.proofs.Common.{rules, ◌≡◌, ◌∙◌, false, length, SFits, sym, subst, Some, refl}
 use Rattle.std.specs.Int.{w128}
 use Rattle.std.proofs.lemmas.Int.{to_z-of_z}
-use Rattle.dimacs_records.specs.Ranges.{IsNode}
+use Rattle.dimacs_lines.specs.Limits.{IsNode}
 use Rattle.dimacs_claims.specs.Labels.{IsBlock, IsLabel, IsNear, with_label}
 use Rattle.dimacs_decide.specs.Claims.{claimed_by_node}
 use Rattle.dimacs_nodes.specs.Tables.{value_of}

@@ -1,6 +1,6 @@
 use Rattle.std.proofs.Common.{◌≡◌, ◌+◌, ap, sym, ◌∙◌, arith, false, true}
 use Rattle.std.specs.FinSet as set
-use Rattle.dimacs_records.specs.Ranges.{IsNode}
+use Rattle.dimacs_lines.specs.Limits.{IsNode}
 use Rattle.dimacs_claims.proofs.CutLemmas.{again_same, few_ids, law_with_node, one_node_more}
 use Rattle.dimacs_claims.proofs.cut.Cut.add.Goals as goal
 

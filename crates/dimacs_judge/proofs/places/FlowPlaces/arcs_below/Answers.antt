@@ -1,5 +1,5 @@
 use Rattle.std.proofs.Common.{length, ap, arith}
-use Rattle.dimacs_instance.specs.Arcs.{joins}
+use Rattle.dimacs_network.specs.Arcs.{joins}
 use Rattle.dimacs_judge.specs.Places.{PlacesValue}
 use Rattle.dimacs_judge.proofs.PlaceLemmas.{fewer_below, one_more_below, no_more_below}
 use Rattle.dimacs_judge.proofs.places.FlowPlaces.arcs_below.Goals as goal

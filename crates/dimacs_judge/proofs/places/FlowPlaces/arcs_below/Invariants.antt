@@ -1,5 +1,5 @@
 use Rattle.std.proofs.Common.{◌≤◌, take, count_by}
-use Rattle.dimacs_instance.specs.Arcs.{joins}
+use Rattle.dimacs_network.specs.Arcs.{joins}
 use Rattle.dimacs_judge.proofs.places.FlowPlaces.arcs_below.Given as goal
 
 -- at least k arcs were found

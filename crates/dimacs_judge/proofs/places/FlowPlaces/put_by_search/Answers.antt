@@ -1,7 +1,7 @@
 use Rattle.std.proofs.Common.{◌≡◌, ◌<◌, [], length, true, w64, SFits, rules, arith}
 use Rattle.std.proofs.lemmas.Int.{to_z-of_z}
 use Rattle.std.proofs.lemmas.List.Sums.{count_by-le-length}
-use Rattle.dimacs_instance.specs.Arcs.{joins}
+use Rattle.dimacs_network.specs.Arcs.{joins}
 use Rattle.dimacs_judge.proofs.PlaceLemmas.{found_among, none_left, found_placed}
 use Rattle.dimacs_judge.proofs.places.FlowPlaces.put_by_search.Goals as goal
 

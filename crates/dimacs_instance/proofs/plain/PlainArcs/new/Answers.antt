@@ -1,6 +1,0 @@
-use Rattle.std.proofs.Common.{refl}
-use Rattle.dimacs_instance.proofs.KeptLemmas.{kept_none}
-use Rattle.dimacs_instance.proofs.plain.PlainArcs.new.Goals as goal
-
-pub returns : goal.returns
-returns g c = rw (c.new.ensures.items, c.new-2.ensures.items, kept_none g.A.KeptArc.arc_of) refl

@@ -1,7 +1,0 @@
-use Rattle.std.proofs.Common.{◌≡◌, ◌+◌, take, count_by}
-use Rattle.dimacs_instance.specs.Arcs.{joins}
-use Rattle.dimacs_instance.proofs.plain.PlainArcsNetwork.find.Given as goal
-
--- the arcs of these ends that were passed, and those still to pass
-abbrev pub invariant-loop-i : goal.invariant-loop-i
-invariant-loop-i g l = l.left + count_by (joins l.tail l.head) (take l.i l.self.arcs) ≡ l.k

@@ -1,0 +1,24 @@
+//! Networks: their arcs, how these are kept, and how they are found by their ends.
+//!
+//! A network is a list of arcs in the order of the text. The judges see it through `Network` alone, so it may keep its
+//! arcs as it likes.
+#![tactic(auto)]
+
+mod arc_index;
+mod arc_order;
+mod arcs;
+mod forward_star;
+mod gather;
+mod links;
+mod network;
+mod of_arcs;
+mod plain_arcs;
+mod tail_starts;
+
+pub use arc_index::ArcIndex;
+pub use arcs::{ArcEnds, BoundsAndCost, CapacityArc, KeptArc, WeightArc};
+pub use forward_star::ForwardStar;
+pub use links::{Links, Side};
+pub use network::{ArcView, Network};
+pub use of_arcs::{OfCapacityArcs, OfCostArcs, OfWeightArcs};
+pub use plain_arcs::{MAX_ARCS, PlainArcs};

@@ -1,0 +1,94 @@
+//! A network that scans its list.
+
+ghost use Rattle.std.specs.Prelude.{◌≡◌, ◌<◌, ◌≤◌, ◌+◌, ◌++◌, ◌∷◌, [], List, Some, length, slice_get, OnOk, OnErr};
+ghost use Rattle.dimacs_lines.specs.Limits.{most_count};
+ghost use Rattle.dimacs_network.specs.declared.network.ArcView.{ArcView};
+
+use crate::arcs::KeptArc;
+use crate::network::{ArcView, Network};
+use dimacs_lines::Memory;
+use std::alloc::Global;
+use std::marker::Model;
+
+/// The most arcs of an instance, as many as a text can declare.
+pub const MAX_ARCS: u32 = 268_435_456;
+
+/// Arcs in the order of the text, with no index: `find` scans them.
+#[derive(Drop)]
+pub struct PlainArcs<A: KeptArc> {
+    nodes: u32,
+    with_ends: Vec<A::WithEnds>,
+    apart: Vec<A::Apart>,
+}
+
+impl<A: KeptArc> Model for PlainArcs<A> {
+    ghost use Rattle.std.specs.Prelude.{◌≤◌, ◌≡◌, length};
+    ghost use Rattle.dimacs_lines.specs.Limits.{most_count};
+    ghost use Rattle.dimacs_network.specs.Arcs.{NetworkValue};
+    ghost use Rattle.dimacs_network.specs.KeptArcs.{arcs_of};
+
+    ghost Value = { NetworkValue };
+
+    ghost view = { λ n. record { nodes = n.nodes; arcs = arcs_of A.arc_of n.with_ends.items n.apart.items } };
+
+    ghost invariant = { λ n. (length n.with_ends.items ≤ most_count) × (length n.apart.items ≡ length n.with_ends.items) };
+}
+
+impl<A: KeptArc> PlainArcs<A> {
+    /// A network without arcs.
+    pub fn new(alloc: Global, nodes: u32) -> PlainArcs<A>
+        ensures { result ≡ record { nodes = nodes; arcs = [] } }
+    {
+        PlainArcs {
+            nodes,
+            with_ends: Vec::new(alloc),
+            apart: Vec::new(alloc),
+        }
+    }
+
+    /// Adds an arc after the others.
+    pub fn push(&mut self, arc: A) -> Result<(), Memory>
+        requires { length self.old.arcs < most_count }
+        ensures pushed { OnOk result (self.new ≡ record self.old { arcs = self.old.arcs ++ A.shows arc ∷ [] }) }
+        ensures unchanged { OnErr result (self.new ≡ self.old) }
+    {
+        let (with_ends, apart) = arc.parts();
+        self.apart.reserve(1)?;
+        self.with_ends.push(with_ends)?;
+        self.apart.push_reserved(apart);
+        Ok(())
+    }
+}
+
+impl<A: KeptArc> Network for PlainArcs<A> {
+    ghost node_count = { λ n. n.nodes };
+
+    ghost list = { λ n. n.arcs };
+
+    fn nodes(&self) -> u32 {
+        self.nodes
+    }
+
+    fn arcs(&self) -> u32 {
+        self.with_ends.len() as u32
+    }
+
+    #[inline(always)]
+    fn arc(&self, i: u32) -> ArcView {
+        A::whole(self.with_ends[i as usize], self.apart[i as usize])
+    }
+
+    fn find(&self, tail: u32, head: u32, k: u32) -> Option<u32> {
+        let mut left = k;
+        for i in 0..self.arcs() {
+            let arc = self.arc(i);
+            if arc.tail == tail && arc.head == head {
+                if left == 0 {
+                    return Some(i);
+                }
+                left -= 1;
+            }
+        }
+        None
+    }
+}
