@@ -1,6 +1,6 @@
 -- The records of a solution.
 use Rattle.std.proofs.Common.{◌≡◌, ℕ, suc, ◌≤◌, ◌∷◌, ◌++◌, [], List, Bool, true, false, Option, Some, None, Result, Ok, Err, length, map, ◌+◌, refl, ap, sym, ◌∙◌, arith, append_assoc}
-use Rattle.std.specs.Prelude.{ℤ, pos, neg_ℤ, ◌^◌, codes, is_some, IfOk, IfErr, OnOk, OnErr, IsErrAnd, ◌↔◌}
+use Rattle.std.specs.Prelude.{ℤ, pos, neg_ℤ, ◌^◌, codes, is_some, IfOk, IsErrAnd, ◌↔◌}
 use Rattle.std.specs.List.{All, list_any}
 use Rattle.std.specs.Result.{result_map_both}
 use Rattle.std.proofs.lemmas.Int.{ints}
@@ -12,7 +12,6 @@ use Rattle.dimacs_lines.specs.Number.{IsWithin}
 use Rattle.dimacs_records.specs.declared.kinds.TextKind.TheVariants as kinds
 use Rattle.dimacs_records.specs.declared.records.Record.{Record}
 use Rattle.dimacs_records.specs.declared.records.Record.TheVariants as records
-use Rattle.dimacs_records.specs.declared.faults.TakeError.{TakeError}
 use Rattle.dimacs_records.specs.declared.faults.ReadError.{ReadError}
 use Rattle.dimacs_records.specs.declared.faults.ReadError.TheVariants as read_errors
 use Rattle.dimacs_records.specs.Earlier.{counted_in, is_value, problem_in}
@@ -20,7 +19,7 @@ use Rattle.dimacs_records.specs.Faults.{Spell}
 use Rattle.dimacs_records.specs.Spelling.{parts_of, texts_in}
 use Rattle.dimacs_records.specs.Forms.{form, Wide, Id, Whole}
 use Rattle.dimacs_records.specs.Canonical.{CanBeSpelled, FitAll, canonical_text}
-use Rattle.dimacs_records.specs.Readings.{LineRecord, AreBefore, AreSpelledBefore, IsOfKind, ReadsLines, IsAllowed, RefusesRecord, on_line, records_of, numbered}
+use Rattle.dimacs_records.specs.Readings.{LineRecord, AreSpelledBefore, IsOfKind, ReadsLines, IsAllowed, on_line, records_of, numbered}
 use Rattle.dimacs_records.specs.Tests.{Passes, told_at_end, told_of}
 use Rattle.dimacs_records.specs.Texts.{AreSpelled, AreFaultless}
 use Rattle.dimacs_records.proofs.CanonicalLaws.{canonical_spelled}
@@ -34,7 +33,7 @@ use Rattle.dimacs_claims.specs.declared.solution.Solution.{Solution}
 use Rattle.dimacs_claims.specs.declared.solution.ValueLine.{ValueLine}
 use Rattle.dimacs_claims.specs.SolutionTexts.{SolutionValue, GivesSolution, SpellsSolution, IsLawful, IsLawfulEntry, canonical_solution, claimed, entry_line, entry_record, on_lines_from, renumbered, solution_records}
 use Rattle.dimacs_claims.specs.SolutionReading.{AreTaken, StandsForSolution, GivesPlaced, IsPlaced, IsPlacedLawful, AnswersAlike, ReadsLike}
-use Rattle.dimacs_claims.specs.inside.SolutionReading.{TakesSolutionLine, earlier_value}
+use Rattle.dimacs_claims.specs.inside.SolutionReading.{earlier_value}
 
 abbrev IsSolutionLine : LineRecord → Type 0
 IsSolutionLine r = IsOfKind kinds.Solution r.says
@@ -324,21 +323,3 @@ pub error_kept : {W : Type 0} (like : SolutionValue → W → Type 0) (told : Re
 error_kept like (Err f) e (Err h) alike is = ap Err (alike ∙ sym is)
 error_kept like (Ok s) e result alike is = absurd alike
 error_kept like (Err f) e (Ok s) alike is = absurd is
-
--- ---- what becomes of a reading, clause by clause
-module _ (old new : List LineRecord → Type 0) (r : LineRecord) where
-  pub line_allowed : (result : Result Unit TakeError) → TakesSolutionLine old r result new → OnOk result ((rs : List LineRecord) → old rs → IsAllowed (records_of rs) r.says)
-  line_allowed (Ok done) takes = λ rs h. (takes rs h).0
-  line_allowed (Err error) takes = tt
-
-  pub line_taken : (line : ℕ) (result : Result Unit TakeError) → TakesSolutionLine old r result new → OnOk result ((rs : List LineRecord) → old rs → AreBefore line rs → new (rs ++ r ∷ []))
-  line_taken line (Ok done) takes = λ rs h before. (takes rs h).1
-  line_taken line (Err error) takes = tt
-
-  pub line_refused : (result : Result Unit TakeError) → TakesSolutionLine old r result new → IfErr result (λ error. (rs : List LineRecord) → old rs → RefusesRecord (records_of rs) r.says error)
-  line_refused (Ok done) takes = tt
-  line_refused (Err error) takes = λ rs. (takes rs).1
-
-  pub line_unchanged : (result : Result Unit TakeError) → TakesSolutionLine old r result new → OnErr result ((rs : List LineRecord) → new rs ↔ old rs)
-  line_unchanged (Ok done) takes = tt
-  line_unchanged (Err error) takes = λ rs. (takes rs).0

@@ -6,13 +6,12 @@ ghost use Rattle.std.specs.Result.{result_map_both};
 ghost use Rattle.dimacs_lines.specs.Lines.{lines};
 ghost use Rattle.dimacs_lines.specs.Puts.{Puts};
 ghost use Rattle.dimacs_records.specs.declared.kinds.TextKind.TheVariants as kinds;
-ghost use Rattle.dimacs_records.specs.declared.records.Record.TheVariants as records;
 ghost use Rattle.dimacs_records.specs.Faults.{Fault};
-ghost use Rattle.dimacs_records.specs.Readings.{CountsRead, on_line};
+ghost use Rattle.dimacs_records.specs.Readings.{CountsRead};
 ghost use Rattle.dimacs_records.specs.Texts.{Reads};
 ghost use Rattle.dimacs_claims.specs.SolutionTexts.{SolutionValue, IsLawful, SpellsSolution, canonical_solution, claimed, entry_line, entry_record, renumbered};
 ghost use Rattle.dimacs_claims.specs.SolutionReading.{GivesPlaced, IsPlaced, IsPlacedLawful, ReadsLike, StandsForSolution};
-ghost use Rattle.dimacs_claims.specs.inside.SolutionReading.{TakesSolutionLine, earlier_value};
+ghost use Rattle.dimacs_claims.specs.inside.SolutionReading.{earlier_value};
 
 use crate::place::{Place, Placed};
 use dimacs_lines::{DeviceFault, Sink, Source};
@@ -90,27 +89,6 @@ impl<P: Place> SolutionReading<P> {
             ..Earlier::of(None, 0)
         }
     }
-
-    fn take_value(&mut self, said: ValueLine) -> Result<(), TakeError>
-        ensures takes { TakesSolutionLine (StandsForSolution self.old.value (P.stands_for self.old.place))
-            (on_line said.line (records.SolutionValue said.value)) result
-            (StandsForSolution self.new.value (P.stands_for self.new.place)) }
-        ensures fixed { P.fixed self.new.place ≡ P.fixed self.old.place }
-    {
-        test_record(self.earlier(), Record::SolutionValue { value: said.value })?;
-        self.value = Some(said);
-        Ok(())
-    }
-
-    #[inline(always)]
-    fn take_entry(&mut self, entry: Entry) -> Result<(), TakeError>
-        ensures takes { TakesSolutionLine (StandsForSolution self.old.value (P.stands_for self.old.place))
-            (entry_line entry) result (StandsForSolution self.new.value (P.stands_for self.new.place)) }
-        ensures fixed { P.fixed self.new.place ≡ P.fixed self.old.place }
-    {
-        self.place.place(entry)?;
-        Ok(())
-    }
 }
 
 impl<P: Place> Reading for SolutionReading<P> {
@@ -127,15 +105,21 @@ impl<P: Place> Reading for SolutionReading<P> {
     #[inline(always)]
     fn take(&mut self, line: u64, said: Record) -> Result<(), TakeError> {
         match said {
-            Record::SolutionValue { value } => self.take_value(ValueLine { value, line }),
-            Record::SolutionEntry { tail, head, flow } => self.take_entry(Entry {
-                tail,
-                head,
-                flow,
-                line,
-            }),
+            Record::SolutionValue { value } => {
+                test_record(self.earlier(), said)?;
+                self.value = Some(ValueLine { value, line });
+            }
+            Record::SolutionEntry { tail, head, flow } => {
+                self.place.place(Entry {
+                    tail,
+                    head,
+                    flow,
+                    line,
+                })?;
+            }
             _ => unreachable!(),
         }
+        Ok(())
     }
 
     fn finish(self) -> Result<Placed<P>, TakeError> {

@@ -1,6 +1,5 @@
 -- Numbers that stand in bytes with one byte right after them.
 use Rattle.std.proofs.Common.{◌≡◌, ◌+◌, ◌-◌, ◌*◌, ◌^◌, ◌<◌, ◌≤◌, ◌++◌, ◌∷◌, [], ℕ, List, length, take, drop, get_or, ap, ap₂, sym, ◌∙◌, arith, length-append, length-drop, append_assoc, pow-add}
-use Rattle.std.specs.List.{All}
 use Rattle.std.specs.Char.{IsAsciiDigit}
 use Rattle.std.proofs.lemmas.List.Elements.{All-append}
 use Rattle.std.specs.Prelude.{pos, neg_ℤ}

@@ -1,9 +1,9 @@
 //! Files and the standard output. They tell nothing of their bytes, since no contract can say what a file holds. What
 //! the clauses of `pull` and `put` say is of each reader and writer that does tell.
 
-ghost use Rattle.std.specs.Prelude.{◌≡◌, ◌≢◌, ◌≤◌, None, length, IfOk};
+ghost use Rattle.std.specs.Prelude.{◌≡◌, ◌≢◌, ◌≤◌, None, Some, length, IfOk};
 ghost use Rattle.std.specs.Io.KnownBytes.{ReadConsumes, WriteAppends};
-ghost use Rattle.dimacs_lines.specs.Devices.{CountsFault, CountsPut, TellsReason};
+ghost use Rattle.dimacs_lines.specs.Devices.{CountsFault, CountsPut, TellsReason, one_more};
 
 use crate::device::{DeviceFault, Sink, Source};
 use std::io;
@@ -11,42 +11,60 @@ use std::io::{ErrorKind, Printer, Read, Write};
 use std::marker::Model;
 
 /// A file that was opened, or another reader.
+pub type FileSource<R> = FileDevice<R>;
+
+/// A file that was created, or another writer. Bytes go to it as they are put.
+pub type FileSink<W> = FileDevice<W>;
+
+/// The standard output: made by `FileSink::new(io::writer(rt))`.
+pub type StdoutSink<'a, P> = FileSink<Printer<'a, P>>;
+
+/// A device over a file, or over another reader or writer.
 #[derive(Drop)]
-pub struct FileSource<R> {
-    reader: R,
+pub struct FileDevice<F> {
+    file: F,
     faults: u64,
     /// Why the last call that failed did.
     reason: Option<io::Error>,
 }
 
-impl<R> Model for FileSource<R> {
+impl<F> Model for FileDevice<F> {
     ghost use Rattle.dimacs_lines.specs.Devices.{OverFile};
 
-    ghost Value = { OverFile R };
+    ghost Value = { OverFile F };
 
-    ghost view = { λ s. record { file = s.reader; faults = s.faults; reason = s.reason } };
+    ghost view = { λ d. record { file = d.file; faults = d.faults; reason = d.reason } };
 }
 
-impl<R: Read> FileSource<R> {
-    pub fn new(reader: R) -> FileSource<R>
-        ensures { result ≡ record { file = reader; faults = 0; reason = None } }
+impl<F> FileDevice<F> {
+    pub fn new(file: F) -> FileDevice<F>
+        ensures { result ≡ record { file = file; faults = 0; reason = None } }
     {
-        FileSource {
-            reader,
+        FileDevice {
+            file,
             faults: 0,
             reason: None,
         }
     }
 
-    /// Why the last read that failed did, by the system; none where none failed.
+    /// Why the last call that failed did, by the system; none where none failed.
     pub fn reason(&self) -> Option<io::Error>
         ensures { result ≡ self.now.reason }
     {
         self.reason
     }
+
+    /// Keeps why a call failed, and counts it.
+    fn fail(&mut self, error: io::Error) -> DeviceFault
+        ensures { self.new ≡ record { file = self.old.file; faults = one_more self.old.faults; reason = Some error } }
+    {
+        self.faults = self.faults.wrapping_add(1);
+        self.reason = Some(error);
+        DeviceFault
+    }
 }
 
-impl<R: Read> Source for FileSource<R> {
+impl<R: Read> Source for FileDevice<R> {
     ghost coming = { λ s. None };
 
     ghost faults = { λ s. s.faults };
@@ -57,13 +75,9 @@ impl<R: Read> Source for FileSource<R> {
         ensures fault { CountsFault result self.old.faults self.new.faults }
         ensures reason { TellsReason result self.old.reason self.new.reason }
     {
-        match read_some(&mut self.reader, into) {
+        match read_some(&mut self.file, into) {
             Ok(count) => Ok(count),
-            Err(error) => {
-                self.faults = self.faults.wrapping_add(1);
-                self.reason = Some(error);
-                Err(DeviceFault)
-            }
+            Err(error) => Err(self.fail(error)),
         }
     }
 }
@@ -83,43 +97,7 @@ fn read_some<R: Read>(reader: &mut R, into: &mut [u8]) -> io::Result<usize>
     Err(io::Error::from(ErrorKind::Interrupted))
 }
 
-/// A file that was created, or another writer. Bytes go to it as they are put.
-#[derive(Drop)]
-pub struct FileSink<W> {
-    writer: W,
-    faults: u64,
-    /// Why the last call that failed did.
-    reason: Option<io::Error>,
-}
-
-impl<W> Model for FileSink<W> {
-    ghost use Rattle.dimacs_lines.specs.Devices.{OverFile};
-
-    ghost Value = { OverFile W };
-
-    ghost view = { λ s. record { file = s.writer; faults = s.faults; reason = s.reason } };
-}
-
-impl<W: Write> FileSink<W> {
-    pub fn new(writer: W) -> FileSink<W>
-        ensures { result ≡ record { file = writer; faults = 0; reason = None } }
-    {
-        FileSink {
-            writer,
-            faults: 0,
-            reason: None,
-        }
-    }
-
-    /// Why the last write that failed did, by the system; none where none failed.
-    pub fn reason(&self) -> Option<io::Error>
-        ensures { result ≡ self.now.reason }
-    {
-        self.reason
-    }
-}
-
-impl<W: Write> Sink for FileSink<W> {
+impl<W: Write> Sink for FileDevice<W> {
     ghost seen = { λ s. record { accepted = None; faults = s.faults } };
 
     fn put(&mut self, bytes: &[u8]) -> Result<usize, DeviceFault>
@@ -128,13 +106,9 @@ impl<W: Write> Sink for FileSink<W> {
         ensures fault { CountsPut result bytes.now self.old.faults self.new.faults }
         ensures reason { TellsReason result self.old.reason self.new.reason }
     {
-        match write_some(&mut self.writer, bytes) {
+        match write_some(&mut self.file, bytes) {
             Ok(count) => Ok(count),
-            Err(error) => {
-                self.faults = self.faults.wrapping_add(1);
-                self.reason = Some(error);
-                Err(DeviceFault)
-            }
+            Err(error) => Err(self.fail(error)),
         }
     }
 }
@@ -155,6 +129,3 @@ fn write_some<W: Write>(writer: &mut W, bytes: &[u8]) -> io::Result<usize>
     }
     Err(io::Error::from(ErrorKind::Interrupted))
 }
-
-/// The standard output: made by `FileSink::new(io::writer(rt))`.
-pub type StdoutSink<'a, P> = FileSink<Printer<'a, P>>;

@@ -19,7 +19,7 @@ mod sources;
 mod split;
 
 pub use device::{DeviceFault, Memory, Sink, Source, put_all};
-pub use files::{FileSink, FileSource, StdoutSink};
+pub use files::{FileDevice, FileSink, FileSource, StdoutSink};
 pub use numbers::{NumberFault, WIDE, number, wide};
 pub use page::Page;
 pub use plain::{plain_id, plain_whole};

@@ -1,4 +1,4 @@
-use Rattle.std.proofs.Common.{◌<◌, ◌+◌, ◌^◌, ap, sym, subst, ◌∙◌, arith, eqb-true, eq-eqb, w64, ℕ}
+use Rattle.std.proofs.Common.{◌<◌, ◌+◌, ◌^◌, ap, sym, subst, ◌∙◌, arith, eqb-true, eq-eqb, w64}
 use Rattle.std.specs.Int.{to_le_bytes}
 use Rattle.dimacs_lines.proofs.Lanes.{word_of-to_le_bytes}
 use Rattle.dimacs_lines.proofs.Marks.{carries, carries-none, carry_fits}

@@ -1,4 +1,4 @@
-use Rattle.std.proofs.Common.{◌≡◌, ℕ, ◌-◌, ◌<◌, ◌≤◌, List, ◌++◌, min, length, take, drop, replicate, map, bit_xor, refl, w64, sym, ap, subst, ◌∙◌, arith, take-take, length-take}
+use Rattle.std.proofs.Common.{◌≡◌, ℕ, ◌-◌, ◌<◌, ◌≤◌, List, ◌++◌, min, length, take, drop, replicate, w64, sym, ap, subst, ◌∙◌, arith, take-take, length-take}
 use Rattle.std.specs.Char.{is_ascii_digit}
 use Rattle.std.specs.Int.{to_le_bytes}
 use Rattle.std.specs.Int.Digits.{AllBelowBase, number_from_digits}

@@ -1,4 +1,4 @@
-use Rattle.std.proofs.Common.{rules, ◌≡◌, ◌*◌, ◌≤◌, ◌<◌, ◌^◌, arith, subst, sym, ap₂, ◌+◌, ◌∙◌, ap}
+use Rattle.std.proofs.Common.{rules, ◌*◌, ◌<◌, ◌^◌, arith, subst, sym, ap₂, ◌+◌, ◌∙◌, ap}
 use Rattle.std.proofs.lemmas.Nat.{mul-le}
 use Rattle.dimacs_lines.specs.inside.Plain.{DigitsAt}
 use Rattle.dimacs_lines.proofs.PlainLemmas.{digits_joined}

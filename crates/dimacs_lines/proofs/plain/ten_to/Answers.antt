@@ -1,4 +1,4 @@
-use Rattle.std.proofs.Common.{◌^◌, ◌<◌, true, eqb, leb, eqb-true, leb-true, get_or, refl, arith, [], ◌∷◌}
+use Rattle.std.proofs.Common.{◌^◌, true, eqb, leb, eqb-true, leb-true, get_or, refl, arith, [], ◌∷◌}
 use Rattle.std.proofs.lemmas.Bool.{agree_below_at}
 use Rattle.dimacs_lines.proofs.plain.ten_to.Goals as goal
 

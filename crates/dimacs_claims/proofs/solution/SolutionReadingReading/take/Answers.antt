@@ -1,48 +1,39 @@
 use Rattle.std.proofs.Common.{w64, SFits, rules}
 use Rattle.std.specs.Int.{w128}
 use Rattle.std.proofs.lemmas.Int.{to_z-of_z}
-use Rattle.dimacs_records.specs.declared.records.Record.TheVariants.{SolutionValue, SolutionEntry}
-use Rattle.dimacs_records.specs.Readings.{on_line}
-use Rattle.dimacs_claims.specs.SolutionReading.{StandsForSolution}
-use Rattle.dimacs_claims.proofs.SolutionLemmas.{line_allowed, line_taken, line_unchanged}
+use Rattle.std.proofs.lemmas.Result.{err_from_is_err_and}
+use Rattle.dimacs_records.specs.declared.records.Record.TheVariants.{SolutionValue}
+use Rattle.dimacs_records.specs.Readings.{records_of}
+use Rattle.dimacs_records.proofs.OrderLemmas.{refused_told}
+use Rattle.dimacs_claims.specs.declared.solution.Entry.{Entry}
+use Rattle.dimacs_claims.specs.inside.SolutionReading.{earlier_value}
+use Rattle.dimacs_claims.proofs.SolutionLemmas.{entry_placed, value_placed, value_tells}
 use Rattle.dimacs_claims.proofs.solution.SolutionReadingReading.take.Goals as goal
 
-pub returns-in-SolutionValue-clause-allowed : goal.returns-in-SolutionValue-clause-allowed
-returns-in-SolutionValue-clause-allowed g c =
-    let said = c.in-SolutionValue in
-    let old = StandsForSolution c.args.self.now.value (g.P.Place.stands_for c.args.self.now.place) in
-    let new = StandsForSolution c.take_value.new.self.value (g.P.Place.stands_for c.take_value.new.self.place) in
-    let fits : SFits w128 said.value = search rules in
-    rw said.is (line_allowed old new (on_line c.args.line (SolutionValue said.value)) c.take_value.result (rw (to_z-of_z w128 said.value fits) at c.take_value.ensures.takes))
+pub returns-in_err-test_record-in-SolutionValue-clause-refused : goal.returns-in_err-test_record-in-SolutionValue-clause-refused
+returns-in_err-test_record-in-SolutionValue-clause-refused g c =
+    let stands = g.P.Place.stands_for c.args.self.now.place in
+    let told = rw c.earlier.ensures at c.in_err-test_record-in-SolutionValue.ensures.told in
+    let p = err_from_is_err_and c.from_residual.result c.from_residual.ensures.1 in
+    rw (p.1, p.2, c.in-SolutionValue.is) (λ rs h. refused_told (earlier_value c.args.self.now.value) (records_of rs) (SolutionValue c.in-SolutionValue.value) _ told (value_tells stands rs c.args.self.now.value c.in-SolutionValue.value h))
 
-pub returns-in-SolutionValue-clause-taken : goal.returns-in-SolutionValue-clause-taken
-returns-in-SolutionValue-clause-taken g c =
-    let said = c.in-SolutionValue in
-    let old = StandsForSolution c.args.self.now.value (g.P.Place.stands_for c.args.self.now.place) in
-    let new = StandsForSolution c.take_value.new.self.value (g.P.Place.stands_for c.take_value.new.self.place) in
-    let fits : SFits w128 said.value = search rules in
-    rw said.is (line_taken old new (on_line c.args.line (SolutionValue said.value)) c.args.line c.take_value.result (rw (to_z-of_z w128 said.value fits) at c.take_value.ensures.takes))
+pub returns-in_ok-test_record-in-SolutionValue-clause-allowed : goal.returns-in_ok-test_record-in-SolutionValue-clause-allowed
+returns-in_ok-test_record-in-SolutionValue-clause-allowed g c = λ rs h.
+    let stands = g.P.Place.stands_for c.args.self.now.place in
+    let passes = rw c.earlier.ensures at c.in_ok-test_record-in-SolutionValue.ensures.passes in
+    rw c.in-SolutionValue.is (value_placed stands rs c.args.self.now.value c.args.line c.in-SolutionValue.value passes h).0
 
-pub returns-in-SolutionValue-clause-unchanged : goal.returns-in-SolutionValue-clause-unchanged
-returns-in-SolutionValue-clause-unchanged g c =
-    let said = c.in-SolutionValue in
-    let old = StandsForSolution c.args.self.now.value (g.P.Place.stands_for c.args.self.now.place) in
-    let new = StandsForSolution c.take_value.new.self.value (g.P.Place.stands_for c.take_value.new.self.place) in
-    let fits : SFits w128 said.value = search rules in
-    line_unchanged old new (on_line c.args.line (SolutionValue said.value)) c.take_value.result (rw (to_z-of_z w128 said.value fits) at c.take_value.ensures.takes)
+pub returns-in_ok-test_record-in-SolutionValue-clause-taken : goal.returns-in_ok-test_record-in-SolutionValue-clause-taken
+returns-in_ok-test_record-in-SolutionValue-clause-taken g c = λ rs h before.
+    let stands = g.P.Place.stands_for c.args.self.now.place in
+    let passes = rw c.earlier.ensures at c.in_ok-test_record-in-SolutionValue.ensures.passes in
+    let fits : SFits w128 c.in-SolutionValue.value = search rules in
+    rw (c.in-SolutionValue.is, to_z-of_z w128 c.in-SolutionValue.value fits) (value_placed stands rs c.args.self.now.value c.args.line c.in-SolutionValue.value passes h).1
 
-pub returns-in-SolutionEntry-clause-taken : goal.returns-in-SolutionEntry-clause-taken
-returns-in-SolutionEntry-clause-taken g c =
+pub returns-in_ok-place-in-SolutionEntry-clause-taken : goal.returns-in_ok-place-in-SolutionEntry-clause-taken
+returns-in_ok-place-in-SolutionEntry-clause-taken g c = λ rs h before.
     let said = c.in-SolutionEntry in
-    let old = StandsForSolution c.args.self.now.value (g.P.Place.stands_for c.args.self.now.place) in
-    let new = StandsForSolution c.take_entry.new.self.value (g.P.Place.stands_for c.take_entry.new.self.place) in
+    let entry : Entry = record { tail = said.tail; head = said.head; flow = said.flow; line = c.args.line } in
     let fits : SFits w64 said.flow = search rules in
-    rw said.is (line_taken old new (on_line c.args.line (SolutionEntry said.tail said.head said.flow)) c.args.line c.take_entry.result (rw (to_z-of_z w64 said.flow fits) at c.take_entry.ensures.takes))
-
-pub returns-in-SolutionEntry-clause-unchanged : goal.returns-in-SolutionEntry-clause-unchanged
-returns-in-SolutionEntry-clause-unchanged g c =
-    let said = c.in-SolutionEntry in
-    let old = StandsForSolution c.args.self.now.value (g.P.Place.stands_for c.args.self.now.place) in
-    let new = StandsForSolution c.take_entry.new.self.value (g.P.Place.stands_for c.take_entry.new.self.place) in
-    let fits : SFits w64 said.flow = search rules in
-    line_unchanged old new (on_line c.args.line (SolutionEntry said.tail said.head said.flow)) c.take_entry.result (rw (to_z-of_z w64 said.flow fits) at c.take_entry.ensures.takes)
+    let placed = rw (to_z-of_z w64 said.flow fits) at c.in_ok-place-in-SolutionEntry.ensures.placed in
+    rw said.is (entry_placed (g.P.Place.stands_for c.args.self.now.place) rs c.args.self.now.value entry (g.P.Place.stands_for c.place.new.self) placed h).1
