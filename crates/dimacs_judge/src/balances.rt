@@ -61,7 +61,7 @@ fn add_at(sums: &mut NodeTable<i128>, node: u32, amount: i128) -> Result<(), Mem
     requires { FitsSigned w128 (value_of sums.old node +ℤ amount) }
     ensures { OnOk result ((v : ℕ) → value_of sums.new v ≡ value_of sums.old v +ℤ when (node == v) amount) }
 {
-    if let Some(sum) = sums.get_placed(node) {
+    if let Some(sum) = sums.get_slot(node) {
         sums.put(sum.place, sum.value + amount);
         return Ok(());
     }

@@ -25,7 +25,7 @@ use crate::verdict::{JudgeError, Where};
 use dimacs_claims::{Block, LabelList, Labels};
 use dimacs_lines::Memory;
 use dimacs_network::{ArcView, Network};
-use dimacs_nodes::{NodeTable, Placed};
+use dimacs_nodes::{NodeTable, Slot};
 use dimacs_records::Reason;
 use std::alloc::Global;
 
@@ -324,12 +324,12 @@ pub(crate) fn pass_arc<D: Distance>(
     ensures made { IfOk result (λ made. IsTrue made ↔ IsTight arc (known D.value marks.old)) }
     ensures blank { IsBlank D.value marks.new }
 {
-    let from = match marks.get_placed(arc.tail) {
-        Some(Placed { value, .. }) if value.dist.is_some() => value.dist,
+    let from = match marks.get_slot(arc.tail) {
+        Some(Slot { value, .. }) if value.dist.is_some() => value.dist,
         _ => return Ok(false),
     };
-    let (head, place) = match marks.get_placed(arc.head) {
-        Some(Placed { value, place }) if !leads_aside(from, value.dist, arc.cost) => (value, place),
+    let (head, place) = match marks.get_slot(arc.head) {
+        Some(Slot { value, place }) if !leads_aside(from, value.dist, arc.cost) => (value, place),
         _ => {
             return match arc_fault(arc.tail, arc.head, arc.cost, block, marks) {
                 Some(reason) => Err(reason),

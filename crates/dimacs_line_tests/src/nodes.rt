@@ -154,8 +154,8 @@ fn a_table_tells_its_values_and_the_pages_that_were_taken(rt: HostRuntime) -> Re
         same_at(&rt, "a blank node", id as u64, table.get(id), 5);
     }
     for &(id, value) in &PLACED {
-        let placed = table.get_placed(id).map(|placed| placed.value);
-        same_at(&rt, "placed, node", id as u64, placed, value);
+        let slot = table.get_slot(id).map(|slot| slot.value);
+        same_at(&rt, "a slot, node", id as u64, slot, value);
     }
     for &(id, wanted) in &SKIPS {
         same_at(&rt, "from node", id as u64, table.skip_blank(id), wanted);

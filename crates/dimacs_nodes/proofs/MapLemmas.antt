@@ -10,7 +10,7 @@ use Rattle.dimacs_nodes.specs.declared.node_table.NodeTable.{NodeTable}
 use Rattle.dimacs_nodes.specs.declared.node_table.TheConstants.{NO_PAGE}
 use Rattle.dimacs_nodes.specs.Maps.{values_below, values_in, with_option}
 use Rattle.dimacs_nodes.specs.Slots.{place_of}
-use Rattle.dimacs_nodes.specs.Tables.{HasPlace, SameValues, blank_of, reach_of, value_of}
+use Rattle.dimacs_nodes.specs.Tables.{HasSlot, SameValues, blank_of, reach_of, value_of}
 use Rattle.dimacs_nodes.proofs.Nodes.{get-empty, get-insert_same, get-insert_other}
 use Rattle.dimacs_nodes.proofs.SlotLemmas.{slot_value-no_page, slot_value-past}
 
@@ -67,8 +67,8 @@ module _ {T : Type 0} where
       ])
 
   -- a value has a place
-  pub HasPlace-value : (table : NodeTable (Option T)) (id : ℕ) → blank_of table ≡ None → IsSome (get (values_in table) id) → HasPlace table id
-  HasPlace-value table id blank some =
+  pub HasSlot-value : (table : NodeTable (Option T)) (id : ℕ) → blank_of table ≡ None → IsSome (get (values_in table) id) → HasSlot table id
+  HasSlot-value table id blank some =
       elim (cases_lt (place_of table.directory.items id) (length table.slots.items)) [
         | inl inside ↦ inside
         | inr past ↦ let impossible = rw (get-values_in table id blank, slot_value-past table.blank table.directory.items table.slots.items id past, blank) at some in cc

@@ -13,12 +13,12 @@ module _ {T : Type 0} where
   blank_of table = table.blank
 
   -- memory was taken for the node's value
-  abbrev pub HasPlace : NodeTable T → ℕ → Type 0
-  HasPlace table id = place_of table.directory.items id < length table.slots.items
+  abbrev pub HasSlot : NodeTable T → ℕ → Type 0
+  HasSlot table id = place_of table.directory.items id < length table.slots.items
 
   -- it is at this place
-  abbrev pub IsPlace : NodeTable T → ℕ → ℕ → Type 0
-  IsPlace table id place = (place ≡ place_of table.directory.items id) × HasPlace table id
+  abbrev pub IsSlot : NodeTable T → ℕ → ℕ → Type 0
+  IsSlot table id place = (place ≡ place_of table.directory.items id) × HasSlot table id
 
   abbrev pub SameValues : NodeTable T → NodeTable T → Type 0
   SameValues old new = (id : ℕ) → value_of new id ≡ value_of old id
@@ -35,4 +35,4 @@ module _ {T : Type 0} where
   pub record TakesPageAlone (old new : NodeTable T) (id : ℕ) : Type 0 where
     pub reach : reach_of new ≤ max (reach_of old) (id / 64 + 1)
     pub page : slots_in new ≤ slots_in old + 64
-    pub none : HasPlace old id → slots_in new ≡ slots_in old
+    pub none : HasSlot old id → slots_in new ≡ slots_in old

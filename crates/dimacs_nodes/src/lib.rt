@@ -11,5 +11,5 @@ mod wide_map;
 
 pub use node_map::NodeMap;
 pub use node_set::NodeSet;
-pub use node_table::{NodeTable, Placed};
+pub use node_table::{NodeTable, Slot};
 pub use wide_map::WideMap;

@@ -27,13 +27,13 @@ pub struct NodeTable<T> {
 
 /// A value for which memory was taken, and its place in the table.
 #[derive(Clone, Copy)]
-pub struct Placed<T> {
+pub struct Slot<T> {
     pub value: T,
     pub place: usize,
 }
 
 impl<T: Copy> NodeTable<T> {
-    ghost use Rattle.dimacs_nodes.specs.Tables.{HasPlace, IsPlace, SameValues, TakesPageAlone, blank_of, reach_of, slots_in, value_of};
+    ghost use Rattle.dimacs_nodes.specs.Tables.{HasSlot, IsSlot, SameValues, TakesPageAlone, blank_of, reach_of, slots_in, value_of};
 
     /// All values are blank. Takes no memory.
     pub fn new(alloc: Global, blank: T) -> NodeTable<T>
@@ -52,21 +52,21 @@ impl<T: Copy> NodeTable<T> {
     pub fn get(&self, id: u32) -> T
         ensures value { result ≡ value_of self.now id }
     {
-        match self.get_placed(id) {
-            Some(placed) => placed.value,
+        match self.get_slot(id) {
+            Some(slot) => slot.value,
             None => self.blank,
         }
     }
 
     /// The value of a node for which memory was taken, which may be blank.
     #[inline]
-    pub fn get_placed(&self, id: u32) -> Option<Placed<T>>
-        ensures { MatchOption result ((value_of self.now id ≡ blank_of self.now) × (¬ HasPlace self.now id))
-            (λ placed. (placed.value ≡ value_of self.now id) × IsPlace self.now id placed.place) }
+    pub fn get_slot(&self, id: u32) -> Option<Slot<T>>
+        ensures { MatchOption result ((value_of self.now id ≡ blank_of self.now) × (¬ HasSlot self.now id))
+            (λ slot. (slot.value ≡ value_of self.now id) × IsSlot self.now id slot.place) }
     {
         let place = place(&self.directory, id);
         let value = *self.slots.get(place)?;
-        Some(Placed { value, place })
+        Some(Slot { value, place })
     }
 
     /// Sets the value of a node. Only the first value on a page takes memory.
@@ -77,7 +77,7 @@ impl<T: Copy> NodeTable<T> {
         ensures unchanged { OnErr result (SameValues self.old self.new) }
         ensures blank { blank_of self.new ≡ blank_of self.old }
         ensures memory { TakesPageAlone self.old self.new id }
-        ensures replaces { HasPlace self.old id → IsOk result }
+        ensures replaces { HasSlot self.old id → IsOk result }
     {
         match self.slots.get_mut(place(&self.directory, id)) {
             Some(slot) => *slot = value,
@@ -93,10 +93,10 @@ impl<T: Copy> NodeTable<T> {
     #[inline]
     pub fn reserve(&mut self, id: u32) -> Result<usize, Memory>
         ensures same { SameValues self.old self.new }
-        ensures place { IfOk result (IsPlace self.new id) }
+        ensures place { IfOk result (IsSlot self.new id) }
         ensures blank { blank_of self.new ≡ blank_of self.old }
         ensures memory { TakesPageAlone self.old self.new id }
-        ensures repeats { HasPlace self.old id → IsOk result }
+        ensures repeats { HasSlot self.old id → IsOk result }
     {
         let place = place(&self.directory, id);
         if place < self.slots.len() {
@@ -109,9 +109,9 @@ impl<T: Copy> NodeTable<T> {
     #[inline]
     pub fn put(&mut self, place: usize, value: T)
         requires { place < slots_in self.old }
-        ensures set { (id : ℕ) → IsPlace self.old id place → value_of self.new id ≡ value }
-        ensures others { (id other : ℕ) → IsPlace self.old id place → other ≢ id → value_of self.new other ≡ value_of self.old other }
-        ensures places { (other : ℕ) → HasPlace self.old other → HasPlace self.new other }
+        ensures set { (id : ℕ) → IsSlot self.old id place → value_of self.new id ≡ value }
+        ensures others { (id other : ℕ) → IsSlot self.old id place → other ≢ id → value_of self.new other ≡ value_of self.old other }
+        ensures places { (other : ℕ) → HasSlot self.old other → HasSlot self.new other }
         ensures blank { blank_of self.new ≡ blank_of self.old }
         ensures no_memory { (reach_of self.new ≡ reach_of self.old) × (slots_in self.new ≡ slots_in self.old) }
     {
@@ -143,9 +143,9 @@ impl<T: Copy> NodeTable<T> {
     #[cold]
     #[inline(never)]
     fn take_page(&mut self, id: u32) -> Result<usize, Memory>
-        requires { ¬ HasPlace self.old id }
+        requires { ¬ HasSlot self.old id }
         ensures same { SameValues self.old self.new }
-        ensures place { IfOk result (IsPlace self.new id) }
+        ensures place { IfOk result (IsSlot self.new id) }
         ensures blank { blank_of self.new ≡ blank_of self.old }
         ensures memory { TakesPageAlone self.old self.new id }
     {

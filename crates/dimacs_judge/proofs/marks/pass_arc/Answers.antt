@@ -15,14 +15,14 @@ returns-clause-told g c =
     let a = c.args.arc in
     let at = known g.D.Distance.value c.args.marks.now in
     let cost : SFits w64 a.cost = search rules in
-    let aside : IsTrue c.leads_aside.result ↔ LeadsAside (at a.tail).dist (at a.head).dist a.cost = rw (to_z-of_z w64 a.cost cost, c.in-Some.ensures.0, c.in-Some-get_placed.ensures.0) at c.leads_aside.ensures in
+    let aside : IsTrue c.leads_aside.result ↔ LeadsAside (at a.tail).dist (at a.head).dist a.cost = rw (to_z-of_z w64 a.cost cost, c.in-Some.ensures.0, c.in-Some-get_slot.ensures.0) at c.leads_aside.ensures in
     not_aside c.args.block.now.radius (at a.tail).dist (at a.head).dist a.cost (λ leads. let yes : c.leads_aside.result ≡ true = aside.1 leads in let no = rw yes at c.if-not-leads_aside.true in cc)
 
 pub returns-clause-made : goal.returns-clause-made
 returns-clause-made g c =
     let a = c.args.arc in
     let old = known g.D.Distance.value c.args.marks.now in
-    let head = c.in-Some-get_placed.ensures.0 in
+    let head = c.in-Some-get_slot.ensures.0 in
     let cost : SFits w64 a.cost = search rules in
     let leads : IsTrue c.leads_to.result ↔ LeadsTo (old a.tail).dist (old a.head).dist a.cost = rw (to_z-of_z w64 a.cost cost, c.in-Some.ensures.0, head) at c.leads_to.ensures in
     let waits : IsTrue c.waits_for.result ↔ (((old a.head).pred ≡ a.tail) × (is_made (old a.head) ≡ false)) = rw head at c.waits_for.ensures in
@@ -32,8 +32,8 @@ pub returns-clause-marks : goal.returns-clause-marks
 returns-clause-marks g c =
     let a = c.args.arc in
     let value = g.D.Distance.value in
-    let head = c.in-Some-get_placed.ensures.0 in
-    let there = c.in-Some-get_placed.ensures.1 in
+    let head = c.in-Some-get_slot.ensures.0 in
+    let there = c.in-Some-get_slot.ensures.1 in
     let put = c.put.ensures.set a.head there in
     passes_put a (known value c.args.marks.now) (known value c.put.new.self) _ (λ v off. ap (known_by value) (c.put.ensures.others a.head v there off))
     (ap (λ m. value m.dist) put ∙ (ap value c.made_if.ensures.dist ∙ ap (λ m. value m.dist) head))

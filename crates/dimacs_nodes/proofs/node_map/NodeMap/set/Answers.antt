@@ -1,5 +1,5 @@
 use Rattle.std.proofs.lemmas.Result.{on_err_weaker}
-use Rattle.dimacs_nodes.proofs.MapLemmas.{HasPlace-value, values_in-same, values_in-set_ok}
+use Rattle.dimacs_nodes.proofs.MapLemmas.{HasSlot-value, values_in-same, values_in-set_ok}
 use Rattle.dimacs_nodes.proofs.node_map.NodeMap.set.Goals as goal
 
 pub returns-clause-set : goal.returns-clause-set
@@ -9,4 +9,4 @@ pub returns-clause-unchanged : goal.returns-clause-unchanged
 returns-clause-unchanged g c = rw (← c.self.view_is) (on_err_weaker c.set.result (λ same. values_in-same _ _ c.self.invariant c.set.ensures.blank same) c.set.ensures.unchanged)
 
 pub returns-clause-replaces : goal.returns-clause-replaces
-returns-clause-replaces g c = λ some. c.set.ensures.replaces (HasPlace-value _ c.args.id c.self.invariant (rw (← c.self.view_is) at some))
+returns-clause-replaces g c = λ some. c.set.ensures.replaces (HasSlot-value _ c.args.id c.self.invariant (rw (← c.self.view_is) at some))

@@ -1,16 +1,16 @@
 use Rattle.std.proofs.Common.{◌≡◌, ◌∙◌, ℕ, None, Some, Bor, arith}
 use Rattle.std.specs.Slice.{IsItemAt}
 use Rattle.dimacs_nodes.specs.Slots.{place_of}
-use Rattle.dimacs_nodes.specs.Tables.{HasPlace, blank_of, value_of}
+use Rattle.dimacs_nodes.specs.Tables.{HasSlot, blank_of, value_of}
 use Rattle.dimacs_nodes.specs.declared.node_table.NodeTable.{NodeTable}
 use Rattle.dimacs_nodes.proofs.SlotLemmas.{slot_value-found, slot_value-past}
-use Rattle.dimacs_nodes.proofs.node_table.NodeTable.get_placed.Goals as goal
+use Rattle.dimacs_nodes.proofs.node_table.NodeTable.get_slot.Goals as goal
 
 module _ {T : Type 0} (table : NodeTable T) (id : ℕ) where
-  none_there : IsItemAt {X = T} table.slots.items (place_of table.directory.items id) None → (value_of table id ≡ blank_of table) × (¬ HasPlace table id)
+  none_there : IsItemAt {X = T} table.slots.items (place_of table.directory.items id) None → (value_of table id ≡ blank_of table) × (¬ HasSlot table id)
   none_there none = (slot_value-past table.blank table.directory.items table.slots.items id none.3, λ has. absurd (omega (arith, has, none.3)))
 
-  some_there : (value : Bor T) → IsItemAt table.slots.items (place_of table.directory.items id) (Some value) → (value.now ≡ value_of table id) × HasPlace table id
+  some_there : (value : Bor T) → IsItemAt table.slots.items (place_of table.directory.items id) (Some value) → (value.now ≡ value_of table id) × HasSlot table id
   some_there value is = (is.3.1 table.blank ∙ slot_value-found table.blank table.directory.items table.slots.items id, is.3.0)
 
 pub returns-in_err-value : goal.returns-in_err-value
