@@ -1,6 +1,8 @@
 -- How a run over the files of a plan ends.
-use Rattle.std.proofs.Common.{ℕ, ◌≡◌, ◌≢◌, ◌++◌, ◌∙◌, List, [], ◌∷◌, Option, None, Some, Result, Ok, Err, refl, sym, ap, append_assoc, append-nil, arith, flat_map, inl, inr, map}
+use Rattle.std.proofs.Common.{ℕ, ◌≡◌, ◌≢◌, ◌++◌, ◌∙◌, ◌⊎◌, List, [], ◌∷◌, Option, None, Some, Result, Ok, Err, refl, sym, ap, append_assoc, append-nil, arith, flat_map, inl, inr, map}
+use Rattle.std.specs.Result.{IsErrAnd}
 use Rattle.std.proofs.lemmas.Grind.{flat_map-append}
+use Rattle.std.proofs.lemmas.Result.{err_from_is_err_and}
 use Rattle.dimacs_lines.specs.Devices.{Written}
 use Rattle.dimacs_runs.specs.declared.failure.CommandError.{CommandError}
 use Rattle.dimacs_runs.specs.declared.failure.Failure.{Failure}
@@ -19,7 +21,7 @@ use Rattle.dimacs_runs.specs.Outputs.{MayTell, ReportsAll}
 use Rattle.dimacs_runs.specs.Runs.{Reports}
 use Rattle.dimacs_runs.specs.Solved.{AreQueries, Solved}
 use Rattle.dimacs_runs.specs.inside.Commands.{FailsWith, IsFirstOf, named}
-use Rattle.dimacs_runs.proofs.FileLemmas.{AnyRead, AreClosings, all_after, all_before, sees_then, tells_failure, why_nothing}
+use Rattle.dimacs_runs.proofs.FileLemmas.{AnyRead, Closed, all_after, all_before, closings, sees_then, tells_failure, why_nothing}
 
 opened_none : (names : List (List ℕ)) → flat_map failures (map Opened names) ≡ []
 opened_none [] = refl
@@ -39,10 +41,13 @@ failures_after opened created more =
     flat_map-append failures (map Opened opened ++ map Created created) more
     ∙ rw (flat_map-append failures (map Opened opened) (map Created created), opened_none opened, created_none created) refl
 
-are_closings : (read : List ReadFile) (written : List WrittenFile) → AreClosings (map Read read ++ map Wrote written)
-are_closings [] [] = tt
-are_closings [] (file ∷ written) = (tt, are_closings [] written)
-are_closings (file ∷ read) written = (tt, are_closings read written)
+abbrev closed_files : List ReadFile → List WrittenFile → List Closed
+closed_files read written = map inl read ++ map inr written
+
+are_closings : (read : List ReadFile) (written : List WrittenFile) → closings (closed_files read written) ≡ map Read read ++ map Wrote written
+are_closings [] [] = refl
+are_closings [] (file ∷ written) = ap (λ (events : List FileEvent). Wrote file ∷ events) (are_closings [] written)
+are_closings (file ∷ read) written = ap (λ (events : List FileEvent). Read file ∷ events) (are_closings read written)
 
 -- nothing was done
 pub sees_nothing : (seen : FilesSeen) → Sees [] seen seen
@@ -52,11 +57,14 @@ sees_nothing seen = record { done = nothing seen.done; faults = refl }
     nothing None = refl
     nothing (Some earlier) = sym (ap Some (append-nil earlier))
 
+is_error : {X : Type 0} (result : Result X CommandError) (error : CommandError) → IsErrAnd result (λ e. e ≡ error) → result ≡ Err error
+is_error result error is = let (other, same, it) = err_from_is_err_and result is in same ∙ ap Err it
+
 module _ (plan : Plan) (holds : Contents) (empty : Option (List ℕ)) (tells : Telling) (result : Result Status CommandError) (a : FilesSeen) (output : Written) where
   -- a file could not be opened
-  pub stops_opening : (before : List (List ℕ)) (name : List ℕ) (after : List (List ℕ)) (error : CommandError) (b c : FilesSeen) → plan.opened ≡ before ++ name ∷ after → result ≡ Err error
+  pub stops_opening : (before : List (List ℕ)) (name : List ℕ) (after : List (List ℕ)) (error : CommandError) (b c : FilesSeen) → plan.opened ≡ before ++ name ∷ after → IsErrAnd result (λ e. e ≡ error)
       → Sees (map Opened before) a b → FailsWith (NotOpened name) b c error → RunsFiles plan holds empty tells result (seen_by a output) (seen_by c output)
-  stops_opening before name after error b c whole is seen fails = rw is record {
+  stops_opening before name after error b c whole is seen fails = rw (is_error result error is) record {
     events = map Opened before ++ NotOpened name fails.cause ∷ [];
     seen = sees_then (map Opened before) (NotOpened name fails.cause ∷ []) a b c seen fails.seen;
     failure = flat_map-append failures (map Opened before) (NotOpened name fails.cause ∷ []) ∙ rw (opened_none before) (append-nil (failures (NotOpened name fails.cause)) ∙ fails.failure);
@@ -65,10 +73,10 @@ module _ (plan : Plan) (holds : Contents) (empty : Option (List ℕ)) (tells : T
   }
 
   -- a file could not be created, and those before it were closed
-  pub stops_creating : (before : List (List ℕ)) (name : List ℕ) (after : List (List ℕ)) (error : CommandError) (b c d : FilesSeen) → plan.created ≡ before ++ name ∷ after → result ≡ Err error
+  pub stops_creating : (before : List (List ℕ)) (name : List ℕ) (after : List (List ℕ)) (error : CommandError) (b c d : FilesSeen) → plan.created ≡ before ++ name ∷ after → IsErrAnd result (λ e. e ≡ error)
       → Sees (map Opened plan.opened ++ map Created before) a b → FailsWith (NotCreated name) b c error → Sees (map (closed_empty empty) before) c d
       → RunsFiles plan holds empty tells result (seen_by a output) (seen_by d output)
-  stops_creating before name after error b c d whole is seen fails closed = rw is record {
+  stops_creating before name after error b c d whole is seen fails closed = rw (is_error result error is) record {
     events = map Opened plan.opened ++ map Created before ++ NotCreated name fails.cause ∷ map (closed_empty empty) before;
     seen = sees_then (map Opened plan.opened ++ map Created before) (NotCreated name fails.cause ∷ map (closed_empty empty) before) a b d seen
         (sees_then (NotCreated name fails.cause ∷ []) (map (closed_empty empty) before) b c d fails.seen closed);
@@ -81,19 +89,19 @@ module _ (plan : Plan) (holds : Contents) (empty : Option (List ℕ)) (tells : T
   pub uses_files : (read : List ReadFile) (written : List WrittenFile) (b c : FilesSeen) (new : Written) (ended : Result Status RunError) (failure : Option Failure)
       → map (λ (file : ReadFile). file.name) read ≡ plan.opened → map (λ (file : WrittenFile). file.name) written ≡ plan.created
       → Sees (map Opened plan.opened ++ map Created plan.created) a b → Sees (map Read read ++ map Wrote written) b c
-      → result ≡ named ended failure → IsFirstOf failure (flat_map failures (map Read read ++ map Wrote written))
-      → CountsDevices ended (all_before output.faults new.faults (map Read read ++ map Wrote written)) (all_after output.faults new.faults (map Read read ++ map Wrote written))
+      → result ≡ named ended failure → IsFirstOf failure (flat_map failures (closings (closed_files read written)))
+      → CountsDevices ended (all_before output.faults new.faults (closed_files read written)) (all_after output.faults new.faults (closed_files read written))
       → ((texts : List (List ℕ)) → map holds plan.opened ≡ map Some texts → tells texts (named ended failure) (at_first plan.created empty output.accepted) (at_last written new.accepted))
       → (ended ≡ Err Memory → at_last written new.accepted ≡ at_first plan.created empty output.accepted)
-      → (AnyRead (map Read read ++ map Wrote written) → at_last written new.accepted ≡ at_first plan.created empty output.accepted)
+      → (AnyRead (closed_files read written) → at_last written new.accepted ≡ at_first plan.created empty output.accepted)
       → RunsFiles plan holds empty tells result (seen_by a output) (seen_by c new)
   uses_files read written b c new ended failure all_read all_written opened closed is first counts told memory unread =
-      let closings : List FileEvent = map Read read ++ map Wrote written in
-      let fails = tells_failure output.faults new.faults closings ended failure (are_closings read written) first counts in
+      let files : List Closed = closed_files read written in
+      let fails = tells_failure output.faults new.faults files ended failure first counts in
       rw is record {
-        events = (map Opened plan.opened ++ map Created plan.created) ++ closings;
-        seen = sees_then (map Opened plan.opened ++ map Created plan.created) closings a b c opened closed;
-        failure = failures_after plan.opened plan.created closings ∙ fails.0;
+        events = (map Opened plan.opened ++ map Created plan.created) ++ (map Read read ++ map Wrote written);
+        seen = sees_then (map Opened plan.opened ++ map Created plan.created) (map Read read ++ map Wrote written) a b c opened closed;
+        failure = failures_after plan.opened plan.created (map Read read ++ map Wrote written) ∙ ap (flat_map failures) (sym (are_closings read written)) ∙ fails.0;
         faults = fails.1;
         ends = inr (record {
           read = read;
@@ -102,7 +110,7 @@ module _ (plan : Plan) (holds : Contents) (empty : Option (List ℕ)) (tells : T
           all_written = all_written;
           happened = sym (append_assoc (map Opened plan.opened ++ map Created plan.created) (map Read read) (map Wrote written));
           told = told;
-          nothing_written = why_nothing _ closings ended failure (are_closings read written) first memory unread;
+          nothing_written = why_nothing _ files ended failure first memory unread;
         });
       }
 
@@ -138,7 +146,19 @@ reports_all_named told (Err Memory) failure old new reports = reports
 reports_all_named told (Err Device) None old new reports = reports
 reports_all_named told (Err Device) (Some it) old new reports = reports
 
--- ---- devices that never fail
+-- ---- devices that fail, or never do
+pub one_of : {A : Type 0} → A ⊎ ⊥ → A
+one_of (inl it) = it
+one_of (inr never) = absurd never
+
+pub one_of_two : {A B : Type 0} → A ⊎ (B ⊎ ⊥) → A ⊎ B
+one_of_two (inl it) = inl it
+one_of_two (inr rest) = inr (one_of rest)
+
+pub one_of_three : {A B C : Type 0} → A ⊎ (B ⊎ (C ⊎ ⊥)) → A ⊎ (B ⊎ C)
+one_of_three (inl it) = inl it
+one_of_three (inr rest) = inr (one_of_two rest)
+
 same_without : (p counted : ℕ) (old new : List ℕ) → counted ∷ 0 ∷ new ≡ p ∷ 0 ∷ old → counted ∷ new ≡ p ∷ old
 same_without p counted old new is = let first : counted ≡ p = cc in let rest : new ≡ old = cc in rw (first, rest) refl
 

@@ -1,29 +1,25 @@
-use Rattle.std.proofs.Common.{ℕ, ◌∙◌, List, [], ◌∷◌, Err, ap, inl, inr, refl}
-use Rattle.std.proofs.lemmas.Result.{err_from_is_err_and}
+use Rattle.std.proofs.Common.{ℕ, ◌∙◌, List, [], ◌∷◌, ap, refl}
 use Rattle.dimacs_lines.specs.Devices.{Written}
 use Rattle.dimacs_runs.specs.Commands.{Contents, TellsJudged, reads}
-use Rattle.dimacs_runs.specs.Files.{Opened, closed_read}
+use Rattle.dimacs_runs.specs.Files.{Read, ReadFile}
 use Rattle.dimacs_runs.specs.Judged.{Judged}
 use Rattle.dimacs_runs.specs.inside.Commands.{named}
-use Rattle.dimacs_runs.proofs.FileLemmas.{sees_then, three_first}
-use Rattle.dimacs_runs.proofs.PlanLemmas.{is_claim, judged_told, reports_named, sees_nothing, stops_opening, three_texts, uses_files}
+use Rattle.dimacs_runs.proofs.FileLemmas.{sees_three, sees_two, three_first}
+use Rattle.dimacs_runs.proofs.PlanLemmas.{is_claim, judged_told, one_of_three, reports_named, sees_nothing, stops_opening, three_texts, uses_files}
 use Rattle.dimacs_runs.proofs.runs_that_read.judge_claim.Goals as goal
 
 pub returns-in_err-instance : goal.returns-in_err-instance
 returns-in_err-instance g c =
-    let p = err_from_is_err_and c.from_residual.result c.from_residual.ensures.1 in
-    record { runs = stops_opening _ _ _ _ c.from_residual.result _ _ [] c.args.instance.now (c.args.claim.now ∷ c.args.certificate.now ∷ []) c.in_err-instance.field-0.0 _ _ refl (p.1 ∙ ap Err p.2) (sees_nothing _) c.in_err-instance.ensures.failed }
+    record { runs = stops_opening _ _ _ _ c.from_residual.result _ _ [] c.args.instance.now (c.args.claim.now ∷ c.args.certificate.now ∷ []) _ _ _ refl c.from_residual.ensures.1 (sees_nothing _) c.in_err-instance.ensures.failed }
 
 pub returns-in_err-claim : goal.returns-in_err-claim
 returns-in_err-claim g c =
-    let p = err_from_is_err_and c.from_residual-in_err-claim.result c.from_residual-in_err-claim.ensures.1 in
-    record { runs = stops_opening _ _ _ _ c.from_residual-in_err-claim.result _ _ (c.args.instance.now ∷ []) c.args.claim.now (c.args.certificate.now ∷ []) c.in_err-claim.field-0.0 _ _ refl (p.1 ∙ ap Err p.2) c.in_ok-instance.ensures.opened c.in_err-claim.ensures.failed }
+    record { runs = stops_opening _ _ _ _ c.from_residual-in_err-claim.result _ _ (c.args.instance.now ∷ []) c.args.claim.now (c.args.certificate.now ∷ []) _ _ _ refl c.from_residual-in_err-claim.ensures.1 c.in_ok-instance.ensures.opened c.in_err-claim.ensures.failed }
 
 pub returns-in_err-certificate : goal.returns-in_err-certificate
 returns-in_err-certificate g c =
-    let p = err_from_is_err_and c.from_residual-in_err-certificate.result c.from_residual-in_err-certificate.ensures.1 in
-    let two = sees_then (Opened c.args.instance.now ∷ []) (Opened c.args.claim.now ∷ []) _ _ _ c.in_ok-instance.ensures.opened c.in_ok-claim.ensures.opened in
-    record { runs = stops_opening _ _ _ _ c.from_residual-in_err-certificate.result _ _ (c.args.instance.now ∷ c.args.claim.now ∷ []) c.args.certificate.now [] c.in_err-certificate.field-0.0 _ _ refl (p.1 ∙ ap Err p.2) two c.in_err-certificate.ensures.failed }
+    let two = sees_two c.in_ok-instance.ensures.opened c.in_ok-claim.ensures.opened in
+    record { runs = stops_opening _ _ _ _ c.from_residual-in_err-certificate.result _ _ (c.args.instance.now ∷ c.args.claim.now ∷ []) c.args.certificate.now [] _ _ _ refl c.from_residual-in_err-certificate.ensures.1 two c.in_err-certificate.ensures.failed }
 
 pub returns : goal.returns
 returns g c =
@@ -31,22 +27,16 @@ returns g c =
     let failure = c.or-failure.result in
     let old = (g.K.Sink.seen c.args.output.now).accepted in
     let new = (g.K.Sink.seen c.run_judge-ended.new.sink).accepted in
-    let i = g.F.Input.Source.faults c.run_judge-ended.new.instance in
-    let j = g.F.Input.Source.faults c.run_judge-ended.new.claim in
-    let k = g.F.Input.Source.faults c.run_judge-ended.new.certificate in
-    let at_instance = closed_read c.in_ok-instance.instance.name.now i in
-    let at_claim = closed_read c.in_ok-claim.claim.name.now j in
-    let at_certificate = closed_read c.in_ok-certificate.certificate.name.now k in
-    let opened = sees_then (Opened c.args.instance.now ∷ Opened c.args.claim.now ∷ []) (Opened c.args.certificate.now ∷ []) _ _ _
-    (sees_then (Opened c.args.instance.now ∷ []) (Opened c.args.claim.now ∷ []) _ _ _ c.in_ok-instance.ensures.opened c.in_ok-claim.ensures.opened) c.in_ok-certificate.ensures.opened in
-    let closed = sees_then (at_instance ∷ at_claim ∷ []) (at_certificate ∷ []) _ _ _
-    (sees_then (at_instance ∷ []) (at_claim ∷ []) _ _ _ c.close_read.ensures.seen c.close_read-2.ensures.seen) c.close_read-3.ensures.seen in
+    let instance : ReadFile = record { name = c.in_ok-instance.instance.name.now; faults = g.F.Input.Source.faults c.run_judge-ended.new.instance } in
+    let claim : ReadFile = record { name = c.in_ok-claim.claim.name.now; faults = g.F.Input.Source.faults c.run_judge-ended.new.claim } in
+    let certificate : ReadFile = record { name = c.in_ok-certificate.certificate.name.now; faults = g.F.Input.Source.faults c.run_judge-ended.new.certificate } in
+    let opened = sees_three c.in_ok-instance.ensures.opened c.in_ok-claim.ensures.opened c.in_ok-certificate.ensures.opened in
+    let closed = sees_three c.close_read.ensures.seen c.close_read-2.ensures.seen c.close_read-3.ensures.seen in
+    let quiet = rw (c.in_ok-instance.ensures.faultless, c.in_ok-claim.ensures.faultless, c.in_ok-certificate.ensures.faultless) at c.run_judge-ended.ensures.nothing_written in
     record {
-      runs = uses_files (reads (c.args.instance.now ∷ c.args.claim.now ∷ c.args.certificate.now ∷ [])) _ _ _ c.name_failure.result _ _
-          (record { name = c.in_ok-instance.instance.name.now; faults = i } ∷ record { name = c.in_ok-claim.claim.name.now; faults = j } ∷ record { name = c.in_ok-certificate.certificate.name.now; faults = k } ∷ [])
-          [] _ _ _ ended failure
+      runs = uses_files (reads (c.args.instance.now ∷ c.args.claim.now ∷ c.args.certificate.now ∷ [])) _ _ _ c.name_failure.result _ _ (instance ∷ claim ∷ certificate ∷ []) [] _ _ _ ended failure
           (rw (c.in_ok-instance.ensures.named, c.in_ok-claim.ensures.named, c.in_ok-certificate.ensures.named) refl) refl opened closed c.name_failure.ensures
-          (rw (c.or-failure.ensures, c.or.ensures) (three_first c.close_read.result c.close_read-2.result c.close_read-3.result at_instance at_claim at_certificate c.close_read.ensures.failure c.close_read-2.ensures.failure c.close_read-3.ensures.failure))
+          (rw (c.or-failure.ensures, c.or.ensures) (three_first c.close_read.result c.close_read-2.result c.close_read-3.result (Read instance) (Read claim) (Read certificate) c.close_read.ensures.failure c.close_read-2.ensures.failure c.close_read-3.ensures.failure))
           (rw (c.in_ok-instance.ensures.faultless, c.in_ok-claim.ensures.faultless, c.in_ok-certificate.ensures.faultless) at c.run_judge-ended.ensures.faults)
           (three_texts _ _ _ (λ (texts : List (List ℕ)). TellsJudged c.args.kind texts (named ended failure) (old ∷ []) (new ∷ [])) (λ a b d first second third.
           judged_told c.args.kind a b d (named ended failure) old new (reports_named (Judged c.args.kind a b d) ended failure old new (c.run_judge-ended.ensures.reports a b d
@@ -54,11 +44,5 @@ returns g c =
           (is_claim c.args.kind _ b (c.in_ok-claim.ensures.coming ∙ ap (λ (h : Contents). h c.args.claim.now) c.in_ok-instance.ensures.holds ∙ second))
           (c.in_ok-certificate.ensures.coming ∙ ap (λ (h : Contents). h c.args.certificate.now) (c.in_ok-claim.ensures.holds ∙ c.in_ok-instance.ensures.holds) ∙ third)))))
           (λ memory. ap (λ (w : Written). w.accepted ∷ []) (c.run_judge-ended.ensures.memory memory))
-          (λ unread. ap (λ (w : Written). w.accepted ∷ []) (c.run_judge-ended.ensures.nothing_written (elim unread [
-            | inl it ↦ inl (λ same. it (same ∙ c.in_ok-instance.ensures.faultless))
-            | inr more ↦ inr (elim more [
-              | inl it ↦ inl (λ same. it (same ∙ c.in_ok-claim.ensures.faultless))
-              | inr last ↦ inr (elim last [ inl it ↦ λ same. it (same ∙ c.in_ok-certificate.ensures.faultless) | inr never ↦ absurd never ])
-            ])
-          ])));
+          (λ unread. ap (λ (w : Written). w.accepted ∷ []) (quiet (one_of_three unread)));
     }

@@ -1,24 +1,21 @@
-use Rattle.std.proofs.Common.{ℕ, ◌∙◌, List, [], ◌∷◌, Err, ap, inl, inr, refl}
-use Rattle.std.proofs.lemmas.Result.{err_from_is_err_and}
+use Rattle.std.proofs.Common.{ℕ, ◌∙◌, List, [], ◌∷◌, ap, inl, inr, refl}
 use Rattle.dimacs_lines.specs.Devices.{Written}
 use Rattle.dimacs_runs.specs.declared.jobs.JudgeKind.TheVariants as judges
 use Rattle.dimacs_runs.specs.Commands.{Contents, TellsJudged, reads}
-use Rattle.dimacs_runs.specs.Files.{Opened, closed_read}
+use Rattle.dimacs_runs.specs.Files.{Read, ReadFile}
 use Rattle.dimacs_runs.specs.Judged.{Judged}
 use Rattle.dimacs_runs.specs.inside.Commands.{named}
-use Rattle.dimacs_runs.proofs.FileLemmas.{sees_then, two_first}
-use Rattle.dimacs_runs.proofs.PlanLemmas.{reports_named, sees_nothing, stops_opening, two_texts, uses_files, without_second}
+use Rattle.dimacs_runs.proofs.FileLemmas.{sees_two, two_first}
+use Rattle.dimacs_runs.proofs.PlanLemmas.{one_of, reports_named, sees_nothing, stops_opening, two_texts, uses_files, without_second}
 use Rattle.dimacs_runs.proofs.runs_that_read.judge_set.Goals as goal
 
 pub returns-in_err-instance : goal.returns-in_err-instance
 returns-in_err-instance g c =
-    let p = err_from_is_err_and c.from_residual.result c.from_residual.ensures.1 in
-    record { runs = stops_opening _ _ _ _ c.from_residual.result _ _ [] c.args.instance.now (c.args.set.now ∷ []) c.in_err-instance.field-0.0 _ _ refl (p.1 ∙ ap Err p.2) (sees_nothing _) c.in_err-instance.ensures.failed }
+    record { runs = stops_opening _ _ _ _ c.from_residual.result _ _ [] c.args.instance.now (c.args.set.now ∷ []) _ _ _ refl c.from_residual.ensures.1 (sees_nothing _) c.in_err-instance.ensures.failed }
 
 pub returns-in_err-set : goal.returns-in_err-set
 returns-in_err-set g c =
-    let p = err_from_is_err_and c.from_residual-in_err-set.result c.from_residual-in_err-set.ensures.1 in
-    record { runs = stops_opening _ _ _ _ c.from_residual-in_err-set.result _ _ (c.args.instance.now ∷ []) c.args.set.now [] c.in_err-set.field-0.0 _ _ refl (p.1 ∙ ap Err p.2) c.in_ok-instance.ensures.opened c.in_err-set.ensures.failed }
+    record { runs = stops_opening _ _ _ _ c.from_residual-in_err-set.result _ _ (c.args.instance.now ∷ []) c.args.set.now [] _ _ _ refl c.from_residual-in_err-set.ensures.1 c.in_ok-instance.ensures.opened c.in_err-set.ensures.failed }
 
 pub returns : goal.returns
 returns g c =
@@ -26,26 +23,20 @@ returns g c =
     let failure = c.or-failure.result in
     let old = (g.K.Sink.seen c.args.output.now).accepted in
     let new = (g.K.Sink.seen c.run_judge-ended.new.sink).accepted in
-    let i = g.F.Input.Source.faults c.run_judge-ended.new.instance in
-    let k = g.F.Input.Source.faults c.run_judge-ended.new.certificate in
-    let at_instance = closed_read c.in_ok-instance.instance.name.now i in
-    let at_set = closed_read c.in_ok-set.set.name.now k in
+    let instance : ReadFile = record { name = c.in_ok-instance.instance.name.now; faults = g.F.Input.Source.faults c.run_judge-ended.new.instance } in
+    let set : ReadFile = record { name = c.in_ok-set.set.name.now; faults = g.F.Input.Source.faults c.run_judge-ended.new.certificate } in
+    let quiet = rw (c.in_ok-instance.ensures.faultless, c.in_ok-set.ensures.faultless) at c.run_judge-ended.ensures.nothing_written in
     record {
-      runs = uses_files (reads (c.args.instance.now ∷ c.args.set.now ∷ [])) _ _ _ c.name_failure.result _ _
-          (record { name = c.in_ok-instance.instance.name.now; faults = i } ∷ record { name = c.in_ok-set.set.name.now; faults = k } ∷ [])
-          [] _ _ _ ended failure
+      runs = uses_files (reads (c.args.instance.now ∷ c.args.set.now ∷ [])) _ _ _ c.name_failure.result _ _ (instance ∷ set ∷ []) [] _ _ _ ended failure
           (rw (c.in_ok-instance.ensures.named, c.in_ok-set.ensures.named) refl) refl
-          (sees_then (Opened c.args.instance.now ∷ []) (Opened c.args.set.now ∷ []) _ _ _ c.in_ok-instance.ensures.opened c.in_ok-set.ensures.opened)
-          (sees_then (at_instance ∷ []) (at_set ∷ []) _ _ _ c.close_read.ensures.seen c.close_read-2.ensures.seen) c.name_failure.ensures
-          (rw c.or-failure.ensures (two_first c.close_read.result c.close_read-2.result at_instance at_set c.close_read.ensures.failure c.close_read-2.ensures.failure))
-          (without_second ended 0 i _ _ (rw (c.in_ok-instance.ensures.faultless, c.in_ok-set.ensures.faultless) at c.run_judge-ended.ensures.faults))
+          (sees_two c.in_ok-instance.ensures.opened c.in_ok-set.ensures.opened)
+          (sees_two c.close_read.ensures.seen c.close_read-2.ensures.seen) c.name_failure.ensures
+          (rw c.or-failure.ensures (two_first c.close_read.result c.close_read-2.result (Read instance) (Read set) c.close_read.ensures.failure c.close_read-2.ensures.failure))
+          (without_second ended _ _ _ _ (rw (c.in_ok-instance.ensures.faultless, c.in_ok-set.ensures.faultless) at c.run_judge-ended.ensures.faults))
           (two_texts _ _ (λ (texts : List (List ℕ)). TellsJudged judges.Infeasible texts (named ended failure) (old ∷ []) (new ∷ [])) (λ a d first second.
           reports_named (Judged judges.Infeasible a [] d) ended failure old new (c.run_judge-ended.ensures.reports a [] d
           (c.in_ok-instance.ensures.coming ∙ first) (λ none. absurd cc)
           (c.in_ok-set.ensures.coming ∙ ap (λ (h : Contents). h c.args.set.now) c.in_ok-instance.ensures.holds ∙ second))))
           (λ memory. ap (λ (w : Written). w.accepted ∷ []) (c.run_judge-ended.ensures.memory memory))
-          (λ unread. ap (λ (w : Written). w.accepted ∷ []) (c.run_judge-ended.ensures.nothing_written (elim unread [
-            | inl it ↦ inl (λ same. it (same ∙ c.in_ok-instance.ensures.faultless))
-            | inr last ↦ inr (inr (elim last [ inl it ↦ λ same. it (same ∙ c.in_ok-set.ensures.faultless) | inr never ↦ absurd never ]))
-          ])));
+          (λ unread. ap (λ (w : Written). w.accepted ∷ []) (quiet (elim unread [ inl it ↦ inl it | inr last ↦ inr (inr (one_of last)) ])));
     }

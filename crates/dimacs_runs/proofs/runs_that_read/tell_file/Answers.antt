@@ -1,18 +1,16 @@
-use Rattle.std.proofs.Common.{ℕ, ◌∙◌, List, [], ◌∷◌, Err, ap, inl, inr, refl}
-use Rattle.std.proofs.lemmas.Result.{err_from_is_err_and}
+use Rattle.std.proofs.Common.{ℕ, ◌∙◌, List, [], ◌∷◌, ap, refl}
 use Rattle.dimacs_lines.specs.Devices.{Written}
 use Rattle.dimacs_runs.specs.Commands.{TellsOne, reads}
 use Rattle.dimacs_runs.specs.Files.{closed_read}
 use Rattle.dimacs_runs.specs.Runs.{Told}
 use Rattle.dimacs_runs.specs.inside.Commands.{named}
 use Rattle.dimacs_runs.proofs.FileLemmas.{one_first}
-use Rattle.dimacs_runs.proofs.PlanLemmas.{one_text, reports_named, sees_nothing, stops_opening, uses_files}
+use Rattle.dimacs_runs.proofs.PlanLemmas.{one_of, one_text, reports_named, sees_nothing, stops_opening, uses_files}
 use Rattle.dimacs_runs.proofs.runs_that_read.tell_file.Goals as goal
 
 pub returns-in_err-text : goal.returns-in_err-text
 returns-in_err-text g c =
-    let p = err_from_is_err_and c.from_residual.result c.from_residual.ensures.1 in
-    record { runs = stops_opening _ _ _ _ c.from_residual.result _ _ [] c.args.name.now [] c.in_err-text.field-0.0 _ _ refl (p.1 ∙ ap Err p.2) (sees_nothing _) c.in_err-text.ensures.failed }
+    record { runs = stops_opening _ _ _ _ c.from_residual.result _ _ [] c.args.name.now [] _ _ _ refl c.from_residual.ensures.1 (sees_nothing _) c.in_err-text.ensures.failed }
 
 pub returns : goal.returns
 returns g c =
@@ -21,16 +19,13 @@ returns g c =
     let old = (g.K.Sink.seen c.args.output.now).accepted in
     let new = (g.K.Sink.seen c.run_text-ended.new.sink).accepted in
     let faults = g.F.Input.Source.faults c.run_text-ended.new.text in
-    let faultless = c.in_ok-text.ensures.faultless in
+    let quiet = rw c.in_ok-text.ensures.faultless at c.run_text-ended.ensures.nothing_written in
     record {
       runs = uses_files (reads (c.args.name.now ∷ [])) _ _ _ c.name_failure.result _ _ (record { name = c.in_ok-text.text.name.now; faults = faults } ∷ []) [] _ _ _ ended failure
           (ap (λ (n : List ℕ). n ∷ []) c.in_ok-text.ensures.named) refl c.in_ok-text.ensures.opened c.close_read-failure.ensures.seen c.name_failure.ensures
           (one_first failure (closed_read c.in_ok-text.text.name.now faults) c.close_read-failure.ensures.failure)
-          (rw faultless at c.run_text-ended.ensures.faults)
+          (rw c.in_ok-text.ensures.faultless at c.run_text-ended.ensures.faults)
           (one_text _ (λ (texts : List (List ℕ)). TellsOne (Told c.args.form c.args.kind) texts (named ended failure) (old ∷ []) (new ∷ [])) (λ bytes is. reports_named (Told c.args.form c.args.kind bytes) ended failure old new (c.run_text-ended.ensures.reports bytes (c.in_ok-text.ensures.coming ∙ is))))
           (λ memory. ap (λ (w : Written). w.accepted ∷ []) (c.run_text-ended.ensures.memory memory))
-          (λ unread. elim unread [
-            | inl other ↦ ap (λ (w : Written). w.accepted ∷ []) (c.run_text-ended.ensures.nothing_written (λ same. other (same ∙ faultless)))
-            | inr never ↦ absurd never
-          ]);
+          (λ unread. ap (λ (w : Written). w.accepted ∷ []) (quiet (one_of unread)));
     }

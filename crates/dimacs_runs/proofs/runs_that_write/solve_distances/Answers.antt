@@ -1,30 +1,26 @@
-use Rattle.std.proofs.Common.{ℕ, ◌∙◌, List, [], ◌∷◌, None, Err, ap, inl, inr, refl}
-use Rattle.std.proofs.lemmas.Result.{err_from_is_err_and}
+use Rattle.std.proofs.Common.{ℕ, ◌∙◌, List, [], ◌∷◌, None, ap, refl}
 use Rattle.dimacs_runs.specs.declared.jobs.SolveJob.TheVariants as solves
 use Rattle.dimacs_runs.specs.Commands.{Contents, TellsSolved, reads_first}
-use Rattle.dimacs_runs.specs.Files.{Created, Opened, closed_read, closed_written}
+use Rattle.dimacs_runs.specs.Files.{Read, ReadFile, WrittenFile, Wrote}
 use Rattle.dimacs_runs.specs.Outputs.{MayTell}
 use Rattle.dimacs_runs.specs.Solved.{Solved}
 use Rattle.dimacs_runs.specs.inside.Commands.{named}
-use Rattle.dimacs_runs.proofs.FileLemmas.{sees_then, three_first}
-use Rattle.dimacs_runs.proofs.PlanLemmas.{reports_all_named, sees_nothing, stops_creating, stops_opening, two_texts, uses_files, without_third}
+use Rattle.dimacs_runs.proofs.FileLemmas.{sees_three, sees_two, three_first}
+use Rattle.dimacs_runs.proofs.PlanLemmas.{one_of_two, reports_all_named, sees_nothing, stops_creating, stops_opening, two_texts, uses_files, without_third}
 use Rattle.dimacs_runs.proofs.runs_that_write.solve_distances.Goals as goal
 
 pub returns-in_err-graph : goal.returns-in_err-graph
 returns-in_err-graph g c =
-    let p = err_from_is_err_and c.from_residual.result c.from_residual.ensures.1 in
-    record { runs = stops_opening _ _ _ _ c.from_residual.result _ _ [] c.args.graph.now (c.args.queries.now ∷ []) c.in_err-graph.field-0.0 _ _ refl (p.1 ∙ ap Err p.2) (sees_nothing _) c.in_err-graph.ensures.failed }
+    record { runs = stops_opening _ _ _ _ c.from_residual.result _ _ [] c.args.graph.now (c.args.queries.now ∷ []) _ _ _ refl c.from_residual.ensures.1 (sees_nothing _) c.in_err-graph.ensures.failed }
 
 pub returns-in_err-queries : goal.returns-in_err-queries
 returns-in_err-queries g c =
-    let p = err_from_is_err_and c.from_residual-in_err-queries.result c.from_residual-in_err-queries.ensures.1 in
-    record { runs = stops_opening _ _ _ _ c.from_residual-in_err-queries.result _ _ (c.args.graph.now ∷ []) c.args.queries.now [] c.in_err-queries.field-0.0 _ _ refl (p.1 ∙ ap Err p.2) c.in_ok-graph.ensures.opened c.in_err-queries.ensures.failed }
+    record { runs = stops_opening _ _ _ _ c.from_residual-in_err-queries.result _ _ (c.args.graph.now ∷ []) c.args.queries.now [] _ _ _ refl c.from_residual-in_err-queries.ensures.1 c.in_ok-graph.ensures.opened c.in_err-queries.ensures.failed }
 
 pub returns-in_err-labels : goal.returns-in_err-labels
 returns-in_err-labels g c =
-    let p = err_from_is_err_and c.from_residual-in_err-labels.result c.from_residual-in_err-labels.ensures.1 in
-    let opened = sees_then (Opened c.args.graph.now ∷ []) (Opened c.args.queries.now ∷ []) _ _ _ c.in_ok-graph.ensures.opened c.in_ok-queries.ensures.opened in
-    record { runs = stops_creating _ _ _ _ c.from_residual-in_err-labels.result _ _ [] c.args.labels.now [] c.in_err-labels.field-0.0 _ _ _ refl (p.1 ∙ ap Err p.2) opened c.in_err-labels.ensures.failed (sees_nothing _) }
+    let opened = sees_two c.in_ok-graph.ensures.opened c.in_ok-queries.ensures.opened in
+    record { runs = stops_creating _ _ _ _ c.from_residual-in_err-labels.result _ _ [] c.args.labels.now [] _ _ _ _ refl c.from_residual-in_err-labels.ensures.1 opened c.in_err-labels.ensures.failed (sees_nothing _) }
 
 pub returns : goal.returns
 returns g c =
@@ -33,30 +29,21 @@ returns g c =
     let old = (g.K.Sink.seen c.args.output.now).accepted in
     let new = (g.K.Sink.seen c.run_solve-ended.new.report).accepted in
     let written = g.F.Output.Sink.seen c.run_solve-ended.new.certificate_out in
-    let i = g.F.Input.Source.faults c.run_solve-ended.new.instance in
-    let j = g.F.Input.Source.faults c.run_solve-ended.new.queries in
-    let at_graph = closed_read c.in_ok-graph.graph.name.now i in
-    let at_queries = closed_read c.in_ok-queries.queries.name.now j in
-    let at_labels = closed_written c.in_ok-labels.labels.name.now written in
-    let opened = sees_then (Opened c.args.graph.now ∷ Opened c.args.queries.now ∷ []) (Created c.args.labels.now ∷ []) _ _ _
-    (sees_then (Opened c.args.graph.now ∷ []) (Opened c.args.queries.now ∷ []) _ _ _ c.in_ok-graph.ensures.opened c.in_ok-queries.ensures.opened) c.in_ok-labels.ensures.created in
-    let closed = sees_then (at_graph ∷ at_queries ∷ []) (at_labels ∷ []) _ _ _
-    (sees_then (at_graph ∷ []) (at_queries ∷ []) _ _ _ c.close_read.ensures.seen c.close_read-2.ensures.seen) c.close_written.ensures.seen in
+    let graph : ReadFile = record { name = c.in_ok-graph.graph.name.now; faults = g.F.Input.Source.faults c.run_solve-ended.new.instance } in
+    let queries : ReadFile = record { name = c.in_ok-queries.queries.name.now; faults = g.F.Input.Source.faults c.run_solve-ended.new.queries } in
+    let labels : WrittenFile = record { name = c.in_ok-labels.labels.name.now; seen = written } in
+    let opened = sees_three c.in_ok-graph.ensures.opened c.in_ok-queries.ensures.opened c.in_ok-labels.ensures.created in
+    let closed = sees_three c.close_read.ensures.seen c.close_read-2.ensures.seen c.close_written.ensures.seen in
+    let quiet = rw (c.in_ok-graph.ensures.faultless, c.in_ok-queries.ensures.faultless) at c.run_solve-ended.ensures.nothing_written in
     record {
-      runs = uses_files (reads_first 2 (c.args.graph.now ∷ c.args.queries.now ∷ c.args.labels.now ∷ [])) _ g.F.Files.empty _ c.name_failure.result _ _
-          (record { name = c.in_ok-graph.graph.name.now; faults = i } ∷ record { name = c.in_ok-queries.queries.name.now; faults = j } ∷ [])
-          (record { name = c.in_ok-labels.labels.name.now; seen = written } ∷ [])
-          _ _ _ ended failure
+      runs = uses_files (reads_first 2 (c.args.graph.now ∷ c.args.queries.now ∷ c.args.labels.now ∷ [])) _ g.F.Files.empty _ c.name_failure.result _ _ (graph ∷ queries ∷ []) (labels ∷ []) _ _ _ ended failure
           (rw (c.in_ok-graph.ensures.named, c.in_ok-queries.ensures.named) refl) (rw c.in_ok-labels.ensures.named refl) opened closed c.name_failure.ensures
-          (rw (c.or-failure.ensures, c.or.ensures) (three_first c.close_read.result c.close_read-2.result c.close_written.result at_graph at_queries at_labels c.close_read.ensures.failure c.close_read-2.ensures.failure c.close_written.ensures.failure))
-          (without_third ended 0 0 i j _ _ (rw (c.in_ok-graph.ensures.faultless, c.in_ok-queries.ensures.faultless, c.in_ok-labels.ensures.empty) at c.run_solve-ended.ensures.faults))
+          (rw (c.or-failure.ensures, c.or.ensures) (three_first c.close_read.result c.close_read-2.result c.close_written.result (Read graph) (Read queries) (Wrote labels) c.close_read.ensures.failure c.close_read-2.ensures.failure c.close_written.ensures.failure))
+          (without_third ended _ _ _ _ _ _ (rw (c.in_ok-graph.ensures.faultless, c.in_ok-queries.ensures.faultless, c.in_ok-labels.ensures.empty) at c.run_solve-ended.ensures.faults))
           (two_texts _ _ (λ (texts : List (List ℕ)). TellsSolved solves.Paths texts (named ended failure) (g.F.Files.empty ∷ old ∷ []) (written.accepted ∷ new ∷ [])) (λ a b first second.
           reports_all_named (MayTell (Solved solves.Paths a b)) ended failure (None ∷ g.F.Files.empty ∷ old ∷ []) (None ∷ written.accepted ∷ new ∷ []) (rw c.in_ok-labels.ensures.empty at (c.run_solve-ended.ensures.reports a b
           (c.in_ok-graph.ensures.coming ∙ first)
           (c.in_ok-queries.ensures.coming ∙ ap (λ (h : Contents). h c.args.queries.now) c.in_ok-graph.ensures.holds ∙ second)))))
           (λ memory. let same = c.run_solve-ended.ensures.memory memory in rw (same.1, same.2, c.in_ok-labels.ensures.empty) refl)
-          (λ unread. let same = c.run_solve-ended.ensures.nothing_written (elim unread [
-            | inl it ↦ inl (λ is. it (is ∙ c.in_ok-graph.ensures.faultless))
-            | inr last ↦ inr (elim last [ inl it ↦ λ is. it (is ∙ c.in_ok-queries.ensures.faultless) | inr never ↦ absurd never ])
-          ]) in rw (same.1, same.2, c.in_ok-labels.ensures.empty) refl);
+          (λ unread. let same = quiet (one_of_two unread) in rw (same.1, same.2, c.in_ok-labels.ensures.empty) refl);
     }

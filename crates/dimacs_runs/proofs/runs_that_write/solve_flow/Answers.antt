@@ -1,28 +1,25 @@
-use Rattle.std.proofs.Common.{ℕ, ◌∙◌, List, [], ◌∷◌, Err, ap, inl, inr, refl}
-use Rattle.std.proofs.lemmas.Result.{err_from_is_err_and}
+use Rattle.std.proofs.Common.{ℕ, ◌∙◌, List, [], ◌∷◌, Err, inl, refl}
 use Rattle.dimacs_runs.specs.Commands.{TellsSolved, reads_first}
-use Rattle.dimacs_runs.specs.Files.{Created, Opened, closed_read, closed_written}
+use Rattle.dimacs_runs.specs.Files.{Read, ReadFile, WrittenFile, Wrote}
 use Rattle.dimacs_runs.specs.Outputs.{MayTell}
 use Rattle.dimacs_runs.specs.Solved.{Solved}
 use Rattle.dimacs_runs.specs.inside.Commands.{named}
-use Rattle.dimacs_runs.proofs.FileLemmas.{sees_then, three_first}
-use Rattle.dimacs_runs.proofs.PlanLemmas.{flow_asks_nothing, flow_told, one_text, reports_all_named, sees_nothing, stops_creating, stops_opening, uses_files, without_second}
+use Rattle.dimacs_runs.proofs.FileLemmas.{sees_three, sees_two, three_first}
+use Rattle.dimacs_runs.proofs.PlanLemmas.{flow_asks_nothing, flow_told, one_of, one_text, reports_all_named, sees_nothing, stops_creating, stops_opening, uses_files, without_second}
 use Rattle.dimacs_runs.proofs.runs_that_write.solve_flow.Goals as goal
 
 pub returns-in_err-instance : goal.returns-in_err-instance
 returns-in_err-instance g c =
-    let p = err_from_is_err_and c.from_residual.result c.from_residual.ensures.1 in
-    record { runs = stops_opening _ _ _ _ c.from_residual.result _ _ [] c.args.instance.now [] c.in_err-instance.field-0.0 _ _ refl (p.1 ∙ ap Err p.2) (sees_nothing _) c.in_err-instance.ensures.failed }
+    record { runs = stops_opening _ _ _ _ c.from_residual.result _ _ [] c.args.instance.now [] _ _ _ refl c.from_residual.ensures.1 (sees_nothing _) c.in_err-instance.ensures.failed }
 
 pub returns-in_err-claim : goal.returns-in_err-claim
 returns-in_err-claim g c =
-    let p = err_from_is_err_and c.from_residual-in_err-claim.result c.from_residual-in_err-claim.ensures.1 in
-    record { runs = stops_creating _ _ _ _ c.from_residual-in_err-claim.result _ _ [] c.args.claim.now (c.args.certificate.now ∷ []) c.in_err-claim.field-0.0 _ _ _ refl (p.1 ∙ ap Err p.2) c.in_ok-instance.ensures.opened c.in_err-claim.ensures.failed (sees_nothing _) }
+    record { runs = stops_creating _ _ _ _ c.from_residual-in_err-claim.result _ _ [] c.args.claim.now (c.args.certificate.now ∷ []) _ _ _ _ refl c.from_residual-in_err-claim.ensures.1 c.in_ok-instance.ensures.opened c.in_err-claim.ensures.failed (sees_nothing _) }
 
 -- the certificate could not be created
 pub returns-in-Err : goal.returns-in-Err
 returns-in-Err g c =
-    let opened = sees_then (Opened c.args.instance.now ∷ []) (Created c.args.claim.now ∷ []) _ _ _ c.in_ok-instance.ensures.opened c.in_ok-claim.ensures.created in
+    let opened = sees_two c.in_ok-instance.ensures.opened c.in_ok-claim.ensures.created in
     let closed = rw (c.in_ok-claim.ensures.named, c.in_ok-claim.ensures.empty) at c.close_written.ensures.seen in
     record { runs = stops_creating _ _ _ _ (Err c.in-Err.error) _ _ (c.args.claim.now ∷ []) c.args.certificate.now [] c.in-Err.error _ _ _ refl refl opened c.in-Err.ensures.failed closed }
 
@@ -34,27 +31,21 @@ returns g c =
     let new = (g.K.Sink.seen c.run_solve-ended.new.report).accepted in
     let claimed = g.F.Output.Sink.seen c.run_solve-ended.new.claim_out in
     let certified = g.F.Output.Sink.seen c.run_solve-ended.new.certificate_out in
-    let i = g.F.Input.Source.faults c.run_solve-ended.new.instance in
-    let at_instance = closed_read c.in_ok-instance.instance.name.now i in
-    let at_claim = closed_written c.in_ok-claim.claim.name.now claimed in
-    let at_certificate = closed_written c.in-Ok.certificate.name.now certified in
-    let opened = sees_then (Opened c.args.instance.now ∷ Created c.args.claim.now ∷ []) (Created c.args.certificate.now ∷ []) _ _ _
-    (sees_then (Opened c.args.instance.now ∷ []) (Created c.args.claim.now ∷ []) _ _ _ c.in_ok-instance.ensures.opened c.in_ok-claim.ensures.created) c.in-Ok.ensures.created in
-    let closed = sees_then (at_instance ∷ at_claim ∷ []) (at_certificate ∷ []) _ _ _
-    (sees_then (at_instance ∷ []) (at_claim ∷ []) _ _ _ c.close_read.ensures.seen c.close_written-2.ensures.seen) c.close_written-3.ensures.seen in
+    let instance : ReadFile = record { name = c.in_ok-instance.instance.name.now; faults = g.F.Input.Source.faults c.run_solve-ended.new.instance } in
+    let claim : WrittenFile = record { name = c.in_ok-claim.claim.name.now; seen = claimed } in
+    let certificate : WrittenFile = record { name = c.in-Ok.certificate.name.now; seen = certified } in
+    let opened = sees_three c.in_ok-instance.ensures.opened c.in_ok-claim.ensures.created c.in-Ok.ensures.created in
+    let closed = sees_three c.close_read.ensures.seen c.close_written-2.ensures.seen c.close_written-3.ensures.seen in
+    let quiet = rw c.in_ok-instance.ensures.faultless at c.run_solve-ended.ensures.nothing_written in
     record {
-      runs = uses_files (reads_first 1 (c.args.instance.now ∷ c.args.claim.now ∷ c.args.certificate.now ∷ [])) _ g.F.Files.empty _ c.name_failure.result _ _
-          (record { name = c.in_ok-instance.instance.name.now; faults = i } ∷ [])
-          (record { name = c.in_ok-claim.claim.name.now; seen = claimed } ∷ record { name = c.in-Ok.certificate.name.now; seen = certified } ∷ [])
-          _ _ _ ended failure
+      runs = uses_files (reads_first 1 (c.args.instance.now ∷ c.args.claim.now ∷ c.args.certificate.now ∷ [])) _ g.F.Files.empty _ c.name_failure.result _ _ (instance ∷ []) (claim ∷ certificate ∷ []) _ _ _ ended failure
           (rw c.in_ok-instance.ensures.named refl) (rw (c.in_ok-claim.ensures.named, c.in-Ok.ensures.named) refl) opened closed c.name_failure.ensures
-          (rw (c.or-failure.ensures, c.or.ensures) (three_first c.close_read.result c.close_written-2.result c.close_written-3.result at_instance at_claim at_certificate c.close_read.ensures.failure c.close_written-2.ensures.failure c.close_written-3.ensures.failure))
-          (without_second ended 0 i _ _ (rw (c.in_ok-instance.ensures.faultless, c.in_ok-claim.ensures.empty, c.in-Ok.ensures.empty) at c.run_solve-ended.ensures.faults))
+          (rw (c.or-failure.ensures, c.or.ensures) (three_first c.close_read.result c.close_written-2.result c.close_written-3.result (Read instance) (Wrote claim) (Wrote certificate) c.close_read.ensures.failure c.close_written-2.ensures.failure c.close_written-3.ensures.failure))
+          (without_second ended _ _ _ _ (rw (c.in_ok-instance.ensures.faultless, c.in_ok-claim.ensures.empty, c.in-Ok.ensures.empty) at c.run_solve-ended.ensures.faults))
           (one_text _ (λ (texts : List (List ℕ)). TellsSolved c.args.job texts (named ended failure) (g.F.Files.empty ∷ g.F.Files.empty ∷ old ∷ []) (claimed.accepted ∷ certified.accepted ∷ new ∷ [])) (λ a first.
           flow_told c.args.job a [] (named ended failure) (g.F.Files.empty ∷ g.F.Files.empty ∷ old ∷ []) (claimed.accepted ∷ certified.accepted ∷ new ∷ []) c.requires
           (reports_all_named (MayTell (Solved c.args.job a [])) ended failure (g.F.Files.empty ∷ g.F.Files.empty ∷ old ∷ []) (claimed.accepted ∷ certified.accepted ∷ new ∷ [])
           (rw (c.in_ok-claim.ensures.empty, c.in-Ok.ensures.empty) at (c.run_solve-ended.ensures.reports a [] (c.in_ok-instance.ensures.coming ∙ first) (flow_asks_nothing c.args.job _ [] c.requires))))))
           (λ memory. let same = c.run_solve-ended.ensures.memory memory in rw (same.0, same.1, same.2, c.in_ok-claim.ensures.empty, c.in-Ok.ensures.empty) refl)
-          (λ unread. let same = c.run_solve-ended.ensures.nothing_written (inl (elim unread [ inl it ↦ λ is. it (is ∙ c.in_ok-instance.ensures.faultless) | inr never ↦ absurd never ]))
-          in rw (same.0, same.1, same.2, c.in_ok-claim.ensures.empty, c.in-Ok.ensures.empty) refl);
+          (λ unread. let same = quiet (inl (one_of unread)) in rw (same.0, same.1, same.2, c.in_ok-claim.ensures.empty, c.in-Ok.ensures.empty) refl);
     }
