@@ -1,9 +1,7 @@
 -- What is told of texts that are judged.
-use Rattle.std.proofs.Common.{◌≡◌, ℕ, List, Result, Ok, Err, refl, sym, subst, ap, ◌∙◌, inl, inr, ◌⊎◌}
+use Rattle.std.proofs.Common.{◌≡◌, ℕ, List, Result, Ok, Err, refl, sym, subst, ap, ◌∙◌, inl, inr}
 use Rattle.dimacs_lines.specs.Devices.{Written}
-use Rattle.dimacs_records.specs.declared.faults.At.{At}
 use Rattle.dimacs_records.specs.declared.faults.ReadError.{ReadError}
-use Rattle.dimacs_records.specs.declared.faults.ReadError.TheVariants as read_errors
 use Rattle.dimacs_records.specs.declared.reasons.Reason.{Reason}
 use Rattle.dimacs_judge.specs.declared.verdict.JudgeError.{JudgeError}
 use Rattle.dimacs_judge.specs.declared.verdict.JudgeError.TheVariants as judge_errors
@@ -22,74 +20,13 @@ use Rattle.dimacs_runs.specs.declared.outcome.Status.{Status}
 use Rattle.dimacs_runs.specs.declared.outcome.Status.TheVariants.{Done, Refused, GaveUp}
 use Rattle.dimacs_runs.specs.declared.outcome.RunError.{RunError}
 use Rattle.dimacs_runs.specs.declared.told.Told.{Told}
-use Rattle.dimacs_runs.specs.declared.texts_in_turn.Unread.{Unread}
-use Rattle.dimacs_runs.specs.Judgings.{FaultOr, VerdictOr}
+use Rattle.dimacs_runs.specs.Judgings.{VerdictOr}
 use Rattle.dimacs_runs.specs.Runs.{TextSays}
-use Rattle.dimacs_runs.specs.inside.Judgings.{ReadsIn, StopsAt, answer_told, error_told}
-use Rattle.dimacs_runs.specs.Refusals.{refusal_line}
+use Rattle.dimacs_runs.specs.inside.Judgings.{ReadsIn, answer_told}
 use Rattle.dimacs_runs.specs.Runs.{TellsAlone, Reports}
 use Rattle.dimacs_runs.specs.inside.Told.{EndsAfter, ToldAlone, told_lines, told_status}
 use Rattle.dimacs_runs.specs.Verdicts.{answer_line, failure_line, sources_line, verdict_lines}
 use Rattle.dimacs_judge.proofs.Firsts.{none_first}
-
-module _ {V : Type 0} (text : TextSays V) (next : V → Status → List ℕ → Type 0) where
-  value_alone : (v : V) (status : Status) (out : List ℕ) → ReadsIn text (Ok v) → TellsAlone (next v) status out → TellsAlone (FaultOr text next) status out
-  value_alone v status out read follows = (inr (v, read.0, follows.0), alone)
-    where
-      alone : (s : Status) (other : List ℕ) → FaultOr text next s other → (s ≡ status) × (other ≡ out)
-      alone s other (inl h) = absurd (read.2 h.0 h.1 h.2 h.3)
-      alone s other (inr h) = follows.1 s other (subst (λ (w : V). next w s other) (read.1 h.0 h.1) h.2)
-
-  fault_alone : (name : List ℕ) (place : At) (reason : Reason) → name ≡ text.name → ReadsIn text (Err (read_errors.Refused place reason)) → TellsAlone (FaultOr text next) Refused (refusal_line name place.line place.field reason)
-  fault_alone name place reason is read = (inl (place.line, place.field, reason, read.0, refl, rw is refl), alone)
-    where
-      alone : (s : Status) (other : List ℕ) → FaultOr text next s other → (s ≡ Refused) × (other ≡ refusal_line name place.line place.field reason)
-      alone s other (inl h) = let same = read.1 h.0 h.1 h.2 h.3 in (h.4, h.5 ∙ rw (same.0, same.1, same.2, is) refl)
-      alone s other (inr h) = absurd (read.2 h.0 h.1)
-
-  -- the text was read, and what follows from its value was told
-  pub value_told : (v : V) (told : Result Told RunError) → ReadsIn text (Ok v) → ToldAlone (next v) told → ToldAlone (FaultOr text next) told
-  value_told v (Ok t) read follows = value_alone v (told_status t) (told_lines t) read follows
-  value_told v (Err error) read follows = tt
-
-  error_alone : (unread : Unread) (error : ReadError) → unread.text.now ≡ text.name → ReadsIn text (Err error) → ToldAlone (FaultOr text next) (error_told unread error)
-  error_alone unread (read_errors.Refused place reason) is read = fault_alone unread.text.now place reason is read
-  error_alone unread read_errors.Device is read = tt
-  error_alone unread read_errors.Memory is read = tt
-
-  -- the text could not be read
-  pub stop_told : (unread : Unread) → StopsAt text unread → ToldAlone (FaultOr text next) (error_told unread unread.error)
-  stop_told unread stop = error_alone unread unread.error stop.0 stop.1
-
-module _ {V W : Type 0} (x : TextSays V) (y : TextSays W) (next : V → W → Status → List ℕ → Type 0) where
-  abbrev after_first : V → Status → List ℕ → Type 0
-  after_first v = FaultOr y (next v)
-
-  -- two texts were read
-  pub two_values : (v : V) (w : W) (told : Result Told RunError) → ReadsIn x (Ok v) → ReadsIn y (Ok w) → ToldAlone (next v w) told → ToldAlone (FaultOr x after_first) told
-  two_values v w told read also follows = value_told x after_first v told read (value_told y (next v) w told also follows)
-
-  -- one of two texts could not be read
-  pub two_told : (unread : Unread) → StopsAt x unread ⊎ ((v : V) × ReadsIn x (Ok v) × StopsAt y unread) → ToldAlone (FaultOr x after_first) (error_told unread unread.error)
-  two_told unread (inl first) = stop_told x after_first unread first
-  two_told unread (inr (v, read, second)) = value_told x after_first v (error_told unread unread.error) read (stop_told y (next v) unread second)
-
-module _ {V W X : Type 0} (x : TextSays V) (y : TextSays W) (z : TextSays X) (next : V → W → X → Status → List ℕ → Type 0) where
-  abbrev after_second : V → W → Status → List ℕ → Type 0
-  after_second v w = FaultOr z (next v w)
-
-  abbrev three : Status → List ℕ → Type 0
-  three = FaultOr x (λ v. FaultOr y (after_second v))
-
-  -- three texts were read
-  pub three_values : (v : V) (w : W) (u : X) (told : Result Told RunError) → ReadsIn x (Ok v) → ReadsIn y (Ok w) → ReadsIn z (Ok u) → ToldAlone (next v w u) told → ToldAlone three told
-  three_values v w u told first second third follows = two_values x y after_second v w told first second (value_told z (next v w) u told third follows)
-
-  -- one of three texts could not be read
-  pub three_told : (unread : Unread) → StopsAt x unread ⊎ ((v : V) × ReadsIn x (Ok v) × (StopsAt y unread ⊎ ((w : W) × ReadsIn y (Ok w) × StopsAt z unread))) → ToldAlone three (error_told unread unread.error)
-  three_told unread (inl first) = stop_told x (λ v. FaultOr y (after_second v)) unread first
-  three_told unread (inr (v, read, inl second)) = value_told x (λ v. FaultOr y (after_second v)) v (error_told unread unread.error) read (stop_told y (after_second v) unread second)
-  three_told unread (inr (v, read, inr (w, also, third))) = two_values x y after_second v w (error_told unread unread.error) read also (stop_told z (next v w) unread third)
 
 module _ (holds : Type 0) (rows : List Row) (says : Verdict → Type 0) (lines : List ℕ) (same : (verdict : Verdict) → says verdict → verdict_lines verdict ≡ lines) where
   abbrev judged : Status → List ℕ → Type 0

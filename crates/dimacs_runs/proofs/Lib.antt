@@ -5,3 +5,4 @@ mod WordLemmas
 pub mod ReportLemmas
 pub mod SolvingLemmas
 pub mod CertifyingLemmas
+pub mod TextLemmas

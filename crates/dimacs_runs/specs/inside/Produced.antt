@@ -25,7 +25,7 @@ use Rattle.dimacs_runs.specs.declared.told.Told.{Told}
 use Rattle.dimacs_runs.specs.declared.told.Told.TheVariants as told
 use Rattle.dimacs_runs.specs.Judgings.{OneMore}
 use Rattle.dimacs_runs.specs.Outputs.{AcceptAll, AcceptInTurn, MayTell, TellsAlike}
-use Rattle.dimacs_runs.specs.inside.Told.{told_lines, told_status}
+use Rattle.dimacs_runs.specs.inside.Told.{IfTold, told_lines, told_status}
 
 -- the texts of the claim and of the certificate
 abbrev pub made_texts : Made → List (List ℕ)
@@ -90,10 +90,12 @@ least_produced (Ok (least.Infeasible set)) = Ok (record { made = Set set; told =
 least_produced (Ok least.GaveUp) = reported (Ok told.GaveUp)
 least_produced (Err error) = reported (refused error)
 
+abbrev pub produced_status : Produced → Status
+produced_status p = told_status p.told
+
 -- what is produced, where something is, may be told
 abbrev pub MayProduce : (Status → List (List ℕ) → Type 0) → Result Produced RunError → Type 0
-MayProduce tells (Ok p) = MayTell tells (told_status p.told) (produced_texts p)
-MayProduce tells (Err error) = Unit {0}
+MayProduce = IfTold MayTell produced_status produced_texts
 
 -- the texts after that of the claim
 abbrev pub unclaimed_texts : Produced → List (List ℕ)
@@ -101,8 +103,7 @@ unclaimed_texts p = drop 1 (produced_texts p)
 
 -- what is produced of someone else's claim, where something is, may be told
 abbrev pub MayCertify : (Status → List (List ℕ) → Type 0) → Result Produced RunError → Type 0
-MayCertify tells (Ok p) = TellsAlike tells (told_status p.told) (unclaimed_texts p)
-MayCertify tells (Err error) = Unit {0}
+MayCertify = IfTold TellsAlike produced_status unclaimed_texts
 
 -- how a run ends that was to put this, or had nothing to tell
 abbrev pub EndsProducing : Result Produced RunError → Result Status RunError → List Written → List Written → Type 0

@@ -24,10 +24,14 @@ told_lines (No place reason) = failure_line place reason
 told_lines (Fault text place reason) = refusal_line text.now place.line place.field reason
 told_lines GaveUp = gave_up_line
 
--- what is told, where something is, is told alone
+-- what is told, where something is, is told in this way
+abbrev pub IfTold : {R O : Type 0} → ((Status → O → Type 0) → Status → O → Type 0) → (R → Status) → (R → O) → (Status → O → Type 0) → Result R RunError → Type 0
+IfTold Way status out tells (Ok it) = Way tells (status it) (out it)
+IfTold Way status out tells (Err error) = Unit {0}
+
+-- it is told alone
 abbrev pub ToldAlone : (Status → List ℕ → Type 0) → Result Told RunError → Type 0
-ToldAlone tells (Ok told) = TellsAlone tells (told_status told) (told_lines told)
-ToldAlone tells (Err error) = Unit {0}
+ToldAlone = IfTold TellsAlone told_status told_lines
 
 -- how a run ends that was to put this, or had nothing to tell
 abbrev pub EndsAfter : Result Told RunError → Result Status RunError → Written → Written → Type 0
