@@ -1,5 +1,4 @@
 pub mod Commands
 pub mod Judgings
 pub mod Produced
-pub mod Runs
 pub mod Told

@@ -5,7 +5,6 @@ mod certify;
 mod command;
 mod counted;
 mod discard;
-mod ending;
 mod failure;
 mod files;
 mod in_use;

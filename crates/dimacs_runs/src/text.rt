@@ -1,6 +1,6 @@
 //! What is told of one text: its canonical form, or a line about it.
 
-ghost use Rattle.std.specs.Prelude.{◌≡◌, ◌≢◌, ◌∷◌, [], ℕ, List, Some, Err};
+ghost use Rattle.std.specs.Prelude.{◌≡◌, ◌≢◌, ◌∷◌, ℕ, List, [], Some, Err};
 ghost use Rattle.dimacs_lines.specs.Puts.{Puts};
 ghost use Rattle.dimacs_runs.specs.declared.outcome.RunError.TheVariants.{Memory};
 ghost use Rattle.dimacs_runs.specs.declared.text.TextForm.TheVariants.{Canonical, Summary};
@@ -8,9 +8,9 @@ ghost use Rattle.dimacs_runs.specs.Judgings.{CountsDevices};
 ghost use Rattle.dimacs_runs.specs.Runs.{Reports, TellsText, Told, in_form};
 ghost use Rattle.dimacs_runs.specs.inside.Judgings.{text_says};
 
-use crate::ending::{done, refuse};
 use crate::outcome::{RunError, Status};
-use crate::refusal::text_name;
+use crate::texts_in_turn::read;
+use crate::told::put_told;
 use dimacs_claims::{Cut, Labels, Potentials, Solution};
 use dimacs_instance::{Graph, MaxInstance, MinInstance, Queries};
 use dimacs_lines::{DeviceFault, Sink, Source};
@@ -98,9 +98,12 @@ fn tell<T: Text, S: Source, K: Sink>(
     ensures nothing_written { S.faults text.new ≢ S.faults text.old → K.seen sink.new ≡ K.seen sink.old }
     ensures memory { result ≡ Err Memory → K.seen sink.new ≡ K.seen sink.old }
 {
-    match T::read(alloc, text) {
-        Ok(value) => done(put(&value, form, sink)),
-        Err(error) => refuse(error, text_name(T::kind()), sink),
+    match read::<T, S>(alloc, text) {
+        Ok(value) => {
+            put(&value, form, sink)?;
+            Ok(Status::Done)
+        }
+        Err(unread) => put_told(unread.told(), sink),
     }
 }
 

@@ -1,13 +1,28 @@
-use Rattle.dimacs_runs.specs.Runs.{in_form}
-use Rattle.dimacs_runs.proofs.ReportLemmas.{done_reports, refusal_reports}
+use Rattle.std.proofs.Common.{inr}
+use Rattle.std.proofs.lemmas.Result.{err_from_is_err_and}
+use Rattle.dimacs_runs.specs.declared.outcome.Status.TheVariants.{Done}
+use Rattle.dimacs_runs.specs.Runs.{TellsText, in_form}
+use Rattle.dimacs_runs.specs.inside.Judgings.{text_says}
+use Rattle.dimacs_runs.proofs.JudgingLemmas.{told_reports}
+use Rattle.dimacs_runs.proofs.ReportLemmas.{unread_alone, value_told}
 use Rattle.dimacs_runs.proofs.text.tell.Goals as goal
 
-pub returns-in-Ok-clause-reports : goal.returns-in-Ok-clause-reports
-returns-in-Ok-clause-reports g c = λ bytes coming.
-    done_reports g.T.Text.kind g.T.Text.spells (in_form c.args.form g.T.Text.canonical g.T.Text.shown) bytes (g.T.Text.said c.in-Ok.value) c.put.result c.done.result
-    (g.K.Sink.seen c.args.sink.now) (g.K.Sink.seen c.put.new.sink) (c.in-Ok.ensures.reads bytes coming) c.put.ensures c.done.ensures
+pub returns-in_ok-put-in-Ok-clause-reports : goal.returns-in_ok-put-in-Ok-clause-reports
+returns-in_ok-put-in-Ok-clause-reports g c = λ bytes coming.
+    let told = in_form c.args.form g.T.Text.canonical g.T.Text.shown in
+    let value = g.T.Text.said c.in-Ok.value in
+    (told value, value_told (text_says g.T.Text.kind g.T.Text.spells bytes) told value (c.in-Ok.ensures.reads bytes coming), c.in_ok-put-in-Ok.ensures.accepted)
+
+pub returns-in_err-put-in-Ok-clause-reports : goal.returns-in_err-put-in-Ok-clause-reports
+returns-in_err-put-in-Ok-clause-reports g c = λ bytes coming.
+    let told = in_form c.args.form g.T.Text.canonical g.T.Text.shown in
+    let value = g.T.Text.said c.in-Ok.value in
+    let (error, is, device) = err_from_is_err_and c.from_residual.result c.from_residual.ensures.1 in
+    rw is (inr (Done, told value, value_told (text_says g.T.Text.kind g.T.Text.spells bytes) told value (c.in-Ok.ensures.reads bytes coming), c.in_err-put-in-Ok.ensures.accepted))
 
 pub returns-in-Err-clause-reports : goal.returns-in-Err-clause-reports
 returns-in-Err-clause-reports g c = λ bytes coming.
-    refusal_reports g.T.Text.kind g.T.Text.spells (in_form c.args.form g.T.Text.canonical g.T.Text.shown) bytes c.in-Err.error c.refuse.result
-    (g.K.Sink.seen c.args.sink.now) (g.K.Sink.seen c.refuse.new.sink) (c.in-Err.ensures.reads bytes coming) (rw (← c.kind.ensures, ← c.text_name.ensures) c.refuse.ensures)
+    let text = text_says g.T.Text.kind g.T.Text.spells bytes in
+    let told = in_form c.args.form g.T.Text.canonical g.T.Text.shown in
+    told_reports (TellsText text told) c.told.result c.put_told.result (g.K.Sink.seen c.args.sink.now) (g.K.Sink.seen c.put_told.new.sink)
+    (rw c.told.ensures (unread_alone text told c.in-Err.unread (c.in-Err.ensures.reads bytes coming))) c.put_told.ensures
