@@ -156,11 +156,9 @@ first_call (inr file ∷ files) call name rest is = elim (eq-zero-or-pos file.se
 -- where nothing is written there was no memory, or a file that is read failed
 pub why_nothing : (P : Type 0) (closed : List Closed) (ended : Result Status RunError) (failure : Option Failure) → IsFirstOf failure (flat_map failures (closings closed))
     → (ended ≡ Err Memory → P) → (AnyRead closed → P) → WritesNothing (named ended failure) → P
-why_nothing P closed (Ok status) failure first memory read nothing = absurd nothing
 why_nothing P closed (Err Memory) failure first memory read nothing = memory refl
-why_nothing P closed (Err Device) None first memory read nothing = absurd nothing
-why_nothing P closed (Err Device) (Some Output) first memory read nothing = absurd nothing
 why_nothing P closed (Err Device) (Some (File call name)) first memory read nothing = elim (first_call closed call name.now first.0 first.1) [
   | inl it ↦ read it.1
   | inr wrote ↦ absurd (subst (λ (c : FileCall). WritesNothing (Err (errors.Device (File c name)))) wrote nothing)
 ]
+why_nothing P closed ended failure first memory read nothing = absurd nothing

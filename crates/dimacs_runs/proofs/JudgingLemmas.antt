@@ -68,14 +68,7 @@ none_placed like text (Err other) error alike read = subst (λ (e : ReadError). 
 pub paths_said : (blocks : List BlockValue) (q : QueriesValue) (verdict : Verdict) → AnswersQueries blocks q verdict → verdict_lines verdict ≡ paths_lines blocks q
 paths_said blocks (queries.Sources ids) (verdicts.Sources count) is = ap sources_line is
 paths_said blocks (queries.Pairs pairs) (verdicts.Pairs answers) is = ap (flat_map answer_line) is
-paths_said blocks (queries.Sources ids) (verdicts.Max value) is = absurd is
-paths_said blocks (queries.Sources ids) (verdicts.Min cost) is = absurd is
-paths_said blocks (queries.Sources ids) verdicts.Infeasible is = absurd is
-paths_said blocks (queries.Sources ids) (verdicts.Pairs answers) is = absurd is
-paths_said blocks (queries.Pairs pairs) (verdicts.Max value) is = absurd is
-paths_said blocks (queries.Pairs pairs) (verdicts.Min cost) is = absurd is
-paths_said blocks (queries.Pairs pairs) verdicts.Infeasible is = absurd is
-paths_said blocks (queries.Pairs pairs) (verdicts.Sources count) is = absurd is
+paths_said blocks q verdict is = absurd is
 
 -- what is told alone is reported
 pub told_reports : (tells : Status → List ℕ → Type 0) (told : Result Told RunError) (result : Result Status RunError) (old new : Written)

@@ -115,36 +115,23 @@ module _ (plan : Plan) (holds : Contents) (empty : Option (List ℕ)) (tells : T
       }
 
 -- ---- the texts that files hold
-pub one_text : (x : Option (List ℕ)) (P : List (List ℕ) → Type 0) → ((a : List ℕ) → x ≡ Some a → P (a ∷ [])) → (texts : List (List ℕ)) → x ∷ [] ≡ map Some texts → P texts
-one_text x P each [] is = absurd cc
-one_text x P each (a ∷ []) is = each a cc
-one_text x P each (a ∷ b ∷ more) is = absurd cc
+abbrev pub EachText : List (Option (List ℕ)) → (List (List ℕ) → Type 0) → Type 0
+EachText [] P = P []
+EachText (x ∷ xs) P = (a : List ℕ) → x ≡ Some a → EachText xs (λ texts. P (a ∷ texts))
 
-pub two_texts : (x y : Option (List ℕ)) (P : List (List ℕ) → Type 0) → ((a b : List ℕ) → x ≡ Some a → y ≡ Some b → P (a ∷ b ∷ [])) → (texts : List (List ℕ)) → x ∷ y ∷ [] ≡ map Some texts → P texts
-two_texts x y P each [] is = absurd cc
-two_texts x y P each (a ∷ []) is = absurd cc
-two_texts x y P each (a ∷ b ∷ []) is = let first : x ≡ Some a = cc in let second : y ≡ Some b = cc in each a b first second
-two_texts x y P each (a ∷ b ∷ c ∷ more) is = absurd cc
-
-pub three_texts : (x y z : Option (List ℕ)) (P : List (List ℕ) → Type 0) → ((a b c : List ℕ) → x ≡ Some a → y ≡ Some b → z ≡ Some c → P (a ∷ b ∷ c ∷ [])) → (texts : List (List ℕ)) → x ∷ y ∷ z ∷ [] ≡ map Some texts → P texts
-three_texts x y z P each [] is = absurd cc
-three_texts x y z P each (a ∷ []) is = absurd cc
-three_texts x y z P each (a ∷ b ∷ []) is = absurd cc
-three_texts x y z P each (a ∷ b ∷ c ∷ []) is = let first : x ≡ Some a = cc in let second : y ≡ Some b = cc in let third : z ≡ Some c = cc in each a b c first second third
-three_texts x y z P each (a ∷ b ∷ c ∷ d ∷ more) is = absurd cc
+pub each_text : (xs : List (Option (List ℕ))) (P : List (List ℕ) → Type 0) → EachText xs P → (texts : List (List ℕ)) → xs ≡ map Some texts → P texts
+each_text [] P each [] is = each
+each_text (x ∷ xs) P each (a ∷ more) is = let first : x ≡ Some a = cc in let rest : xs ≡ map Some more = cc in each_text xs (λ texts. P (a ∷ texts)) (each a first) more rest
+each_text xs P each texts is = absurd cc
 
 -- ---- what is reported of a run whose failure was named
 pub reports_named : (tells : Status → List ℕ → Type 0) (ended : Result Status RunError) (failure : Option Failure) (old new : Option (List ℕ)) → Reports tells ended old new → Reports tells (named ended failure) old new
-reports_named tells (Ok status) failure old new reports = reports
-reports_named tells (Err Memory) failure old new reports = reports
-reports_named tells (Err Device) None old new reports = reports
 reports_named tells (Err Device) (Some it) old new reports = reports
+reports_named tells ended failure old new reports = reports
 
 pub reports_all_named : (told : Status → List (List ℕ) → Type 0) (ended : Result Status RunError) (failure : Option Failure) (old new : List (Option (List ℕ))) → ReportsAll told ended old new → ReportsAll told (named ended failure) old new
-reports_all_named told (Ok status) failure old new reports = reports
-reports_all_named told (Err Memory) failure old new reports = reports
-reports_all_named told (Err Device) None old new reports = reports
 reports_all_named told (Err Device) (Some it) old new reports = reports
+reports_all_named told ended failure old new reports = reports
 
 -- ---- devices that fail, or never do
 pub one_of : {A : Type 0} → A ⊎ ⊥ → A
@@ -180,20 +167,16 @@ without_third (Err Device) p q counted again old new (inr (same, more)) = inr (s
 
 -- ---- what is told by the kind of a run
 pub judged_told : (kind : JudgeKind) (a b c : List ℕ) (result : Result Status CommandError) (old new : Option (List ℕ)) → Reports (Judged kind a b c) result old new → TellsJudged kind (a ∷ b ∷ c ∷ []) result (old ∷ []) (new ∷ [])
-judged_told judges.Max a b c result old new reports = reports
-judged_told judges.Min a b c result old new reports = reports
 judged_told judges.Infeasible a b c result old new reports = reports
-judged_told judges.Paths a b c result old new reports = reports
+judged_told kind a b c result old new reports = reports
 
 pub is_claim : (kind : JudgeKind) (coming : Option (List ℕ)) (b : List ℕ) → coming ≡ Some b → IsClaim kind coming b
 is_claim kind coming b is = λ some. is
 
 pub flow_told : (job : SolveJob) (a b : List ℕ) (result : Result Status CommandError) (old new : List (Option (List ℕ))) → job ≢ solves.Paths → ReportsAll (MayTell (Solved job a b)) result old new → TellsSolved job (a ∷ []) result old new
-flow_told (solves.Max limit) a b result old new flow reports = reports
-flow_told (solves.Min limit) a b result old new flow reports = reports
 flow_told solves.Paths a b result old new flow reports = absurd (flow refl)
+flow_told job a b result old new flow reports = reports
 
 pub flow_asks_nothing : (job : SolveJob) (coming : Option (List ℕ)) (b : List ℕ) → job ≢ solves.Paths → AreQueries job coming b
-flow_asks_nothing (solves.Max limit) coming b flow = tt
-flow_asks_nothing (solves.Min limit) coming b flow = tt
 flow_asks_nothing solves.Paths coming b flow = absurd (flow refl)
+flow_asks_nothing job coming b flow = tt

@@ -41,18 +41,16 @@ use Rattle.dimacs_runs.specs.Verdicts.{failure_line}
 pub maximum_tells : (i : MaxValue) (limit : ℕ) (answer : Result MaxAnswer SolveError) → SolvesMax i limit answer → MayProduce (FindsMaximum i limit) (maximum_produced answer)
 maximum_tells i limit (Ok (answers.Optimal solution cut)) found = ((found.0, claimed solution, cut, found.1, refl), λ refusal never. absurd never)
 maximum_tells i limit (Ok answers.GaveUp) gave_up = ((gave_up, refl), λ refusal never. absurd never)
-maximum_tells i limit (Err (solve_errors.NegativeWeight arc)) never = absurd never
-maximum_tells i limit (Err (solve_errors.Refused place reason)) never = absurd never
 maximum_tells i limit (Err solve_errors.Memory) nothing = tt
+maximum_tells i limit (Err other) never = absurd never
 
 -- the producer of a flow of least cost answered
 pub least_tells : (i : MinValue) (limit : ℕ) (answer : Result MinAnswer SolveError) → SolvesMin i limit answer → MayProduce (FindsLeast i limit) (least_produced answer)
 least_tells i limit (Ok (least.Optimal solution potentials)) found = (inl (claimed solution, potentials, found, refl), λ refusal never. absurd never)
 least_tells i limit (Ok (least.Infeasible set)) found = (inr (set, found, refl), λ refusal never. absurd never)
 least_tells i limit (Ok least.GaveUp) gave_up = ((gave_up, refl), λ refusal never. absurd never)
-least_tells i limit (Err (solve_errors.NegativeWeight arc)) never = absurd never
-least_tells i limit (Err (solve_errors.Refused place reason)) never = absurd never
 least_tells i limit (Err solve_errors.Memory) nothing = tt
+least_tells i limit (Err other) never = absurd never
 
 same_first : (arcs : List ArcView) (j k : ℕ) → IsFirstNegative arcs j → IsFirstNegative arcs k → j ≡ k
 same_first arcs j k f g = elim (cases_order f.index g.index) [
@@ -81,9 +79,8 @@ module _ (g : NetworkValue) (q : QueriesValue) where
 
 -- a run that told of no device counted no fault
 pub counts_none : {X : Type 0} (result : Result X RunError) (old new : List ℕ) → result ≢ Err Device → new ≡ old → CountsDevices result old new
-counts_none (Ok x) old new other same = same
-counts_none (Err Memory) old new other same = same
 counts_none (Err Device) old new other same = absurd (other refl)
+counts_none result old new other same = same
 
 -- what was produced was put
 pub produced_reports : (tells : Status → List (List ℕ) → Type 0) (produced : Result Produced RunError) (result : Result Status RunError) (old new : List Written)

@@ -14,17 +14,12 @@ use Rattle.dimacs_runs.specs.Jobs.{AreOptions, Asks, AsksProducer, IsLimit, Tell
 pub two_words : {A : Type 0} (f : A → List ℕ) (words : List A) (a b : A) (x y : List ℕ) → 2 ≤ length words → length words < 3 → a ≡ get_or words 0 a → b ≡ get_or words 1 b
     → x ≡ f a → y ≡ f b → map f words ≡ x ∷ y ∷ []
 two_words f (p ∷ q ∷ []) a b x y least most first second is_x is_y = sym (rw (is_x, is_y, first, second) refl)
-two_words f [] a b x y least most first second is_x is_y = absurd (omega (arith, least))
-two_words f (p ∷ []) a b x y least most first second is_x is_y = absurd (omega (arith, least))
-two_words f (p ∷ q ∷ r ∷ more) a b x y least most first second is_x is_y = absurd (omega (arith, most))
+two_words f words a b x y least most first second is_x is_y = absurd (omega (arith, least, most))
 
 pub three_words : {A : Type 0} (f : A → List ℕ) (words : List A) (a b c : A) (x y z : List ℕ) → 3 ≤ length words → length words < 4 → a ≡ get_or words 0 a → b ≡ get_or words 1 b → c ≡ get_or words 2 c
     → x ≡ f a → y ≡ f b → z ≡ f c → map f words ≡ x ∷ y ∷ z ∷ []
 three_words f (p ∷ q ∷ r ∷ []) a b c x y z least most first second third is_x is_y is_z = sym (rw (is_x, is_y, is_z, first, second, third) refl)
-three_words f [] a b c x y z least most first second third is_x is_y is_z = absurd (omega (arith, least))
-three_words f (p ∷ []) a b c x y z least most first second third is_x is_y is_z = absurd (omega (arith, least))
-three_words f (p ∷ q ∷ []) a b c x y z least most first second third is_x is_y is_z = absurd (omega (arith, least))
-three_words f (p ∷ q ∷ r ∷ s ∷ more) a b c x y z least most first second third is_x is_y is_z = absurd (omega (arith, most))
+three_words f words a b c x y z least most first second third is_x is_y is_z = absurd (omega (arith, least, most))
 
 -- ---- what stands after the files of a producer
 pub limited : (told : Option ℕ) (words : List (List ℕ)) (number : List ℕ) → words ≡ codes "--limit" ∷ number ∷ [] → IfSome told (IsLimit number) → IfSome told (TellLimit words)
@@ -45,9 +40,8 @@ module _ (word : List ℕ) (options : List (List ℕ)) (none : (limit : ℕ) →
 -- lists that begin with as many members have the same rest
 same_rest : {A : Type 0} (xs ys us vs : List A) → length xs ≡ length us → xs ++ ys ≡ us ++ vs → ys ≡ vs
 same_rest [] ys [] vs long same = same
-same_rest [] ys (u ∷ us) vs long same = absurd (omega (arith, long))
-same_rest (x ∷ xs) ys [] vs long same = absurd (omega (arith, long))
 same_rest (x ∷ xs) ys (u ∷ us) vs long same = same_rest xs ys us vs (omega (arith, long)) cc
+same_rest xs ys us vs long same = absurd (omega (arith, long))
 
 -- the words ask for no producer where what stands after three files isn't an option of one
 pub no_producer : {A : Type 0} (f : A → List ℕ) (verb : List ℕ) (words options : List A) → 3 ≤ length words → options ≡ drop 3 words
@@ -56,9 +50,7 @@ no_producer f verb (p ∷ q ∷ r ∷ rest) options least is none job files (mor
     let same_verb : verb ≡ solve_word job = cc in
     let all : (f p ∷ f q ∷ f r ∷ []) ++ map f rest ≡ files ++ more = cc in
     none job same_verb (rw (ap (map f) is, same_rest (f p ∷ f q ∷ f r ∷ []) (map f rest) files more (sym count) all) are)
-no_producer f verb [] options least is none job files asks = absurd (omega (arith, least))
-no_producer f verb (p ∷ []) options least is none job files asks = absurd (omega (arith, least))
-no_producer f verb (p ∷ q ∷ []) options least is none job files asks = absurd (omega (arith, least))
+no_producer f verb words options least is none job files asks = absurd (omega (arith, least))
 
 module _ {A : Type 0} (f : A → List ℕ) (words : List A) (first : A) (rest : List A) (verb : List ℕ) (is : words ≡ first ∷ rest) (is_verb : verb ≡ f first) where
   -- a word that names no run, and words after it that no judge, no certifier and no producer takes

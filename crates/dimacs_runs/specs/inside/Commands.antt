@@ -6,7 +6,7 @@ use Rattle.dimacs_runs.specs.declared.failure.Failure.{Failure}
 use Rattle.dimacs_runs.specs.declared.failure.Failure.TheVariants.{File, Output}
 use Rattle.dimacs_runs.specs.declared.failure.FileCall.{FileCall}
 use Rattle.dimacs_runs.specs.declared.jobs.Job.{Job}
-use Rattle.dimacs_runs.specs.declared.jobs.Job.TheVariants.{Convert, Show, Judge, Certify, Solve}
+use Rattle.dimacs_runs.specs.declared.jobs.Job.TheVariants.{Judge, Certify, Solve}
 use Rattle.dimacs_runs.specs.declared.outcome.RunError.{RunError}
 use Rattle.dimacs_runs.specs.declared.outcome.RunError.TheVariants as run_errors
 use Rattle.dimacs_runs.specs.declared.outcome.Status.{Status}
@@ -16,11 +16,10 @@ use Rattle.dimacs_runs.specs.Jobs.{TwoOrThree, file_count}
 
 -- there are as many files as the run has
 abbrev pub HasFiles : Job → Type 0
-HasFiles (Convert kind file) = Unit {0}
-HasFiles (Show kind file) = Unit {0}
 HasFiles (Judge kind files) = length files.now ≡ file_count kind
 HasFiles (Certify kind files) = TwoOrThree (length files.now)
 HasFiles (Solve job files) = length files.now ≡ 3
+HasFiles job = Unit {0}
 
 -- the end of a run over files one of which failed so, or none
 abbrev pub named : Result Status RunError → Option Failure → Result Status CommandError

@@ -47,13 +47,9 @@ produced_texts p = with_report (made_texts p.made) (told_lines p.told)
 
 -- nothing is claimed with what shows something of a claim of someone else's, and with labels
 abbrev pub IsClaimless : Made → Type 0
-IsClaimless Nothing = Unit {0}
 IsClaimless (Maximum solution cut) = ⊥
 IsClaimless (Least solution potentials) = ⊥
-IsClaimless (Set set) = Unit {0}
-IsClaimless (Slack potentials) = Unit {0}
-IsClaimless (Better solution) = Unit {0}
-IsClaimless (Distances labels) = Unit {0}
+IsClaimless other = Unit {0}
 
 -- what each sink has accepted, and how often each has failed
 abbrev pub accepted_by : List Written → List (Option (List ℕ))

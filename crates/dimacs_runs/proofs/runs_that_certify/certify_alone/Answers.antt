@@ -6,7 +6,7 @@ use Rattle.dimacs_runs.specs.Files.{Read, ReadFile}
 use Rattle.dimacs_runs.specs.Outputs.{TellsAlike}
 use Rattle.dimacs_runs.specs.inside.Commands.{named}
 use Rattle.dimacs_runs.proofs.FileLemmas.{sees_two, two_first}
-use Rattle.dimacs_runs.proofs.PlanLemmas.{one_of_two, reports_all_named, sees_nothing, stops_opening, two_texts, uses_files, without_third}
+use Rattle.dimacs_runs.proofs.PlanLemmas.{each_text, one_of_two, reports_all_named, sees_nothing, stops_opening, uses_files, without_third}
 use Rattle.dimacs_runs.proofs.runs_that_certify.certify_alone.Goals as goal
 
 pub returns-in_err-instance : goal.returns-in_err-instance
@@ -33,7 +33,7 @@ returns g c =
           (sees_two c.close_read.ensures.seen c.close_read-2.ensures.seen) c.name_failure.ensures
           (rw c.or-failure.ensures (two_first c.close_read.result c.close_read-2.result (Read instance) (Read solution) c.close_read.ensures.failure c.close_read-2.ensures.failure))
           (without_third ended _ _ _ _ _ _ (rw (c.in_ok-instance.ensures.faultless, c.in_ok-solution.ensures.faultless) at c.run_certify-ended.ensures.faults))
-          (two_texts _ _ (λ (texts : List (List ℕ)). TellsCertified c.args.kind texts (named ended failure) (old ∷ []) (new ∷ [])) (λ a b first second.
+          (each_text (_ ∷ _ ∷ []) (λ (texts : List (List ℕ)). TellsCertified c.args.kind texts (named ended failure) (old ∷ []) (new ∷ [])) (λ a first b second.
           reports_all_named (TellsAlike (Certified c.args.kind a b)) ended failure (None ∷ old ∷ []) (None ∷ new ∷ []) (c.run_certify-ended.ensures.reports a b
           (c.in_ok-instance.ensures.coming ∙ first)
           (c.in_ok-solution.ensures.coming ∙ ap (λ (h : Contents). h c.args.solution.now) c.in_ok-instance.ensures.holds ∙ second))))

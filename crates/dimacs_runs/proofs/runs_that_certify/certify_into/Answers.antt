@@ -5,7 +5,7 @@ use Rattle.dimacs_runs.specs.Files.{Read, ReadFile, WrittenFile, Wrote}
 use Rattle.dimacs_runs.specs.Outputs.{TellsAlike}
 use Rattle.dimacs_runs.specs.inside.Commands.{named}
 use Rattle.dimacs_runs.proofs.FileLemmas.{sees_three, sees_two, three_first}
-use Rattle.dimacs_runs.proofs.PlanLemmas.{one_of_two, reports_all_named, sees_nothing, stops_creating, stops_opening, two_texts, uses_files}
+use Rattle.dimacs_runs.proofs.PlanLemmas.{each_text, one_of_two, reports_all_named, sees_nothing, stops_creating, stops_opening, uses_files}
 use Rattle.dimacs_runs.proofs.runs_that_certify.certify_into.Goals as goal
 
 pub returns-in_err-instance : goal.returns-in_err-instance
@@ -39,7 +39,7 @@ returns g c =
           (rw (c.in_ok-instance.ensures.named, c.in_ok-solution.ensures.named) refl) (rw c.in_ok-certificate.ensures.named refl) opened closed c.name_failure.ensures
           (rw (c.or-failure.ensures, c.or.ensures) (three_first c.close_read.result c.close_read-2.result c.close_written.result (Read instance) (Read solution) (Wrote certificate) c.close_read.ensures.failure c.close_read-2.ensures.failure c.close_written.ensures.failure))
           (rw (c.in_ok-instance.ensures.faultless, c.in_ok-solution.ensures.faultless, c.in_ok-certificate.ensures.empty) at c.run_certify-ended.ensures.faults)
-          (two_texts _ _ (λ (texts : List (List ℕ)). TellsCertified c.args.kind texts (named ended failure) (g.F.Files.empty ∷ old ∷ []) (written.accepted ∷ new ∷ [])) (λ a b first second.
+          (each_text (_ ∷ _ ∷ []) (λ (texts : List (List ℕ)). TellsCertified c.args.kind texts (named ended failure) (g.F.Files.empty ∷ old ∷ []) (written.accepted ∷ new ∷ [])) (λ a first b second.
           reports_all_named (TellsAlike (Certified c.args.kind a b)) ended failure (g.F.Files.empty ∷ old ∷ []) (written.accepted ∷ new ∷ []) (rw c.in_ok-certificate.ensures.empty at (c.run_certify-ended.ensures.reports a b
           (c.in_ok-instance.ensures.coming ∙ first)
           (c.in_ok-solution.ensures.coming ∙ ap (λ (h : Contents). h c.args.solution.now) c.in_ok-instance.ensures.holds ∙ second)))))

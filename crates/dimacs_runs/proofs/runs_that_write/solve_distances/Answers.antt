@@ -6,7 +6,7 @@ use Rattle.dimacs_runs.specs.Outputs.{MayTell}
 use Rattle.dimacs_runs.specs.Solved.{Solved}
 use Rattle.dimacs_runs.specs.inside.Commands.{named}
 use Rattle.dimacs_runs.proofs.FileLemmas.{sees_three, sees_two, three_first}
-use Rattle.dimacs_runs.proofs.PlanLemmas.{one_of_two, reports_all_named, sees_nothing, stops_creating, stops_opening, two_texts, uses_files, without_third}
+use Rattle.dimacs_runs.proofs.PlanLemmas.{each_text, one_of_two, reports_all_named, sees_nothing, stops_creating, stops_opening, uses_files, without_third}
 use Rattle.dimacs_runs.proofs.runs_that_write.solve_distances.Goals as goal
 
 pub returns-in_err-graph : goal.returns-in_err-graph
@@ -40,7 +40,7 @@ returns g c =
           (rw (c.in_ok-graph.ensures.named, c.in_ok-queries.ensures.named) refl) (rw c.in_ok-labels.ensures.named refl) opened closed c.name_failure.ensures
           (rw (c.or-failure.ensures, c.or.ensures) (three_first c.close_read.result c.close_read-2.result c.close_written.result (Read graph) (Read queries) (Wrote labels) c.close_read.ensures.failure c.close_read-2.ensures.failure c.close_written.ensures.failure))
           (without_third ended _ _ _ _ _ _ (rw (c.in_ok-graph.ensures.faultless, c.in_ok-queries.ensures.faultless, c.in_ok-labels.ensures.empty) at c.run_solve-ended.ensures.faults))
-          (two_texts _ _ (λ (texts : List (List ℕ)). TellsSolved solves.Paths texts (named ended failure) (g.F.Files.empty ∷ old ∷ []) (written.accepted ∷ new ∷ [])) (λ a b first second.
+          (each_text (_ ∷ _ ∷ []) (λ (texts : List (List ℕ)). TellsSolved solves.Paths texts (named ended failure) (g.F.Files.empty ∷ old ∷ []) (written.accepted ∷ new ∷ [])) (λ a first b second.
           reports_all_named (MayTell (Solved solves.Paths a b)) ended failure (None ∷ g.F.Files.empty ∷ old ∷ []) (None ∷ written.accepted ∷ new ∷ []) (rw c.in_ok-labels.ensures.empty at (c.run_solve-ended.ensures.reports a b
           (c.in_ok-graph.ensures.coming ∙ first)
           (c.in_ok-queries.ensures.coming ∙ ap (λ (h : Contents). h c.args.queries.now) c.in_ok-graph.ensures.holds ∙ second)))))
