@@ -17,6 +17,7 @@ ghost use Rattle.dimacs_runs.specs.declared.jobs.CertifyKind.TheVariants as cert
 ghost use Rattle.dimacs_runs.specs.Certified.{Certified, CertifiesLeast, CertifiesMaximum, certified_kind};
 ghost use Rattle.dimacs_runs.specs.Judgings.{CountsDevices};
 ghost use Rattle.dimacs_runs.specs.Outputs.{ReportsAll, TellsAlike};
+ghost use Rattle.dimacs_runs.specs.inside.Judgings.{HasFault};
 ghost use Rattle.dimacs_runs.specs.inside.Produced.{MayCertify};
 
 use crate::discard::Discard;
@@ -76,8 +77,7 @@ fn certify_maximum<P: Source, Q: Source>(
 ) -> Result<Produced, RunError>
     ensures certifies { (a b : List ℕ) → P.coming instance.old ≡ Some a → Q.coming solution.old ≡ Some b → MayCertify (Certified certifies.Max a b) result }
     ensures faults { CountsDevices result (P.faults instance.old ∷ Q.faults solution.old ∷ []) (P.faults instance.new ∷ Q.faults solution.new ∷ []) }
-    ensures stops_at_instance { (a : List ℕ) (l f : ℕ) (r : Reason) → P.coming instance.old ≡ Some a → Fault kinds.Max (lines a) l f r
-        → solution.new ≡ solution.old }
+    ensures stops_at_instance { HasFault kinds.Max (P.coming instance.old) → solution.new ≡ solution.old }
 {
     let instance = match read::<MaxInstance<PlainArcs<CapacityArc>>, P>(alloc, instance) {
         Ok(instance) => instance,
@@ -98,8 +98,7 @@ fn certify_least<P: Source, Q: Source>(
 ) -> Result<Produced, RunError>
     ensures certifies { (a b : List ℕ) → P.coming instance.old ≡ Some a → Q.coming solution.old ≡ Some b → MayCertify (Certified certifies.Min a b) result }
     ensures faults { CountsDevices result (P.faults instance.old ∷ Q.faults solution.old ∷ []) (P.faults instance.new ∷ Q.faults solution.new ∷ []) }
-    ensures stops_at_instance { (a : List ℕ) (l f : ℕ) (r : Reason) → P.coming instance.old ≡ Some a → Fault kinds.Min (lines a) l f r
-        → solution.new ≡ solution.old }
+    ensures stops_at_instance { HasFault kinds.Min (P.coming instance.old) → solution.new ≡ solution.old }
 {
     let instance = match read::<MinInstance<PlainArcs<ArcView>>, P>(alloc, instance) {
         Ok(instance) => instance,

@@ -1,6 +1,6 @@
 //! Judging a claim about an instance.
 
-ghost use Rattle.std.specs.Prelude.{◌≡◌, ◌≢◌, ◌⊎◌, ℕ, List, [], ◌∷◌, Some, Err, IfOk};
+ghost use Rattle.std.specs.Prelude.{◌≡◌, ◌≢◌, ◌⊎◌, ℕ, List, [], ◌∷◌, Some, Err};
 ghost use Rattle.dimacs_lines.specs.Lines.{lines};
 ghost use Rattle.dimacs_records.specs.declared.kinds.TextKind.{TextKind};
 ghost use Rattle.dimacs_records.specs.declared.kinds.TextKind.TheVariants as kinds;
@@ -11,6 +11,7 @@ ghost use Rattle.dimacs_runs.specs.declared.outcome.RunError.TheVariants.{Memory
 ghost use Rattle.dimacs_runs.specs.Judged.{IsClaim, Judged, claim_kind, instance_kind};
 ghost use Rattle.dimacs_runs.specs.Judgings.{CountsDevices};
 ghost use Rattle.dimacs_runs.specs.Runs.{Reports};
+ghost use Rattle.dimacs_runs.specs.inside.Judgings.{HasFault};
 ghost use Rattle.dimacs_runs.specs.inside.Told.{ToldAlone};
 
 use crate::jobs::JudgeKind;
@@ -73,10 +74,8 @@ fn tell_max<P: Source, Q: Source, R: Source>(
         → R.coming certificate.old ≡ Some c → ToldAlone (Judged judges.Max a b c) result }
     ensures faults { CountsDevices result (P.faults instance.old ∷ Q.faults claim.old ∷ R.faults certificate.old ∷ [])
         (P.faults instance.new ∷ Q.faults claim.new ∷ R.faults certificate.new ∷ []) }
-    ensures stops_at_instance { (a : List ℕ) (l f : ℕ) (r : Reason) → P.coming instance.old ≡ Some a
-        → Fault kinds.Max (lines a) l f r → (claim.new ≡ claim.old) × (certificate.new ≡ certificate.old) }
-    ensures stops_at_claim { (b : List ℕ) (l f : ℕ) (r : Reason) → Q.coming claim.old ≡ Some b
-        → Fault kinds.Solution (lines b) l f r → certificate.new ≡ certificate.old }
+    ensures stops_at_instance { HasFault kinds.Max (P.coming instance.old) → (claim.new ≡ claim.old) × (certificate.new ≡ certificate.old) }
+    ensures stops_at_claim { HasFault kinds.Solution (Q.coming claim.old) → certificate.new ≡ certificate.old }
 {
     let instance = match read::<MaxInstance<PlainArcs<CapacityArc>>, P>(alloc, instance) {
         Ok(instance) => instance,
@@ -100,10 +99,8 @@ fn tell_min<P: Source, Q: Source, R: Source>(
         → R.coming certificate.old ≡ Some c → ToldAlone (Judged judges.Min a b c) result }
     ensures faults { CountsDevices result (P.faults instance.old ∷ Q.faults claim.old ∷ R.faults certificate.old ∷ [])
         (P.faults instance.new ∷ Q.faults claim.new ∷ R.faults certificate.new ∷ []) }
-    ensures stops_at_instance { (a : List ℕ) (l f : ℕ) (r : Reason) → P.coming instance.old ≡ Some a
-        → Fault kinds.Min (lines a) l f r → (claim.new ≡ claim.old) × (certificate.new ≡ certificate.old) }
-    ensures stops_at_claim { (b : List ℕ) (l f : ℕ) (r : Reason) → Q.coming claim.old ≡ Some b
-        → Fault kinds.Solution (lines b) l f r → certificate.new ≡ certificate.old }
+    ensures stops_at_instance { HasFault kinds.Min (P.coming instance.old) → (claim.new ≡ claim.old) × (certificate.new ≡ certificate.old) }
+    ensures stops_at_claim { HasFault kinds.Solution (Q.coming claim.old) → certificate.new ≡ certificate.old }
 {
     let instance = match read::<MinInstance<PlainArcs<ArcView>>, P>(alloc, instance) {
         Ok(instance) => instance,
@@ -129,8 +126,7 @@ fn tell_infeasible<P: Source, R: Source>(
 ) -> Result<Told, RunError>
     ensures told { (a c : List ℕ) → P.coming instance.old ≡ Some a → R.coming certificate.old ≡ Some c → ToldAlone (Judged judges.Infeasible a [] c) result }
     ensures faults { CountsDevices result (P.faults instance.old ∷ R.faults certificate.old ∷ []) (P.faults instance.new ∷ R.faults certificate.new ∷ []) }
-    ensures stops_at_instance { (a : List ℕ) (l f : ℕ) (r : Reason) → P.coming instance.old ≡ Some a
-        → Fault kinds.Min (lines a) l f r → certificate.new ≡ certificate.old }
+    ensures stops_at_instance { HasFault kinds.Min (P.coming instance.old) → certificate.new ≡ certificate.old }
 {
     match read_two::<MinInstance<PlainArcs<ArcView>>, Cut, P, R>(alloc, instance, certificate) {
         Ok((instance, set)) => answer_told(judge_infeasible(&instance, &set)),
@@ -149,10 +145,8 @@ fn tell_paths<P: Source, Q: Source, R: Source>(
         → R.coming labels.old ≡ Some c → ToldAlone (Judged judges.Paths a b c) result }
     ensures faults { CountsDevices result (P.faults graph.old ∷ Q.faults queries.old ∷ R.faults labels.old ∷ [])
         (P.faults graph.new ∷ Q.faults queries.new ∷ R.faults labels.new ∷ []) }
-    ensures stops_at_instance { (a : List ℕ) (l f : ℕ) (r : Reason) → P.coming graph.old ≡ Some a
-        → Fault kinds.Graph (lines a) l f r → (queries.new ≡ queries.old) × (labels.new ≡ labels.old) }
-    ensures stops_at_claim { (b : List ℕ) (l f : ℕ) (r : Reason) → Q.coming queries.old ≡ Some b
-        → Fault kinds.Queries (lines b) l f r → labels.new ≡ labels.old }
+    ensures stops_at_instance { HasFault kinds.Graph (P.coming graph.old) → (queries.new ≡ queries.old) × (labels.new ≡ labels.old) }
+    ensures stops_at_claim { HasFault kinds.Queries (Q.coming queries.old) → labels.new ≡ labels.old }
 {
     match read_three::<Graph<PlainArcs<WeightArc>>, Queries, Labels, P, Q, R>(
         alloc, graph, queries, labels,

@@ -10,6 +10,7 @@ ghost use Rattle.dimacs_runs.specs.declared.jobs.SolveJob.TheVariants as jobs;
 ghost use Rattle.dimacs_runs.specs.declared.outcome.RunError.TheVariants.{Device, Memory};
 ghost use Rattle.dimacs_runs.specs.Judgings.{CountsDevices};
 ghost use Rattle.dimacs_runs.specs.Outputs.{MayTell, ReportsAll};
+ghost use Rattle.dimacs_runs.specs.inside.Judgings.{HasFault};
 ghost use Rattle.dimacs_runs.specs.inside.Produced.{IsClaimless, MayProduce};
 ghost use Rattle.dimacs_runs.specs.Solved.{AreQueries, FindsPaths, Solved, solved_kind};
 
@@ -105,7 +106,7 @@ fn produce_labels<P: Source, Q: Source>(
 ) -> Result<Produced, RunError>
     ensures produces { (a b : List ℕ) → P.coming graph.old ≡ Some a → Q.coming queries.old ≡ Some b → MayProduce (Solved jobs.Paths a b) result }
     ensures faults { CountsDevices result (P.faults graph.old ∷ Q.faults queries.old ∷ []) (P.faults graph.new ∷ Q.faults queries.new ∷ []) }
-    ensures stops_at_graph { (a : List ℕ) (l f : ℕ) (r : Reason) → P.coming graph.old ≡ Some a → Fault kinds.Graph (lines a) l f r → queries.new ≡ queries.old }
+    ensures stops_at_graph { HasFault kinds.Graph (P.coming graph.old) → queries.new ≡ queries.old }
     ensures unclaimed { IfOk result (λ produced. IsClaimless produced.made) }
 {
     match read_two::<Graph<PlainArcs<WeightArc>>, Queries, P, Q>(alloc, graph, queries) {

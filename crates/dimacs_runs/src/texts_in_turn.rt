@@ -1,14 +1,11 @@
 //! Reading the texts of a claim, one after another.
 
 ghost use Rattle.std.specs.Prelude.{◌≡◌, ℕ, List, [], ◌∷◌, Some, IfOk};
-ghost use Rattle.dimacs_lines.specs.Lines.{lines};
-ghost use Rattle.dimacs_records.specs.declared.reasons.Reason.{Reason};
-ghost use Rattle.dimacs_records.specs.Faults.{Fault};
 ghost use Rattle.dimacs_records.specs.declared.kinds.TextKind.TheVariants as kinds;
 ghost use Rattle.dimacs_claims.specs.SolutionReading.{IsPlaced, IsPlacedLawful};
 ghost use Rattle.dimacs_claims.specs.SolutionTexts.{GivesSolution};
 ghost use Rattle.dimacs_runs.specs.Runs.{says};
-ghost use Rattle.dimacs_runs.specs.inside.Judgings.{CountsUnread, PlacesOne, ReadsOne, ReadsPlaced, ReadsTwo, ReadsThree, error_told, text_says};
+ghost use Rattle.dimacs_runs.specs.inside.Judgings.{CountsUnread, HasFault, PlacesOne, ReadsOne, ReadsPlaced, ReadsTwo, ReadsThree, error_told, text_says};
 
 use crate::outcome::RunError;
 use crate::refusal::text_name;
@@ -42,6 +39,7 @@ impl Unread {
 pub(crate) fn read<V: Text, P: Source>(alloc: Global, source: &mut P) -> Result<V, Unread>
     ensures reads { (a : List ℕ) → P.coming source.old ≡ Some a → ReadsOne V.said (text_says V.kind V.spells a) result }
     ensures faults { CountsUnread result (P.faults source.old ∷ []) (P.faults source.new ∷ []) }
+    ensures faultless { IfOk result (λ value. ¬ HasFault V.kind (P.coming source.old)) }
     ensures lawful { IfOk result (λ value. V.lawful (V.said value)) }
 {
     match V::read(alloc, source) {
@@ -62,7 +60,7 @@ pub(crate) fn read_two<V: Text, W: Text, P: Source, Q: Source>(
     ensures reads { (a b : List ℕ) → P.coming first.old ≡ Some a → Q.coming second.old ≡ Some b
         → ReadsTwo V.said W.said (text_says V.kind V.spells a) (text_says W.kind W.spells b) result }
     ensures faults { CountsUnread result (P.faults first.old ∷ Q.faults second.old ∷ []) (P.faults first.new ∷ Q.faults second.new ∷ []) }
-    ensures stops_at_first { (a : List ℕ) (l f : ℕ) (r : Reason) → P.coming first.old ≡ Some a → Fault V.kind (lines a) l f r → second.new ≡ second.old }
+    ensures stops_at_first { HasFault V.kind (P.coming first.old) → second.new ≡ second.old }
     ensures lawful { IfOk result (λ values. V.lawful (V.said values.0) × W.lawful (W.said values.1)) }
 {
     let value = read(alloc, first)?;
@@ -83,9 +81,8 @@ pub(crate) fn read_three<V: Text, W: Text, X: Text, P: Source, Q: Source, R: Sou
         (text_says X.kind X.spells c) result }
     ensures faults { CountsUnread result (P.faults first.old ∷ Q.faults second.old ∷ R.faults third.old ∷ [])
         (P.faults first.new ∷ Q.faults second.new ∷ R.faults third.new ∷ []) }
-    ensures stops_at_first { (a : List ℕ) (l f : ℕ) (r : Reason) → P.coming first.old ≡ Some a
-        → Fault V.kind (lines a) l f r → (second.new ≡ second.old) × (third.new ≡ third.old) }
-    ensures stops_at_second { (b : List ℕ) (l f : ℕ) (r : Reason) → Q.coming second.old ≡ Some b → Fault W.kind (lines b) l f r → third.new ≡ third.old }
+    ensures stops_at_first { HasFault V.kind (P.coming first.old) → (second.new ≡ second.old) × (third.new ≡ third.old) }
+    ensures stops_at_second { HasFault W.kind (Q.coming second.old) → third.new ≡ third.old }
     ensures lawful { IfOk result (λ values. V.lawful (V.said values.0) × W.lawful (W.said values.1) × X.lawful (X.said values.2)) }
 {
     let value = read(alloc, first)?;
@@ -107,8 +104,7 @@ pub(crate) fn read_placed<E: Place, W: Text, P: Source, Q: Source>(
         W.said (says kinds.Solution GivesSolution a) (text_says W.kind W.spells b) result }
     ensures fixed { IfOk result (λ values. E.fixed values.0.place ≡ E.fixed place) }
     ensures faults { CountsUnread result (P.faults first.old ∷ Q.faults second.old ∷ []) (P.faults first.new ∷ Q.faults second.new ∷ []) }
-    ensures stops_at_first { (a : List ℕ) (l f : ℕ) (r : Reason) → P.coming first.old ≡ Some a
-        → Fault kinds.Solution (lines a) l f r → second.new ≡ second.old }
+    ensures stops_at_first { HasFault kinds.Solution (P.coming first.old) → second.new ≡ second.old }
     ensures lawful { IfOk result (λ values. W.lawful (W.said values.1)) }
 {
     let placed = place_solution(alloc, place, first)?;

@@ -1,9 +1,10 @@
 -- Inside: what is told of an instance, a claim and a certificate.
-use Rattle.std.specs.Prelude.{ℕ, ◌≡◌, ◌⊎◌, List, Result, Ok, Err}
+use Rattle.std.specs.Prelude.{ℕ, ◌≡◌, ◌⊎◌, List, Option, Some, Result, Ok, Err}
 use Rattle.dimacs_lines.specs.Lines.{lines}
 use Rattle.dimacs_records.specs.declared.faults.ReadError.{ReadError}
 use Rattle.dimacs_records.specs.declared.faults.ReadError.TheVariants as read_errors
 use Rattle.dimacs_records.specs.declared.kinds.TextKind.{TextKind}
+use Rattle.dimacs_records.specs.declared.reasons.Reason.{Reason}
 use Rattle.dimacs_records.specs.Faults.{Fault}
 use Rattle.dimacs_records.specs.Texts.{Reads}
 use Rattle.dimacs_judge.specs.declared.verdict.JudgeError.{JudgeError}
@@ -64,10 +65,13 @@ ReadsPlaced stands g x y (Ok values) = (v : _) × stands v values.0 × ReadsIn x
 ReadsPlaced stands g x y (Err unread) = StopsAt x unread ⊎ ((v : _) × ReadsIn x (Ok v) × StopsAt y unread)
 
 abbrev pub CountsError : ReadError → List ℕ → List ℕ → Type 0
-CountsError (read_errors.Refused place reason) old new = new ≡ old
 CountsError read_errors.Device old new = OneMore old new
-CountsError read_errors.Memory old new = new ≡ old
+CountsError other old new = new ≡ old
 
 abbrev pub CountsUnread : {X : Type 0} → Result X Unread → List ℕ → List ℕ → Type 0
 CountsUnread (Ok x) old new = new ≡ old
 CountsUnread (Err unread) old new = CountsError unread.error old new
+
+-- the bytes to come are a text of this kind that has a fault
+abbrev pub HasFault : TextKind → Option (List ℕ) → Type 0
+HasFault kind coming = (a : List ℕ) × (l : ℕ) × (f : ℕ) × (r : Reason) × (coming ≡ Some a) × Fault kind (lines a) l f r

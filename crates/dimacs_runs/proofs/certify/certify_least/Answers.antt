@@ -23,10 +23,3 @@ pub returns-clause-certifies : goal.returns-clause-certifies
 returns-clause-certifies g c = λ a b first second.
     rw (c.report_alone-in-Err-place_solution.ensures, c.told-in-Err-place_solution.ensures)
     (two_stop certifying (says kinds.Min GivesMin a) (says kinds.Solution GivesSolution b) (λ i s. CertifiesLeast i s) c.in-Err-place_solution.unread (inr (c.in-Ok.instance, c.in-Ok.ensures.reads a first, c.in-Err-place_solution.ensures.reads b second)))
-
--- the instance has no fault
-pub returns-in-Ok-place_solution-clause-stops_at_instance : goal.returns-in-Ok-place_solution-clause-stops_at_instance
-returns-in-Ok-place_solution-clause-stops_at_instance g c = λ a l f r coming fault. absurd ((c.in-Ok.ensures.reads a coming).2 l f r fault)
-
-pub returns-clause-stops_at_instance : goal.returns-clause-stops_at_instance
-returns-clause-stops_at_instance g c = λ a l f r coming fault. absurd ((c.in-Ok.ensures.reads a coming).2 l f r fault)

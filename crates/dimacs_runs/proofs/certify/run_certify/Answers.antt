@@ -20,6 +20,6 @@ returns-clause-reports g c = λ a b first second.
 pub returns-clause-stops_at_instance : goal.returns-clause-stops_at_instance
 returns-clause-stops_at_instance g c = λ a l f r coming fault.
     elim c.match-kind.branch [
-      | in-Max w ↦ rw w.solution-is (w.certify_maximum-produced.ensures.stops_at_instance a l f r coming (subst (λ (k : CertifyKind). Fault (certified_kind k) (lines a) l f r) w.in-Max.is fault))
-      | in-Min w ↦ rw w.solution-is (w.certify_least-produced.ensures.stops_at_instance a l f r coming (subst (λ (k : CertifyKind). Fault (certified_kind k) (lines a) l f r) w.in-Min.is fault))
+      | in-Max w ↦ rw w.solution-is (w.certify_maximum-produced.ensures.stops_at_instance (a, l, f, r, coming, (subst (λ (k : CertifyKind). Fault (certified_kind k) (lines a) l f r) w.in-Max.is fault)))
+      | in-Min w ↦ rw w.solution-is (w.certify_least-produced.ensures.stops_at_instance (a, l, f, r, coming, (subst (λ (k : CertifyKind). Fault (certified_kind k) (lines a) l f r) w.in-Min.is fault)))
     ]

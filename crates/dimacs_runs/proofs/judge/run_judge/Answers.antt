@@ -23,10 +23,10 @@ returns-clause-reports g c = λ a b d first second third.
 pub returns-clause-stops_at_instance : goal.returns-clause-stops_at_instance
 returns-clause-stops_at_instance g c = λ a l f r coming fault.
     elim c.match-kind.branch [
-      | in-Max w ↦ rw (w.claim-is, w.certificate-is) (w.tell_max-told.ensures.stops_at_instance a l f r coming (subst (λ (k : JudgeKind). Fault (instance_kind k) (lines a) l f r) w.in-Max.is fault))
-      | in-Min w ↦ rw (w.claim-is, w.certificate-is) (w.tell_min-told.ensures.stops_at_instance a l f r coming (subst (λ (k : JudgeKind). Fault (instance_kind k) (lines a) l f r) w.in-Min.is fault))
-      | in-Infeasible w ↦ (w.claim-is, w.certificate-is ∙ w.tell_infeasible-told.ensures.stops_at_instance a l f r coming (subst (λ (k : JudgeKind). Fault (instance_kind k) (lines a) l f r) w.in-Infeasible.is fault))
-      | in-Paths w ↦ rw (w.claim-is, w.certificate-is) (w.tell_paths-told.ensures.stops_at_instance a l f r coming (subst (λ (k : JudgeKind). Fault (instance_kind k) (lines a) l f r) w.in-Paths.is fault))
+      | in-Max w ↦ rw (w.claim-is, w.certificate-is) (w.tell_max-told.ensures.stops_at_instance (a, l, f, r, coming, (subst (λ (k : JudgeKind). Fault (instance_kind k) (lines a) l f r) w.in-Max.is fault)))
+      | in-Min w ↦ rw (w.claim-is, w.certificate-is) (w.tell_min-told.ensures.stops_at_instance (a, l, f, r, coming, (subst (λ (k : JudgeKind). Fault (instance_kind k) (lines a) l f r) w.in-Min.is fault)))
+      | in-Infeasible w ↦ (w.claim-is, w.certificate-is ∙ w.tell_infeasible-told.ensures.stops_at_instance (a, l, f, r, coming, (subst (λ (k : JudgeKind). Fault (instance_kind k) (lines a) l f r) w.in-Infeasible.is fault)))
+      | in-Paths w ↦ rw (w.claim-is, w.certificate-is) (w.tell_paths-told.ensures.stops_at_instance (a, l, f, r, coming, (subst (λ (k : JudgeKind). Fault (instance_kind k) (lines a) l f r) w.in-Paths.is fault)))
     ]
 
 -- the kind of the claim, where there is one
@@ -40,8 +40,8 @@ is_claimed k kind claimed is has = sym (ap kind_in (subst (λ (j : JudgeKind). c
 pub returns-clause-stops_at_claim : goal.returns-clause-stops_at_claim
 returns-clause-stops_at_claim g c = λ claimed b l f r has coming fault.
     elim c.match-kind.branch [
-      | in-Max w ↦ w.certificate-is ∙ w.tell_max-told.ensures.stops_at_claim b l f r coming (subst (λ (k : TextKind). Fault k (lines b) l f r) (is_claimed judges.Max c.args.kind claimed w.in-Max.is has) fault)
-      | in-Min w ↦ w.certificate-is ∙ w.tell_min-told.ensures.stops_at_claim b l f r coming (subst (λ (k : TextKind). Fault k (lines b) l f r) (is_claimed judges.Min c.args.kind claimed w.in-Min.is has) fault)
+      | in-Max w ↦ w.certificate-is ∙ w.tell_max-told.ensures.stops_at_claim (b, l, f, r, coming, (subst (λ (k : TextKind). Fault k (lines b) l f r) (is_claimed judges.Max c.args.kind claimed w.in-Max.is has) fault))
+      | in-Min w ↦ w.certificate-is ∙ w.tell_min-told.ensures.stops_at_claim (b, l, f, r, coming, (subst (λ (k : TextKind). Fault k (lines b) l f r) (is_claimed judges.Min c.args.kind claimed w.in-Min.is has) fault))
       | in-Infeasible w ↦ let nothing : None ≡ Some claimed = subst (λ (j : JudgeKind). claim_kind j ≡ Some claimed) w.in-Infeasible.is has in absurd cc
-      | in-Paths w ↦ w.certificate-is ∙ w.tell_paths-told.ensures.stops_at_claim b l f r coming (subst (λ (k : TextKind). Fault k (lines b) l f r) (is_claimed judges.Paths c.args.kind claimed w.in-Paths.is has) fault)
+      | in-Paths w ↦ w.certificate-is ∙ w.tell_paths-told.ensures.stops_at_claim (b, l, f, r, coming, (subst (λ (k : TextKind). Fault k (lines b) l f r) (is_claimed judges.Paths c.args.kind claimed w.in-Paths.is has) fault))
     ]

@@ -28,10 +28,3 @@ returns-in-Err-clause-told g c = λ a b d first second third. rw c.told.ensures 
 pub returns-clause-told : goal.returns-clause-told
 returns-clause-told g c = λ a b d first second third.
     rw c.told-in-Err-read_placed.ensures (three_stop alone_way (says kinds.Min GivesMin a) (says kinds.Solution GivesSolution b) (says kinds.Potentials GivesPotentials d) (λ i s k. VerdictOr (ShowsLeast i s k) (min_rows i s k) (min_line s.value)) c.in-Err-read_placed.unread (inr (c.in-Ok.instance, c.in-Ok.ensures.reads a first, c.in-Err-read_placed.ensures.reads b d second third)))
-
--- the instance has no fault
-pub returns-in-Ok-read_placed-clause-stops_at_instance : goal.returns-in-Ok-read_placed-clause-stops_at_instance
-returns-in-Ok-read_placed-clause-stops_at_instance g c = λ a l f r coming fault. absurd ((c.in-Ok.ensures.reads a coming).2 l f r fault)
-
-pub returns-clause-stops_at_instance : goal.returns-clause-stops_at_instance
-returns-clause-stops_at_instance g c = λ a l f r coming fault. absurd ((c.in-Ok.ensures.reads a coming).2 l f r fault)

@@ -23,7 +23,7 @@ returns-clause-stops_at_instance g c = λ a l f r coming fault.
     elim c.match-job.branch [
       | in-Max w ↦ w.queries-is
       | in-Min w ↦ w.queries-is
-      | in-Paths w ↦ rw w.queries-is (w.produce_labels-produced.ensures.stops_at_graph a l f r coming (subst (λ (k : SolveJob). Fault (solved_kind k) (lines a) l f r) w.in-Paths.is fault))
+      | in-Paths w ↦ rw w.queries-is (w.produce_labels-produced.ensures.stops_at_graph (a, l, f, r, coming, (subst (λ (k : SolveJob). Fault (solved_kind k) (lines a) l f r) w.in-Paths.is fault)))
     ]
 
 pub returns-clause-unclaimed : goal.returns-clause-unclaimed
