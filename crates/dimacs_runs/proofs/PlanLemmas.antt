@@ -60,11 +60,11 @@ sees_nothing seen = record { done = nothing seen.done; faults = refl }
 is_error : {X : Type 0} (result : Result X CommandError) (error : CommandError) → IsErrAnd result (λ e. e ≡ error) → result ≡ Err error
 is_error result error is = let (other, same, it) = err_from_is_err_and result is in same ∙ ap Err it
 
-module _ (plan : Plan) (holds : Contents) (empty : Option (List ℕ)) (tells : Telling) (result : Result Status CommandError) (a : FilesSeen) (output : Written) where
+module _ {plan : Plan} {holds : Contents} {empty : Option (List ℕ)} {tells : Telling} {result : Result Status CommandError} {a : FilesSeen} {output : Written} where
   -- a file could not be opened
-  pub stops_opening : (before : List (List ℕ)) (name : List ℕ) (after : List (List ℕ)) (error : CommandError) (b c : FilesSeen) → plan.opened ≡ before ++ name ∷ after → IsErrAnd result (λ e. e ≡ error)
+  pub stops_opening : {name : List ℕ} {error : CommandError} {b c : FilesSeen} (before after : List (List ℕ)) → plan.opened ≡ before ++ name ∷ after → IsErrAnd result (λ e. e ≡ error)
       → Sees (map Opened before) a b → FailsWith (NotOpened name) b c error → RunsFiles plan holds empty tells result (seen_by a output) (seen_by c output)
-  stops_opening before name after error b c whole is seen fails = rw (is_error result error is) record {
+  stops_opening {name} {error} {b} {c} before after whole is seen fails = rw (is_error result error is) record {
     events = map Opened before ++ NotOpened name fails.cause ∷ [];
     seen = sees_then (map Opened before) (NotOpened name fails.cause ∷ []) a b c seen fails.seen;
     failure = flat_map-append failures (map Opened before) (NotOpened name fails.cause ∷ []) ∙ rw (opened_none before) (append-nil (failures (NotOpened name fails.cause)) ∙ fails.failure);
@@ -73,10 +73,10 @@ module _ (plan : Plan) (holds : Contents) (empty : Option (List ℕ)) (tells : T
   }
 
   -- a file could not be created, and those before it were closed
-  pub stops_creating : (before : List (List ℕ)) (name : List ℕ) (after : List (List ℕ)) (error : CommandError) (b c d : FilesSeen) → plan.created ≡ before ++ name ∷ after → IsErrAnd result (λ e. e ≡ error)
+  pub stops_creating : {name : List ℕ} {error : CommandError} {b c d : FilesSeen} (before after : List (List ℕ)) → plan.created ≡ before ++ name ∷ after → IsErrAnd result (λ e. e ≡ error)
       → Sees (map Opened plan.opened ++ map Created before) a b → FailsWith (NotCreated name) b c error → Sees (map (closed_empty empty) before) c d
       → RunsFiles plan holds empty tells result (seen_by a output) (seen_by d output)
-  stops_creating before name after error b c d whole is seen fails closed = rw (is_error result error is) record {
+  stops_creating {name} {error} {b} {c} {d} before after whole is seen fails closed = rw (is_error result error is) record {
     events = map Opened plan.opened ++ map Created before ++ NotCreated name fails.cause ∷ map (closed_empty empty) before;
     seen = sees_then (map Opened plan.opened ++ map Created before) (NotCreated name fails.cause ∷ map (closed_empty empty) before) a b d seen
         (sees_then (NotCreated name fails.cause ∷ []) (map (closed_empty empty) before) b c d fails.seen closed);
@@ -86,7 +86,7 @@ module _ (plan : Plan) (holds : Contents) (empty : Option (List ℕ)) (tells : T
   }
 
   -- the files were opened, created, used and closed
-  pub uses_files : (read : List ReadFile) (written : List WrittenFile) (b c : FilesSeen) (new : Written) (ended : Result Status RunError) (failure : Option Failure)
+  pub uses_files : {b c : FilesSeen} {new : Written} (read : List ReadFile) (written : List WrittenFile) (ended : Result Status RunError) (failure : Option Failure)
       → map (λ (file : ReadFile). file.name) read ≡ plan.opened → map (λ (file : WrittenFile). file.name) written ≡ plan.created
       → Sees (map Opened plan.opened ++ map Created plan.created) a b → Sees (map Read read ++ map Wrote written) b c
       → result ≡ named ended failure → IsFirstOf failure (flat_map failures (closings (closed_files read written)))
@@ -95,7 +95,7 @@ module _ (plan : Plan) (holds : Contents) (empty : Option (List ℕ)) (tells : T
       → (ended ≡ Err Memory → at_last written new.accepted ≡ at_first plan.created empty output.accepted)
       → (AnyRead (closed_files read written) → at_last written new.accepted ≡ at_first plan.created empty output.accepted)
       → RunsFiles plan holds empty tells result (seen_by a output) (seen_by c new)
-  uses_files read written b c new ended failure all_read all_written opened closed is first counts told memory unread =
+  uses_files {b} {c} {new} read written ended failure all_read all_written opened closed is first counts told memory unread =
       let files : List Closed = closed_files read written in
       let fails = tells_failure output.faults new.faults files ended failure first counts in
       rw is record {

@@ -87,12 +87,11 @@ module _ {R O : Type 0} (way : Way R O) where
     unread_told a to from unread (read_errors.Refused place reason) is read =
         rw is (way.refused a (way.alone (refusal_line text.name place.line place.field reason)) (to place.line place.field reason read.0) only)
       where
-        fault_only : (s : Status) (o : O) → FaultLine s o ⊎ ((v : V) × text.spells v) → (s ≡ Refused) × (o ≡ way.alone (refusal_line text.name place.line place.field reason))
-        fault_only s o (inl h) = let same = read.1 h.0 h.1 h.2 h.3 in (h.4, h.5 ∙ rw (same.0, same.1, same.2) refl)
-        fault_only s o (inr h) = absurd (read.2 h.0 h.1)
-
         only : (s : Status) (o : O) → a s o → (s ≡ Refused) × (o ≡ way.alone (refusal_line text.name place.line place.field reason))
-        only s o h = fault_only s o (from s o h)
+        only s o h = elim (from s o h) [
+          | inl it ↦ let same = read.1 it.0 it.1 it.2 it.3 in (it.4, it.5 ∙ rw (same.0, same.1, same.2) refl)
+          | inr it ↦ absurd (read.2 it.0 it.1)
+        ]
     unread_told a to from unread read_errors.Device is read = tt
     unread_told a to from unread read_errors.Memory is read = tt
 
@@ -105,22 +104,17 @@ module _ {R O : Type 0} (way : Way R O) where
       abbrev pub FaultThen : Status → O → Type 0
       FaultThen s o = FaultLine s o ⊎ ((v : V) × text.spells v × next v s o)
 
-      only_value : (v : V) → ReadsIn text (Ok v) → (s : Status) (o : O) → FaultThen s o → next v s o
-      only_value v read s o (inl h) = absurd (read.2 h.0 h.1 h.2 h.3)
-      only_value v read s o (inr h) = subst (λ (w : V). next w s o) (read.1 h.0 h.1) h.2
-
       -- the text was read, and what follows from its value was told
       pub value_tells : (v : V) (made : Result R RunError) → ReadsIn text (Ok v) → Tells (next v) made → Tells FaultThen made
-      value_tells v (Ok it) read follows = way.carried (next v) FaultThen (way.status it) (way.out it) (λ s o h. inr (v, read.0, h)) (only_value v read) follows
+      value_tells v (Ok it) read follows = way.carried (next v) FaultThen (way.status it) (way.out it) (λ s o h. inr (v, read.0, h)) (λ s o h. elim h [
+        | inl it ↦ absurd (read.2 it.0 it.1 it.2 it.3)
+        | inr it ↦ subst (λ (w : V). next w s o) (read.1 it.0 it.1) it.2
+      ]) follows
       value_tells v (Err error) read follows = tt
-
-      fault_or_value : (s : Status) (o : O) → FaultThen s o → FaultLine s o ⊎ ((v : V) × text.spells v)
-      fault_or_value s o (inl h) = inl h
-      fault_or_value s o (inr h) = inr (h.0, h.1)
 
       -- the text could not be read
       pub stop_tells : (unread : Unread) → StopsAt text unread → Tells FaultThen (way.report (error_told unread unread.error))
-      stop_tells unread stop = unread_tells FaultThen (λ l f r fault. inl (l, f, r, fault, refl, refl)) fault_or_value unread stop
+      stop_tells unread stop = unread_tells FaultThen (λ l f r fault. inl (l, f, r, fault, refl, refl)) (λ s o h. elim h [ inl it ↦ inl it | inr it ↦ inr (it.0, it.1) ]) unread stop
 
   module _ {V W : Type 0} (x : TextSays V) (y : TextSays W) (next : V → W → Status → O → Type 0) where
     abbrev after_first : V → Status → O → Type 0

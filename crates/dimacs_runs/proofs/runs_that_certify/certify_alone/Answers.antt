@@ -1,7 +1,7 @@
 use Rattle.std.proofs.Common.{ℕ, ◌∙◌, List, [], ◌∷◌, None, ap, refl}
 use Rattle.dimacs_lines.specs.Devices.{Written}
 use Rattle.dimacs_runs.specs.Certified.{Certified}
-use Rattle.dimacs_runs.specs.Commands.{Contents, TellsCertified, reads_first}
+use Rattle.dimacs_runs.specs.Commands.{Contents, TellsCertified}
 use Rattle.dimacs_runs.specs.Files.{Read, ReadFile}
 use Rattle.dimacs_runs.specs.Outputs.{TellsAlike}
 use Rattle.dimacs_runs.specs.inside.Commands.{named}
@@ -11,11 +11,11 @@ use Rattle.dimacs_runs.proofs.runs_that_certify.certify_alone.Goals as goal
 
 pub returns-in_err-instance : goal.returns-in_err-instance
 returns-in_err-instance g c =
-    record { runs = stops_opening _ _ _ _ c.from_residual.result _ _ [] c.args.instance.now (c.args.solution.now ∷ []) _ _ _ refl c.from_residual.ensures.1 (sees_nothing _) c.in_err-instance.ensures.failed }
+    record { runs = stops_opening [] (c.args.solution.now ∷ []) refl c.from_residual.ensures.1 (sees_nothing _) c.in_err-instance.ensures.failed }
 
 pub returns-in_err-solution : goal.returns-in_err-solution
 returns-in_err-solution g c =
-    record { runs = stops_opening _ _ _ _ c.from_residual-in_err-solution.result _ _ (c.args.instance.now ∷ []) c.args.solution.now [] _ _ _ refl c.from_residual-in_err-solution.ensures.1 c.in_ok-instance.ensures.opened c.in_err-solution.ensures.failed }
+    record { runs = stops_opening (c.args.instance.now ∷ []) [] refl c.from_residual-in_err-solution.ensures.1 c.in_ok-instance.ensures.opened c.in_err-solution.ensures.failed }
 
 pub returns : goal.returns
 returns g c =
@@ -27,7 +27,7 @@ returns g c =
     let solution : ReadFile = record { name = c.in_ok-solution.solution.name.now; faults = g.F.Input.Source.faults c.run_certify-ended.new.solution } in
     let quiet = rw (c.in_ok-instance.ensures.faultless, c.in_ok-solution.ensures.faultless) at c.run_certify-ended.ensures.nothing_written in
     record {
-      runs = uses_files (reads_first 2 (c.args.instance.now ∷ c.args.solution.now ∷ [])) _ g.F.Files.empty _ c.name_failure.result _ _ (instance ∷ solution ∷ []) [] _ _ _ ended failure
+      runs = uses_files (instance ∷ solution ∷ []) [] ended failure
           (rw (c.in_ok-instance.ensures.named, c.in_ok-solution.ensures.named) refl) refl
           (sees_two c.in_ok-instance.ensures.opened c.in_ok-solution.ensures.opened)
           (sees_two c.close_read.ensures.seen c.close_read-2.ensures.seen) c.name_failure.ensures

@@ -1,6 +1,6 @@
 use Rattle.std.proofs.Common.{ℕ, ◌∙◌, List, [], ◌∷◌, ap, refl}
 use Rattle.dimacs_runs.specs.Certified.{Certified}
-use Rattle.dimacs_runs.specs.Commands.{Contents, TellsCertified, reads_first}
+use Rattle.dimacs_runs.specs.Commands.{Contents, TellsCertified}
 use Rattle.dimacs_runs.specs.Files.{Read, ReadFile, WrittenFile, Wrote}
 use Rattle.dimacs_runs.specs.Outputs.{TellsAlike}
 use Rattle.dimacs_runs.specs.inside.Commands.{named}
@@ -10,16 +10,16 @@ use Rattle.dimacs_runs.proofs.runs_that_certify.certify_into.Goals as goal
 
 pub returns-in_err-instance : goal.returns-in_err-instance
 returns-in_err-instance g c =
-    record { runs = stops_opening _ _ _ _ c.from_residual.result _ _ [] c.args.instance.now (c.args.solution.now ∷ []) _ _ _ refl c.from_residual.ensures.1 (sees_nothing _) c.in_err-instance.ensures.failed }
+    record { runs = stops_opening [] (c.args.solution.now ∷ []) refl c.from_residual.ensures.1 (sees_nothing _) c.in_err-instance.ensures.failed }
 
 pub returns-in_err-solution : goal.returns-in_err-solution
 returns-in_err-solution g c =
-    record { runs = stops_opening _ _ _ _ c.from_residual-in_err-solution.result _ _ (c.args.instance.now ∷ []) c.args.solution.now [] _ _ _ refl c.from_residual-in_err-solution.ensures.1 c.in_ok-instance.ensures.opened c.in_err-solution.ensures.failed }
+    record { runs = stops_opening (c.args.instance.now ∷ []) [] refl c.from_residual-in_err-solution.ensures.1 c.in_ok-instance.ensures.opened c.in_err-solution.ensures.failed }
 
 pub returns-in_err-certificate : goal.returns-in_err-certificate
 returns-in_err-certificate g c =
     let opened = sees_two c.in_ok-instance.ensures.opened c.in_ok-solution.ensures.opened in
-    record { runs = stops_creating _ _ _ _ c.from_residual-in_err-certificate.result _ _ [] c.args.certificate.now [] _ _ _ _ refl c.from_residual-in_err-certificate.ensures.1 opened c.in_err-certificate.ensures.failed (sees_nothing _) }
+    record { runs = stops_creating [] [] refl c.from_residual-in_err-certificate.ensures.1 opened c.in_err-certificate.ensures.failed (sees_nothing _) }
 
 pub returns : goal.returns
 returns g c =
@@ -35,7 +35,7 @@ returns g c =
     let closed = sees_three c.close_read.ensures.seen c.close_read-2.ensures.seen c.close_written.ensures.seen in
     let quiet = rw (c.in_ok-instance.ensures.faultless, c.in_ok-solution.ensures.faultless) at c.run_certify-ended.ensures.nothing_written in
     record {
-      runs = uses_files (reads_first 2 (c.args.instance.now ∷ c.args.solution.now ∷ c.args.certificate.now ∷ [])) _ g.F.Files.empty _ c.name_failure.result _ _ (instance ∷ solution ∷ []) (certificate ∷ []) _ _ _ ended failure
+      runs = uses_files (instance ∷ solution ∷ []) (certificate ∷ []) ended failure
           (rw (c.in_ok-instance.ensures.named, c.in_ok-solution.ensures.named) refl) (rw c.in_ok-certificate.ensures.named refl) opened closed c.name_failure.ensures
           (rw (c.or-failure.ensures, c.or.ensures) (three_first c.close_read.result c.close_read-2.result c.close_written.result (Read instance) (Read solution) (Wrote certificate) c.close_read.ensures.failure c.close_read-2.ensures.failure c.close_written.ensures.failure))
           (rw (c.in_ok-instance.ensures.faultless, c.in_ok-solution.ensures.faultless, c.in_ok-certificate.ensures.empty) at c.run_certify-ended.ensures.faults)

@@ -1,6 +1,6 @@
 use Rattle.std.proofs.Common.{ℕ, ◌∙◌, List, [], ◌∷◌, ap, refl}
 use Rattle.dimacs_lines.specs.Devices.{Written}
-use Rattle.dimacs_runs.specs.Commands.{Contents, TellsJudged, reads}
+use Rattle.dimacs_runs.specs.Commands.{Contents, TellsJudged}
 use Rattle.dimacs_runs.specs.Files.{Read, ReadFile}
 use Rattle.dimacs_runs.specs.Judged.{Judged}
 use Rattle.dimacs_runs.specs.inside.Commands.{named}
@@ -10,16 +10,16 @@ use Rattle.dimacs_runs.proofs.runs_that_read.judge_claim.Goals as goal
 
 pub returns-in_err-instance : goal.returns-in_err-instance
 returns-in_err-instance g c =
-    record { runs = stops_opening _ _ _ _ c.from_residual.result _ _ [] c.args.instance.now (c.args.claim.now ∷ c.args.certificate.now ∷ []) _ _ _ refl c.from_residual.ensures.1 (sees_nothing _) c.in_err-instance.ensures.failed }
+    record { runs = stops_opening [] (c.args.claim.now ∷ c.args.certificate.now ∷ []) refl c.from_residual.ensures.1 (sees_nothing _) c.in_err-instance.ensures.failed }
 
 pub returns-in_err-claim : goal.returns-in_err-claim
 returns-in_err-claim g c =
-    record { runs = stops_opening _ _ _ _ c.from_residual-in_err-claim.result _ _ (c.args.instance.now ∷ []) c.args.claim.now (c.args.certificate.now ∷ []) _ _ _ refl c.from_residual-in_err-claim.ensures.1 c.in_ok-instance.ensures.opened c.in_err-claim.ensures.failed }
+    record { runs = stops_opening (c.args.instance.now ∷ []) (c.args.certificate.now ∷ []) refl c.from_residual-in_err-claim.ensures.1 c.in_ok-instance.ensures.opened c.in_err-claim.ensures.failed }
 
 pub returns-in_err-certificate : goal.returns-in_err-certificate
 returns-in_err-certificate g c =
     let two = sees_two c.in_ok-instance.ensures.opened c.in_ok-claim.ensures.opened in
-    record { runs = stops_opening _ _ _ _ c.from_residual-in_err-certificate.result _ _ (c.args.instance.now ∷ c.args.claim.now ∷ []) c.args.certificate.now [] _ _ _ refl c.from_residual-in_err-certificate.ensures.1 two c.in_err-certificate.ensures.failed }
+    record { runs = stops_opening (c.args.instance.now ∷ c.args.claim.now ∷ []) [] refl c.from_residual-in_err-certificate.ensures.1 two c.in_err-certificate.ensures.failed }
 
 pub returns : goal.returns
 returns g c =
@@ -34,7 +34,7 @@ returns g c =
     let closed = sees_three c.close_read.ensures.seen c.close_read-2.ensures.seen c.close_read-3.ensures.seen in
     let quiet = rw (c.in_ok-instance.ensures.faultless, c.in_ok-claim.ensures.faultless, c.in_ok-certificate.ensures.faultless) at c.run_judge-ended.ensures.nothing_written in
     record {
-      runs = uses_files (reads (c.args.instance.now ∷ c.args.claim.now ∷ c.args.certificate.now ∷ [])) _ _ _ c.name_failure.result _ _ (instance ∷ claim ∷ certificate ∷ []) [] _ _ _ ended failure
+      runs = uses_files (instance ∷ claim ∷ certificate ∷ []) [] ended failure
           (rw (c.in_ok-instance.ensures.named, c.in_ok-claim.ensures.named, c.in_ok-certificate.ensures.named) refl) refl opened closed c.name_failure.ensures
           (rw (c.or-failure.ensures, c.or.ensures) (three_first c.close_read.result c.close_read-2.result c.close_read-3.result (Read instance) (Read claim) (Read certificate) c.close_read.ensures.failure c.close_read-2.ensures.failure c.close_read-3.ensures.failure))
           (rw (c.in_ok-instance.ensures.faultless, c.in_ok-claim.ensures.faultless, c.in_ok-certificate.ensures.faultless) at c.run_judge-ended.ensures.faults)

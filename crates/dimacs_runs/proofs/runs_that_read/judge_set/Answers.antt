@@ -1,7 +1,7 @@
 use Rattle.std.proofs.Common.{ℕ, ◌∙◌, List, [], ◌∷◌, ap, inl, inr, refl}
 use Rattle.dimacs_lines.specs.Devices.{Written}
 use Rattle.dimacs_runs.specs.declared.jobs.JudgeKind.TheVariants as judges
-use Rattle.dimacs_runs.specs.Commands.{Contents, TellsJudged, reads}
+use Rattle.dimacs_runs.specs.Commands.{Contents, TellsJudged}
 use Rattle.dimacs_runs.specs.Files.{Read, ReadFile}
 use Rattle.dimacs_runs.specs.Judged.{Judged}
 use Rattle.dimacs_runs.specs.inside.Commands.{named}
@@ -11,11 +11,11 @@ use Rattle.dimacs_runs.proofs.runs_that_read.judge_set.Goals as goal
 
 pub returns-in_err-instance : goal.returns-in_err-instance
 returns-in_err-instance g c =
-    record { runs = stops_opening _ _ _ _ c.from_residual.result _ _ [] c.args.instance.now (c.args.set.now ∷ []) _ _ _ refl c.from_residual.ensures.1 (sees_nothing _) c.in_err-instance.ensures.failed }
+    record { runs = stops_opening [] (c.args.set.now ∷ []) refl c.from_residual.ensures.1 (sees_nothing _) c.in_err-instance.ensures.failed }
 
 pub returns-in_err-set : goal.returns-in_err-set
 returns-in_err-set g c =
-    record { runs = stops_opening _ _ _ _ c.from_residual-in_err-set.result _ _ (c.args.instance.now ∷ []) c.args.set.now [] _ _ _ refl c.from_residual-in_err-set.ensures.1 c.in_ok-instance.ensures.opened c.in_err-set.ensures.failed }
+    record { runs = stops_opening (c.args.instance.now ∷ []) [] refl c.from_residual-in_err-set.ensures.1 c.in_ok-instance.ensures.opened c.in_err-set.ensures.failed }
 
 pub returns : goal.returns
 returns g c =
@@ -27,7 +27,7 @@ returns g c =
     let set : ReadFile = record { name = c.in_ok-set.set.name.now; faults = g.F.Input.Source.faults c.run_judge-ended.new.certificate } in
     let quiet = rw (c.in_ok-instance.ensures.faultless, c.in_ok-set.ensures.faultless) at c.run_judge-ended.ensures.nothing_written in
     record {
-      runs = uses_files (reads (c.args.instance.now ∷ c.args.set.now ∷ [])) _ _ _ c.name_failure.result _ _ (instance ∷ set ∷ []) [] _ _ _ ended failure
+      runs = uses_files (instance ∷ set ∷ []) [] ended failure
           (rw (c.in_ok-instance.ensures.named, c.in_ok-set.ensures.named) refl) refl
           (sees_two c.in_ok-instance.ensures.opened c.in_ok-set.ensures.opened)
           (sees_two c.close_read.ensures.seen c.close_read-2.ensures.seen) c.name_failure.ensures

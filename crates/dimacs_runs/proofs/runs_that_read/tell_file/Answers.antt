@@ -1,6 +1,6 @@
 use Rattle.std.proofs.Common.{ℕ, ◌∙◌, List, [], ◌∷◌, ap, refl}
 use Rattle.dimacs_lines.specs.Devices.{Written}
-use Rattle.dimacs_runs.specs.Commands.{TellsOne, reads}
+use Rattle.dimacs_runs.specs.Commands.{TellsOne}
 use Rattle.dimacs_runs.specs.Files.{closed_read}
 use Rattle.dimacs_runs.specs.Runs.{Told}
 use Rattle.dimacs_runs.specs.inside.Commands.{named}
@@ -10,7 +10,7 @@ use Rattle.dimacs_runs.proofs.runs_that_read.tell_file.Goals as goal
 
 pub returns-in_err-text : goal.returns-in_err-text
 returns-in_err-text g c =
-    record { runs = stops_opening _ _ _ _ c.from_residual.result _ _ [] c.args.name.now [] _ _ _ refl c.from_residual.ensures.1 (sees_nothing _) c.in_err-text.ensures.failed }
+    record { runs = stops_opening [] [] refl c.from_residual.ensures.1 (sees_nothing _) c.in_err-text.ensures.failed }
 
 pub returns : goal.returns
 returns g c =
@@ -21,7 +21,7 @@ returns g c =
     let faults = g.F.Input.Source.faults c.run_text-ended.new.text in
     let quiet = rw c.in_ok-text.ensures.faultless at c.run_text-ended.ensures.nothing_written in
     record {
-      runs = uses_files (reads (c.args.name.now ∷ [])) _ _ _ c.name_failure.result _ _ (record { name = c.in_ok-text.text.name.now; faults = faults } ∷ []) [] _ _ _ ended failure
+      runs = uses_files (record { name = c.in_ok-text.text.name.now; faults = faults } ∷ []) [] ended failure
           (ap (λ (n : List ℕ). n ∷ []) c.in_ok-text.ensures.named) refl c.in_ok-text.ensures.opened c.close_read-failure.ensures.seen c.name_failure.ensures
           (one_first failure (closed_read c.in_ok-text.text.name.now faults) c.close_read-failure.ensures.failure)
           (rw c.in_ok-text.ensures.faultless at c.run_text-ended.ensures.faults)

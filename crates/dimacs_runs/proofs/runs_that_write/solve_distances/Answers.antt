@@ -1,6 +1,6 @@
 use Rattle.std.proofs.Common.{ℕ, ◌∙◌, List, [], ◌∷◌, None, ap, refl}
 use Rattle.dimacs_runs.specs.declared.jobs.SolveJob.TheVariants as solves
-use Rattle.dimacs_runs.specs.Commands.{Contents, TellsSolved, reads_first}
+use Rattle.dimacs_runs.specs.Commands.{Contents, TellsSolved}
 use Rattle.dimacs_runs.specs.Files.{Read, ReadFile, WrittenFile, Wrote}
 use Rattle.dimacs_runs.specs.Outputs.{MayTell}
 use Rattle.dimacs_runs.specs.Solved.{Solved}
@@ -11,16 +11,16 @@ use Rattle.dimacs_runs.proofs.runs_that_write.solve_distances.Goals as goal
 
 pub returns-in_err-graph : goal.returns-in_err-graph
 returns-in_err-graph g c =
-    record { runs = stops_opening _ _ _ _ c.from_residual.result _ _ [] c.args.graph.now (c.args.queries.now ∷ []) _ _ _ refl c.from_residual.ensures.1 (sees_nothing _) c.in_err-graph.ensures.failed }
+    record { runs = stops_opening [] (c.args.queries.now ∷ []) refl c.from_residual.ensures.1 (sees_nothing _) c.in_err-graph.ensures.failed }
 
 pub returns-in_err-queries : goal.returns-in_err-queries
 returns-in_err-queries g c =
-    record { runs = stops_opening _ _ _ _ c.from_residual-in_err-queries.result _ _ (c.args.graph.now ∷ []) c.args.queries.now [] _ _ _ refl c.from_residual-in_err-queries.ensures.1 c.in_ok-graph.ensures.opened c.in_err-queries.ensures.failed }
+    record { runs = stops_opening (c.args.graph.now ∷ []) [] refl c.from_residual-in_err-queries.ensures.1 c.in_ok-graph.ensures.opened c.in_err-queries.ensures.failed }
 
 pub returns-in_err-labels : goal.returns-in_err-labels
 returns-in_err-labels g c =
     let opened = sees_two c.in_ok-graph.ensures.opened c.in_ok-queries.ensures.opened in
-    record { runs = stops_creating _ _ _ _ c.from_residual-in_err-labels.result _ _ [] c.args.labels.now [] _ _ _ _ refl c.from_residual-in_err-labels.ensures.1 opened c.in_err-labels.ensures.failed (sees_nothing _) }
+    record { runs = stops_creating [] [] refl c.from_residual-in_err-labels.ensures.1 opened c.in_err-labels.ensures.failed (sees_nothing _) }
 
 pub returns : goal.returns
 returns g c =
@@ -36,7 +36,7 @@ returns g c =
     let closed = sees_three c.close_read.ensures.seen c.close_read-2.ensures.seen c.close_written.ensures.seen in
     let quiet = rw (c.in_ok-graph.ensures.faultless, c.in_ok-queries.ensures.faultless) at c.run_solve-ended.ensures.nothing_written in
     record {
-      runs = uses_files (reads_first 2 (c.args.graph.now ∷ c.args.queries.now ∷ c.args.labels.now ∷ [])) _ g.F.Files.empty _ c.name_failure.result _ _ (graph ∷ queries ∷ []) (labels ∷ []) _ _ _ ended failure
+      runs = uses_files (graph ∷ queries ∷ []) (labels ∷ []) ended failure
           (rw (c.in_ok-graph.ensures.named, c.in_ok-queries.ensures.named) refl) (rw c.in_ok-labels.ensures.named refl) opened closed c.name_failure.ensures
           (rw (c.or-failure.ensures, c.or.ensures) (three_first c.close_read.result c.close_read-2.result c.close_written.result (Read graph) (Read queries) (Wrote labels) c.close_read.ensures.failure c.close_read-2.ensures.failure c.close_written.ensures.failure))
           (without_third ended _ _ _ _ _ _ (rw (c.in_ok-graph.ensures.faultless, c.in_ok-queries.ensures.faultless, c.in_ok-labels.ensures.empty) at c.run_solve-ended.ensures.faults))

@@ -1,5 +1,5 @@
-use Rattle.std.proofs.Common.{ℕ, ◌∙◌, List, [], ◌∷◌, Err, inl, refl}
-use Rattle.dimacs_runs.specs.Commands.{TellsSolved, reads_first}
+use Rattle.std.proofs.Common.{ℕ, ◌∙◌, List, [], ◌∷◌, inl, refl}
+use Rattle.dimacs_runs.specs.Commands.{TellsSolved}
 use Rattle.dimacs_runs.specs.Files.{Read, ReadFile, WrittenFile, Wrote}
 use Rattle.dimacs_runs.specs.Outputs.{MayTell}
 use Rattle.dimacs_runs.specs.Solved.{Solved}
@@ -10,18 +10,18 @@ use Rattle.dimacs_runs.proofs.runs_that_write.solve_flow.Goals as goal
 
 pub returns-in_err-instance : goal.returns-in_err-instance
 returns-in_err-instance g c =
-    record { runs = stops_opening _ _ _ _ c.from_residual.result _ _ [] c.args.instance.now [] _ _ _ refl c.from_residual.ensures.1 (sees_nothing _) c.in_err-instance.ensures.failed }
+    record { runs = stops_opening [] [] refl c.from_residual.ensures.1 (sees_nothing _) c.in_err-instance.ensures.failed }
 
 pub returns-in_err-claim : goal.returns-in_err-claim
 returns-in_err-claim g c =
-    record { runs = stops_creating _ _ _ _ c.from_residual-in_err-claim.result _ _ [] c.args.claim.now (c.args.certificate.now ∷ []) _ _ _ _ refl c.from_residual-in_err-claim.ensures.1 c.in_ok-instance.ensures.opened c.in_err-claim.ensures.failed (sees_nothing _) }
+    record { runs = stops_creating [] (c.args.certificate.now ∷ []) refl c.from_residual-in_err-claim.ensures.1 c.in_ok-instance.ensures.opened c.in_err-claim.ensures.failed (sees_nothing _) }
 
 -- the certificate could not be created
 pub returns-in-Err : goal.returns-in-Err
 returns-in-Err g c =
     let opened = sees_two c.in_ok-instance.ensures.opened c.in_ok-claim.ensures.created in
     let closed = rw (c.in_ok-claim.ensures.named, c.in_ok-claim.ensures.empty) at c.close_written.ensures.seen in
-    record { runs = stops_creating _ _ _ _ (Err c.in-Err.error) _ _ (c.args.claim.now ∷ []) c.args.certificate.now [] c.in-Err.error _ _ _ refl refl opened c.in-Err.ensures.failed closed }
+    record { runs = stops_creating (c.args.claim.now ∷ []) [] refl refl opened c.in-Err.ensures.failed closed }
 
 pub returns : goal.returns
 returns g c =
@@ -38,7 +38,7 @@ returns g c =
     let closed = sees_three c.close_read.ensures.seen c.close_written-2.ensures.seen c.close_written-3.ensures.seen in
     let quiet = rw c.in_ok-instance.ensures.faultless at c.run_solve-ended.ensures.nothing_written in
     record {
-      runs = uses_files (reads_first 1 (c.args.instance.now ∷ c.args.claim.now ∷ c.args.certificate.now ∷ [])) _ g.F.Files.empty _ c.name_failure.result _ _ (instance ∷ []) (claim ∷ certificate ∷ []) _ _ _ ended failure
+      runs = uses_files (instance ∷ []) (claim ∷ certificate ∷ []) ended failure
           (rw c.in_ok-instance.ensures.named refl) (rw (c.in_ok-claim.ensures.named, c.in-Ok.ensures.named) refl) opened closed c.name_failure.ensures
           (rw (c.or-failure.ensures, c.or.ensures) (three_first c.close_read.result c.close_written-2.result c.close_written-3.result (Read instance) (Wrote claim) (Wrote certificate) c.close_read.ensures.failure c.close_written-2.ensures.failure c.close_written-3.ensures.failure))
           (without_second ended _ _ _ _ (rw (c.in_ok-instance.ensures.faultless, c.in_ok-claim.ensures.empty, c.in-Ok.ensures.empty) at c.run_solve-ended.ensures.faults))
