@@ -39,7 +39,8 @@ const LONGEST: i128 = 1152921504606846976;
 /// Amounts fit 64 bits where all that may be moved is less: 2^62.
 const MOST: i128 = 4611686018427387904;
 
-/// Prices fit 64 bits where a cost and twice a number of nodes have no more bits together.
+/// Prices fit 64 bits where a cost and twice a number of nodes have no more bits together. In the first phase they fall
+/// by a few times the tolerance for each node, and less later.
 const PRICE_BITS: u32 = 60;
 
 /// What the simplex may do for each arc and node, in arcs and nodes looked at, and for the whole.
@@ -61,18 +62,13 @@ fn quickly<N: Network>(
 
 /// By cost scaling.
 fn surely<N: Network>(alloc: Global, problem: &Problem<'_, N>) -> Result<LeastFlow, Memory> {
-    if prices_fit(problem) && problem.greatest_excess() < MOST {
+    let bits = problem.bits();
+    let price_bits = bits.nodes.wrapping_mul(2).wrapping_add(bits.cost);
+    if price_bits <= PRICE_BITS && problem.greatest_excess() < MOST {
         by_scaling::<N, i64>(alloc, problem)
     } else {
         by_scaling::<N, i128>(alloc, problem)
     }
-}
-
-/// Whether prices of cost scaling fit 64 bits. In the first phase they fall by a few times the tolerance for each node,
-/// and less later.
-fn prices_fit<N: Network>(problem: &Problem<'_, N>) -> bool {
-    let bits = problem.bits();
-    bits.nodes.wrapping_mul(2).wrapping_add(bits.cost) <= PRICE_BITS
 }
 
 /// What the simplex comes to, unless it takes too much work.
@@ -81,6 +77,14 @@ fn by_simplex<N: Network, V: Number>(
     problem: &Problem<'_, N>,
 ) -> Result<Option<LeastFlow>, Memory> {
     let mut simplex: Simplex<V> = Simplex::new(alloc, problem)?;
+    run_simplex(alloc, problem, &mut simplex)
+}
+
+fn run_simplex<N: Network, V: Number>(
+    alloc: Global,
+    problem: &Problem<'_, N>,
+    simplex: &mut Simplex<V>,
+) -> Result<Option<LeastFlow>, Memory> {
     let work = problem
         .size()
         .wrapping_mul(WORK_FOR_EACH)
@@ -88,13 +92,10 @@ fn by_simplex<N: Network, V: Number>(
     if !simplex.run(alloc, work)? {
         return Ok(None);
     }
-    let potentials = simplex.potentials(alloc)?;
+    let values = simplex.potentials(alloc)?;
     let amounts = simplex.amounts(alloc, problem.network())?;
-    let potentials = by_id(alloc, problem, &potentials)?;
-    Ok(Some(LeastFlow {
-        amounts,
-        potentials,
-    }))
+    let flow = least_flow(alloc, problem, &values, amounts)?;
+    Ok(Some(flow))
 }
 
 fn by_scaling<N: Network, V: Number>(
@@ -103,9 +104,19 @@ fn by_scaling<N: Network, V: Number>(
 ) -> Result<LeastFlow, Memory> {
     let mut scaling: Scaling<V> = Scaling::new(alloc, problem)?;
     scaling.run(alloc)?;
-    let potentials = scaling.potentials(alloc)?;
-    let amounts = scaling.amounts(alloc, problem.network())?;
-    let potentials = by_id(alloc, problem, &potentials)?;
+    let values = scaling.residual.potentials(alloc)?;
+    let amounts = scaling.residual.amounts(alloc, problem.network())?;
+    least_flow(alloc, problem, &values, amounts)
+}
+
+/// A flow with the potentials that a method gives by number.
+fn least_flow<N: Network>(
+    alloc: Global,
+    problem: &Problem<'_, N>,
+    values: &[i128],
+    amounts: Vec<i64>,
+) -> Result<LeastFlow, Memory> {
+    let potentials = by_id(alloc, problem, values)?;
     Ok(LeastFlow {
         amounts,
         potentials,
@@ -118,9 +129,9 @@ fn by_id<N: Network>(
     problem: &Problem<'_, N>,
     values: &[i128],
 ) -> Result<Potentials, Memory> {
-    let mut potentials = Potentials::new(alloc, problem.instance().network().nodes());
+    let mut potentials = Potentials::new(alloc, problem.instance.network().nodes());
     let mut number: usize = 0;
-    for id in problem.ids() {
+    for id in problem.numbers.ids() {
         let value = values.get(number).copied().unwrap_or(0);
         set_potential(&mut potentials, *id, value.wrapping_neg())?;
         number = number.wrapping_add(1);

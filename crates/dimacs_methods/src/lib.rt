@@ -11,6 +11,7 @@ mod potentials;
 mod problem;
 mod scaling;
 mod simplex;
+mod tables;
 
 pub use least_flow::{LeastFlow, make_least_flow};
 pub use node_numbers::NodeNumbers;

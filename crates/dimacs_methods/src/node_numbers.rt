@@ -22,7 +22,11 @@ impl NodeNumbers {
         instance: &MinInstance<N>,
     ) -> Result<NodeNumbers, Memory> {
         let mut numbers = NodeNumbers::of_ends(alloc, instance.network())?;
-        numbers.add_supplied(instance)?;
+        for id in 1..=instance.network().nodes() {
+            if instance.supply(id) != 0 {
+                numbers.add(id)?;
+            }
+        }
         Ok(numbers)
     }
 
@@ -32,26 +36,12 @@ impl NodeNumbers {
             numbers: NodeMap::new(alloc),
             ids: Vec::new(alloc),
         };
-        numbers.add_ends(network)?;
-        Ok(numbers)
-    }
-
-    fn add_ends<N: Network>(&mut self, network: &N) -> Result<(), Memory> {
         for i in 0..network.arcs() {
             let arc = network.arc(i);
-            self.add(arc.tail)?;
-            self.add(arc.head)?;
+            numbers.add(arc.tail)?;
+            numbers.add(arc.head)?;
         }
-        Ok(())
-    }
-
-    fn add_supplied<N: Network>(&mut self, instance: &MinInstance<N>) -> Result<(), Memory> {
-        for id in 1..=instance.network().nodes() {
-            if instance.supply(id) != 0 {
-                self.add(id)?;
-            }
-        }
-        Ok(())
+        Ok(numbers)
     }
 
     /// Gives a node a number, if it has none.

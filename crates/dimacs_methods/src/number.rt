@@ -1,7 +1,7 @@
 //! Numbers that a method reckons with.
 
 /// A whole number: of 64 bits where all that is reckoned fits, else of 128. Sums and products wrap.
-pub(crate) trait Number: Copy + Ord {
+pub(crate) trait Number: Copy {
     fn of(value: i64) -> Self;
 
     /// The number of this value; 0 where it doesn't fit.
@@ -24,6 +24,34 @@ pub(crate) trait Number: Copy + Ord {
 
     /// Rounded down.
     fn halved(self, times: u32) -> Self;
+
+    fn is_below(self, other: Self) -> bool;
+
+    #[inline(always)]
+    final fn is_negative(self) -> bool {
+        self.is_below(Self::of(0))
+    }
+
+    #[inline(always)]
+    final fn is_positive(self) -> bool {
+        Self::of(0).is_below(self)
+    }
+
+    #[inline(always)]
+    final fn is_zero(self) -> bool {
+        self.wide() == 0
+    }
+
+    #[inline(always)]
+    final fn negated(self) -> Self {
+        Self::of(0).minus(self)
+    }
+
+    /// The lesser of the two.
+    #[inline(always)]
+    final fn least(self, other: Self) -> Self {
+        if other.is_below(self) { other } else { self }
+    }
 }
 
 impl Number for i64 {
@@ -76,6 +104,11 @@ impl Number for i64 {
     fn halved(self, times: u32) -> i64 {
         self.wrapping_shr(times)
     }
+
+    #[inline(always)]
+    fn is_below(self, other: i64) -> bool {
+        self < other
+    }
 }
 
 impl Number for i128 {
@@ -127,5 +160,10 @@ impl Number for i128 {
     #[inline(always)]
     fn halved(self, times: u32) -> i128 {
         self.wrapping_shr(times)
+    }
+
+    #[inline(always)]
+    fn is_below(self, other: i128) -> bool {
+        self < other
     }
 }

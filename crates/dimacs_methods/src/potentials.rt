@@ -24,7 +24,6 @@ mod numbering;
 mod rounds;
 mod search;
 mod step;
-mod tables;
 mod tight;
 mod tree;
 mod waiting;
@@ -38,8 +37,8 @@ use crate::potentials::links::{Link, Linked, all_links, joined_links};
 use crate::potentials::listing::Listing;
 use crate::potentials::rounds::settled_by_rounds;
 use crate::potentials::search::{End, lower_all};
-use crate::potentials::tables::member;
 use crate::potentials::tree::Tree;
+use crate::tables::member;
 pub use claim::ResidualArc;
 use dimacs_claims::Potentials;
 use dimacs_instance::MinInstance;
@@ -85,7 +84,7 @@ fn tie_and_link<N: Network, V: Number>(
     alloc: Global,
     claim: &Claim<'_, N>,
 ) -> Result<Guess, Memory> {
-    let mut groups: Groups<V> = Groups::apart(alloc, claim.nodes())?;
+    let mut groups: Groups<V> = Groups::apart(alloc, claim.numbering.count())?;
     let tied = groups.tie_all(claim);
     let places = groups.places(alloc)?;
     if !tied {
@@ -94,7 +93,7 @@ fn tie_and_link<N: Network, V: Number>(
     let Linked::Links(links) = all_links(alloc, claim, &places)? else {
         return torn(alloc, claim, &places);
     };
-    let mut distances = vec![in alloc; V::of(0); places.groups() as usize]?;
+    let mut distances = vec![in alloc; V::of(0); places.groups as usize]?;
     if settled_by_rounds(&links, &mut distances) {
         let potentials = potentials(alloc, claim, &places, &distances)?;
         return Ok(Guess::Least(potentials));
@@ -110,7 +109,7 @@ fn join_and_settle<N: Network, V: Number>(
     places: Places<V>,
     links: Vec<Link<V>>,
 ) -> Result<Guess, Memory> {
-    let Some(joints) = joints(alloc, &links, places.groups())? else {
+    let Some(joints) = joints(alloc, &links, places.groups)? else {
         return settle(alloc, claim, &places, links);
     };
     let mut places = places;
@@ -128,23 +127,30 @@ fn settle<N: Network, V: Number>(
     places: &Places<V>,
     links: Vec<Link<V>>,
 ) -> Result<Guess, Memory> {
-    let groups = places.groups();
+    let groups = places.groups;
     let links = Listing::new(alloc, &links, groups)?;
     let mut tree = Tree::new(alloc, groups)?;
-    let budget = (u64::from(claim.arcs()) + u64::from(claim.nodes())) * BUDGET;
-    match lower_all(alloc, &links, &mut tree, budget)? {
-        End::Settled => {
-            let potentials = potentials(alloc, claim, places, tree.distances())?;
-            Ok(Guess::Least(potentials))
-        }
-        End::Cycle(way) => {
-            let cycle = cycle_over(alloc, claim, places, &way)?;
-            Ok(Guess::Cycle(cycle))
-        }
-        End::TooLong => {
-            let potentials = potentials(alloc, claim, places, tree.distances())?;
-            Ok(Guess::GaveUp(potentials))
-        }
+    let budget = (u64::from(claim.arcs()) + u64::from(claim.numbering.count())) * BUDGET;
+    let end = lower_all(alloc, &links, &mut tree, budget)?;
+    guess_after(alloc, claim, places, &end, &tree.distances)
+}
+
+/// What is thought where the fourth stage ends so.
+fn guess_after<N: Network, V: Number>(
+    alloc: Global,
+    claim: &Claim<'_, N>,
+    places: &Places<V>,
+    end: &End,
+    distances: &[V],
+) -> Result<Guess, Memory> {
+    if let End::Cycle(way) = end {
+        let cycle = cycle_over(alloc, claim, places, way)?;
+        return Ok(Guess::Cycle(cycle));
+    }
+    let potentials = potentials(alloc, claim, places, distances)?;
+    match end {
+        End::Settled => Ok(Guess::Least(potentials)),
+        _ => Ok(Guess::GaveUp(potentials)),
     }
 }
 
@@ -165,12 +171,12 @@ fn potentials<N: Network, V: Number>(
     places: &Places<V>,
     distances: &[V],
 ) -> Result<Potentials, Memory> {
-    let mut potentials = Potentials::new(alloc, claim.instance().network().nodes());
-    for number in 0..claim.nodes() {
+    let mut potentials = Potentials::new(alloc, claim.instance.network().nodes());
+    for number in 0..claim.numbering.count() {
         let place = places.of(number);
         let distance = member(distances, place.group, V::of(0)).plus(place.shift);
-        let value = V::of(0).minus(distance).wide();
-        set_potential(&mut potentials, claim.id(number), value)?;
+        let value = distance.negated().wide();
+        set_potential(&mut potentials, claim.numbering.id(number), value)?;
     }
     Ok(potentials)
 }

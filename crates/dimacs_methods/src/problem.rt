@@ -9,11 +9,11 @@ use std::alloc::Global;
 /// A minimum cost flow instance, and how great the numbers in it are.
 #[derive(Drop)]
 pub(crate) struct Problem<'a, N: Network> {
-    instance: &'a MinInstance<N>,
-    numbers: NodeNumbers,
+    pub instance: &'a MinInstance<N>,
+    pub numbers: NodeNumbers,
     /// The excess of each node, by number, where each arc carries its lower bound: its supply, with what comes in and
     /// less what goes out. It is a deficit where it is negative.
-    excess: Vec<i128>,
+    pub excess: Vec<i128>,
     /// The greatest cost, without sign.
     greatest: i128,
     /// The sum of all capacities.
@@ -68,28 +68,8 @@ impl<'a, N: Network> Problem<'a, N> {
         }
     }
 
-    pub(crate) fn instance(&self) -> &'a MinInstance<N> {
-        self.instance
-    }
-
     pub(crate) fn network(&self) -> &'a N {
         self.instance.network()
-    }
-
-    /// The number of a node.
-    #[inline(always)]
-    pub(crate) fn number(&self, id: u32) -> u32 {
-        self.numbers.of(id)
-    }
-
-    /// The IDs of the nodes, by number.
-    pub(crate) fn ids(&self) -> &[u32] {
-        self.numbers.ids()
-    }
-
-    /// The excess of each node, by number.
-    pub(crate) fn excess(&self) -> &[i128] {
-        &self.excess
     }
 
     /// More than any path costs.

@@ -34,7 +34,7 @@ const RANKS: usize = 16;
 
 #[derive(Drop)]
 pub(crate) struct Scaling<V: Number> {
-    residual: Residual<V>,
+    pub residual: Residual<V>,
     /// The nodes with excess.
     active: VecDeque<u32>,
     /// The halves of a path, by their places.
@@ -42,8 +42,6 @@ pub(crate) struct Scaling<V: Number> {
     ranks: Ranks,
     /// How often 1 is doubled to the tolerance.
     level: u32,
-    /// How often costs were doubled. There are more residues of prices than nodes.
-    doublings: u32,
     /// How many prices may be lowered before all are.
     left: u64,
 }
@@ -54,7 +52,7 @@ impl<V: Number> Scaling<V> {
         alloc: Global,
         problem: &Problem<'_, N>,
     ) -> Result<Scaling<V>, Memory> {
-        let nodes = problem.excess().len();
+        let nodes = problem.excess.len();
         let bits = problem.bits();
         let residual = Residual::new(alloc, problem, bits.nodes)?;
         let path = Vec::with_capacity(alloc, LONGEST)?;
@@ -65,7 +63,6 @@ impl<V: Number> Scaling<V> {
             path,
             ranks,
             level: bits.cost.saturating_add(bits.nodes),
-            doublings: bits.nodes,
             left: 0,
         })
     }
@@ -85,7 +82,7 @@ impl<V: Number> Scaling<V> {
     /// One phase. `true` where an excess is left.
     fn refine(&mut self, alloc: Global) -> Result<bool, Memory> {
         self.saturate();
-        self.gather_active()?;
+        gather_active(&self.residual.nodes, &mut self.active)?;
         let mut is_short = self.update_or_park(alloc)?;
         for _ in 0..u64::MAX {
             let Some(node) = self.active.pop_front() else {
@@ -110,21 +107,10 @@ impl<V: Number> Scaling<V> {
     fn saturate_at(&mut self, number: u32, node: &Node<V>) {
         for place in node.start..node.end {
             let half = self.residual.half(place);
-            if half.room > 0 && self.residual.reduced(node.price, &half) < V::of(0) {
+            if half.room > 0 && self.residual.reduced(node.price, &half).is_negative() {
                 self.residual.send(number, place, half.room);
             }
         }
-    }
-
-    fn gather_active(&mut self) -> Result<(), Memory> {
-        let mut number: u32 = 0;
-        for node in &self.residual.nodes {
-            if node.excess > V::of(0) {
-                self.active.push_back(number)?;
-            }
-            number = number.wrapping_add(1);
-        }
-        Ok(())
     }
 
     /// Lowers prices at once. `true` where an excess reaches no deficit.
@@ -141,7 +127,7 @@ impl<V: Number> Scaling<V> {
     fn drain(&mut self, alloc: Global, node: u32) -> Result<bool, Memory> {
         let mut is_short = false;
         for _ in 0..u64::MAX {
-            if self.residual.node(node).excess <= V::of(0) {
+            if !self.residual.node(node).excess.is_positive() {
                 break;
             }
             self.find_path(node)?;
@@ -159,13 +145,16 @@ impl<V: Number> Scaling<V> {
             node.cursor = place;
         }
     }
+}
 
-    /// What each arc carries.
-    pub(crate) fn amounts<N: Network>(
-        &self,
-        alloc: Global,
-        network: &N,
-    ) -> Result<Vec<i64>, Memory> {
-        self.residual.amounts(alloc, network)
+/// Makes the nodes with excess active.
+fn gather_active<V: Number>(nodes: &[Node<V>], active: &mut VecDeque<u32>) -> Result<(), Memory> {
+    let mut number: u32 = 0;
+    for node in nodes {
+        if node.excess.is_positive() {
+            active.push_back(number)?;
+        }
+        number = number.wrapping_add(1);
     }
+    Ok(())
 }

@@ -22,7 +22,8 @@ use crate::simplex::arcs::{AT_CAP, AT_LOW, Arcs, IN_TREE, potential};
 use crate::simplex::cycle::{Cycle, Leaving};
 use crate::simplex::mixing::Mixing;
 use crate::simplex::numbering::number_of;
-use crate::simplex::tree::{Hook, Tree};
+use crate::simplex::tree::{Hook, Node, Tree};
+use crate::tables::set_member;
 use dimacs_lines::Memory;
 use dimacs_network::Network;
 use std::alloc::Global;
@@ -63,7 +64,7 @@ impl<V: Number> Simplex<V> {
         problem: &Problem<'_, N>,
     ) -> Result<Simplex<V>, Memory> {
         let price = V::of_wide(problem.longest_path().wrapping_mul(2));
-        let tree = Tree::star(alloc, problem.excess(), price)?;
+        let tree = Tree::star(alloc, &problem.excess, price)?;
         let arcs = Arcs::new(alloc, problem)?;
         let count = problem.network().arcs();
         Ok(Simplex {
@@ -162,7 +163,7 @@ impl<V: Number> Simplex<V> {
         let price = self.arcs.price(hook.arc);
         let reduced = price.reduced(&self.tree.potentials);
         let raise = if top == price.tail {
-            V::of(0).minus(reduced)
+            reduced.negated()
         } else {
             reduced
         };
@@ -181,7 +182,7 @@ impl<V: Number> Simplex<V> {
         } else {
             node.up
         };
-        let state = if flow == V::of(0) { AT_LOW } else { AT_CAP };
+        let state = if flow.is_zero() { AT_LOW } else { AT_CAP };
         self.arcs.set_state(node.arc, state);
     }
 
@@ -202,7 +203,7 @@ impl<V: Number> Simplex<V> {
         alloc: Global,
         network: &N,
     ) -> Result<Vec<i64>, Memory> {
-        self.settle();
+        settle(&mut self.arcs, &self.tree.nodes);
         let mut mixing = Mixing::new(network.arcs());
         let mut amounts = Vec::with_capacity(alloc, network.arcs() as usize)?;
         for i in 0..network.arcs() {
@@ -212,30 +213,29 @@ impl<V: Number> Simplex<V> {
         Ok(amounts)
     }
 
-    /// Tells the arcs of the tree what they carry.
-    fn settle(&mut self) {
-        let mut number: u32 = 0;
-        for node in &self.tree.nodes {
-            let flow = if self.arcs.price(node.arc).tail == number {
-                node.down
-            } else {
-                node.up
-            };
-            self.arcs.settle(node.arc, flow.narrow());
-            number = number.wrapping_add(1);
-        }
-    }
-
     /// The potentials by the first numbers of the nodes.
     pub(crate) fn potentials(&self, alloc: Global) -> Result<Vec<i128>, Memory> {
         let mut potentials = vec![in alloc; 0i128; self.tree.names.len()]?;
         let mut number: u32 = 0;
         for name in &self.tree.names {
-            if let Some(place) = potentials.get_mut(*name as usize) {
-                *place = potential(&self.tree.potentials, number).wide();
-            }
+            let value = potential(&self.tree.potentials, number).wide();
+            set_member(&mut potentials, *name, value);
             number = number.wrapping_add(1);
         }
         Ok(potentials)
+    }
+}
+
+/// Tells the arcs of the tree what they carry.
+fn settle<V: Number>(arcs: &mut Arcs<V>, nodes: &[Node<V>]) {
+    let mut number: u32 = 0;
+    for node in nodes {
+        let flow = if arcs.price(node.arc).tail == number {
+            node.down
+        } else {
+            node.up
+        };
+        arcs.settle(node.arc, flow.narrow());
+        number = number.wrapping_add(1);
     }
 }

@@ -24,10 +24,10 @@ pub(crate) struct Room {
 /// A flow that is claimed to be least.
 #[derive(Drop)]
 pub(crate) struct Claim<'a, N: Network> {
-    instance: &'a MinInstance<N>,
+    pub instance: &'a MinInstance<N>,
     /// What the arcs carry, in their order.
     amounts: &'a [i64],
-    numbering: Numbering,
+    pub numbering: Numbering,
 }
 
 impl<'a, N: Network> Claim<'a, N> {
@@ -42,10 +42,6 @@ impl<'a, N: Network> Claim<'a, N> {
             amounts,
             numbering,
         })
-    }
-
-    pub(crate) fn instance(&self) -> &'a MinInstance<N> {
-        self.instance
     }
 
     /// The number of arcs.
@@ -78,22 +74,6 @@ impl<'a, N: Network> Claim<'a, N> {
                 less: false,
             },
         }
-    }
-
-    /// The number of a node that has an arc.
-    #[inline(always)]
-    pub(crate) fn number(&self, id: u32) -> u32 {
-        self.numbering.of(id)
-    }
-
-    /// All numbers of nodes are less.
-    pub(crate) fn nodes(&self) -> u32 {
-        self.numbering.count()
-    }
-
-    /// The node of a number, 0 where there is none.
-    pub(crate) fn id(&self, number: u32) -> u32 {
-        self.numbering.id(number)
     }
 
     /// The sum of all costs without sign.

@@ -4,19 +4,26 @@ use crate::number::Number;
 use crate::potentials::claim::{Claim, ResidualArc};
 use crate::potentials::groups::Places;
 use crate::potentials::step::Step;
-use crate::potentials::tables::{member, set_member};
 use crate::potentials::tight::Tight;
+use crate::tables::{member, set_member};
 use dimacs_lines::Memory;
 use dimacs_network::{Network, Side};
-use std::alloc::Global;
+use std::alloc::{AllocError, Global};
 
 /// The cheapest step from a group to the next one of a cycle.
-#[derive(Clone, Copy)]
 struct Cheapest<V> {
     cost: V,
     next: u32,
     step: Option<Step<V>>,
 }
+
+impl<V: Copy> Clone for Cheapest<V> {
+    fn clone(&self) -> Result<Cheapest<V>, AllocError> {
+        Ok(*self)
+    }
+}
+
+impl<V: Copy> Copy for Cheapest<V> {}
 
 /// A cycle over these groups: a cheapest step from each to the next one, and tight steps within them.
 pub(crate) fn cycle_over<N: Network, V: Number>(
@@ -30,7 +37,7 @@ pub(crate) fn cycle_over<N: Network, V: Number>(
         next: u32::MAX,
         step: None,
     };
-    let mut cheapest = vec![in alloc; none; places.groups() as usize]?;
+    let mut cheapest = vec![in alloc; none; places.groups as usize]?;
     set_next(&mut cheapest, groups, none);
     for i in 0..claim.arcs() {
         compare(claim, places, i, Side::Tail, &mut cheapest);
@@ -78,7 +85,11 @@ fn too_cheap<N: Network, V: Number>(
 ) -> Option<Step<V>> {
     let step = Step::of(claim, i, side)?;
     let excess = step.excess(places)?;
-    if excess < V::of(0) { Some(step) } else { None }
+    if excess.is_negative() {
+        Some(step)
+    } else {
+        None
+    }
 }
 
 /// Tells each group of a cycle which one is next.
@@ -112,7 +123,7 @@ fn compare<N: Network, V: Number>(
     let Some(best) = cheapest.get_mut(link.from as usize) else {
         return;
     };
-    if link.to == best.next && link.cost < best.cost {
+    if link.to == best.next && link.cost.is_below(best.cost) {
         best.cost = link.cost;
         best.step = Some(step);
     }
@@ -142,15 +153,9 @@ fn close<N: Network, V: Number>(
     steps: &[Step<V>],
 ) -> Result<Vec<ResidualArc>, Memory> {
     let mut cycle = Vec::new(alloc);
-    let Some(&last) = steps.last() else {
-        return Ok(cycle);
-    };
-    let mut tight = Tight::new(alloc, claim, places)?;
-    let mut before = last;
-    for step in steps {
-        tight.connect(before.to, step.from, &mut cycle)?;
-        cycle.push(step.arc)?;
-        before = *step;
+    if let Some(last) = steps.last() {
+        let mut tight = Tight::new(alloc, claim, places)?;
+        tight.join(last.to, steps, &mut cycle)?;
     }
     Ok(cycle)
 }

@@ -2,7 +2,7 @@
 
 use crate::number::Number;
 use crate::potentials::claim::Claim;
-use crate::potentials::tables::{count_of, member, set_member};
+use crate::tables::{count_of, member, set_member};
 use dimacs_lines::Memory;
 use dimacs_network::Network;
 use std::alloc::Global;
@@ -19,7 +19,8 @@ pub(crate) struct Place<V> {
 #[derive(Drop)]
 pub(crate) struct Places<V> {
     places: Vec<Place<V>>,
-    groups: u32,
+    /// How many groups there are.
+    pub groups: u32,
 }
 
 /// Sets that are being joined, as trees: each node tells the one above it, and how much farther it is than that; a root
@@ -30,19 +31,9 @@ pub(crate) struct Groups<V> {
 }
 
 impl<V: Number> Places<V> {
-    /// How many groups there are.
-    pub(crate) fn groups(&self) -> u32 {
-        self.groups
-    }
-
     #[inline(always)]
     pub(crate) fn of(&self, node: u32) -> Place<V> {
         place_of(&self.places, node)
-    }
-
-    /// The places, by the numbers of the nodes.
-    pub(crate) fn all(&self) -> &[Place<V>] {
-        &self.places
     }
 
     /// The same places where the groups were joined to groups of groups.
@@ -63,10 +54,7 @@ impl<V: Number> Groups<V> {
     pub(crate) fn apart(alloc: Global, nodes: u32) -> Result<Groups<V>, Memory> {
         let mut above = Vec::with_capacity(alloc, nodes as usize)?;
         for node in 0..nodes {
-            above.push(Place {
-                shift: V::of(0),
-                group: node,
-            })?;
+            above.push(place_at(node))?;
         }
         Ok(Groups { above })
     }
@@ -111,7 +99,7 @@ impl<V: Number> Groups<V> {
         let there = self.find(to);
         let shift = here.shift.plus(cost).minus(there.shift);
         if here.group == there.group {
-            return shift == V::of(0);
+            return shift.is_zero();
         }
         let below = Place {
             shift,
@@ -130,8 +118,8 @@ impl<V: Number> Groups<V> {
             };
             let room = claim.room(i, arc);
             if room.more && room.less {
-                let tail = claim.number(arc.tail);
-                let head = claim.number(arc.head);
+                let tail = claim.numbering.of(arc.tail);
+                let head = claim.numbering.of(arc.head);
                 if !self.tie(tail, head, V::of(arc.cost)) {
                     return false;
                 }
@@ -143,11 +131,7 @@ impl<V: Number> Groups<V> {
     /// Numbers the groups.
     pub(crate) fn places(mut self, alloc: Global) -> Result<Places<V>, Memory> {
         let nodes = count_of(&self.above);
-        let nowhere = Place {
-            shift: V::of(0),
-            group: 0,
-        };
-        let mut places = vec![in alloc; nowhere; nodes as usize]?;
+        let mut places = vec![in alloc; place_at(0); nodes as usize]?;
         let groups = self.number_roots(&mut places);
         for node in 0..nodes {
             let root = self.find(node);
@@ -165,11 +149,7 @@ impl<V: Number> Groups<V> {
         let mut groups: u32 = 0;
         for node in 0..count_of(&self.above) {
             if self.is_root(node) {
-                let own = Place {
-                    shift: V::of(0),
-                    group: groups,
-                };
-                set_member(places, node, own);
+                set_member(places, node, place_at(groups));
                 groups = groups.wrapping_add(1);
             }
         }
@@ -180,9 +160,14 @@ impl<V: Number> Groups<V> {
 /// The place of a node; a group of its own past the end.
 #[inline(always)]
 fn place_of<V: Number>(places: &[Place<V>], node: u32) -> Place<V> {
-    let past = Place {
+    member(places, node, place_at(node))
+}
+
+/// The place of a group's root.
+#[inline(always)]
+fn place_at<V: Number>(group: u32) -> Place<V> {
+    Place {
         shift: V::of(0),
-        group: node,
-    };
-    member(places, node, past)
+        group,
+    }
 }

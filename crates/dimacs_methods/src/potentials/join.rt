@@ -3,7 +3,7 @@
 use crate::number::Number;
 use crate::potentials::groups::{Groups, Places};
 use crate::potentials::links::Link;
-use crate::potentials::tables::{count_of, member, set_member};
+use crate::tables::{count_of, member, set_member};
 use dimacs_lines::Memory;
 use std::alloc::Global;
 
@@ -37,6 +37,10 @@ pub(crate) fn joints<V: Number>(
     groups: u32,
 ) -> Result<Option<Places<V>>, Memory> {
     let mut joining = Joining::new(alloc, links, groups)?;
+    joining.count_links();
+    for group in 0..groups {
+        joining.ask(group)?;
+    }
     joining.run()?;
     if joining.joined < groups / 8 {
         return Ok(None);
@@ -68,24 +72,14 @@ impl<'a, V: Number> Joining<'a, V> {
         let groups = Groups::apart(alloc, count)?;
         let into = vec![in alloc; NO_DEGREE; count as usize]?;
         let out = vec![in alloc; NO_DEGREE; count as usize]?;
-        let mut joining = Joining {
+        Ok(Joining {
             links,
             groups,
             into,
             out,
             todo: Vec::new(alloc),
             joined: 0,
-        };
-        joining.count_links();
-        joining.ask_all(count)?;
-        Ok(joining)
-    }
-
-    fn ask_all(&mut self, count: u32) -> Result<(), Memory> {
-        for group in 0..count {
-            self.ask(group)?;
-        }
-        Ok(())
+        })
     }
 
     fn count_links(&mut self) {
@@ -151,16 +145,11 @@ impl<'a, V: Number> Joining<'a, V> {
         merge(&mut self.into, from, to, root);
         merge(&mut self.out, from, to, root);
         self.leave_out(root, number);
-        self.leave_back(root, number, back);
-        self.joined = self.joined.wrapping_add(1);
-        self.ask(root)
-    }
-
-    /// Counts another link of a group no longer, where it now leads to itself.
-    fn leave_back(&mut self, root: u32, number: u32, back: u32) {
         if back != number && self.is_within(back) {
             self.leave_out(root, back);
         }
+        self.joined = self.joined.wrapping_add(1);
+        self.ask(root)
     }
 
     /// Of a group with one link into it and one out of it, the one that isn't this; else this.

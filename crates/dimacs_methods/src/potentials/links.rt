@@ -4,18 +4,25 @@ use crate::number::Number;
 use crate::potentials::claim::Claim;
 use crate::potentials::groups::{Place, Places};
 use crate::potentials::listing::Listed;
-use crate::potentials::tables::{member, set_member};
+use crate::tables::{member, set_member};
 use dimacs_lines::Memory;
 use dimacs_network::Network;
-use std::alloc::Global;
+use std::alloc::{AllocError, Global};
 
 /// A residual arc from one group to another, which is at most so much farther.
-#[derive(Clone, Copy)]
 pub(crate) struct Link<V> {
     pub cost: V,
     pub from: u32,
     pub to: u32,
 }
+
+impl<V: Copy> Clone for Link<V> {
+    fn clone(&self) -> Result<Link<V>, AllocError> {
+        Ok(*self)
+    }
+}
+
+impl<V: Copy> Copy for Link<V> {}
 
 impl<V: Number> Listed for Link<V> {
     #[inline(always)]
@@ -44,13 +51,13 @@ impl<V: Number> Link<V> {
         if room.more == room.less {
             return None;
         }
-        let tail = places.of(claim.number(arc.tail));
-        let head = places.of(claim.number(arc.head));
+        let tail = places.of(claim.numbering.of(arc.tail));
+        let head = places.of(claim.numbering.of(arc.head));
         let cost = V::of(arc.cost);
         if room.more {
             Some(Link::between(tail, cost, head))
         } else {
-            Some(Link::between(head, V::of(0).minus(cost), tail))
+            Some(Link::between(head, cost.negated(), tail))
         }
     }
 
@@ -79,7 +86,7 @@ impl<V: Number> Link<V> {
     #[inline(always)]
     fn lower(&self, distances: &mut [V]) -> bool {
         let distance = member(distances, self.from, V::of(0)).plus(self.cost);
-        if member(distances, self.to, distance) <= distance {
+        if !distance.is_below(member(distances, self.to, distance)) {
             return false;
         }
         set_member(distances, self.to, distance);
@@ -100,7 +107,7 @@ pub(crate) fn all_links<N: Network, V: Number>(
         };
         if !link.is_within() {
             links.push(link)?;
-        } else if link.cost < V::of(0) {
+        } else if link.cost.is_negative() {
             return Ok(Linked::Torn);
         }
     }
@@ -113,7 +120,7 @@ pub(crate) fn joined_links<V: Number>(links: Vec<Link<V>>, joints: &Places<V>) -
     let mut torn = false;
     links.retain_mut(|link| {
         *link = link.joined(joints);
-        torn = torn || link.is_within() && link.cost < V::of(0);
+        torn = torn || link.is_within() && link.cost.is_negative();
         !link.is_within()
     });
     if torn {

@@ -53,7 +53,7 @@ fn begin<V: Number>(links: &Listing<Link<V>>, tree: &mut Tree<V>) {
 fn lowers<V: Number>(links: &Listing<Link<V>>, tree: &Tree<V>, group: u32) -> bool {
     let distance = tree.distance(group);
     for link in links.of(group) {
-        if distance.plus(link.cost) < tree.distance(link.to) {
+        if distance.plus(link.cost).is_below(tree.distance(link.to)) {
             return true;
         }
     }

@@ -6,15 +6,23 @@ use crate::potentials::groups::Places;
 use crate::potentials::links::Link;
 use crate::potentials::listing::Listed;
 use dimacs_network::{Network, Side};
+use std::alloc::AllocError;
 
 /// A residual arc, between nodes by their numbers.
-#[derive(Clone, Copy)]
 pub(crate) struct Step<V> {
     pub cost: V,
     pub from: u32,
     pub to: u32,
     pub arc: ResidualArc,
 }
+
+impl<V: Copy> Clone for Step<V> {
+    fn clone(&self) -> Result<Step<V>, AllocError> {
+        Ok(*self)
+    }
+}
+
+impl<V: Copy> Copy for Step<V> {}
 
 /// Steps are listed by the node that they lead to.
 impl<V: Number> Listed for Step<V> {
@@ -31,15 +39,15 @@ impl<V: Number> Step<V> {
         let room = claim.room(i, arc);
         let (has_room, cost) = match side {
             Side::Tail => (room.more, V::of(arc.cost)),
-            Side::Head => (room.less, V::of(0).minus(V::of(arc.cost))),
+            Side::Head => (room.less, V::of(arc.cost).negated()),
         };
         if !has_room {
             return None;
         }
         Some(Step {
             cost,
-            from: claim.number(side.near(arc)),
-            to: claim.number(side.far(arc)),
+            from: claim.numbering.of(side.near(arc)),
+            to: claim.numbering.of(side.far(arc)),
             arc: ResidualArc { arc: i, side },
         })
     }

@@ -5,7 +5,7 @@ use crate::potentials::claim::{Claim, ResidualArc};
 use crate::potentials::groups::Places;
 use crate::potentials::listing::Listing;
 use crate::potentials::step::Step;
-use crate::potentials::tables::{member, set_member};
+use crate::tables::{member, set_member};
 use dimacs_lines::Memory;
 use dimacs_network::{Network, Side};
 use std::alloc::Global;
@@ -26,7 +26,7 @@ impl<V: Number> Tight<V> {
         claim: &Claim<'_, N>,
         places: &Places<V>,
     ) -> Result<Tight<V>, Memory> {
-        let nodes = claim.nodes();
+        let nodes = claim.numbering.count();
         let steps = tight_steps(alloc, claim, places)?;
         let steps = Listing::new(alloc, &steps, nodes)?;
         let onward = vec![in alloc; None; nodes as usize]?;
@@ -37,13 +37,24 @@ impl<V: Number> Tight<V> {
         })
     }
 
-    /// Adds a way with fewest steps from one node to another to the end of a path. A group is connected once.
-    pub(crate) fn connect(
+    /// Adds steps to the end of a path that comes to this node, and a way to each of them.
+    pub(crate) fn join(
         &mut self,
-        from: u32,
-        to: u32,
+        start: u32,
+        steps: &[Step<V>],
         path: &mut Vec<ResidualArc>,
     ) -> Result<(), Memory> {
+        let mut at = start;
+        for step in steps {
+            self.connect(at, step.from, path)?;
+            path.push(step.arc)?;
+            at = step.to;
+        }
+        Ok(())
+    }
+
+    /// Adds a way with fewest steps from one node to another to the end of a path. A group is connected once.
+    fn connect(&mut self, from: u32, to: u32, path: &mut Vec<ResidualArc>) -> Result<(), Memory> {
         self.search(from, to)?;
         let mut at = from;
         for _ in 0..self.queue.len() {
@@ -112,7 +123,7 @@ fn add_tight<N: Network, V: Number>(
 ) -> Result<(), Memory> {
     if let Some(step) = Step::of(claim, i, side)
         && let Some(excess) = step.excess(places)
-        && excess == V::of(0)
+        && excess.is_zero()
     {
         steps.push(step)?;
     }

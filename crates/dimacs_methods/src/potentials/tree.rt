@@ -3,8 +3,8 @@
 use crate::number::Number;
 use crate::potentials::links::Link;
 use crate::potentials::listing::Listing;
-use crate::potentials::tables::{count_of, member, set_member};
 use crate::potentials::waiting::Waiting;
+use crate::tables::{count_of, member, set_member};
 use dimacs_lines::Memory;
 use std::alloc::Global;
 
@@ -31,7 +31,7 @@ struct Part {
 }
 
 /// What becomes of the groups that hang on one that is lowered.
-#[derive(Clone, Copy)]
+#[derive(Drop)]
 enum Subtree<V> {
     /// They change with it by so much.
     Moves(V),
@@ -46,7 +46,7 @@ const WALKS: u64 = 2;
 /// Distances of groups, and the link by which each was lowered last.
 #[derive(Drop)]
 pub(crate) struct Tree<V> {
-    distances: Vec<V>,
+    pub distances: Vec<V>,
     nodes: Vec<Node>,
     pub waiting: Waiting,
     /// How many links were looked at.
@@ -97,10 +97,6 @@ impl<V: Number> Tree<V> {
         count_of(&self.distances)
     }
 
-    pub(crate) fn distances(&self) -> &[V] {
-        &self.distances
-    }
-
     /// What the search has cost: links that were looked at, and groups that were walked over.
     #[inline(always)]
     pub(crate) fn work(&self) -> u64 {
@@ -130,7 +126,7 @@ impl<V: Number> Tree<V> {
         for link in links {
             let distance = start.plus(link.cost);
             let old = member(&self.distances, link.to, distance);
-            if distance < old && !self.lower(link.to, from, distance.minus(old)) {
+            if distance.is_below(old) && !self.lower(link.to, from, distance.minus(old)) {
                 return Some(link.to);
             }
         }
@@ -177,20 +173,15 @@ impl<V: Number> Tree<V> {
             last = at;
             at = node.after;
             self.walked = self.walked.wrapping_add(1);
-            self.pass(last, subtree);
+            match subtree {
+                Subtree::Moves(change) => self.change(last, *change),
+                Subtree::Leaves => self.set_children(last, OUT),
+            }
             if open == 0 {
                 break;
             }
         }
         Some(Part { last, after: at })
-    }
-
-    #[inline(always)]
-    fn pass(&mut self, group: u32, subtree: &Subtree<V>) {
-        match subtree {
-            Subtree::Moves(change) => self.change(group, *change),
-            Subtree::Leaves => self.set_children(group, OUT),
-        }
     }
 
     /// Changes the distance of a group, which waits then.

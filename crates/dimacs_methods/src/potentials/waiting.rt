@@ -1,6 +1,6 @@
 //! Groups that wait.
 
-use crate::potentials::tables::{count_of, member, set_member};
+use crate::tables::{count_of, member, set_member};
 use dimacs_lines::Memory;
 use std::alloc::Global;
 

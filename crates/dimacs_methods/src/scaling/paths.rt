@@ -5,17 +5,8 @@ use crate::scaling::residual::Node;
 use crate::scaling::{LONGEST, Scaling};
 use dimacs_lines::Memory;
 
-/// How a path leads on from a node.
-#[derive(Clone, Copy)]
-enum Step {
-    /// By the half at this place.
-    Along(u32),
-    /// It doesn't: the node's price was lowered.
-    Back,
-}
-
 /// What the halves at a node have from its cursor on.
-#[derive(Clone, Copy)]
+#[derive(Drop)]
 enum Scan<V> {
     /// The first of negative reduced cost stands at this place.
     Negative(u32),
@@ -24,17 +15,20 @@ enum Scan<V> {
 }
 
 impl<V: Number> Scaling<V> {
-    /// Finds a path from a node with excess, to a deficit or as far as paths go.
+    /// Finds a path from a node with excess, to a deficit or as far as paths go. Where no half leads on from a node, the
+    /// node's price is lowered.
     pub(crate) fn find_path(&mut self, start: u32) -> Result<(), Memory> {
         self.path.clear();
         let mut tip = start;
         for _ in 0..u64::MAX {
+            let node = self.residual.node(tip);
             let is_done = self.path.len() >= LONGEST || self.left == 0;
-            if is_done || self.residual.node(tip).excess < V::of(0) {
+            if is_done || node.excess.is_negative() {
                 break;
             }
-            match self.step(tip) {
-                Step::Along(place) => {
+            match self.scan(&node) {
+                Scan::Negative(place) => {
+                    self.look_from(tip, place);
                     let closes_cycle = self.path.contains(&place);
                     self.path.push(place)?;
                     if closes_cycle {
@@ -42,7 +36,8 @@ impl<V: Number> Scaling<V> {
                     }
                     tip = self.residual.half(place).to;
                 }
-                Step::Back => {
+                Scan::Least(reduced) => {
+                    self.relabel(tip, reduced);
                     if let Some(place) = self.path.pop() {
                         tip = self.residual.at(place);
                     }
@@ -52,22 +47,6 @@ impl<V: Number> Scaling<V> {
         Ok(())
     }
 
-    /// The next half of negative reduced cost at a node. Where there is none, the node's price is lowered.
-    #[inline(always)]
-    fn step(&mut self, number: u32) -> Step {
-        let node = self.residual.node(number);
-        match self.scan(&node) {
-            Scan::Negative(place) => {
-                self.look_from(number, place);
-                Step::Along(place)
-            }
-            Scan::Least(reduced) => {
-                self.relabel(number, reduced);
-                Step::Back
-            }
-        }
-    }
-
     #[inline(always)]
     fn scan(&self, node: &Node<V>) -> Scan<V> {
         let mut least = V::greatest();
@@ -75,10 +54,10 @@ impl<V: Number> Scaling<V> {
         for half in self.residual.between(node.cursor, node.end) {
             if half.room > 0 {
                 let reduced = self.residual.reduced(node.price, half);
-                if reduced < V::of(0) {
+                if reduced.is_negative() {
                     return Scan::Negative(place);
                 }
-                least = least.min(reduced);
+                least = least.least(reduced);
             }
             place = place.wrapping_add(1);
         }
@@ -90,9 +69,9 @@ impl<V: Number> Scaling<V> {
     fn relabel(&mut self, number: u32, least: V) {
         let node = self.residual.node(number);
         let least = least
-            .min(self.reduced_back(node.price))
-            .min(self.least_before(&node));
-        if least < V::greatest() {
+            .least(self.reduced_back(node.price))
+            .least(self.least_before(&node));
+        if least.is_below(V::greatest()) {
             let lowering = least.plus(V::of(1).doubled(self.level));
             self.residual.lower(number, lowering);
         }
@@ -106,7 +85,7 @@ impl<V: Number> Scaling<V> {
         let mut least = V::greatest();
         for half in self.residual.between(node.start, node.cursor) {
             if half.room > 0 {
-                least = least.min(self.residual.reduced(node.price, half));
+                least = least.least(self.residual.reduced(node.price, half));
             }
         }
         least
@@ -131,10 +110,10 @@ impl<V: Number> Scaling<V> {
         for place in &self.path {
             let half = self.residual.half(*place);
             let excess = self.residual.node(from).excess;
-            let amount = V::of(half.room).min(excess).narrow();
+            let amount = V::of(half.room).least(excess).narrow();
             self.residual.send(from, *place, amount);
             let after = self.residual.node(half.to).excess;
-            if after > V::of(0) && after <= V::of(amount) {
+            if after.is_positive() && !V::of(amount).is_below(after) {
                 self.active.push_back(half.to)?;
             }
             from = half.to;

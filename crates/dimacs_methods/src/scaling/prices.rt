@@ -1,12 +1,11 @@
 //! Potentials for costs that aren't scaled.
 
 use crate::number::Number;
-use crate::scaling::Scaling;
-use crate::scaling::residual::Node;
+use crate::scaling::residual::{Node, Residual};
 use dimacs_lines::Memory;
 use std::alloc::Global;
 
-impl<V: Number> Scaling<V> {
+impl<V: Number> Residual<V> {
     /// The prices less a residue, divided by what costs were multiplied with, and rounded down.
     ///
     /// An arc with room whose scaled reduced cost is 0 or more then has one of 0 or more, whatever the residue is. So has
@@ -14,8 +13,8 @@ impl<V: Number> Scaling<V> {
     /// nodes, so there is one that no such node has.
     pub(crate) fn potentials(&self, alloc: Global) -> Result<Vec<i128>, Memory> {
         let residue = self.free_residue(alloc)?;
-        let mut potentials = Vec::with_capacity(alloc, self.residual.nodes.len())?;
-        for node in &self.residual.nodes {
+        let mut potentials = Vec::with_capacity(alloc, self.nodes.len())?;
+        for node in &self.nodes {
             let price = node.price.wide().wrapping_sub(residue);
             potentials.push(price.halved(self.doublings))?;
         }
@@ -38,7 +37,7 @@ impl<V: Number> Scaling<V> {
     fn taken_residues(&self, alloc: Global) -> Result<Vec<bool>, Memory> {
         let residues = usize::try_from(1i128.doubled(self.doublings)).unwrap_or(0);
         let mut taken = vec![in alloc; false; residues]?;
-        for node in &self.residual.nodes {
+        for node in &self.nodes {
             self.take_residues(node, &mut taken);
         }
         Ok(taken)
@@ -46,9 +45,9 @@ impl<V: Number> Scaling<V> {
 
     /// Marks the residues of the prices to which an arc of negative reduced cost leads from this node.
     fn take_residues(&self, node: &Node<V>, taken: &mut [bool]) {
-        for half in self.residual.between(node.start, node.end) {
-            if half.room > 0 && self.residual.reduced(node.price, half) < V::of(0) {
-                let residue = self.residue(self.residual.price(half.to));
+        for half in self.between(node.start, node.end) {
+            if half.room > 0 && self.reduced(node.price, half).is_negative() {
+                let residue = self.residue(self.price(half.to));
                 if let Some(is_taken) = taken.get_mut(residue) {
                     *is_taken = true;
                 }

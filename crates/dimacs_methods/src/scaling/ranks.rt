@@ -1,5 +1,6 @@
 //! Nodes by rank.
 
+use crate::tables::{member, set_member};
 use dimacs_lines::Memory;
 use std::alloc::Global;
 
@@ -42,7 +43,7 @@ impl Ranks {
 
     #[inline(always)]
     fn first(&self, rank: u32) -> u32 {
-        self.first.get(rank as usize).copied().unwrap_or(NONE)
+        member(&self.first, rank, NONE)
     }
 
     pub(crate) fn put(&mut self, node: u32, rank: u32) {
@@ -54,9 +55,7 @@ impl Ranks {
         if let Some(link) = self.links.get_mut(after as usize) {
             link.before = node;
         }
-        if let Some(first) = self.first.get_mut(rank as usize) {
-            *first = node;
-        }
+        set_member(&mut self.first, rank, node);
     }
 
     /// Takes a node out of its rank.

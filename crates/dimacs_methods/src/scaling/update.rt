@@ -2,6 +2,7 @@
 
 use crate::number::Number;
 use crate::scaling::Scaling;
+use crate::scaling::ranks::Ranks;
 use crate::scaling::residual::{Half, Node};
 use dimacs_lines::Memory;
 use std::alloc::Global;
@@ -10,48 +11,24 @@ impl<V: Number> Scaling<V> {
     /// Lowers the price of each node by the tolerance for each rank between it and a deficit. `false` where some excess
     /// reaches no deficit within the ranks.
     pub(crate) fn update(&mut self) -> bool {
-        let count = self.count_of_ranks();
-        let mut left = self.rank_deficits();
+        let count = self.ranks.count();
+        let mut left = rank_deficits(&mut self.residual.nodes, &mut self.ranks);
         for rank in 0..count {
             left = left.minus(self.settle(rank, left));
-            if left <= V::of(0) {
-                self.lower(rank);
+            if !left.is_positive() {
+                lower(&mut self.residual.nodes, self.level, rank);
                 return true;
             }
         }
-        self.lower(count);
+        lower(&mut self.residual.nodes, self.level, count);
         false
-    }
-
-    /// The number of ranks, which stands for that of a node that has none.
-    fn count_of_ranks(&self) -> u32 {
-        self.ranks.count()
-    }
-
-    /// Puts the nodes with a deficit at rank 0, all others at none. Gives the sum of excesses.
-    fn rank_deficits(&mut self) -> V {
-        self.ranks.clear();
-        let none = self.count_of_ranks();
-        let mut sum = V::of(0);
-        let mut number: u32 = 0;
-        for node in &mut self.residual.nodes {
-            node.rank = none;
-            if node.excess < V::of(0) {
-                node.rank = 0;
-                self.ranks.put(number, 0);
-            } else {
-                sum = sum.plus(node.excess);
-            }
-            number = number.wrapping_add(1);
-        }
-        sum
     }
 
     /// Goes over the nodes of a rank, as long as less excess than `left` was found at them. Gives how much was.
     fn settle(&mut self, rank: u32, left: V) -> V {
         let mut found = V::of(0);
         for _ in 0..u64::MAX {
-            if found >= left {
+            if !found.is_below(left) {
                 break;
             }
             let Some(number) = self.ranks.take(rank) else {
@@ -62,7 +39,7 @@ impl<V: Number> Scaling<V> {
                 let half = self.residual.half(place);
                 self.reach(&node, &half);
             }
-            if node.excess > V::of(0) {
+            if node.excess.is_positive() {
                 found = found.plus(node.excess);
             }
         }
@@ -78,30 +55,19 @@ impl<V: Number> Scaling<V> {
         }
         let gap = V::of(i64::from(other.rank.wrapping_sub(node.rank)));
         let reduced = other.price.minus(node.price).minus(half.cost);
-        let farther = reduced.halved(self.level).plus(V::of(1)).max(V::of(0));
-        if farther >= gap || self.residual.room_back(half) == 0 {
+        let farther = reduced.halved(self.level).plus(V::of(1));
+        if !farther.is_below(gap) || self.residual.room_back(half) == 0 {
             return;
         }
-        if other.rank < self.count_of_ranks() {
+        if other.rank < self.ranks.count() {
             self.ranks.remove(half.to, other.rank);
         }
+        // A negative one counts as 0.
         let farther = u32::try_from(farther.narrow()).unwrap_or(0);
         let rank = node.rank.wrapping_add(farther);
         self.ranks.put(half.to, rank);
         if let Some(other) = self.residual.nodes.get_mut(half.to as usize) {
             other.rank = rank;
-        }
-    }
-
-    /// Lowers prices by ranks, up to this one.
-    fn lower(&mut self, most: u32) {
-        let level = self.level;
-        for node in &mut self.residual.nodes {
-            let rank = node.rank.min(most);
-            if rank > 0 {
-                node.price = node.price.minus(V::of(i64::from(rank)).doubled(level));
-                node.cursor = node.start;
-            }
         }
     }
 
@@ -125,7 +91,7 @@ impl<V: Number> Scaling<V> {
     fn reaching(&self, alloc: Global) -> Result<Vec<bool>, Memory> {
         let mut reaching = vec![in alloc; false; self.residual.nodes.len()]?;
         let mut waiting = Vec::new(alloc);
-        self.mark_deficits(&mut reaching, &mut waiting)?;
+        mark_deficits(&self.residual.nodes, &mut reaching, &mut waiting)?;
         for _ in 0..u64::MAX {
             let Some(number) = waiting.pop() else {
                 break;
@@ -133,19 +99,6 @@ impl<V: Number> Scaling<V> {
             self.mark_before(number, &mut reaching, &mut waiting)?;
         }
         Ok(reaching)
-    }
-
-    /// Marks the nodes with a deficit, and lets them wait.
-    fn mark_deficits(&self, marks: &mut [bool], waiting: &mut Vec<u32>) -> Result<(), Memory> {
-        let mut number: u32 = 0;
-        for node in &self.residual.nodes {
-            if node.excess < V::of(0) {
-                mark(marks, number);
-                waiting.push(number)?;
-            }
-            number = number.wrapping_add(1);
-        }
-        Ok(())
     }
 
     /// Marks the nodes from which flow can be sent to this one, and lets those wait that weren't marked.
@@ -163,6 +116,53 @@ impl<V: Number> Scaling<V> {
         }
         Ok(())
     }
+}
+
+/// Puts the nodes with a deficit at rank 0, all others at none. Gives the sum of excesses.
+fn rank_deficits<V: Number>(nodes: &mut [Node<V>], ranks: &mut Ranks) -> V {
+    ranks.clear();
+    let none = ranks.count();
+    let mut sum = V::of(0);
+    let mut number: u32 = 0;
+    for node in nodes.iter_mut() {
+        node.rank = none;
+        if node.excess.is_negative() {
+            node.rank = 0;
+            ranks.put(number, 0);
+        } else {
+            sum = sum.plus(node.excess);
+        }
+        number = number.wrapping_add(1);
+    }
+    sum
+}
+
+/// Lowers prices by ranks, up to this one.
+fn lower<V: Number>(nodes: &mut [Node<V>], level: u32, most: u32) {
+    for node in nodes.iter_mut() {
+        let rank = node.rank.min(most);
+        if rank > 0 {
+            node.price = node.price.minus(V::of(i64::from(rank)).doubled(level));
+            node.cursor = node.start;
+        }
+    }
+}
+
+/// Marks the nodes with a deficit, and lets them wait.
+fn mark_deficits<V: Number>(
+    nodes: &[Node<V>],
+    marks: &mut [bool],
+    waiting: &mut Vec<u32>,
+) -> Result<(), Memory> {
+    let mut number: u32 = 0;
+    for node in nodes {
+        if node.excess.is_negative() {
+            mark(marks, number);
+            waiting.push(number)?;
+        }
+        number = number.wrapping_add(1);
+    }
+    Ok(())
 }
 
 /// Marks a node; `false` where it was marked before.

@@ -3,17 +3,25 @@
 use crate::number::Number;
 use crate::problem::Problem;
 use crate::simplex::mixing::Mixing;
+use crate::tables::{member, set_member};
 use dimacs_lines::Memory;
 use dimacs_network::Network;
-use std::alloc::Global;
+use std::alloc::{AllocError, Global};
 
 /// What the search for an entering arc reads of an arc.
-#[derive(Clone, Copy)]
 pub(crate) struct Price<V> {
     pub cost: V,
     pub tail: u32,
     pub head: u32,
 }
+
+impl<V: Copy> Clone for Price<V> {
+    fn clone(&self) -> Result<Price<V>, AllocError> {
+        Ok(*self)
+    }
+}
+
+impl<V: Copy> Copy for Price<V> {}
 
 /// What an arc carries. The sign makes a reduced cost that should change the state negative.
 pub(crate) const AT_LOW: i8 = 1;
@@ -44,7 +52,7 @@ impl<V: Number> Price<V> {
 /// The potential of a node.
 #[inline(always)]
 pub(crate) fn potential<V: Number>(potentials: &[V], node: u32) -> V {
-    potentials.get(node as usize).copied().unwrap_or(V::of(0))
+    member(potentials, node, V::of(0))
 }
 
 impl<V: Number> Arcs<V> {
@@ -54,12 +62,7 @@ impl<V: Number> Arcs<V> {
         problem: &Problem<'_, N>,
     ) -> Result<Arcs<V>, Memory> {
         let count = problem.network().arcs() as usize;
-        let nowhere = Price {
-            cost: V::of(0),
-            tail: 0,
-            head: 0,
-        };
-        let prices = vec![in alloc; nowhere; count]?;
+        let prices = vec![in alloc; nowhere(); count]?;
         let states = vec![in alloc; AT_LOW; count]?;
         let rooms = vec![in alloc; 0i64; count]?;
         let mut arcs = Arcs {
@@ -76,55 +79,44 @@ impl<V: Number> Arcs<V> {
         let mut mixing = Mixing::new(network.arcs());
         for i in 0..network.arcs() {
             let arc = network.arc(i);
-            let position = mixing.next() as usize;
-            if let Some(price) = self.prices.get_mut(position) {
-                price.cost = V::of(arc.cost);
-                price.tail = problem.number(arc.tail);
-                price.head = problem.number(arc.head);
-            }
-            if let Some(room) = self.rooms.get_mut(position) {
-                *room = arc.cap.wrapping_sub(arc.low);
-            }
+            let price = Price {
+                cost: V::of(arc.cost),
+                tail: problem.numbers.of(arc.tail),
+                head: problem.numbers.of(arc.head),
+            };
+            self.put(mixing.next(), price, arc.cap.wrapping_sub(arc.low));
         }
+    }
+
+    #[inline(always)]
+    fn put(&mut self, position: u32, price: Price<V>, room: i64) {
+        set_member(&mut self.prices, position, price);
+        self.settle(position, room);
     }
 
     #[inline(always)]
     pub(crate) fn price(&self, position: u32) -> Price<V> {
-        self.prices
-            .get(position as usize)
-            .copied()
-            .unwrap_or(Price {
-                cost: V::of(0),
-                tail: 0,
-                head: 0,
-            })
+        member(&self.prices, position, nowhere())
     }
 
     #[inline(always)]
     pub(crate) fn state(&self, position: u32) -> i8 {
-        self.states
-            .get(position as usize)
-            .copied()
-            .unwrap_or(IN_TREE)
+        member(&self.states, position, IN_TREE)
     }
 
     #[inline(always)]
     pub(crate) fn set_state(&mut self, position: u32, state: i8) {
-        if let Some(old) = self.states.get_mut(position as usize) {
-            *old = state;
-        }
+        set_member(&mut self.states, position, state);
     }
 
     #[inline(always)]
     pub(crate) fn room(&self, position: u32) -> i64 {
-        self.rooms.get(position as usize).copied().unwrap_or(0)
+        member(&self.rooms, position, 0)
     }
 
-    /// Sets what an arc of the tree carries more than its lower bound.
+    /// Sets the room of an arc, or at the end what one of the tree carries more than its lower bound.
     pub(crate) fn settle(&mut self, position: u32, amount: i64) {
-        if let Some(room) = self.rooms.get_mut(position as usize) {
-            *room = amount;
-        }
+        set_member(&mut self.rooms, position, amount);
     }
 
     /// What an arc carries more than its lower bound, once those of the tree are settled.
@@ -144,12 +136,20 @@ impl<V: Number> Arcs<V> {
         let mut position = start;
         for (price, state) in prices.iter().zip(states) {
             let gain = price.reduced(potentials).times(V::of(i64::from(*state)));
-            if gain < least {
+            if gain.is_below(least) {
                 least = gain;
                 best = Some(position);
             }
             position = position.wrapping_add(1);
         }
         best
+    }
+}
+
+fn nowhere<V: Number>() -> Price<V> {
+    Price {
+        cost: V::of(0),
+        tail: 0,
+        head: 0,
     }
 }

@@ -4,7 +4,7 @@ use crate::number::Number;
 use crate::simplex::tree::Tree;
 
 /// How flow moves round a cycle: from `join` down to `first`, over the arc, and from `second` up to `join`.
-#[derive(Clone, Copy)]
+#[derive(Drop)]
 pub(crate) struct Cycle<V> {
     pub first: u32,
     pub second: u32,
@@ -24,7 +24,7 @@ pub(crate) enum Leaving {
 }
 
 /// One way up to the join.
-#[derive(Clone, Copy)]
+#[derive(Drop)]
 struct Climb<V> {
     at: u32,
     depth: u32,
@@ -59,7 +59,7 @@ impl<V: Number> Cycle<V> {
             first,
             second,
             join: down.at,
-            amount: down.room.min(up.room),
+            amount: down.room.least(up.room),
             leaving,
             steps,
         }
@@ -80,7 +80,7 @@ impl<V: Number> Climb<V> {
     #[inline(always)]
     fn climb_against(&mut self, tree: &Tree<V>) {
         let node = tree.node(self.at);
-        if node.down < self.room {
+        if node.down.is_below(self.room) {
             self.room = node.down;
             self.narrow = Some(self.at);
         }
@@ -92,7 +92,7 @@ impl<V: Number> Climb<V> {
     #[inline(always)]
     fn climb_along(&mut self, tree: &Tree<V>) {
         let node = tree.node(self.at);
-        if node.up <= self.room {
+        if !self.room.is_below(node.up) {
             self.room = node.up;
             self.narrow = Some(self.at);
         }
@@ -105,7 +105,7 @@ impl<V: Number> Climb<V> {
 /// on the way down.
 fn narrowest<V: Number>(down: &Climb<V>, up: &Climb<V>) -> Leaving {
     if let Some(node) = up.narrow
-        && up.room <= down.room
+        && !down.room.is_below(up.room)
     {
         return Leaving::OnSecond(node);
     }

@@ -2,6 +2,7 @@
 
 use crate::number::Number;
 use crate::simplex::tree::Tree;
+use crate::tables::{member, set_member};
 use dimacs_lines::Memory;
 use std::alloc::Global;
 
@@ -11,17 +12,12 @@ impl<V: Number> Tree<V> {
         let order = self.preorder(alloc)?;
         let mut numbers = vec![in alloc; self.root(); self.nodes.len()]?;
         number_in_order(&mut numbers, &order);
-        self.arrange(alloc, &order)?;
+        arrange(alloc, &mut self.nodes, &order)?;
+        arrange(alloc, &mut self.places, &order)?;
+        arrange(alloc, &mut self.potentials, &order)?;
+        arrange(alloc, &mut self.names, &order)?;
         self.rename(&numbers);
         Ok(numbers)
-    }
-
-    /// Puts the nodes in this order.
-    fn arrange(&mut self, alloc: Global, order: &[u32]) -> Result<(), Memory> {
-        arrange(alloc, &mut self.nodes, order)?;
-        arrange(alloc, &mut self.places, order)?;
-        arrange(alloc, &mut self.potentials, order)?;
-        arrange(alloc, &mut self.names, order)
     }
 
     /// The nodes in preorder, the root last.
@@ -50,9 +46,7 @@ impl<V: Number> Tree<V> {
 fn number_in_order(numbers: &mut [u32], order: &[u32]) {
     let mut number: u32 = 0;
     for node in order {
-        if let Some(place) = numbers.get_mut(*node as usize) {
-            *place = number;
-        }
+        set_member(numbers, *node, number);
         number = number.wrapping_add(1);
     }
 }
@@ -72,5 +66,5 @@ fn arrange<T: Copy>(alloc: Global, table: &mut Vec<T>, order: &[u32]) -> Result<
 /// The new number of a node.
 #[inline(always)]
 pub(crate) fn number_of(numbers: &[u32], node: u32) -> u32 {
-    numbers.get(node as usize).copied().unwrap_or(0)
+    member(numbers, node, 0)
 }

@@ -2,14 +2,14 @@
 
 use crate::number::Number;
 use crate::simplex::cycle::Cycle;
+use crate::tables::member;
 use dimacs_lines::Memory;
-use std::alloc::Global;
+use std::alloc::{AllocError, Global};
 
 /// The position of an artificial arc, which is in no table.
 pub(crate) const ARTIFICIAL: u32 = u32::MAX;
 
 /// A node of the tree, with the arc between it and its parent.
-#[derive(Clone, Copy)]
 pub(crate) struct Node<V> {
     /// How much more can flow to the parent, and from the parent.
     pub up: V,
@@ -21,6 +21,14 @@ pub(crate) struct Node<V> {
     pub before: u32,
 }
 
+impl<V: Copy> Clone for Node<V> {
+    fn clone(&self) -> Result<Node<V>, AllocError> {
+        Ok(*self)
+    }
+}
+
+impl<V: Copy> Copy for Node<V> {}
+
 /// What is read and changed of every node of a subtree that moves, apart from its potential.
 #[derive(Clone, Copy)]
 pub(crate) struct Place {
@@ -30,7 +38,7 @@ pub(crate) struct Place {
 }
 
 /// An arc by which a subtree is hung on a node: its position, and its room towards that node and from it.
-#[derive(Clone, Copy)]
+#[derive(Drop)]
 pub(crate) struct Hook<V> {
     pub parent: u32,
     pub arc: u32,
@@ -51,9 +59,9 @@ pub(crate) struct Tree<V: Number> {
 impl<V: Number> Node<V> {
     /// A node of this excess that hangs on the root.
     fn on_root(root: u32, before: u32, excess: V) -> Node<V> {
-        let has_deficit = excess < V::of(0);
+        let has_deficit = excess.is_negative();
         let flow = if has_deficit {
-            V::of(0).minus(excess)
+            excess.negated()
         } else {
             excess
         };
@@ -104,29 +112,27 @@ impl<V: Number> Tree<V> {
 
     #[inline(always)]
     pub(crate) fn node(&self, node: u32) -> Node<V> {
-        self.nodes.get(node as usize).copied().unwrap_or(Node {
+        let past = Node {
             up: V::of(0),
             down: V::of(0),
             parent: ARTIFICIAL,
             arc: ARTIFICIAL,
             before: 0,
-        })
+        };
+        member(&self.nodes, node, past)
     }
 
     #[inline(always)]
     pub(crate) fn place(&self, node: u32) -> Place {
-        self.places
-            .get(node as usize)
-            .copied()
-            .unwrap_or(Place { after: 0, depth: 0 })
+        member(&self.places, node, Place { after: 0, depth: 0 })
     }
 
     /// Moves flow on the tree's part of a cycle.
     pub(crate) fn augment(&mut self, cycle: &Cycle<V>) {
-        if cycle.amount == V::of(0) {
+        if cycle.amount.is_zero() {
             return;
         }
-        self.move_up(cycle.first, cycle.join, V::of(0).minus(cycle.amount));
+        self.move_up(cycle.first, cycle.join, cycle.amount.negated());
         self.move_up(cycle.second, cycle.join, cycle.amount);
     }
 
@@ -162,7 +168,7 @@ impl<V: Number> Tree<V> {
             let part = self.move_part(stem, last, depth, raise);
             last = part.last;
             moved = moved.wrapping_add(part.count);
-            self.hang(stem, hook);
+            self.hang(stem, &hook);
             if stem == out {
                 break;
             }
@@ -177,7 +183,7 @@ impl<V: Number> Tree<V> {
         moved
     }
 
-    fn hang(&mut self, node: u32, hook: Hook<V>) {
+    fn hang(&mut self, node: u32, hook: &Hook<V>) {
         if let Some(node) = self.nodes.get_mut(node as usize) {
             node.parent = hook.parent;
             node.arc = hook.arc;
@@ -273,12 +279,12 @@ fn star_places(alloc: Global, root: u32) -> Result<Vec<Place>, Memory> {
 
 /// The price for each node with a deficit, 0 for the others and the root.
 fn star_potentials<V: Number>(alloc: Global, excess: &[i128], price: V) -> Result<Vec<V>, Memory> {
-    let mut potentials = Vec::with_capacity(alloc, excess.len().saturating_add(1))?;
-    for amount in excess {
-        let has_deficit = V::of_wide(*amount) < V::of(0);
-        potentials.push(if has_deficit { price } else { V::of(0) })?;
+    let mut potentials = vec![in alloc; V::of(0); excess.len().saturating_add(1)]?;
+    for (potential, amount) in potentials.iter_mut().zip(excess) {
+        if V::of_wide(*amount).is_negative() {
+            *potential = price;
+        }
     }
-    potentials.push(V::of(0))?;
     Ok(potentials)
 }
 
