@@ -85,7 +85,7 @@ impl<V: Number> Tree<V> {
         let nodes = star_nodes(alloc, excess, root)?;
         let places = star_places(alloc, root)?;
         let potentials = star_potentials(alloc, excess, price)?;
-        let names = numbers_below(alloc, root)?;
+        let names = (0..root).collect(alloc)?;
         Ok(Tree {
             nodes,
             places,
@@ -286,14 +286,6 @@ fn star_potentials<V: Number>(alloc: Global, excess: &[i128], price: V) -> Resul
         }
     }
     Ok(potentials)
-}
-
-fn numbers_below(alloc: Global, count: u32) -> Result<Vec<u32>, Memory> {
-    let mut numbers = Vec::with_capacity(alloc, count as usize)?;
-    for number in 0..count {
-        numbers.push(number)?;
-    }
-    Ok(numbers)
 }
 
 /// Nodes that follow each other in preorder.
