@@ -80,6 +80,7 @@ fn by_simplex<N: Network, V: Number>(
     run_simplex(alloc, problem, &mut simplex)
 }
 
+/// Runs this simplex, and takes its flow.
 fn run_simplex<N: Network, V: Number>(
     alloc: Global,
     problem: &Problem<'_, N>,
@@ -109,7 +110,7 @@ fn by_scaling<N: Network, V: Number>(
     least_flow(alloc, problem, &values, amounts)
 }
 
-/// A flow with the potentials that a method gives by number.
+/// These amounts, with the potentials that a method gives by number.
 fn least_flow<N: Network>(
     alloc: Global,
     problem: &Problem<'_, N>,

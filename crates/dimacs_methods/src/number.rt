@@ -49,7 +49,7 @@ pub(crate) trait Number: Copy {
 
     /// The lesser of the two.
     #[inline(always)]
-    final fn least(self, other: Self) -> Self {
+    final fn lesser(self, other: Self) -> Self {
         if other.is_below(self) { other } else { self }
     }
 }

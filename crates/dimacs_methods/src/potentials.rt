@@ -135,7 +135,7 @@ fn settle<N: Network, V: Number>(
     guess_after(alloc, claim, places, &end, &tree.distances)
 }
 
-/// What is thought where the fourth stage ends so.
+/// The guess, by how the fourth stage ended.
 fn guess_after<N: Network, V: Number>(
     alloc: Global,
     claim: &Claim<'_, N>,
@@ -150,7 +150,7 @@ fn guess_after<N: Network, V: Number>(
     let potentials = potentials(alloc, claim, places, distances)?;
     match end {
         End::Settled => Ok(Guess::Least(potentials)),
-        _ => Ok(Guess::GaveUp(potentials)),
+        End::TooLong | End::Cycle(_) => Ok(Guess::GaveUp(potentials)),
     }
 }
 

@@ -10,6 +10,7 @@ use std::alloc::Global;
 #[derive(Drop)]
 pub(crate) struct Problem<'a, N: Network> {
     pub instance: &'a MinInstance<N>,
+    /// The numbers of the nodes that occur.
     pub numbers: NodeNumbers,
     /// The excess of each node, by number, where each arc carries its lower bound: its supply, with what comes in and
     /// less what goes out. It is a deficit where it is negative.

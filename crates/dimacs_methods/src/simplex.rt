@@ -235,7 +235,7 @@ fn settle<V: Number>(arcs: &mut Arcs<V>, nodes: &[Node<V>]) {
         } else {
             node.up
         };
-        arcs.settle(node.arc, flow.narrow());
+        arcs.set_room(node.arc, flow.narrow());
         number = number.wrapping_add(1);
     }
 }

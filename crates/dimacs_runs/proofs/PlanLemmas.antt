@@ -44,10 +44,10 @@ failures_after opened created more =
 abbrev closed_files : List ReadFile → List WrittenFile → List Closed
 closed_files read written = map inl read ++ map inr written
 
-are_closings : (read : List ReadFile) (written : List WrittenFile) → closings (closed_files read written) ≡ map Read read ++ map Wrote written
-are_closings [] [] = refl
-are_closings [] (file ∷ written) = ap (λ (events : List FileEvent). Wrote file ∷ events) (are_closings [] written)
-are_closings (file ∷ read) written = ap (λ (events : List FileEvent). Read file ∷ events) (are_closings read written)
+closings-closed_files : (read : List ReadFile) (written : List WrittenFile) → closings (closed_files read written) ≡ map Read read ++ map Wrote written
+closings-closed_files [] [] = refl
+closings-closed_files [] (file ∷ written) = ap (λ (events : List FileEvent). Wrote file ∷ events) (closings-closed_files [] written)
+closings-closed_files (file ∷ read) written = ap (λ (events : List FileEvent). Read file ∷ events) (closings-closed_files read written)
 
 -- nothing was done
 pub sees_nothing : (seen : FilesSeen) → Sees [] seen seen
@@ -101,7 +101,7 @@ module _ {plan : Plan} {holds : Contents} {empty : Option (List ℕ)} {tells : T
       rw is record {
         events = (map Opened plan.opened ++ map Created plan.created) ++ (map Read read ++ map Wrote written);
         seen = sees_then (map Opened plan.opened ++ map Created plan.created) (map Read read ++ map Wrote written) a b c opened closed;
-        failure = failures_after plan.opened plan.created (map Read read ++ map Wrote written) ∙ ap (flat_map failures) (sym (are_closings read written)) ∙ fails.0;
+        failure = failures_after plan.opened plan.created (map Read read ++ map Wrote written) ∙ ap (flat_map failures) (sym (closings-closed_files read written)) ∙ fails.0;
         faults = fails.1;
         ends = inr (record {
           read = read;

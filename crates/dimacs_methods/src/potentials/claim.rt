@@ -27,6 +27,7 @@ pub(crate) struct Claim<'a, N: Network> {
     pub instance: &'a MinInstance<N>,
     /// What the arcs carry, in their order.
     amounts: &'a [i64],
+    /// The numbers of the nodes that have an arc.
     pub numbering: Numbering,
 }
 

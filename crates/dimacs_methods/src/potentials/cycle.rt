@@ -155,7 +155,7 @@ fn close<N: Network, V: Number>(
     let mut cycle = Vec::new(alloc);
     if let Some(last) = steps.last() {
         let mut tight = Tight::new(alloc, claim, places)?;
-        tight.join(last.to, steps, &mut cycle)?;
+        tight.connect_all(last.to, steps, &mut cycle)?;
     }
     Ok(cycle)
 }

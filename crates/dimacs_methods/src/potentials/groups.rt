@@ -163,7 +163,7 @@ fn place_of<V: Number>(places: &[Place<V>], node: u32) -> Place<V> {
     member(places, node, place_at(node))
 }
 
-/// The place of a group's root.
+/// A place in this group that is no farther than the group: that of its root.
 #[inline(always)]
 fn place_at<V: Number>(group: u32) -> Place<V> {
     Place {

@@ -3,7 +3,7 @@
 use crate::number::Number;
 use crate::potentials::groups::{Groups, Places};
 use crate::potentials::links::Link;
-use crate::tables::{count_of, member, set_member};
+use crate::tables::{member, set_member};
 use dimacs_lines::Memory;
 use std::alloc::Global;
 

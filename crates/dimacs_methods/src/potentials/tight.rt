@@ -37,8 +37,8 @@ impl<V: Number> Tight<V> {
         })
     }
 
-    /// Adds steps to the end of a path that comes to this node, and a way to each of them.
-    pub(crate) fn join(
+    /// Adds these steps to a path that has come to this node, with a way before each of them.
+    pub(crate) fn connect_all(
         &mut self,
         start: u32,
         steps: &[Step<V>],

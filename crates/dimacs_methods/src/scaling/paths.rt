@@ -57,7 +57,7 @@ impl<V: Number> Scaling<V> {
                 if reduced.is_negative() {
                     return Scan::Negative(place);
                 }
-                least = least.least(reduced);
+                least = least.lesser(reduced);
             }
             place = place.wrapping_add(1);
         }
@@ -69,8 +69,8 @@ impl<V: Number> Scaling<V> {
     fn relabel(&mut self, number: u32, least: V) {
         let node = self.residual.node(number);
         let least = least
-            .least(self.reduced_back(node.price))
-            .least(self.least_before(&node));
+            .lesser(self.reduced_back(node.price))
+            .lesser(self.least_before(&node));
         if least.is_below(V::greatest()) {
             let lowering = least.plus(V::of(1).doubled(self.level));
             self.residual.lower(number, lowering);
@@ -85,7 +85,7 @@ impl<V: Number> Scaling<V> {
         let mut least = V::greatest();
         for half in self.residual.between(node.start, node.cursor) {
             if half.room > 0 {
-                least = least.least(self.residual.reduced(node.price, half));
+                least = least.lesser(self.residual.reduced(node.price, half));
             }
         }
         least
@@ -110,7 +110,7 @@ impl<V: Number> Scaling<V> {
         for place in &self.path {
             let half = self.residual.half(*place);
             let excess = self.residual.node(from).excess;
-            let amount = V::of(half.room).least(excess).narrow();
+            let amount = V::of(half.room).lesser(excess).narrow();
             self.residual.send(from, *place, amount);
             let after = self.residual.node(half.to).excess;
             if after.is_positive() && !V::of(amount).is_below(after) {

@@ -91,7 +91,7 @@ impl<V: Number> Arcs<V> {
     #[inline(always)]
     fn put(&mut self, position: u32, price: Price<V>, room: i64) {
         set_member(&mut self.prices, position, price);
-        self.settle(position, room);
+        self.set_room(position, room);
     }
 
     #[inline(always)]
@@ -114,9 +114,9 @@ impl<V: Number> Arcs<V> {
         member(&self.rooms, position, 0)
     }
 
-    /// Sets the room of an arc, or at the end what one of the tree carries more than its lower bound.
-    pub(crate) fn settle(&mut self, position: u32, amount: i64) {
-        set_member(&mut self.rooms, position, amount);
+    /// Sets the room of an arc; at the end, what an arc of the tree carries more than its lower bound.
+    pub(crate) fn set_room(&mut self, position: u32, room: i64) {
+        set_member(&mut self.rooms, position, room);
     }
 
     /// What an arc carries more than its lower bound, once those of the tree are settled.
@@ -146,6 +146,7 @@ impl<V: Number> Arcs<V> {
     }
 }
 
+/// What stands in place of an arc where there is none.
 fn nowhere<V: Number>() -> Price<V> {
     Price {
         cost: V::of(0),

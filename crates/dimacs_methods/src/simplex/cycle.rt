@@ -59,7 +59,7 @@ impl<V: Number> Cycle<V> {
             first,
             second,
             join: down.at,
-            amount: down.room.least(up.room),
+            amount: down.room.lesser(up.room),
             leaving,
             steps,
         }
