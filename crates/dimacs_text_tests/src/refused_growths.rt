@@ -1,4 +1,4 @@
-//! Records that are taken once more where there was no memory for them. `.ci/refusals` runs these tests with each growth
+//! Records that are taken once more where there was no memory for them. `tests/refusals.py` runs these tests with each growth
 //! refused in turn; by themselves they meet no refusal.
 
 ghost use Rattle.std.specs.Prelude.{◌≡◌, None};

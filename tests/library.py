@@ -1,5 +1,5 @@
 #!/usr/bin/env python3
-"""Tests the library for C, C++, Python and Rust: .ci/library [--instances N] [--runs M]
+"""Tests the library for C, C++, Python and Rust: tests/library.py [--instances N] [--runs M]
 
 Builds lib/out, by `make -C lib` or over what rt ci proved, and then runs what stands in lib/test: in C, under sanitizers
 where they fit and by valgrind, the calls over texts and arrays with room and without, in eight threads, with each growth

@@ -1,5 +1,5 @@
 #!/usr/bin/env python3
-"""Repeats the runs that the pages show: .ci/shown-runs [BINARY]
+"""Repeats the runs that the pages show: tests/shown_runs.py [BINARY]
 
 Each line '$ dimacs WORDS' in a page's block of code is run beside a copy of the examples, where it may write files, and
 what it prints is compared with the lines under it, up to a line '...', and its exit status with what these lines mean;

@@ -1,5 +1,5 @@
 #!/usr/bin/env python3
-"""Runs the program on texts made to be slow: .ci/malicious [BINARY] [LINES] [WORD]
+"""Runs the program on texts made to be slow: tests/malicious.py [BINARY] [LINES] [WORD]
 
 Each text is made so that what looks nodes, arcs or labels up meets its worst keys: IDs far apart or falling, all arcs
 at one tail, many arcs between two nodes, blocks of labels with a node far off in each. It is run beside a kind text of

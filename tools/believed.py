@@ -1,8 +1,8 @@
 #!/usr/bin/env python3
 """Counts the lines of definitions that one has to believe of the judge, of the command and of the whole library.
 
-usage: .ci/believed [--others]
-       .ci/believed --print judge|command
+usage: tools/believed.py [--others]
+       tools/believed.py --print judge|command
 
 What one has to believe of the judge is what the clauses of `run_judge` rest on, of the command what those of
 `run_command` do, of the library what those of all that is public do. --print gives the definitions of the judge, or of

@@ -1,5 +1,5 @@
 #!/usr/bin/env python3
-"""Runs the program on texts of 100,000 arcs: .ci/large-runs [BINARY]
+"""Runs the program on texts of 100,000 arcs: tests/large_runs.py [BINARY]
 
 A call that gives up for want of memory above some size is caught by nothing else. The texts and what is wanted of them
 are made here: parallel chains of arcs for flows, and a cycle for distances. BINARY is the built program;

@@ -1,5 +1,5 @@
 #!/usr/bin/env python3
-"""Refuses each growth, read, write and opening of a file in turn: .ci/refusals [BINARY] [TESTS]
+"""Refuses each growth, read, write and opening of a file in turn: tests/refusals.py [BINARY] [TESTS]
 
 Each run below is made again with its Nth growth of memory refused, N counting up until a run meets no refusal; the same
 with the Nth read, write and opening, and with reads and writes of one byte. Each run has to give its own answer, or

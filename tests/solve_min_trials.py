@@ -1,5 +1,5 @@
 #!/usr/bin/env python3
-"""Tries solve-min on small instances: .ci/solve-min-trials [COUNT] [SEED] [BINARY]
+"""Tries solve-min on small instances: tests/solve_min_trials.py [COUNT] [SEED] [BINARY]
 
 Makes COUNT instances of small numbers at random (1000 where it isn't given), with lower bounds, costs of both signs,
 loops and supplies at any nodes, and as many with numbers up to the ends of 64 bits. Each is solved by the program and by

@@ -1,5 +1,5 @@
 #!/usr/bin/env python3
-"""Tries certify-max and certify-min on small instances: .ci/certify-trials [COUNT] [SEED] [BINARY]
+"""Tries certify-max and certify-min on small instances: tests/certify_trials.py [COUNT] [SEED] [BINARY]
 
 Makes COUNT instances of each kind at random (1000 where it isn't given), with loops, arcs with the same ends, lower bounds
 and costs of both signs, and finds all feasible flows of each. Some of these are claimed, with entries in any order. The

@@ -1,5 +1,5 @@
 #!/usr/bin/env python3
-"""Tries the edits that the gate leaves out for want of time: .ci/more-must-fail [--apply] [--kept] [CRATE..]
+"""Tries the edits that the gate leaves out for want of time: tools/more_must_fail.py [--apply] [--kept] [CRATE..]
 
 They stand in crates/CRATE/more-must-fail, and all must be refused. Without a crate's name all of them are tried.
 
