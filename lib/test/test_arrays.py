@@ -8,8 +8,10 @@ import fractions
 import pickle
 import unittest
 from pathlib import Path
+from unittest import mock
 
 import dimacs
+from dimacs import arrays, buffers, library
 
 try:
     import numpy
@@ -162,6 +164,50 @@ class Misuse(unittest.TestCase):
         cases = [
             (dimacs.judge_max_arrays, (4, 1, 4, [1], [2, 3], [1], [0], CUT), "heads has 2 items, and there are 1 arcs"),
             (dimacs.judge_max_arrays, (*MAX, FLOW[1:], CUT), "flows has 4 items, and there are 5 arcs"),
+def answering(status, line, *counts):
+    """A call of a library that hands out this line, and says that it has so many items for each room."""
+
+    def call(*words):
+        out, _, told, *rooms = words[-9:]
+        out[: len(line)] = line
+        told._obj.value = len(line)
+        for room_told, count in zip(rooms[2::3], counts):
+            room_told._obj.value = count
+        return status
+
+    return call
+
+
+class Rooms(unittest.TestCase):
+    """What is handed out is whole, or nothing is."""
+
+    def test_more_arcs_than_the_most_nodes(self):
+        for certify, instance, claim, better in [
+            (dimacs.certify_max_arrays, MAX, SLOW, FLOW),
+            (dimacs.certify_min_arrays, MIN, DEAR, LEAST),
+        ]:
+            with mock.patch.object(arrays, "MOST_NODES", 4), self.assertRaises(dimacs.NotOptimal) as caught:
+                certify(*instance, claim)
+            self.assertEqual(len(caught.exception.better), len(better))
+
+    def test_other_lengths_than_the_rooms(self):
+        no = library.REFUSED, b"x solution 0 0 NotMaximum\n"
+        for answer in [
+            (library.DONE, b"v max 6\n", 3, 0),
+            (library.DONE, b"v max 6\n", 5, 0),
+            (*no, 0, 4),
+            (*no, 0, 6),
+            (*no, 4, 0),
+        ]:
+            stub = mock.patch.object(library, "certify_max_arrays", answering(*answer))
+            with self.subTest(answer), stub, self.assertRaises(RuntimeError):
+                dimacs.certify_max_arrays(*MAX, FLOW)
+
+    def test_more_nodes_than_there_may_be(self):
+        with mock.patch.object(arrays, "MOST_NODES", 3), self.assertRaises(RuntimeError):
+            dimacs.certify_max_arrays(*MAX, FLOW)
+
+
             (dimacs.judge_max_arrays, (*MAX, FLOW, CUT[1:]), "inside has 3 items, and there are 4 nodes"),
             (dimacs.judge_min_arrays, (5, *MIN[1:], LEAST, POTENTIALS), "supplies has 4 items, and there are 5 nodes"),
             (dimacs.judge_paths_arrays, (*GRAPH, 1, [], PREDECESSORS), "distances has 0 items, and there are 4 nodes"),

@@ -85,6 +85,10 @@ class _Given:
         return self._count[form.each]
 
     def test_lengths(self) -> None:
+    def room(self, form: _Array) -> Room:
+        """Memory for an array that is handed out. Of more nodes than there may be the library hands out nothing."""
+        return Room(form.items, min(self.length(form), MOST_NODES) if form.each == "nodes" else self.length(form))
+
         """The library tests the lengths too, but doesn't tell which one is wrong."""
         for form, buffer in self._arrays:
             if buffer.length != self._count[form.each]:
@@ -102,8 +106,7 @@ def _judge(function: Callable[..., int], given: _Given) -> Verdict:
 def _certify(function: Callable[..., int], given: _Given, came: Any, *handed: _Array) -> Certified:
     """Certifies what came. The first array that is handed out is the certificate, the second one a better flow."""
     given.test_lengths()
-    # Of more nodes than there may be the library says so, and hands out nothing.
-    rooms = [Room(form.items, min(given.length(form), MOST_NODES)) for form in handed]
+    rooms = [given.room(form) for form in handed]
     status, said = library.call_with_rooms(function, given.words, rooms)
     if status == library.DONE:
         return Certified(library.verdict(said).value, rooms[0].in_form_of(came))

@@ -245,3 +245,5 @@ class Room:
         if isinstance(came, array.array):
             return self._kept
         return list(map(bool, self._kept)) if self._items is MARKS else self._kept.tolist()
+        if self._told.value != len(self._kept):
+            raise RuntimeError(f"the library handed out {self._told.value} items, and there is room for {len(self._kept)}")
