@@ -9,12 +9,13 @@
  * whole to *told. Where *told is greater than room, call again with so much room. A room of 0 is right, and its `out`
  * may then be null.
  *
- * What no contract sees, and a caller answers for:
+ * What no contract sees, and a caller answers for; where it isn't so, what a call does is undefined:
  *   - A pointer is of memory that has the length that stands beside it; with the length 0 it may be null. A `told`
  *     is never null.
+ *   - A pointer is aligned as its type wants it: to int64_t, size_t or an instance it is a multiple of 8, to uint32_t of 4.
  *   - What a call writes (`out`, `told` and their like) overlaps neither what it reads nor another room.
  *   - The same holds of each array of an instance. Its length is a number of items, as are the lengths of rooms for items,
- *     and the memory holds so many, each at a multiple of its size. A pointer to an instance is never null.
+ *     and the memory holds so many. A pointer to an instance is never null.
  *   - Calls may run side by side in several threads, also over the same texts and arrays, where none of them writes what
  *     another one reads or writes. None is made from a signal handler, nor in the forked child of a process with threads.
  *   - A thread that calls has 64 KB of stack left.

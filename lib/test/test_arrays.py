@@ -159,11 +159,6 @@ class Certifies(unittest.TestCase):
             self.assertEqual((type(again), str(again), vars(again)), (type(it), str(it), vars(it)))
 
 
-class Misuse(unittest.TestCase):
-    def test_lengths(self):
-        cases = [
-            (dimacs.judge_max_arrays, (4, 1, 4, [1], [2, 3], [1], [0], CUT), "heads has 2 items, and there are 1 arcs"),
-            (dimacs.judge_max_arrays, (*MAX, FLOW[1:], CUT), "flows has 4 items, and there are 5 arcs"),
 def answering(status, line, *counts):
     """A call of a library that hands out this line, and says that it has so many items for each room."""
 
@@ -208,6 +203,11 @@ class Rooms(unittest.TestCase):
             dimacs.certify_max_arrays(*MAX, FLOW)
 
 
+class Misuse(unittest.TestCase):
+    def test_lengths(self):
+        cases = [
+            (dimacs.judge_max_arrays, (4, 1, 4, [1], [2, 3], [1], [0], CUT), "heads has 2 items, and there are 1 arcs"),
+            (dimacs.judge_max_arrays, (*MAX, FLOW[1:], CUT), "flows has 4 items, and there are 5 arcs"),
             (dimacs.judge_max_arrays, (*MAX, FLOW, CUT[1:]), "inside has 3 items, and there are 4 nodes"),
             (dimacs.judge_min_arrays, (5, *MIN[1:], LEAST, POTENTIALS), "supplies has 4 items, and there are 5 nodes"),
             (dimacs.judge_paths_arrays, (*GRAPH, 1, [], PREDECESSORS), "distances has 0 items, and there are 4 nodes"),
@@ -337,6 +337,27 @@ class Forms(unittest.TestCase):
             (of(ctypes.c_int64.__ctype_be__), of(ctypes.c_uint32.__ctype_be__), of(ctypes.c_uint16.__ctype_be__)),
         ]:
             self.judged(numbers, ids, marks)
+
+    def aligned(self, of):
+        """Judges arrays that `of` makes with their first item at each offset, few of which are multiples of its width."""
+        for offset in range(8):
+            for items, code in [(buffers.NUMBERS, "q"), (buffers.IDS, "I")]:
+                found = buffers.array_of(of(code, offset)(FLOW), items, "flows")
+                self.assertEqual((found.address % items.width, found.length), (0, len(FLOW)))
+            self.judged(of("q", offset), of("I", offset), of("B", offset))
+
+    def test_views_at_any_address(self):
+        def of(code, offset):
+            return lambda items: memoryview(bytes(offset) + array.array(code, items).tobytes())[offset:].cast(code)
+
+        self.aligned(of)
+
+    @unittest.skipUnless(numpy, "numpy isn't there")
+    def test_numpy_at_any_address(self):
+        def of(code, offset):
+            return lambda items: numpy.frombuffer(bytes(offset) + array.array(code, items).tobytes(), code, offset=offset)
+
+        self.aligned(of)
 
     @unittest.skipUnless(numpy, "numpy isn't there")
     def test_numpy(self):

@@ -3,7 +3,8 @@
 Nodes and arcs count from 1. The first items of tails, heads, caps, .. are of arc 1, the first items of supplies, inside,
 distances, .. of node 1. An array is a list, array.array, numpy array, or whatever else has a buffer or can be gone
 through. One whose items have the width that the library takes isn't copied: uint32 for tails, heads and predecessors,
-uint8 or bool for inside, int64 for all others; no other thread may write to it meanwhile. Else each number is converted.
+uint8 or bool for inside, int64 for all others; no other thread may write to it meanwhile. Else each number is converted,
+or copied where its address is no multiple of the width.
 
 ValueError is raised where a number doesn't fit or isn't whole, or where an array is longer or shorter than the others
 want it; and PastLimit, which is a ValueError, where a number is past a limit of instances. TypeError is raised for items
@@ -84,11 +85,11 @@ class _Given:
         """How many items an array has to have."""
         return self._count[form.each]
 
-    def test_lengths(self) -> None:
     def room(self, form: _Array) -> Room:
         """Memory for an array that is handed out. Of more nodes than there may be the library hands out nothing."""
         return Room(form.items, min(self.length(form), MOST_NODES) if form.each == "nodes" else self.length(form))
 
+    def test_lengths(self) -> None:
         """The library tests the lengths too, but doesn't tell which one is wrong."""
         for form, buffer in self._arrays:
             if buffer.length != self._count[form.each]:

@@ -123,8 +123,16 @@ def converted(numbers: Sequence[Any], items: Items, name: str) -> array.array:
 
 def _from_numbers(numbers: Sequence[Any], items: Items, name: str) -> Buffer:
     kept = converted(numbers, items, name)
-    address, length = kept.buffer_info()
-    return Buffer(kept, address, length)
+    return Buffer(kept, *kept.buffer_info())
+
+
+def _from_view(view: memoryview, items: Items) -> Buffer:
+    """Takes a view of such items as it is, or copies it where it doesn't lie at a multiple of their width."""
+    address = _address_of(view) if len(view) else 0
+    if address % items.width == 0:
+        return Buffer(view, address, len(view))
+    kept = array.array(items.code, view.tobytes())
+    return Buffer(kept, *kept.buffer_info())
 
 
 def _from_numpy(numpy: Any, numbers: Any, items: Items, name: str) -> Buffer:
@@ -150,7 +158,7 @@ def _from_numpy(numpy: Any, numbers: Any, items: Items, name: str) -> Buffer:
             raise _refuse(name, least if least < items.least else int(numbers.max()))
         fits = numbers.dtype.itemsize == items.width and numbers.dtype.isnative
         numbers = numbers.view(wanted) if fits else numbers.astype(wanted)
-    numbers = numpy.ascontiguousarray(numbers)
+    numbers = numpy.require(numbers, requirements=["C_CONTIGUOUS", "ALIGNED"])
     return Buffer(numbers, numbers.ctypes.data if len(numbers) else 0, len(numbers))
 
 
@@ -209,7 +217,7 @@ def array_of(numbers: Any, items: Items, name: str) -> Buffer:
         return _from_numbers(_items_of(numbers, view, name), items, name)
     if isinstance(numbers, array.array):
         return Buffer(view, *numbers.buffer_info())
-    return Buffer(view, _address_of(view) if len(view) else 0, len(view))
+    return _from_view(view, items)
 
 
 def number_of(number: Any, items: Items, name: str) -> int:
