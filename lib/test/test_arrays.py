@@ -18,6 +18,11 @@ try:
 except ImportError:
     numpy = None
 
+try:
+    import pandas
+except ImportError:
+    pandas = None
+
 LAST = 2**63 - 1
 
 # 1 to 4; a maximum flow has the value 6.
@@ -358,6 +363,61 @@ class Forms(unittest.TestCase):
             return lambda items: numpy.frombuffer(bytes(offset) + array.array(code, items).tobytes(), code, offset=offset)
 
         self.aligned(of)
+
+    def test_labels(self):
+        class Labelled:
+            """Is gone through by its labels, as a DataFrame is."""
+
+            def __init__(self, items):
+                self._items = items
+
+            def __iter__(self):
+                return iter(range(len(self._items)))
+
+            def to_numpy(self):
+                return self._items
+
+        def of(code):
+            return lambda items: Labelled(array.array(code, items))
+
+        def listed(items):
+            return Labelled(list(items))
+
+        self.judged(listed, listed, listed)
+        self.judged(of("q"), of("I"), of("B"))
+        with self.assertRaises(ValueError):
+            self.judged(of("q"), of("I"), lambda items: Labelled([2**8] * len(items)))
+
+    @unittest.skipUnless(pandas, "pandas isn't there")
+    def test_pandas(self):
+        def of(kind):
+            return lambda items: pandas.Series(items, dtype=kind, index=range(len(items), 0, -1))
+
+        def column(kind):
+            return lambda items: pandas.DataFrame({"a": items, "b": [77] * len(items)}, dtype=kind)["a"]
+
+        for numbers, ids, marks in [
+            (of("int64"), of("uint32"), of("bool")),
+            (of("Int64"), of("UInt32"), of("boolean")),
+            (of("float64"), of("Float32"), of("uint8")),
+            (of("object"), of("object"), of("object")),
+            (column("int64"), column("uint32"), column("uint8")),
+            (pandas.Index, pandas.Index, pandas.array),
+        ]:
+            self.judged(numbers, ids, marks)
+
+    @unittest.skipUnless(pandas, "pandas isn't there")
+    def test_pandas_that_does_not_fit(self):
+        for flows, kind in [
+            (pandas.DataFrame({"flow": FLOW}), ValueError),
+            (pandas.DataFrame([FLOW], columns=FLOW), ValueError),
+            (pandas.Series([*FLOW[:4], None], dtype="Int64"), TypeError),
+            (pandas.Series([*FLOW[:4], None]), ValueError),
+            (pandas.Series(FLOW, dtype="string"), TypeError),
+            (pandas.Series(FLOW, dtype="datetime64[ns]"), TypeError),
+        ]:
+            with self.subTest(flows), self.assertRaises(kind):
+                dimacs.judge_max_arrays(*MAX, flows, CUT)
 
     @unittest.skipUnless(numpy, "numpy isn't there")
     def test_numpy(self):

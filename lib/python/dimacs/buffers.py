@@ -197,6 +197,11 @@ def _items_of(numbers: Any, view: memoryview, name: str) -> list[Any]:
         raise TypeError(f"{name} has items of the format {view.format}, which Python doesn't read") from None
 
 
+def unlabelled(given: Any) -> Any:
+    """The items by their places of what may have labels too, as in pandas, where a DataFrame is gone through by these."""
+    return given.to_numpy() if hasattr(given, "to_numpy") else given
+
+
 def array_of(numbers: Any, items: Items, name: str) -> Buffer:
     """The items of an array: as they lie in memory, where a buffer has them so, and else converted.
 
@@ -204,6 +209,7 @@ def array_of(numbers: Any, items: Items, name: str) -> Buffer:
     """
     if type(numbers) in (list, tuple):
         return _from_numbers(numbers, items, name)
+    numbers = unlabelled(numbers)
     numpy = sys.modules.get("numpy")
     if numpy is not None and isinstance(numbers, numpy.ndarray):
         return _from_numpy(numpy, numbers, items, name)
@@ -246,6 +252,8 @@ class Room:
     def in_form_of(self, came: Any) -> Any:
         """All items: a numpy array where what came is one, array.array where it is that, else a list. Marks are bools, and
         in array.array bytes that aren't 0 where they are true."""
+        if self._told.value != len(self._kept):
+            raise RuntimeError(f"the library handed out {self._told.value} items, and there is room for {len(self._kept)}")
         numpy = sys.modules.get("numpy")
         if numpy is not None and isinstance(came, numpy.ndarray):
             found = numpy.frombuffer(self._kept, self._items.code)
@@ -253,5 +261,3 @@ class Room:
         if isinstance(came, array.array):
             return self._kept
         return list(map(bool, self._kept)) if self._items is MARKS else self._kept.tolist()
-        if self._told.value != len(self._kept):
-            raise RuntimeError(f"the library handed out {self._told.value} items, and there is room for {len(self._kept)}")

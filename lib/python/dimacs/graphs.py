@@ -19,7 +19,7 @@ from typing import Any, Iterator
 
 from . import arrays
 from .answers import UNREACHED, Certified, NotOptimal, PastLimit, Refused, Verdict
-from .buffers import NUMBERS, converted, is_bool, number_of
+from .buffers import NUMBERS, converted, is_bool, number_of, unlabelled
 
 #: The capacity of an edge without one. A flow has to stay below it there: then the same edges have room left as if
 #: there were no limit, and so it is as good as it would be then.
@@ -93,7 +93,7 @@ class _Graph:
     def inside(self, side: Any) -> list[bool]:
         """Whether each node is on this side: one of these nodes, or one that a dict maps to True."""
         is_dict = isinstance(side, Mapping) and not isinstance(side, Set)  # a NodeView of networkx is both
-        marks = side if is_dict else dict.fromkeys(side, True)
+        marks = side if is_dict else dict.fromkeys(unlabelled(side), True)
         if not all(is_bool(it) for it in marks.values()):
             raise TypeError(f"side is a {type(side).__name__} that doesn't map nodes to bools, and has to be a set of nodes")
         # True is 1 to a dict: where nodes are numbers, a bool for each node would name the nodes 0 and 1.
