@@ -191,8 +191,8 @@ def pythons():
 
 
 def package():
-    """How Python finds the package where it stands."""
-    return {**os.environ, "PYTHONPATH": f"{LIB}/python", "PYTHONDONTWRITEBYTECODE": "1"}
+    """How Python finds the package where it stands, and the instances of the scripts here."""
+    return {**os.environ, "PYTHONPATH": f"{LIB}/python:{TOP}/tests", "PYTHONDONTWRITEBYTECODE": "1"}
 
 
 def test_python(counts):

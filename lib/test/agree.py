@@ -19,19 +19,14 @@ no is compared with the tests that dimacs.h names, which are made here.
 
 import argparse
 import collections
-import os
 import random
-import subprocess
 import sys
 import tempfile
 
 import dimacs
+from instances import Program, cost, max_text, min_text, nets, text
 
 MOST_VALUE = 10**30  # the greatest VALUE of a solution
-
-
-def text(*lines):
-    return "".join(f"{line}\n" for line in lines)
 
 
 # ---- instances, and their texts
@@ -57,13 +52,12 @@ class Arcs:
     def count(self):
         return len(self.tails)
 
+    def arcs(self):
+        return list(zip(self.tails, self.heads, self.lows, self.caps, self.costs))
+
     def nets(self, flows):
         """What leaves each node less what enters it."""
-        nets = [0] * self.nodes
-        for tail, head, flow in zip(self.tails, self.heads, flows):
-            nets[tail - 1] += flow
-            nets[head - 1] -= flow
-        return nets
+        return nets(self.nodes, self.arcs(), flows)[1:]
 
     def solution(self, value, flows):
         value = max(-MOST_VALUE, min(value, MOST_VALUE))  # past it CostRange comes before the value is looked at
@@ -132,9 +126,7 @@ class MaxCase(Arcs):
 
     def texts(self, flows=None):
         flows = self.flows if flows is None else flows
-        arcs = (f"a {arc[0]} {arc[1]} {arc[2]}" for arc in zip(self.tails, self.heads, self.caps))
-        ends = f"n {self.source} s", f"n {self.sink} t"
-        instance = text(f"p max {self.nodes} {self.count()}", *ends, *arcs)
+        instance = max_text(self.nodes, self.source, self.sink, self.arcs())
         return instance, self.solution(self.nets(flows)[self.source - 1], flows)
 
 
@@ -177,10 +169,8 @@ class MinCase(Arcs):
 
     def texts(self, flows=None):
         flows = self.flows if flows is None else flows
-        arcs = zip(self.tails, self.heads, self.lows, self.caps, self.costs)
-        supplies = (f"n {node} {supply}" for node, supply in enumerate(self.supplies, 1) if supply)
-        instance = text(f"p min {self.nodes} {self.count()}", *supplies, *(f"a {' '.join(map(str, arc))}" for arc in arcs))
-        return instance, self.solution(sum(map(int.__mul__, self.costs, flows)), flows)
+        instance = min_text(self.nodes, [0, *self.supplies], self.arcs())
+        return instance, self.solution(cost(self.arcs(), flows), flows)
 
 
 class InfeasibleCase(MinCase):
@@ -295,10 +285,9 @@ class Texts:
         "certify-min": lambda *words: dimacs.Verdict("min", dimacs.certify_min(*words).value),
     }
 
-    def __init__(self, program, every, place):
+    def __init__(self, program, every):
         self.program = program
         self.every = every
-        self.place = place
         self.asked = self.ran = 0
 
     def line(self, command, *texts):
@@ -306,12 +295,10 @@ class Texts:
         if not self.program or self.asked % self.every:
             return said(self.CALLS[command], *texts)
         self.ran += 1
-        files = [os.path.join(self.place, f"{k}") for k in range(len(texts))]
+        files = [f"{k}" for k in range(len(texts))]
         for file, it in zip(files, texts):
-            with open(file, "w", encoding="ascii") as to:
-                to.write(it)
-        ran = subprocess.run([self.program, command, *files], capture_output=True, text=True, check=False)
-        return ran.stdout.rstrip("\n") if ran.returncode in (0, 1) else f"status {ran.returncode}"
+            self.program.write(file, it)
+        return self.program.run(command, *files)
 
 
 # ---- comparisons: each yields a name, the line of the arrays, and that of the texts
@@ -406,8 +393,8 @@ def main():
     chance = random.Random(asked.seed)
     seen, different = collections.Counter(), 0
     with tempfile.TemporaryDirectory() as place:
-        program = os.path.abspath(asked.program) if asked.program else None
-        texts = Texts(program, max(1, asked.instances // asked.runs), place)
+        program = Program(asked.program, place) if asked.program else None
+        texts = Texts(program, max(1, asked.instances // asked.runs))
         for k in range(asked.instances):
             for name, line, other in COMPARED[k % len(COMPARED)](chance, texts):
                 answer = str(other).split()
