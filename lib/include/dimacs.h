@@ -148,8 +148,8 @@ uint32_t dimacs_judge_min_arrays(const dimacs_min *instance, const int64_t *flow
                                  size_t *told);
 
 /* Judges that an instance has no feasible flow, as the set shows of the nodes whose byte in `inside` isn't 0: what they
- * supply together can't flow out of it. Hands out `v infeasible`; of a no `x certificate 0 0 NotViolated`, and there may
- * be no flow all the same, by another set. */
+ * supply together is more than can flow out of it, or less than has to. Hands out `v infeasible`; of a no
+ * `x certificate 0 0 NotViolated`, and there may be no flow all the same, by another set. */
 uint32_t dimacs_judge_infeasible_arrays(const dimacs_min *instance, const uint8_t *inside, size_t inside_length,
                                         uint8_t *out, size_t room, size_t *told);
 

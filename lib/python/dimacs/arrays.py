@@ -3,8 +3,8 @@
 Nodes and arcs count from 1. The first items of tails, heads, caps, .. are of arc 1, the first items of supplies, inside,
 distances, .. of node 1. An array is a list, array.array, numpy array, or whatever else has a buffer or can be gone
 through. One whose items have the width that the library takes isn't copied: uint32 for tails, heads and predecessors,
-uint8 or bool for inside, int64 for all others; no other thread may write to it meanwhile. Else each number is converted,
-or copied where its address is no multiple of the width. Of a Series of pandas only the places count, and not its labels.
+uint8 or bool for inside, int64 for all others, one after another and at multiples of the width; no other thread may write
+to it meanwhile. Else each number is copied or converted. Of a Series of pandas the places count, and not its labels.
 
 ValueError is raised where a number doesn't fit or isn't whole, or where an array is longer or shorter than the others
 want it; and PastLimit, which is a ValueError, where a number is past a limit of instances. TypeError is raised for items
