@@ -130,7 +130,7 @@ def bare(cell):
 
 
 def widths(rows):
-    """The widths of the columns, by their cells: those that are short have what they need, the others share the rest."""
+    """The widths of the columns, 0 where all are short: else the long ones share what the short ones leave."""
     needed = [max(len(bare(cell)) for cell in column) for column in zip(*rows)]
     least = [max(len(word) for cell in column for word in bare(cell).split() or [""]) for column in zip(*rows)]
     room = WIDTH - 3 * (len(needed) - 1)
