@@ -7,6 +7,7 @@ taken up again. The reasons that JUDGING.md and TEXTS.md name have to be of the 
 built program, with which the examples are judged; crates/dimacs/out/dimacs where none is given and that is there.
 """
 import csv
+import functools
 import io
 import os
 import re
@@ -32,7 +33,7 @@ exit "$status"
 
 # What the examples are judged as: instance, answers, the words of the command up to its files, the line and its class.
 EXAMPLES = """
-bridges.max | bridges.solution bridges.cut | judge-max | v max 1 |
+bridges.max | bridges.solution bridges.cut | judge-max | v max 8 |
 canning.min | canning.solution canning.pot | judge-min | v min 153675 |
 detroit.min | detroit.cut | judge-infeasible | v infeasible |
 freight.min | freight-dear.solution | certify-min | x solution 2 2 NotLeast | claim
@@ -252,7 +253,7 @@ def main():
     tests = [order_and_columns, commands, folders, taken_up, killed, late, misused, classes]
     binary = os.path.abspath(sys.argv[1]) if len(sys.argv) > 1 else BUILT
     if len(sys.argv) > 1 or os.path.exists(BUILT):
-        tests.append(lambda place: examples(place, binary))
+        tests.append(functools.partial(examples, binary=binary))
     failed = 0
     for test in tests:
         with tempfile.TemporaryDirectory() as folder:
@@ -260,7 +261,7 @@ def main():
                 test(Place(folder))
             except AssertionError as error:
                 failed += 1
-                print(f"{test.__name__}: {error!r}")
+                print(f"{getattr(test, '__name__', 'examples')}: {error!r}")
     print(f"{len(tests) - failed} passed, {failed} failed")
     return 1 if failed else 0
 
