@@ -187,10 +187,11 @@ try_batch() {
     mkdir "$folder/folder.solution"
     cp "$examples/pipes-careless.solution" "$folder/careless.solution"
     sed 's/^f 1 2 6/f 1 2 5/' "$examples/pipes.solution" >"$folder/wrong.solution"
-    sh "$here/batch.sh" "$examples/pipes.max" "$folder" >"$dir/batch"
-    for line in "$right yes .*: v max 12" "1 no .*/wrong.solution: x node 2 Balance" \
-        "1 no .*/careless.solution: x solution 2 2 NotMaximum" "1 ?? .*/folder.solution: .*"; do
-        [ "$(grep -c -x "${line#* }" "$dir/batch")" = "${line%% *}" ] || fail "batch.sh: $(cat "$dir/batch")"
+    "$PYTHON" "$here/../tools/dimacs-batch" -o "$dir/batch" "$examples/pipes.max" "$folder" 2>"$dir/log" || [ $? = 3 ]
+    for line in "$right .*,v max 12,12,.*,0," "1 .*/wrong.solution,x node 2 Balance,,.*,1,claim" \
+        "1 .*/careless.solution,x solution 2 2 NotMaximum,,.*,1,claim" "1 .*/folder.solution,dimacs: .*,,.*,3,"; do
+        [ "$(grep -c -x "${line#* }" "$dir/batch")" = "${line%% *}" ] ||
+            fail "dimacs-batch: $(cat "$dir/batch" "$dir/log")"
     done
 }
 

@@ -12,7 +12,7 @@ import subprocess
 import sys
 import tempfile
 
-PAGES = ["README.md", "examples/README.md", "docs/TEXTS.md", "docs/JUDGING.md", "docs/SOLVING.md"]
+PAGES = ["README.md", "examples/README.md", "docs/TEXTS.md", "docs/JUDGING.md", "docs/SOLVING.md", "man/dimacs.1.md"]
 
 
 def shown(page):
