@@ -3,7 +3,7 @@
 
 Each line '$ dimacs WORDS' in a page's block of code is run beside a copy of the examples, where it may write files, and
 what it prints is compared with the lines under it, up to a line '...', and its exit status with what these lines mean;
-the standard error has to stay empty. BINARY is the built program; crates/dimacs/out/dimacs where none is given.
+the standard error has to stay empty. A page that shows no run has failed. BINARY is the built program; crates/dimacs/out/dimacs where none is given.
 """
 import os
 import re
@@ -48,7 +48,11 @@ def main():
     with tempfile.TemporaryDirectory() as place:
         shutil.copytree("examples", os.path.join(place, "examples"))
         for page in PAGES:
-            for words, lines in shown(page):
+            runs = list(shown(page))
+            if not runs:
+                failed += 1
+                print(f"{page} shows no run")
+            for words, lines in runs:
                 ran = subprocess.run(
                     [binary, *words], capture_output=True, text=True, check=False, cwd=place
                 )
