@@ -1,18 +1,38 @@
 #!/usr/bin/env python3
-"""Runs the program on texts of 100,000 arcs: tests/large_runs.py [BINARY]
+"""Runs the program on texts of 1,000,000 items: tests/large_runs.py [BINARY]
 
-A call that gives up for want of memory above some size is caught by nothing else. The texts and what is wanted of them
-are made here: parallel chains of arcs for flows, and a cycle for distances. BINARY is the built program;
-crates/dimacs/out/dimacs where none is given.
+A call that gives up for want of memory above some size keeps its contract: no clause says when it may, and nothing else
+catches it. So each kind of text is read and written here with a million items, and each command is run in each of its
+outcomes: a yes, a flow that is feasible and not best, a run that gives up, and refusals early and late. What commands
+write is judged in its turn. lib/test/large_arrays.c does the same with the calls over arrays.
+
+The texts and what is wanted of them are made here: parallel chains of arcs for flows, pairs of nodes with a supply each,
+a cycle for distances, and nodes apart for many sources. BINARY is the built program; crates/dimacs/out/dimacs where none
+is given.
 """
+import collections
+import filecmp
 import os
 import subprocess
 import sys
 import tempfile
+import time
 
-ARCS = 100_000
+ITEMS = 1_000_000
 CHAINS = 1_000
-STEPS = ARCS // CHAINS
+STEPS = ITEMS // CHAINS
+PAIRS = ITEMS // 2
+
+# The nodes of the chains: 1 and 2 are their ends.
+NODES = 2 + CHAINS * (STEPS - 1)
+
+# What the chains carry together, and what those but the last do, which costs more.
+VALUE = CHAINS * (CHAINS + 1) // 2
+LESS = VALUE - CHAINS
+
+# A run: its words, its exit status, and what it prints: a text, or the file that holds it.
+Run = collections.namedtuple("Run", "words status prints")
+File = collections.namedtuple("File", "name")
 
 
 def lines(items):
@@ -23,108 +43,284 @@ def lines(items):
 def chains():
     """The arcs of parallel chains from node 1 to node 2, with the number of each chain, counted from 1."""
     for chain in range(1, CHAINS + 1):
-        inner = [3 + (chain - 1) * (STEPS - 1) + step for step in range(STEPS - 1)]
-        path = [1, *inner, 2]
+        first = 3 + (chain - 1) * (STEPS - 1)
+        path = [1, *range(first, first + STEPS - 1), 2]
         for tail, head in zip(path, path[1:]):
             yield chain, tail, head
 
 
-def flow_texts():
-    """An instance of each kind, a flow that fills each chain by its number, and the certificates.
-
-    A chain's first arc carries at most the chain's number, and each other arc one more. Each arc costs 1.
-    """
-    nodes = 2 + CHAINS * (STEPS - 1)
-    value = sum(range(1, CHAINS + 1))
+def max_texts():
+    """An instance of maximum flow, whose flows are bounded by the last arcs of the chains. Each of these carries at most the
+    number of its chain, and each other arc one more."""
     arcs = list(chains())
-    largest = [
-        f"a {tail} {head} {chain if tail == 1 else chain + 1}" for chain, tail, head in arcs
-    ]
-    costly = [f"a {tail} {head} 0 {chain} 1" for chain, tail, head in arcs]
+    yield "max", lines(
+        [f"p max {NODES} {ITEMS}", "n 1 s", "n 2 t"]
+        + [f"a {tail} {head} {chain + (head != 2)}" for chain, tail, head in arcs]
+    )
     entries = [f"f {tail} {head} {chain}" for chain, tail, head in arcs]
-    potentials = {1: STEPS}
+    yield "flow", lines([f"s {VALUE}", *entries])
+    yield "falling", lines([f"s {VALUE}", *entries[::-1]])
+    yield "unknown", lines([f"s {VALUE}", "f 2 1 1", *entries[1:]])
+    yield "above", lines([f"s {VALUE}", *entries[:-1], f"f {arcs[-1][1]} 2 {CHAINS + 1}"])
+    slow = [f"f {tail} {head} {chain - 1}" for chain, tail, head in arcs[-STEPS:]]
+    yield "slow", lines([f"s {VALUE - 1}", *entries[:-STEPS], *slow])
+    inside = [1, *range(3, NODES + 1)]
+    yield "cut", lines([f"p cut {NODES} {len(inside)}", *(f"u {node}" for node in inside)])
+    yield "narrow", lines([f"p cut {NODES} {len(inside) - 1}", *(f"u {node}" for node in inside[:-1])])
+
+
+def min_texts():
+    """An instance of least cost over the same chains, which the number of a chain bounds. Each arc costs 1, but the very last
+    one 2, so that a least flow leaves the last chain empty."""
+    arcs = list(chains())
+    last = arcs[-1][1]
+    yield "min", lines(
+        [f"p min {NODES} {ITEMS}", f"n 1 {LESS}", f"n 2 {-LESS}"]
+        + [f"a {tail} {head} 0 {chain} {1 + ((tail, head) == (last, 2))}" for chain, tail, head in arcs]
+    )
+    least = [f"f {tail} {head} {chain % CHAINS}" for chain, tail, head in arcs]
+    yield "least", lines([f"s {LESS * STEPS}", *least])
+    yield "min.falling", lines([f"s {LESS * STEPS}", *least[::-1]])
+    yield "min.unknown", lines([f"s {LESS * STEPS}", "f 2 1 1", *least[1:]])
+    yield "min.above", lines([f"s {LESS * STEPS}", *least[:-1], f"f {last} 2 {CHAINS + 1}"])
+    moved = {CHAINS - 1: CHAINS - 2, CHAINS: 1}
+    dear = [f"f {tail} {head} {moved[chain]}" for chain, tail, head in arcs[-2 * STEPS :]]
+    yield "dear", lines([f"s {LESS * STEPS + 1}", *least[: -2 * STEPS], *dear])
+    heights = {1: STEPS}
     for _, tail, head in arcs:
-        if head != 2:
-            potentials[head] = potentials[tail] - 1
-    return {
-        "max": lines([f"p max {nodes} {ARCS}", "n 1 s", "n 2 t", *largest]),
-        "min": lines([f"p min {nodes} {ARCS}", f"n 1 {value}", f"n 2 {-value}", *costly]),
-        "unmet": lines([f"p min {nodes} {ARCS}", f"n 1 {value + 1}", f"n 2 {-value - 1}", *costly]),
-        "flow": lines([f"s {value}", *entries]),
-        "costing": lines([f"s {value * STEPS}", *entries]),
-        "cut": lines([f"p cut {nodes} 1", "u 1"]),
-        "pot": lines(
-            [
-                f"p pot {nodes} {len(potentials)}",
-                *(f"y {node} {height}" for node, height in sorted(potentials.items())),
-            ]
-        ),
-    }
+        heights[head] = heights[tail] - 1
+    del heights[2]
+    yield "pot", potentials(heights)
+    yield "steep", potentials({**heights, last: 3})
+
+
+def potentials(heights):
+    return lines([f"p pot {NODES} {len(heights)}", *(f"y {node} {it}" for node, it in sorted(heights.items()))])
+
+
+def supply_texts():
+    """Pairs of nodes, the first of which sends 1 to the second by the cheaper of two arcs; and an instance whose last pair
+    sends more than its arcs carry."""
+    pairs = [(2 * i + 1, 2 * i + 2) for i in range(PAIRS)]
+    problem = f"p min {2 * PAIRS} {2 * PAIRS}"
+    supplies = [f"n {first} 1\nn {second} -1" for first, second in pairs]
+    arcs = [f"a {first} {second} 0 1 2\na {first} {second} 0 1 1" for first, second in pairs]
+    yield "supplies", lines([problem, *supplies, *arcs])
+    first, second = pairs[-1]
+    yield "unmet", lines([problem, *supplies[:-1], f"n {first} 3\nn {second} -3", *arcs])
+    yield "set", lines([f"p cut {second} {first}", *(f"u {node}" for node in range(1, second))])
 
 
 def path_texts():
-    """A cycle with arcs of weight 1, a query from its first node, and the distances along it."""
-    around = [(node, node % ARCS + 1) for node in range(1, ARCS + 1)]
-    return {
-        "gr": lines([f"p sp {ARCS} {ARCS}", *(f"a {tail} {head} 1" for tail, head in around)]),
-        "query": lines(["p aux sp ss 1", "s 1"]),
-        "dist": lines(
-            [
-                f"p dist {ARCS} 1",
-                f"t 1 {ARCS - 1}",
-                *(f"d {head} {tail} {tail}" for tail, head in around if head != 1),
-            ]
-        ),
-    }
+    """A cycle with arcs of weight 1, queries from its first node, and the distances along it."""
+    around = [(node, node % ITEMS + 1) for node in range(1, ITEMS + 1)]
+    problem = f"p sp {ITEMS} {ITEMS}"
+    arcs = [f"a {tail} {head} 1" for tail, head in around]
+    yield "gr", lines([problem, *arcs])
+    yield "negative", lines([problem, *arcs[:-1], f"a {ITEMS} 1 -1"])
+    yield "short", lines([problem, *arcs[:-1], f"a 1 {ITEMS} 1"])
+    yield "query", lines(["p aux sp ss 1", "s 1"])
+    yield "pairs", lines([f"p aux sp p2p {ITEMS}", *(f"q 1 {node}" for node in range(1, ITEMS + 1))])
+    yield "answers", lines(f"v 1 {node} {node - 1}" for node in range(1, ITEMS + 1))
+    yield "far", lines([f"p aux sp p2p {ITEMS}", *(f"q {ITEMS + 1} {node}" for node in range(1, ITEMS + 1))])
+    labels = [f"d {head} {tail} {tail}" for tail, head in around if head != 1]
+    block = [f"p dist {ITEMS} 1", f"t 1 {ITEMS - 1}"]
+    yield "dist", lines([*block, *labels])
+    yield "untight", lines([*block, *labels[:-1], f"d {ITEMS} {ITEMS} {ITEMS - 1}"])
 
 
-def wanted(texts):
-    """The words of each run, and what it prints."""
-    nodes = 2 + CHAINS * (STEPS - 1)
-    value = sum(range(1, CHAINS + 1))
-    kinds = {"max": "max", "min": "min", "gr": "gr", "query": "query", "solution": "flow"}
-    kinds.update({"cut": "cut", "pot": "pot", "dist": "dist"})
-    for kind, name in kinds.items():
-        yield f"convert {kind} {name}", texts[name]
-    yield "show max max", f"i max {nodes} {ARCS} 1 2\n"
-    yield "show min min", f"i min {nodes} {ARCS} {value} {value}\n"
-    yield "show gr gr", f"i sp {ARCS} {ARCS}\n"
-    yield "show query query", "i ss 1\n"
-    yield "show solution flow", f"i solution {value} {ARCS}\n"
-    yield "show cut cut", f"i cut {nodes} 1\n"
-    yield "show pot pot", f"i pot {nodes} {nodes - 1}\n"
-    yield "show dist dist", f"i dist {ARCS} 1\n"
-    yield "judge-max max flow cut", f"v max {value}\n"
-    yield "judge-min min costing pot", f"v min {value * STEPS}\n"
-    yield "judge-infeasible unmet cut", "v infeasible\n"
-    yield "certify-max max flow made", f"v max {value}\n"
-    yield "judge-max max flow made", f"v max {value}\n"
-    yield "certify-min min costing made", f"v min {value * STEPS}\n"
-    yield "judge-min min costing made", f"v min {value * STEPS}\n"
-    yield "judge-paths gr query dist", "v sp ss 1\n"
-    yield "solve-paths gr query made", "v sp ss 1\n"
-    yield "convert dist made", texts["dist"]
+def source_texts():
+    """A graph of loops, a query for the distances from each node, and the block of each."""
+    nodes = range(1, ITEMS + 1)
+    yield "loops", lines([f"p sp {ITEMS} {ITEMS}", *(f"a {node} {node} 1" for node in nodes)])
+    yield "sources", lines([f"p aux sp ss {ITEMS}", *(f"s {node}" for node in nodes)])
+    yield "blocks", lines([f"p dist {ITEMS} {ITEMS}", *(f"t {node} 0" for node in nodes)])
+
+
+# Each text that is converted: its kind, its name, the letter of its items, and what is shown of it.
+KINDS = [
+    ("max", "max", "a", f"i max {NODES} {ITEMS} 1 2\n"),
+    ("min", "min", "a", f"i min {NODES} {ITEMS} {LESS} {LESS}\n"),
+    ("min", "supplies", "n", f"i min {2 * PAIRS} {2 * PAIRS} {PAIRS} {PAIRS}\n"),
+    ("gr", "gr", "a", f"i sp {ITEMS} {ITEMS}\n"),
+    ("query", "pairs", "q", f"i p2p {ITEMS}\n"),
+    ("query", "sources", "s", f"i ss {ITEMS}\n"),
+    ("solution", "flow", "f", f"i solution {VALUE} {ITEMS}\n"),
+    ("cut", "cut", "u", f"i cut {NODES} {NODES - 1}\n"),
+    ("pot", "pot", "y", f"i pot {NODES} {NODES - 1}\n"),
+    ("dist", "dist", "d", f"i dist {ITEMS} 1\n"),
+    ("dist", "blocks", "t", f"i dist {ITEMS} {ITEMS}\n"),
+]
+
+# What the text of a kind is called in a refusal.
+CALLED = {"solution": "solution", "query": "query", "cut": "certificate", "pot": "certificate", "dist": "certificate"}
+
+
+def spoiled(text, letter):
+    """A text with a word in place of the number that ends its first item, and one with that in its last line; and the lines
+    and fields of these."""
+    begin = text.index(f"\n{letter} ") + 1
+    for at in begin, text.rindex("\n", 0, -1) + 1:
+        end = text.index("\n", at)
+        item = text[at:end]
+        line, field = text.count("\n", 0, at) + 1, len(item.split())
+        yield f"{text[:at]}{item.rpartition(' ')[0]} x{text[end:]}", line, field
+
+
+def reading_runs(place):
+    """Converts and shows each text, whole and with a fault in its first item and in its last line."""
+    for kind, name, letter, shown in KINDS:
+        yield Run(f"convert {kind} {name}", 0, File(name))
+        yield Run(f"show {kind} {name}", 0, shown)
+        for which, (text, line, field) in zip(("first", "last"), spoiled(place.read(name), letter)):
+            place.write(f"{name}.{which}", text)
+            fault = f"x {CALLED.get(kind, 'instance')} {line} {field} BadNumber\n"
+            yield Run(f"convert {kind} {name}.{which}", 1, fault)
+            yield Run(f"show {kind} {name}.{which}", 1, fault)
+
+
+# A text with a fault is refused by each command; of the instances this is the last line.
+MAX_FAULT = f"x instance {3 + ITEMS} 4 BadNumber\n"
+MIN_FAULT = f"x instance {3 + ITEMS} 6 BadNumber\n"
+GRAPH_FAULT = f"x instance {1 + ITEMS} 4 BadNumber\n"
+
+MAX_RUNS = [
+    Run("judge-max max flow cut", 0, f"v max {VALUE}\n"),
+    Run("judge-max max falling cut", 0, f"v max {VALUE}\n"),
+    Run("judge-max max unknown cut", 1, "x solution 2 0 UnknownArc\n"),
+    Run("judge-max max above cut", 1, f"x arc {ITEMS} AboveCap\n"),
+    Run("judge-max max flow narrow", 1, f"x arc {ITEMS - 1} NotSaturated\n"),
+    Run("judge-max max.last flow cut", 1, MAX_FAULT),
+    Run("certify-max max flow shown", 0, f"v max {VALUE}\n"),
+    Run("judge-max max flow shown", 0, f"v max {VALUE}\n"),
+    Run("certify-max max falling shown", 0, f"v max {VALUE}\n"),
+    Run("certify-max max flow", 0, f"v max {VALUE}\n"),
+    Run("certify-max max slow shown", 1, "x solution 1 2 NotMaximum\n"),
+    Run("judge-max max shown cut", 0, f"v max {VALUE}\n"),
+    Run("certify-max max slow", 1, "x solution 1 2 NotMaximum\n"),
+    Run("certify-max max unknown shown", 1, "x solution 2 0 UnknownArc\n"),
+    Run("certify-max max above shown", 1, f"x arc {ITEMS} AboveCap\n"),
+    Run("certify-max max.last flow shown", 1, MAX_FAULT),
+    Run("solve-max max claim shown", 0, f"v max {VALUE}\n"),
+    Run("judge-max max claim shown", 0, f"v max {VALUE}\n"),
+    Run("solve-max max claim shown --limit 1", 5, "g limit\n"),
+    Run("solve-max max.first claim shown", 1, "x instance 4 4 BadNumber\n"),
+    Run("solve-max max.last claim shown", 1, MAX_FAULT),
+]
+
+MIN_RUNS = [
+    Run("judge-min min least pot", 0, f"v min {LESS * STEPS}\n"),
+    Run("judge-min min min.falling pot", 0, f"v min {LESS * STEPS}\n"),
+    Run("judge-min min min.unknown pot", 1, "x solution 2 0 UnknownArc\n"),
+    Run("judge-min min min.above pot", 1, f"x arc {ITEMS} AboveCap\n"),
+    Run("judge-min min least steep", 1, f"x arc {ITEMS} NotTight\n"),
+    Run("judge-min min.last least pot", 1, MIN_FAULT),
+    Run("certify-min min least shown", 0, f"v min {LESS * STEPS}\n"),
+    Run("judge-min min least shown", 0, f"v min {LESS * STEPS}\n"),
+    Run("certify-min min min.falling shown", 0, f"v min {LESS * STEPS}\n"),
+    Run("certify-min min least", 0, f"v min {LESS * STEPS}\n"),
+    Run("certify-min min dear shown", 1, "x solution 1 2 NotLeast\n"),
+    Run("judge-min min shown pot", 0, f"v min {LESS * STEPS}\n"),
+    Run("certify-min min dear", 1, "x solution 1 2 NotLeast\n"),
+    Run("certify-min min min.unknown shown", 1, "x solution 2 0 UnknownArc\n"),
+    Run("certify-min min min.above shown", 1, f"x arc {ITEMS} AboveCap\n"),
+    Run("certify-min min.last least shown", 1, MIN_FAULT),
+    Run("solve-min supplies claim shown", 0, f"v min {PAIRS}\n"),
+    Run("judge-min supplies claim shown", 0, f"v min {PAIRS}\n"),
+    Run("solve-min supplies claim shown --limit 0", 5, "g limit\n"),
+    Run("solve-min supplies.first claim shown", 1, "x instance 2 3 BadNumber\n"),
+    Run("solve-min supplies.last claim shown", 1, f"x instance {1 + 4 * PAIRS} 6 BadNumber\n"),
+    Run("solve-min unmet claim shown", 0, "v infeasible\n"),
+    Run("judge-infeasible unmet shown", 0, "v infeasible\n"),
+    Run("judge-infeasible unmet set", 0, "v infeasible\n"),
+    Run("judge-infeasible supplies set", 1, "x certificate 0 0 NotViolated\n"),
+    Run("judge-infeasible supplies.first set", 1, "x instance 2 3 BadNumber\n"),
+    Run("judge-infeasible unmet cut.last", 1, f"x certificate {NODES} 2 BadNumber\n"),
+]
+
+PATH_RUNS = [
+    Run("judge-paths gr query dist", 0, "v sp ss 1\n"),
+    Run("judge-paths gr pairs dist", 0, File("answers")),
+    Run("judge-paths loops sources blocks", 0, f"v sp ss {ITEMS}\n"),
+    Run("judge-paths gr far dist", 1, f"x node {ITEMS + 1} QueryNode\n"),
+    Run("judge-paths gr sources dist", 1, "x node 2 BlockMissing\n"),
+    Run("judge-paths gr pairs untight", 1, f"x node {ITEMS} NoTightArc\n"),
+    Run("judge-paths short query dist", 1, f"x arc {ITEMS} NotShortest\n"),
+    Run("judge-paths gr.last query dist", 1, GRAPH_FAULT),
+    Run("solve-paths gr query shown", 0, "v sp ss 1\n"),
+    Run("convert dist shown", 0, File("dist")),
+    Run("solve-paths gr pairs shown", 0, File("answers")),
+    Run("convert dist shown", 0, File("dist")),
+    Run("solve-paths loops sources shown", 0, f"v sp ss {ITEMS}\n"),
+    Run("convert dist shown", 0, File("blocks")),
+    Run("solve-paths gr far shown", 1, f"x node {ITEMS + 1} QueryNode\n"),
+    Run("solve-paths negative pairs shown", 1, f"x arc {ITEMS} NegativeWeight\n"),
+    Run("solve-paths gr.first query shown", 1, "x instance 2 4 BadNumber\n"),
+    Run("solve-paths gr pairs.last shown", 1, f"x query {1 + ITEMS} 3 BadNumber\n"),
+]
+
+
+class Place:
+    """A folder of texts in which the program runs."""
+
+    def __init__(self, binary, folder):
+        self.binary, self.folder = binary, folder
+
+    def path(self, name):
+        return os.path.join(self.folder, name)
+
+    def write(self, name, text):
+        with open(self.path(name), "w", encoding="ascii") as it:
+            it.write(text)
+
+    def read(self, name):
+        with open(self.path(name), encoding="ascii") as it:
+            return it.read()
+
+    def begin(self, name, size=200):
+        with open(self.path(name), encoding="ascii") as it:
+            return it.read(size)
+
+    def prints(self, wanted):
+        """Whether this is what the last run printed."""
+        if isinstance(wanted, File):
+            return filecmp.cmp(self.path("printed"), self.path(wanted.name), shallow=False)
+        return os.path.getsize(self.path("printed")) == len(wanted) and self.read("printed") == wanted
+
+    def fault_of(self, run):
+        """What is wrong with a run."""
+        with open(self.path("printed"), "wb") as out:
+            ran = subprocess.run(
+                [self.binary, *run.words.split()], stdout=out, stderr=subprocess.PIPE, check=False, cwd=self.folder
+            )
+        if (ran.returncode, ran.stderr) == (run.status, b"") and self.prints(run.prints):
+            return None
+        said = ran.stderr.decode(errors="replace")
+        return f"dimacs {run.words}: status {ran.returncode}: {self.begin('printed')}{said}"
+
+
+def runs(place):
+    """Writes the texts, and yields the runs over them."""
+    for texts in max_texts, min_texts, supply_texts, path_texts, source_texts:
+        for name, text in texts():
+            place.write(name, text)
+    yield from reading_runs(place)
+    yield from MAX_RUNS + MIN_RUNS + PATH_RUNS
 
 
 def main():
     top = os.path.join(os.path.dirname(os.path.abspath(__file__)), "..")
     built = sys.argv[1] if len(sys.argv) > 1 else os.path.join(top, "crates/dimacs/out/dimacs")
-    binary = os.path.abspath(built)
-    texts = {**flow_texts(), **path_texts()}
     failed = passed = 0
-    with tempfile.TemporaryDirectory() as place:
-        for name, text in texts.items():
-            with open(os.path.join(place, name), "w", encoding="ascii") as it:
-                it.write(text)
-        for words, output in wanted(texts):
-            ran = subprocess.run(
-                [binary, *words.split()], capture_output=True, text=True, check=False, cwd=place
-            )
-            if ran.returncode == 0 and ran.stdout == output:
-                passed += 1
-            else:
-                failed += 1
-                print(f"dimacs {words}: status {ran.returncode}: {ran.stdout[:200]}{ran.stderr}")
+    with tempfile.TemporaryDirectory() as folder:
+        place = Place(os.path.abspath(built), folder)
+        for run in runs(place):
+            begun = time.monotonic()
+            fault = place.fault_of(run)
+            took = time.monotonic() - begun
+            print(f"{'FAILED: ' if fault else ''}{fault or run.words}: {took:.2f} s", flush=True)
+            failed += bool(fault)
+            passed += not fault
     print(f"{passed} passed, {failed} failed")
     return 1 if failed or not passed else 0
 

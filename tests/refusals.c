@@ -6,8 +6,11 @@
  *   REFUSE_GROWTH, REFUSE_READ, REFUSE_WRITE, REFUSE_OPENING   the number of the call that fails, once
  *   INTERRUPT   where it is set, a read or write that fails was interrupted by a signal
  *   AT_MOST     the most bytes that one read or write moves
- *   COUNTS      the file that is written at the end: the four counts, the most memory that was held at once, in kB, and
- *               how many bytes the growths asked for
+ *   COUNTS      the file that is written at the end: a line of the four counts, the most memory that was held at once, in
+ *               kB, and how many bytes the growths asked for; and where a call failed, a line that says which one, and
+ *               the name of its file, as "read road.gr"
+ *
+ * A read fails by EIO, a write by ENOSPC, an opening by EACCES and a growth by ENOMEM.
  *
  * The names with underscores are those by which the GNU C library offers the same calls.
  */
@@ -29,10 +32,16 @@ int __open(const char *, int, ...);
 
 enum call { GROWTH, READ, WRITE, OPENING, CALLS };
 
+enum { MOST_FILES = 64, MOST_NAME = 256 };
+
 static long counts[CALLS], refused[CALLS];
 static size_t bytes;
 static size_t at_most = (size_t)-1;
-static int failure = EIO, counting;
+static int is_interrupt, counting;
+
+/* The names of the open files, and what is said of the call that failed. */
+static char names[MOST_FILES][MOST_NAME] = {"standard input", "standard output"};
+static char failed[2 * MOST_NAME];
 
 static long number(const char *name)
 {
@@ -48,8 +57,7 @@ __attribute__((constructor)) static void start(void)
     refused[OPENING] = number("REFUSE_OPENING");
     if (number("AT_MOST") > 0)
         at_most = number("AT_MOST");
-    if (getenv("INTERRUPT"))
-        failure = EINTR;
+    is_interrupt = getenv("INTERRUPT") != NULL;
     counting = 1;
 }
 
@@ -70,24 +78,31 @@ __attribute__((destructor)) static void end(void)
     counting = 0;
     if (!name)
         return;
-    char line[200];
-    int size = snprintf(line, sizeof line, "%ld %ld %ld %ld %ld %zu\n", counts[GROWTH], counts[READ], counts[WRITE],
-                        counts[OPENING], peak(), bytes);
+    char line[200 + sizeof failed];
+    int size = snprintf(line, sizeof line, "%ld %ld %ld %ld %ld %zu\n%s", counts[GROWTH], counts[READ], counts[WRITE],
+                        counts[OPENING], peak(), bytes, failed);
     int file = __open(name, O_WRONLY | O_CREAT | O_TRUNC, 0666);
     if (__write(file, line, size) != size)
         abort();
 }
 
-/* Counts a call, and says whether it fails, with this error. */
-static int fails(enum call call, int error)
+/* Counts a call on a file of this name, and says whether it fails, with this error. */
+static int fails(enum call call, int error, const char *done, const char *name)
 {
     if (!counting)
         return 0;
     counts[call] += 1;
     if (counts[call] != refused[call])
         return 0;
+    snprintf(failed, sizeof failed, "%s %s\n", done, name);
     errno = error;
     return 1;
+}
+
+/* The name of the file that this descriptor is of. */
+static const char *name_of(int file)
+{
+    return 0 <= file && file < MOST_FILES ? names[file] : "";
 }
 
 /* Counts a growth of so many bytes, and says whether it fails. */
@@ -95,7 +110,7 @@ static int grows_not(size_t size)
 {
     if (counting)
         bytes += size;
-    return fails(GROWTH, ENOMEM);
+    return fails(GROWTH, ENOMEM, "grown", "");
 }
 
 static size_t shortened(size_t size)
@@ -134,14 +149,16 @@ int posix_memalign(void **place, size_t alignment, size_t size)
 
 ssize_t read(int file, void *into, size_t size)
 {
-    return fails(READ, failure) ? -1 : __read(file, into, shortened(size));
+    int error = is_interrupt ? EINTR : EIO;
+    return fails(READ, error, "read", name_of(file)) ? -1 : __read(file, into, shortened(size));
 }
 
 ssize_t write(int file, const void *from, size_t size)
 {
     if (file == 2)
         return __write(file, from, size);
-    return fails(WRITE, failure) ? -1 : __write(file, from, shortened(size));
+    int error = is_interrupt ? EINTR : ENOSPC;
+    return fails(WRITE, error, "written", name_of(file)) ? -1 : __write(file, from, shortened(size));
 }
 
 int open(const char *name, int flags, ...)
@@ -153,5 +170,10 @@ int open(const char *name, int flags, ...)
         mode = va_arg(more, mode_t);
         va_end(more);
     }
-    return fails(OPENING, EACCES) ? -1 : __open(name, flags, mode);
+    if (fails(OPENING, EACCES, flags & O_CREAT ? "created" : "opened", name))
+        return -1;
+    int file = __open(name, flags, mode);
+    if (counting && 0 <= file && file < MOST_FILES)
+        snprintf(names[file], MOST_NAME, "%s", name);
+    return file;
 }

@@ -3,18 +3,22 @@
 
 Each run below is made again with its Nth growth of memory refused, N counting up until a run meets no refusal; the same
 with the Nth read, write and opening, and with reads and writes of one byte. Each run has to give its own answer, or
-the status and the words of its error: then nothing was written where a growth, a read or an opening failed, and a
-beginning of what was to be written where a write did. A call that a signal interrupts is made again. Before each run
-the files that it writes hold an old text, longer than the new one.
+the status and the complaint of its error, with the file, the call and the system's own reason: then nothing was written
+where a growth, a read or an opening failed, and a beginning of what was to be written where a write did. A call that a
+signal interrupts is made again. Each run has to meet the calls that it can't do without: it opens each of its files,
+reads each byte, writes each byte, and takes memory for its words and files. Before each run the files that it writes
+hold an old text, longer than the new one.
 
-Then texts are read that declare the greatest counts, which has to take as many growths, and of as many bytes, as the
+Runs are made too with the standard devices closed: what is meant for these never lands in a file. Then texts are read that declare the greatest counts, which has to take as many growths, and of as many bytes, as the
 least ones do, and tiny texts with the greatest counts and IDs are judged and solved in little memory.
 
 BINARY is the built program; crates/dimacs/out/dimacs where none is given. TESTS is crates/dimacs_text_tests as
 `rt test` builds it: its tests of refused growths run with each growth refused. Where neither is given and TESTS isn't
-there, these are left out. refusals.c, which refuses the calls, is compiled with cc.
+there, these are left out. refusals.c, which refuses the calls, is compiled with cc; and again so that it doesn't see one
+of the calls, where the runs have to fail.
 """
 import collections
+import errno
 import os
 import re
 import subprocess
@@ -50,7 +54,7 @@ TEXTS = {
     "cycle": "p sp 4 3\na 1 2 5\na 3 4 0\na 4 3 0\n",
     "source": "p aux sp ss 1\ns 1\n",
     "pairs": "p aux sp p2p 2\nq 1 2\nq 1 4\n",
-    "mutual": "p dist 4 1\nt 1 3\nd 2 5 1\nd 3 0 4\nd 4 0 3\n",
+    "orphan": "p dist 4 1\nt 1 2\nd 2 5 1\nd 3 0 4\n",
     "dist": "p dist 4 1\nt 1 1\nd 2 5 1\n",
     "negative": "p sp 2 2\na 1 2 -4\na 2 1 3\n",
     "surplus": "p min 2 1\nn 1 1\na 1 2 0 5 1\n",
@@ -79,7 +83,7 @@ RUNS = [
     ("show dist dist", 0, "i dist 4 1\n"),
     ("judge-max max flow cut", 0, "v max 6\n"),
     ("judge-min min least pot", 0, "v min 14\n"),
-    ("judge-paths cycle source mutual", 1, "x certificate 4 0 PredUnknown\n"),
+    ("judge-paths cycle source orphan", 1, "x certificate 4 0 PredUnknown\n"),
     ("judge-paths cycle pairs dist", 0, "v 1 2 5\nv 1 4 unreachable\n"),
     ("judge-infeasible surplus both", 0, "v infeasible\n"),
     ("certify-max max flow", 0, "v max 6\n"),
@@ -122,17 +126,30 @@ JUDGES = {
     "solve-paths": "judge-paths {instance} {query} SHOWN",
 }
 
-# What the standard error holds, by the status, where it isn't empty: with status 3 the name of the device too, and what
-# could not be done with it. The usage text is left out for want of memory.
-COMPLAINTS = {
-    2: r"dimacs: usage\n(Reads, .*\n\nUsage: dimacs COMMAND FILE\.\.\.\n.*)?",
-    3: r"dimacs: device fault\ndimacs: {device}: cannot be {done}\n",
-    4: r"dimacs: out of memory\n",
-}
+# Runs over closed devices: the words, how the shell closes them, the status, and the system's error of the standard output,
+# if there is one.
+CLOSED = [
+    ("solve-max max CLAIM SHOWN", "<&-", 0, None),
+    ("solve-max max CLAIM SHOWN", ">&-", 3, errno.EBADF),
+    ("solve-max max CLAIM SHOWN", "2>&-", 0, None),
+    ("solve-max max CLAIM SHOWN", "<&- >&-", 3, errno.EBADF),
+    ("solve-max max CLAIM SHOWN", "<&- >&- 2>&-", 3, errno.EBADF),
+    ("certify-max max slow SHOWN", "<&- >&-", 3, errno.EBADF),
+    ("judge-max max flow cut", "<&- >&-", 3, errno.EBADF),
+    ("judge-max max flow cut", "<&- 2>&-", 0, None),
+    ("convert gr odd", "<&- >&-", 3, errno.EBADF),
+]
+
+# What the usage text begins with and has in it. It is left out for want of memory.
+USAGE = r"dimacs: usage\nReads, .*\n\nUsage: dimacs COMMAND FILE\.\.\.\n.*\n  convert KIND FILE .*\n"
+NO_TEXT = "dimacs: usage\n"
 
 # The calls of each kind that a run made, the most memory that it held at once, in kB, and the bytes of its growths.
 Counts = collections.namedtuple("Counts", "growth read write opening peak bytes")
-Ran = collections.namedtuple("Ran", "status complaint outputs counts")
+
+# A call that was refused: what it would have done, and the name of its file.
+Call = collections.namedtuple("Call", "done name")
+Ran = collections.namedtuple("Ran", "status complaint outputs counts refused")
 
 # What is refused: its name, the call that is counted, its variables, and the status of the error; none where the call
 # is made again.
@@ -149,12 +166,18 @@ KINDS = [
     Kind("interrupted write", "write", {"INTERRUPT": "1"}, None),
 ]
 
-# What a refused call could not do, in the words of the complaint, and why.
-DONE = {
-    "opening": r"(opened|created): [^\n]+",
-    "read": r"read: [^\n]+",
-    "write": r"written: [^\n]+",
-}
+# The system's error of a refused call.
+ERRORS = {"opened": errno.EACCES, "created": errno.EACCES, "read": errno.EIO, "written": errno.ENOSPC}
+
+# The most openings of other files than those that a run names: of what stands for the standard devices.
+OTHER_OPENINGS = 3
+
+# How many growths a text takes at least, whatever it declares.
+TEXT_GROWTHS = 5
+
+# The calls that this script has to miss where refusals.c doesn't see them, and the run that shows it.
+UNSEEN = ["malloc", "open", "read", "write"]
+SHOWING = ("solve-max max CLAIM SHOWN --limit 10", 0, "v max 6\n")
 
 # Texts without an end, by the greatest counts that they may declare and by the least.
 DECLARED = [
@@ -318,10 +341,26 @@ class Runs:
         ran = subprocess.run(
             [self.binary, *named], capture_output=True, env=env, cwd=self.folder, check=False
         )
-        counts = Counts(*map(int, self.read("counts").split()))
-        os.remove(self.path("counts"))
         outputs = [*map(self.made, MADE), ran.stdout.decode("ascii")]
-        return Ran(ran.returncode, ran.stderr.decode(), outputs, counts)
+        return Ran(ran.returncode, ran.stderr.decode(), outputs, *self.counted())
+
+    def counted(self):
+        """What the library counted in a run, and the call that it refused, if it did."""
+        line, _, refused = self.read("counts").partition("\n")
+        os.remove(self.path("counts"))
+        done, _, name = refused.removesuffix("\n").partition(" ")
+        return Counts(*map(int, line.split())), Call(done, name) if done else None
+
+    def run_closed(self, words, closed):
+        """Runs the program with these devices closed, under no library."""
+        self.runs += 1
+        for name in MADE:
+            self.write(name, OLD)
+        named = [NAMES.get(word, word) for word in words.split()]
+        shell = ["sh", "-c", f'exec "$0" "$@" {closed}', self.binary, *named]
+        ran = subprocess.run(shell, capture_output=True, cwd=self.folder, check=False)
+        outputs = [*map(self.made, MADE), ran.stdout.decode("ascii")]
+        return Ran(ran.returncode, ran.stderr.decode(), outputs, None, None)
 
 
 class Cases:
@@ -339,14 +378,38 @@ class Cases:
         self.passed += not found
 
 
-def is_told(ran, words, call="opening"):
-    """Whether the standard error holds what the status asks for, and nothing else: of a call that failed, that it did,
-    and a file of these words, or the standard output."""
-    wanted = COMPLAINTS.get(ran.status, "")
+def files_of(words):
+    """The words of a run that name its files."""
+    command, *named = words.split(" --limit ")[0].split()
+    return named[1:] if command in ("convert", "show") else named
+
+
+def reason(error):
+    """The system's reason, as the complaint has it."""
+    return f"{os.strerror(error)} (os error {error})"
+
+
+def complaint_of(call, error=None):
+    """The standard error of a run of which this call failed."""
+    if call.done == "grown":
+        return "dimacs: out of memory\n"
+    why = reason(error or ERRORS[call.done])
+    return f"dimacs: device fault\ndimacs: {call.name}: cannot be {call.done}: {why}\n"
+
+
+def is_whole_complaint(ran, words):
+    """Whether the standard error of a run of which no call was refused is what its status asks for."""
+    if ran.status == 2:
+        return bool(re.fullmatch(USAGE, ran.complaint, re.DOTALL))
     if ran.status == 3:
-        names = [re.escape(NAMES.get(word, word)) for word in words.split()[1:]]
-        wanted = wanted.format(device=f"({'|'.join(names)}|standard output)", done=DONE.get(call))
-    return bool(re.fullmatch(wanted, ran.complaint, re.DOTALL))
+        return ran.complaint == complaint_of(Call("opened", files_of(words)[0]), errno.ENOENT)
+    return ran.complaint == ""
+
+
+def is_same(ran, whole):
+    """Whether a run is like the whole one. A usage text may be left out for want of memory."""
+    is_short = ran.status == 2 and ran.refused == Call("grown", "") and ran.complaint == NO_TEXT
+    return ran[:3] == whole[:3] or is_short and ran.outputs == whole.outputs
 
 
 def is_beginning(outputs, whole):
@@ -364,19 +427,29 @@ def faults_of(ran, words, status, printed):
     """Yields what is wrong with a run of which no call was refused."""
     if (ran.status, ran.outputs[-1]) != (status, printed):
         yield f"dimacs {words}: status {ran.status}, prints {ran.outputs[-1]!r}"
-    if not is_told(ran, words) or (status == 2 and "Usage" not in ran.complaint):
+    if not is_whole_complaint(ran, words):
         yield f"dimacs {words}: complains {ran.complaint!r}"
     if [output is not None for output in ran.outputs[:-1]] != [name in words for name in MADE]:
         yield f"dimacs {words}: writes {ran.outputs!r}"
 
 
+def may_pass_over(kind, words, call):
+    """Whether the run may go on without this call: a growth, or the opening of what isn't one of its files."""
+    return kind.call == "growth" or kind.call == "opening" and call.name not in names_of(words)
+
+
+def names_of(words):
+    return [NAMES.get(word, word) for word in files_of(words)]
+
+
 def fault_of(kind, words, ran, whole):
     """What is wrong with a run of which a call was refused, given the whole run."""
-    if ran.status == whole.status and ran.outputs == whole.outputs:
-        return None if is_told(ran, words) else f"complains {ran.complaint!r}"
-    if ran.status != kind.status:
-        return f"status {ran.status}"
-    if not is_told(ran, words, kind.call):
+    is_made_again = ran.refused is None or kind.status is None
+    if is_same(ran, whole) and (is_made_again or may_pass_over(kind, words, ran.refused)):
+        return None
+    if is_made_again or ran.status != kind.status:
+        return f"status {ran.status}, complains {ran.complaint!r}"
+    if ran.complaint != complaint_of(ran.refused):
         return f"complains {ran.complaint!r}"
     allowed = whole.outputs if kind.call == "write" else [""] * len(ran.outputs)
     if not is_beginning(ran.outputs, allowed):
@@ -385,22 +458,51 @@ def fault_of(kind, words, ran, whole):
 
 
 def refuse_each(runs, words, whole, kind):
-    """Refuses each call of this kind in turn. Yields what is wrong, and answers how many calls were met, and of how
-    many the refusal changed nothing."""
-    unchanged = 0
+    """Refuses each call of this kind in turn. Yields what is wrong, and answers the calls that were met, and how many of
+    them changed nothing."""
+    met, unchanged = collections.Counter(), 0
     for n in range(1, 1_000_000):
         ran = runs.run(words, {**kind.variables, f"REFUSE_{kind.call.upper()}": str(n)})
         fault = fault_of(kind, words, ran, whole)
         if fault:
             yield f"dimacs {words}: {kind.name} {n} refused: {fault}"
-        if getattr(ran.counts, kind.call) < n:
-            if ran.status != whole.status:
-                yield f"dimacs {words}: {kind.name} {n} wasn't met: status {ran.status}"
-            return n - 1, unchanged
-        if (ran.status, ran.outputs) == (whole.status, whole.outputs):
-            unchanged += 1
-            if kind.status and kind.call in ("read", "write"):
-                yield f"dimacs {words}: {kind.name} {n} refused, and not told"
+        if ran.refused is None:
+            break
+        met[ran.refused] += 1
+        unchanged += is_same(ran, whole)
+    return met, unchanged
+
+
+def wanted_calls(runs, kind, words, whole):
+    """How often a run has to meet the calls of a kind, by their files."""
+    if whole.status == 2:
+        return {}
+    files = {name: NAMES.get(name, name) for name in files_of(words)}
+    read = {files[name]: runs.read(name) for name in files if name not in MADE and name != "missing"}
+    written = [*(files.get(name, name) for name in MADE), "standard output"]
+    if kind.call == "opening":
+        return {Call("created" if name in MADE else "opened", file): 1 for name, file in files.items()}
+    if kind.call == "read":
+        return {Call("read", file): len(text) if "AT_MOST" in kind.variables else 1 for file, text in read.items()}
+    texts = {file: text for file, text in zip(written, whole.outputs) if text}
+    return {Call("written", file): len(text) if "AT_MOST" in kind.variables else 1 for file, text in texts.items()}
+
+
+def unmet(runs, kind, words, whole, met, unchanged):
+    """Yields what a run of this kind should have met and didn't, and what it met that it has no use for."""
+    said = f"dimacs {words}: of {kind.name}"
+    if kind.call == "growth":
+        least = len(words.split()) + 1 + (len(files_of(words)) if whole.status != 2 else 0)
+        if met.total() - unchanged < least:
+            yield f"{said} {met.total()} are met, and {unchanged} change nothing, but {least} have to be told at least"
+        return
+    wanted = wanted_calls(runs, kind, words, whole)
+    for call, least in wanted.items():
+        if met[call] < least:
+            yield f"{said} {met[call]} are met of {call.name!r}, and {least} have to be at least"
+    others = {call: count for call, count in met.items() if call not in wanted}
+    if sum(others.values()) > (OTHER_OPENINGS if kind.call == "opening" else 0):
+        yield f"{said} these are met: {others}"
 
 
 def refuse_all(runs, words, status, printed, kinds):
@@ -414,7 +516,8 @@ def refuse_all(runs, words, status, printed, kinds):
     told = []
     for kind in kinds:
         met, unchanged = yield from refuse_each(runs, words, whole, kind)
-        told.append(f"{kind.name} {met}" + (f" ({unchanged} without a change)" if unchanged else ""))
+        yield from unmet(runs, kind, words, whole, met, unchanged)
+        told.append(f"{kind.name} {met.total()}" + (f" ({unchanged} without a change)" if unchanged else ""))
     print(f"{words}: {', '.join(told)}", flush=True)
 
 
@@ -436,6 +539,25 @@ def judge_made(runs, words, whole):
         yield f"dimacs {judge}: prints {judged.outputs[-1]!r} of what dimacs {words} made"
 
 
+def run_closed(runs, words, closed, status, error):
+    """Makes a run with devices closed, which has to write to its files what it always does. Yields what is wrong."""
+    whole, ran = runs.run(words, {}), runs.run_closed(words, closed)
+    printed = "" if error else whole.outputs[-1]
+    if (ran.status, ran.outputs) != (status, [*whole.outputs[:-1], printed]):
+        yield f"dimacs {words} {closed}: status {ran.status}, writes {ran.outputs!r}"
+    complaint = complaint_of(Call("written", "standard output"), error) if error and "2>&-" not in closed else ""
+    if ran.complaint != complaint:
+        yield f"dimacs {words} {closed}: complains {ran.complaint!r}"
+
+
+def miss(runs, call):
+    """Refuses calls by a library that doesn't see this one, and yields where nothing is wrong with that."""
+    blind = Runs(runs.binary, build(runs.folder, call), runs.folder)
+    if not list(refuse_all(blind, *SHOWING, KINDS)):
+        yield f"where {call} is never refused nothing is missed"
+    runs.runs += blind.runs
+
+
 def declare(runs, kind, greatest, least):
     """Reads texts that declare the greatest counts and the least. Yields what is wrong."""
     runs.write("much", greatest)
@@ -445,7 +567,7 @@ def declare(runs, kind, greatest, least):
     if ran.status != 1 or ran.outputs != wanted.outputs:
         yield f"{greatest!r} prints {ran.outputs[-1]!r}, and {least!r} {wanted.outputs[-1]!r}"
     took, allowed = ((it.counts.growth, it.counts.bytes) for it in (ran, wanted))
-    if took != allowed:
+    if took != allowed or took[0] < TEXT_GROWTHS:
         yield f"{greatest!r} takes {took} growths and bytes, and {least!r} {allowed}"
     print(f"{greatest.splitlines()[0]}: {took[0]} growths of {took[1]} bytes")
 
@@ -457,7 +579,7 @@ def judge_far(runs, words, texts, printed):
     ran = runs.run(words, {})
     if (ran.status, ran.outputs[-1]) != (0, printed):
         yield f"dimacs {words} of {texts[0]!r}: status {ran.status}, prints {ran.outputs[-1]!r}"
-    if ran.counts.peak > FAR_PEAK:
+    if not 0 < ran.counts.peak <= FAR_PEAK:
         yield f"dimacs {words} of {texts[0]!r}: holds {ran.counts.peak} kB"
     print(f"{words} with nodes up to 134217728: {ran.counts.peak} kB")
 
@@ -478,9 +600,20 @@ def refuse_in_test(runs, tests, name):
         if ran.returncode != 0:
             yield f"{name}: growth {n} refused: status {ran.returncode}"
             return
-        if Counts(*map(int, runs.read("counts").split())).growth < n:
-            print(f"{name}: growth {n - 1}")
-            return
+        if runs.counted()[1] is None:
+            break
+    print(f"{name}: growth {n - 1}")
+    if n == 1:
+        yield f"{name}: no growth is met"
+
+
+def build(folder, unseen=None):
+    """Compiles the library that refuses calls, which doesn't see one of them, if that is named."""
+    library = os.path.join(folder, f"refusals{unseen or ''}.so")
+    renamed = [f"-D{unseen}=unseen"] if unseen else []
+    source = os.path.join(HERE, "refusals.c")
+    subprocess.run(["cc", "-O2", "-shared", "-fPIC", *renamed, "-o", library, source], check=True)
+    return library
 
 
 def main():
@@ -490,22 +623,25 @@ def main():
     tests = os.path.abspath(sys.argv[2] if len(sys.argv) > 2 else os.path.join(top, built))
     cases = Cases()
     with tempfile.TemporaryDirectory() as folder:
-        library = os.path.join(folder, "refusals.so")
-        source = os.path.join(HERE, "refusals.c")
-        subprocess.run(["cc", "-O2", "-shared", "-fPIC", "-o", library, source], check=True)
-        runs = Runs(os.path.abspath(binary), library, folder)
+        runs = Runs(os.path.abspath(binary), build(folder), folder)
         for name, text in {**TEXTS, **long_texts()}.items():
             runs.write(name, text)
         for run in RUNS:
             cases.count(refuse_all(runs, *run, KINDS))
         for run in GROWING:
             cases.count(refuse_all(runs, *run, KINDS[:1]))
+        for closed in CLOSED:
+            cases.count(run_closed(runs, *closed))
+        for call in UNSEEN:
+            cases.count(miss(runs, call))
         for texts in DECLARED:
             cases.count(declare(runs, *texts))
         for words, *texts, printed in FAR:
             cases.count(judge_far(runs, words, texts, printed))
         if len(sys.argv) > 2 or os.path.exists(tests):
             names = tests_of(tests)
+            if not names:
+                cases.count([f"{tests} has no test of refused growths"])
             for name in names:
                 cases.count(refuse_in_test(runs, tests, name))
         else:

@@ -3,8 +3,10 @@
 
 Each line '$ dimacs WORDS' in a page's block of code is run beside a copy of the examples, where it may write files, and
 what it prints is compared with the lines under it, up to a line '...', and its exit status with what these lines mean;
-the standard error has to stay empty. BINARY is the built program; crates/dimacs/out/dimacs where none is given.
+the standard error has to stay empty. A page that shows no run has failed, and so has one that does and isn't read here.
+BINARY is the built program; crates/dimacs/out/dimacs where none is given.
 """
+import glob
 import os
 import re
 import shutil
@@ -12,7 +14,7 @@ import subprocess
 import sys
 import tempfile
 
-PAGES = ["README.md", "examples/README.md", "docs/TEXTS.md", "docs/JUDGING.md", "docs/SOLVING.md", "man/dimacs.1.md"]
+PAGES = ["README.md", "examples/README.md", "man/dimacs.1.md"]
 
 
 def shown(page):
@@ -22,6 +24,16 @@ def shown(page):
     for block in blocks:
         for run in re.findall(r"^\$ dimacs (.*)\n((?:(?!\$ ).*\n)*)", block, re.MULTILINE):
             yield run[0].split(), run[1].rstrip("\n").split("\n")
+
+
+def wrong_pages():
+    """Yields what is wrong with the pages that are read, and with those that aren't."""
+    written = glob.glob("*.md") + glob.glob("*/*.md")
+    for page in sorted({*PAGES, *written}):
+        if page in PAGES and not list(shown(page)):
+            yield f"{page} shows no run"
+        if page not in PAGES and list(shown(page)):
+            yield f"{page} shows runs, and isn't read"
 
 
 def is_shown(printed, lines):
@@ -47,6 +59,9 @@ def main():
     failed = passed = 0
     with tempfile.TemporaryDirectory() as place:
         shutil.copytree("examples", os.path.join(place, "examples"))
+        for fault in wrong_pages():
+            failed += 1
+            print(fault)
         for page in PAGES:
             for words, lines in shown(page):
                 ran = subprocess.run(

@@ -5,7 +5,8 @@ usage: tools/believed.py [--others]
        tools/believed.py --print judge|command
 
 What one has to believe of the judge is what the clauses of `run_judge` rest on, of the command what those of
-`run_command` do, of the library what those of all that is public do. --print gives the definitions of the judge, or of
+`run_command` do, of the library what those of all that is public do. To the clauses of a function belong the laws of the
+traits that it is generic over, as a source's, since they say what its sources do. --print gives the definitions of the judge, or of
 the command, as one text, each file of them after those that it cites.
 
 A definition counts where a clause of a public function or trait, or what a public type stands for, names it, or where
@@ -140,15 +141,45 @@ def all_definitions():
     return defined
 
 
-def named_by(pattern, names=None):
-    """The definitions that the public clauses of these files name, or those of the functions with these names alone."""
+def named_by_all():
+    """The definitions that all public clauses name."""
     found = set()
-    for path in glob.glob(f"{ROOT}/crates/{pattern}", recursive=True):
+    for path in glob.glob(f"{ROOT}/crates/*/src/**/*.rt", recursive=True):
         named, clauses = public_clauses(path)
-        for name, lines in clauses.items():
-            if names is None or name in names:
-                found |= named_in("\n".join(lines), named, [])
+        for lines in clauses.values():
+            found |= named_in("\n".join(lines), named, [])
     return found
+
+
+def traits():
+    """The text and the imports of each public trait, by its name."""
+    found = {}
+    for path in glob.glob(f"{ROOT}/crates/*/src/**/*.rt", recursive=True):
+        text = open(path, encoding="utf-8").read()
+        for name, block in re.findall(r"^pub trait (\w+)(.*?^})", text, re.M | re.S):
+            found[name] = block, imports(text)
+    return found
+
+
+def named_by_laws(bounds, known):
+    """The definitions that the laws of the traits name that stand in bounds, and of those that they ask for in turn."""
+    found, wanted, done = set(), words(bounds) & known.keys(), set()
+    while wanted:
+        trait = wanted.pop()
+        done.add(trait)
+        block, named = known[trait]
+        found |= named_in(block, named, [])
+        asked = re.findall(r"^ *type \w+: (.*);", block, re.M) + [block.partition("{")[0]]
+        wanted |= (words(" ".join(asked).replace("+", " ")) & known.keys()) - done
+    return found
+
+
+def named_by(path, name):
+    """The definitions that the clauses of this public function name, and the laws of the traits that it is generic over."""
+    path = f"{ROOT}/crates/{path}"
+    named, clauses = public_clauses(path)
+    bounds = re.search(rf"fn {name}<(.*?)>\(", open(path, encoding="utf-8").read(), re.S)
+    return named_in("\n".join(clauses[name]), named, []) | named_by_laws(bounds[1] if bounds else "", traits())
 
 
 def reached_from(defined, roots):
@@ -191,8 +222,8 @@ def print_circle(defined, circle):
 
 # What must be believed of a run: the definitions that the clauses of these functions rest on.
 CIRCLES = {
-    "judge": ("dimacs_runs/src/judge.rt", ["run_judge"]),
-    "command": ("dimacs_runs/src/command.rt", ["run_command"]),
+    "judge": ("dimacs_runs/src/judge.rt", "run_judge"),
+    "command": ("dimacs_runs/src/command.rt", "run_command"),
 }
 
 
@@ -202,7 +233,7 @@ def main(words):
     if words[:1] == ["--print"] and words[1:] and words[1] in circles:
         print_circle(defined, circles[words[1]])
         return 0
-    reached = reached_from(defined, named_by("*/src/**/*.rt"))
+    reached = reached_from(defined, named_by_all())
     counts, others, misplaced = {}, {}, []
     for it, block in defined.blocks.items():
         crate, path = it[0].split(".")[1], defined.files[it]
@@ -224,4 +255,5 @@ def main(words):
     return 1 if misplaced else 0
 
 
-sys.exit(main(sys.argv[1:]))
+if __name__ == "__main__":
+    sys.exit(main(sys.argv[1:]))
