@@ -125,7 +125,7 @@ JUDGES = {
 # What the standard error holds, by the status, where it isn't empty: with status 3 the name of the device too, and what
 # could not be done with it. The usage text is left out for want of memory.
 COMPLAINTS = {
-    2: r"dimacs: usage\n(Reads, .*\n\nUsage: dimacs COMMAND FILE\.\.\.\n.*)?",
+    2: r"dimacs: usage\n(dimacs \d+\.\d+\.\d+\nReads, .*\n\nUsage: dimacs COMMAND FILE\.\.\.\n.*)?",
     3: r"dimacs: device fault\ndimacs: {device}: cannot be {done}\n",
     4: r"dimacs: out of memory\n",
 }
