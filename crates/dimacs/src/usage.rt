@@ -57,10 +57,13 @@ Example:
   dimacs judge-max pipes.max pipes.solution pipes.cut
   prints v max 12, or the first fault with its place, as x arc 3 NotSaturated";
 
-/// Writes the usage text to the standard error, where memory is there for it.
+/// The name and the version.
+static VERSION: &str = "dimacs 0.1.0";
+
+/// Writes the version and the usage text to the standard error, where memory is there for it.
 pub fn tell(rt: &HostRuntime) {
     if let Ok(text) = usage_text(rt.alloc()) {
-        let _ = eprintln!(rt; "{text}");
+        let _ = eprintln!(rt; "{VERSION}\n{text}");
     }
 }
 
