@@ -115,7 +115,7 @@ def paths_pairs(dimacs, texts, file, _, labels):
     claim = nodes, *arrays, source, distances
     found = array("I", [0]) * nodes
     plain = ctypes.CDLL("./plain").plain_certify_paths
-    places = [ctypes.c_void_p(it.buffer_info()[0]) for it in (*arrays, distances, found)]
+    places = [(ctypes.c_char * 1).from_buffer(it) for it in (*arrays, distances, found)]  # by their addresses, and kept
     words = [ctypes.c_size_t(nodes), ctypes.c_size_t(arcs), ctypes.c_size_t(source), *places]
     return {
         "judge-paths": (lambda: dimacs.judge_paths(*texts), lambda: dimacs.judge_paths_arrays(*claim, predecessors)),
