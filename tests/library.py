@@ -2,11 +2,12 @@
 """Tests the library for C, C++, Python and Rust: tests/library.py [--build FOLDER] [--instances N] [--runs M]
 
 FOLDER is where `make` built the library and the program: build, or build/quick for those that aren't proved. It runs
-what stands in lib/test: in C, under sanitizers where they fit and by valgrind, the calls over texts and arrays with room
-and without, in eight threads, with each growth of memory refused in turn, over texts of 100 MB, and over arrays of a million arcs; in C++, what LEMON
-answers; and in Python, by each of `python3` and /usr/bin/python3. N random small instances in arrays are compared with
-the texts that are printed from them, M of which go through the program: `--runs 20000` has all of them do so, which
-takes some minutes. Then it installs the wheel and calls it, and builds and runs what docs/LIBRARY.md shows.
+what stands in lib/test: in C, under sanitizers where they fit and by valgrind, the calls over texts and arrays with
+room and without, in eight threads, with each growth of memory refused in turn, over texts of 100 MB, and over arrays of
+a million arcs; in C++, what LEMON answers; and in Python, by each of `python3` and /usr/bin/python3. N random small
+instances in arrays are compared with the texts that are printed from them, M of which go through the program: `--runs
+20000` has all of them do so, which takes some minutes. Then it installs the wheel and calls it, and builds and runs
+what docs/LIBRARY.md shows.
 
 What needs a tool that isn't there is left out, and named. The last line counts what passed and what failed.
 """

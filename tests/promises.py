@@ -114,7 +114,7 @@ class Repository:
 
 
 def pieces(page):
-    """The rows and paragraphs of a page."""
+    """The rows and paragraphs of a page, heads being a row without heads."""
     heads, before, paragraph, begun = [], "", [], 0
     for number, line in enumerate([*page.split("\n"), ""], 1):
         is_text = bool(line) and line[0] not in "|#"
@@ -128,8 +128,8 @@ def pieces(page):
         if line.startswith("#"):
             before = ""
         cells = [it.strip() for it in line.strip("|").split("|")] if line.startswith("|") else []
-        if heads and cells and not set(line) <= set("|-"):
-            yield Piece(number, cells, heads, before)
+        if cells and not set(line) <= set("|-"):
+            yield Piece(number, cells, heads or [""] * len(cells), before)
         heads = (heads or cells) if cells else []
 
 
