@@ -29,6 +29,16 @@
 extern "C" {
 #endif
 
+/* The version of this header, also as one number: 10000 times the first, 100 times the second, and the third. */
+#define DIMACS_VERSION "0.1.0"
+#define DIMACS_VERSION_MAJOR 0
+#define DIMACS_VERSION_MINOR 1
+#define DIMACS_VERSION_PATCH 0
+#define DIMACS_VERSION_NUMBER (DIMACS_VERSION_MAJOR * 10000 + DIMACS_VERSION_MINOR * 100 + DIMACS_VERSION_PATCH)
+
+/* The number of the version of the library that was linked or loaded. */
+uint32_t dimacs_version(void);
+
 /* What a call answers. */
 enum {
     DIMACS_DONE = 0,      /* done, or a yes */

@@ -54,7 +54,9 @@ Exit status:
 
 Example:
   dimacs judge-max pipes.max pipes.solution pipes.cut
-  prints v max 12, or the first fault with its place, as x arc 3 NotSaturated";
+  prints v max 12, or the first fault with its place, as x arc 3 NotSaturated
+
+dimacs 0.1.0";
 
 /// Writes the usage text to the standard error, where memory is there for it.
 pub fn tell(rt: &HostRuntime) {

@@ -14,3 +14,4 @@ mod max;
 mod min;
 mod paths;
 mod texts;
+mod version;

@@ -23,6 +23,8 @@ from .graphs import (
 )
 from .texts import certify_max, certify_min, convert, judge_infeasible, judge_max, judge_min, judge_paths, show
 
+__version__ = "0.1.0"
+
 __all__ = [
     "UNREACHED",
     "Beyond",
