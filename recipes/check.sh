@@ -5,11 +5,12 @@
 #   recipes/check.sh [BINARY]
 #
 # BINARY is the built `dimacs`; without it the variable DIMACS, or else crates/dimacs/out/dimacs. The recipes that judge
-# in their own process need lib/out too, which `make -C lib` builds.
+# in their own process need the library too, in the folder BUILD.
 #
 # Environment:
 #   PYTHON   the Python that has the packages; python3
 #   CXX      the C++ compiler; g++
+#   BUILD    the folder where make built the library; build
 #   ONLY     run only the recipes whose names match this pattern, as 'lemon|glpsol'
 #
 # The last lines tell what was left out, and how many answers were accepted, refused and judged otherwise than expected.
@@ -18,6 +19,8 @@ set -eu
 here=$(cd "$(dirname "$0")" && pwd)
 examples=$here/../examples
 lib=$here/../lib
+build=$(realpath -m "${BUILD:-$here/../build}")
+export DIMACS_LIBRARY=$build/libdimacs.so
 DIMACS=$(realpath "${1:-${DIMACS:-$here/../crates/dimacs/out/dimacs}}")
 export DIMACS
 PYTHON=${PYTHON:-python3}
@@ -108,15 +111,15 @@ is_there() {
 lacks() {
     if ! is_there "$2" "$3"; then
         echo "$2 $3"
-    elif is_in_process "$1" && [ ! -e "$lib/out/libdimacs.so" ]; then
-        echo "lib/out"
+    elif is_in_process "$1" && [ ! -e "$DIMACS_LIBRARY" ]; then
+        echo "the library"
     fi
 }
 
 # Builds a recipe in C++. lemon_scaling is lemon_min with its other solver.
 build() {
     local linked=()
-    ! is_in_process "$1" || linked=(-x none "$lib/out/libdimacs.a")
+    ! is_in_process "$1" || linked=(-x none "$build/libdimacs.a")
     case $1 in
         lemon_scaling.cpp) sed 's/NetworkSimplex</CostScaling</' "$here/lemon_min.cpp" ;;
         *) cat "$here/$1" ;;

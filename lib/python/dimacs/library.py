@@ -22,13 +22,13 @@ _HERE = Path(__file__).resolve().parent
 
 
 def _find() -> Path:
-    """The library that DIMACS_LIBRARY names, else the one of this package, else the one that `make -C lib` built."""
+    """The library that DIMACS_LIBRARY names, else the one of this package, else the proved one that `make` built."""
     named = os.environ.get("DIMACS_LIBRARY")
-    places = [Path(named)] if named else [_HERE / "libdimacs.so", _HERE.parents[1] / "out" / "libdimacs.so"]
+    places = [Path(named)] if named else [_HERE / "libdimacs.so", _HERE.parents[2] / "build" / "libdimacs.so"]
     for place in places:
         if place.is_file():
             return place
-    raise ImportError(f"{places[-1]} isn't there: build it by `make -C lib`")
+    raise ImportError(f"{places[-1]} isn't there: build it by `make`")
 
 
 _address, _number, _size = ctypes.c_void_p, ctypes.c_uint32, ctypes.c_size_t
