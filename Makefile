@@ -87,10 +87,11 @@ install: $(if $(UNPROVED),quick,all) $(MAN)
 	[ ! -e completion ] || install -D -m 644 -t $(IN)/share/zsh/site-functions completion/_dimacs
 	[ ! -e completion ] || install -D -m 644 -t $(IN)/share/fish/vendor_completions.d completion/dimacs.fish
 
-build/man: $(wildcard man/*.md docs/*.md) tools/man_pages.py
-	mkdir -p $@
-	tools/man_pages.py $@
-	touch $@
+build/man: tools/man_pages.py VERSION crates/dimacs/src/usage.rt $(wildcard man/*.md docs/*.md CHANGELOG.md)
+	rm -rf $@ $@.new
+	mkdir -p $@.new
+	tools/man_pages.py $@.new
+	mv $@.new $@
 
 ## make dist: makes packages of what is proved in dist/, and tests them
 dist: $(if $(UNPROVED),proved-only,all) $(MAN)

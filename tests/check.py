@@ -27,8 +27,8 @@ def jobs(build):
     with open(f"{TOP}/crates.txt", encoding="utf-8") as it:
         crates = re.findall(r"^(\w+_tests)\b.*:", it.read(), re.MULTILINE)
     found = [(it, f"{TOP}/crates/{it}", ["rt", "try", "--test", "--seconds", SECONDS]) for it in crates]
-    words = {"library": ["--build", build], "version": [build]}
-    for it in ("library", "malicious", "refusals", "large_runs", "batch", "shown_runs", "version"):
+    words = {"library": ["--build", build], "version": [build], "man_pages": [], "completion": []}
+    for it in ("library", "malicious", "refusals", "large_runs", "batch", "shown_runs", "version", "man_pages", "completion"):
         if os.path.exists(f"{TOP}/tests/{it}.py"):
             found.append((it, TOP, [f"tests/{it}.py", *words.get(it, [f"{build}/dimacs"])]))
     return found

@@ -27,7 +27,7 @@ def number(version):
 def found(build, wanted):
     """What each place says, and what it has to say."""
     used = subprocess.run([f"{build}/dimacs"], capture_output=True, text=True, check=False).stderr
-    yield "the usage text", used.split("\n")[:2], ["dimacs: usage", f"dimacs {wanted}"]
+    yield "the usage text", re.findall(r"^dimacs [\d.]+$", used, re.MULTILINE), [f"dimacs {wanted}"]
     library = ctypes.CDLL(os.path.abspath(f"{build}/libdimacs.so"))
     yield "dimacs_version()", library.dimacs_version(), number(wanted)
     header = dict(re.findall(r"^#define DIMACS_VERSION(\w*) ([\d\".]+)$", read("lib/include/dimacs.h"), re.MULTILINE))
