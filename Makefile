@@ -96,7 +96,7 @@ build/man: tools/man_pages.py VERSION crates/dimacs/src/usage.rt $(wildcard man/
 ## make dist: makes packages of what is proved in dist/, and tests them
 dist: $(if $(UNPROVED),proved-only,all) $(MAN)
 	tools/dist.py
-	tests/packages.py dist
+	tests/packages.py dist --root
 
 proved-only:
 	@echo "make dist: packages are made of what is proved alone" >&2

@@ -98,6 +98,16 @@ def potentials(heights):
     return lines([f"p pot {NODES} {len(heights)}", *(f"y {node} {it}" for node, it in sorted(heights.items()))])
 
 
+def wide_texts():
+    """Numbers that take more than 32 bits, and more than 64, and a line that is as long as lines may be."""
+    nodes = range(1, ITEMS + 1)
+    yield "wide.pot", lines([f"p pot {ITEMS} {ITEMS}", *(f"y {node} {node * 10**20}" for node in nodes)])
+    for name, step in ("long.dist", 10**10), ("wide.dist", 10**20):
+        labels = [f"d {node} {(node - 1) * step} {node - 1}" for node in range(2, ITEMS + 1)]
+        yield name, lines([f"p dist {ITEMS} 1", f"t 1 {ITEMS - 1}", *labels])
+    yield "long.line", lines(["c" + "x" * (2**20 - 1), "p sp 1 0"])
+
+
 def supply_texts():
     """Pairs of nodes, the first of which sends 1 to the second by the cheaper of two arcs; and an instance whose last pair
     sends more than its arcs carry."""
@@ -126,6 +136,11 @@ def path_texts():
     labels = [f"d {head} {tail} {tail}" for tail, head in around if head != 1]
     block = [f"p dist {ITEMS} 1", f"t 1 {ITEMS - 1}"]
     yield "dist", lines([*block, *labels])
+    near = [f"p dist {ITEMS} 1", f"t 1 {PAIRS - 1} {PAIRS - 1}", *labels[: PAIRS - 1]]
+    yield "near", lines(near)
+    yield "near.answers", lines(
+        f"v 1 {node} {node - 1 if node <= PAIRS else f'more {PAIRS - 1}'}" for node in range(1, ITEMS + 1)
+    )
     yield "untight", lines([*block, *labels[:-1], f"d {ITEMS} {ITEMS} {ITEMS - 1}"])
 
 
@@ -148,7 +163,10 @@ KINDS = [
     ("solution", "flow", "f", f"i solution {VALUE} {ITEMS}\n"),
     ("cut", "cut", "u", f"i cut {NODES} {NODES - 1}\n"),
     ("pot", "pot", "y", f"i pot {NODES} {NODES - 1}\n"),
+    ("pot", "wide.pot", "y", f"i pot {ITEMS} {ITEMS}\n"),
     ("dist", "dist", "d", f"i dist {ITEMS} 1\n"),
+    ("dist", "long.dist", "d", f"i dist {ITEMS} 1\n"),
+    ("dist", "wide.dist", "d", f"i dist {ITEMS} 1\n"),
     ("dist", "blocks", "t", f"i dist {ITEMS} {ITEMS}\n"),
 ]
 
@@ -239,8 +257,10 @@ MIN_RUNS = [
 ]
 
 PATH_RUNS = [
+    Run("convert gr long.line", 0, "p sp 1 0\n"),
     Run("judge-paths gr query dist", 0, "v sp ss 1\n"),
     Run("judge-paths gr pairs dist", 0, File("answers")),
+    Run("judge-paths gr pairs near", 0, File("near.answers")),
     Run("judge-paths loops sources blocks", 0, f"v sp ss {ITEMS}\n"),
     Run("judge-paths gr far dist", 1, f"x node {ITEMS + 1} QueryNode\n"),
     Run("judge-paths gr sources dist", 1, "x node 2 BlockMissing\n"),
@@ -301,7 +321,7 @@ class Place:
 
 def runs(place):
     """Writes the texts, and yields the runs over them."""
-    for texts in max_texts, min_texts, supply_texts, path_texts, source_texts:
+    for texts in max_texts, min_texts, supply_texts, path_texts, source_texts, wide_texts:
         for name, text in texts():
             place.write(name, text)
     yield from reading_runs(place)
