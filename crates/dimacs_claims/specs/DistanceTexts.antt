@@ -3,7 +3,6 @@ use Rattle.std.specs.Prelude.{ℕ, ◌≡◌, List, ◌∷◌, None, map, length
 use Rattle.std.specs.Fmt.{decimal}
 use Rattle.std.specs.List.{All}
 use Rattle.dimacs_lines.specs.Lines.{lines}
-use Rattle.dimacs_records.specs.declared.kinds.TextKind.{TextKind}
 use Rattle.dimacs_records.specs.declared.kinds.TextKind.TheVariants.{Distances}
 use Rattle.dimacs_records.specs.declared.records.Record.{Record}
 use Rattle.dimacs_records.specs.declared.records.Record.TheVariants.{LabelsProblem, LabelsBlock, LabelsNode, DistancesProblem, DistancesBlock, DistancesNode}
@@ -46,8 +45,3 @@ canonical_distances d = canonical_text (distance_records d)
 
 abbrev pub shown_distances : LabelsValue → List ℕ
 shown_distances d = shown (codes "distances" ∷ decimal d.nodes ∷ decimal (length d.blocks) ∷ [])
-
--- what a text of the kind has of a line of labels
-abbrev pub in_kind : TextKind → Record → Record
-in_kind Distances r = bare r
-in_kind kind r = r

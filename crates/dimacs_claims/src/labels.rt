@@ -19,9 +19,9 @@ ghost use Rattle.std.specs.FinSet as set;
 ghost use Rattle.std.specs.List.{All};
 ghost use Rattle.std.specs.Ordering.{nat_cmp};
 ghost use Rattle.dimacs_records.specs.Ranges.{IsRadius, IsWide};
-ghost use Rattle.dimacs_claims.specs.DistanceTexts.{bare, in_kind};
+ghost use Rattle.dimacs_claims.specs.DistanceTexts.{bare};
 ghost use Rattle.dimacs_claims.specs.LabelTexts.{FitText, GivesLabels, SpellsLabels, block_lines, canonical_labels, label_line, label_records};
-ghost use Rattle.dimacs_claims.specs.inside.Lines.{line_in_kind};
+ghost use Rattle.dimacs_claims.specs.inside.Lines.{in_kind, line_in_kind};
 ghost use Rattle.dimacs_claims.specs.LabelsReading.{AreLabelsBegun, labels_begun_records, after_lines, before, before_end};
 
 use crate::block::{Block, Label};

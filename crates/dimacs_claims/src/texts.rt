@@ -206,13 +206,14 @@ impl Text for Distances {
     }
 
     fn show<K: Sink>(&self, sink: &mut K) -> Result<(), DeviceFault> {
+        let blocks = self.blocks();
         put_line(
             sink,
             b"i",
             &[
                 Part::Word(b"distances"),
                 Part::Number(i64::from(self.nodes())),
-                Part::Wide(self.blocks().len() as i128),
+                Part::Wide(blocks.len() as i128),
             ],
         )
     }

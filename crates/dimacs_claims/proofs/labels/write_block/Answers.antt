@@ -3,9 +3,8 @@ use Rattle.dimacs_records.specs.declared.kinds.TextKind.{TextKind}
 use Rattle.dimacs_records.specs.declared.records.Record.TheVariants.{LabelsBlock}
 use Rattle.dimacs_records.proofs.WrittenLemmas.{all_items, line_after, lines_after, lines_of_items}
 use Rattle.dimacs_claims.specs.declared.block.Label.{Label}
-use Rattle.dimacs_claims.specs.DistanceTexts.{in_kind}
 use Rattle.dimacs_claims.specs.LabelTexts.{label_line, block_lines}
-use Rattle.dimacs_claims.specs.inside.Lines.{line_in_kind}
+use Rattle.dimacs_claims.specs.inside.Lines.{in_kind, line_in_kind}
 use Rattle.dimacs_claims.proofs.labels.write_block.Goals as goal
 
 both_maps : (kind : TextKind) (ls : List Label) → map (line_in_kind kind) ls ≡ map (in_kind kind) (map label_line ls)

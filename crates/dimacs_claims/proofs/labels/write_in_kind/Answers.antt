@@ -6,7 +6,7 @@ use Rattle.dimacs_records.specs.declared.kinds.TextKind.{TextKind}
 use Rattle.dimacs_records.specs.declared.records.Record.{Record}
 use Rattle.dimacs_records.specs.declared.records.Record.TheVariants.{LabelsProblem}
 use Rattle.dimacs_records.specs.Canonical.{canonical_text}
-use Rattle.dimacs_claims.specs.DistanceTexts.{in_kind}
+use Rattle.dimacs_claims.specs.inside.Lines.{in_kind}
 use Rattle.dimacs_claims.specs.Labels.{BlockValue, IsBlock}
 use Rattle.dimacs_claims.specs.LabelTexts.{block_lines}
 use Rattle.dimacs_records.proofs.WrittenLemmas.{line_after, lines_after}

@@ -3,7 +3,7 @@ use Rattle.std.specs.List.{flat_map}
 use Rattle.dimacs_lines.specs.Pages.{IsWritten}
 use Rattle.dimacs_records.specs.declared.records.Record.TheVariants.{LabelsProblem}
 use Rattle.dimacs_records.specs.Canonical.{canonical_text}
-use Rattle.dimacs_claims.specs.DistanceTexts.{in_kind}
+use Rattle.dimacs_claims.specs.inside.Lines.{in_kind}
 use Rattle.dimacs_claims.specs.LabelTexts.{block_lines}
 use Rattle.dimacs_claims.proofs.labels.write_in_kind.Given as goal
 

@@ -5,7 +5,7 @@ use Rattle.dimacs_records.specs.declared.kinds.TextKind.TheVariants.{Labels}
 use Rattle.dimacs_records.specs.declared.records.Record.{Record}
 use Rattle.dimacs_records.proofs.ReadLaws.{spells_one_value}
 use Rattle.dimacs_records.specs.Canonical.{canonical_text}
-use Rattle.dimacs_claims.specs.DistanceTexts.{in_kind}
+use Rattle.dimacs_claims.specs.inside.Lines.{in_kind}
 use Rattle.dimacs_claims.specs.LabelTexts.{GivesLabels, canonical_labels, label_records}
 use Rattle.dimacs_claims.proofs.LabelLaws.{labels_round_trip, one_labels}
 use Rattle.dimacs_claims.proofs.labels.write_labels.Goals as goal
