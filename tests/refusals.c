@@ -1,7 +1,8 @@
 /* Refuses calls of a program that is loaded after this library (LD_PRELOAD), and counts them.
  *
  * Growths (calls that take memory), reads, writes and openings of files count from 1, each kind for itself, from the
- * start of the program's own code. Writes to the standard error aren't counted, and never fail.
+ * start of the program's own code. Writes to the standard error aren't counted, and never fail; nor are openings of the
+ * folder `/`, which the program keeps in place of standard streams that are closed.
  *
  *   REFUSE_GROWTH, REFUSE_READ, REFUSE_WRITE, REFUSE_OPENING   the number of the call that fails, once
  *   INTERRUPT   where it is set, a read or write that fails was interrupted by a signal
@@ -153,5 +154,7 @@ int open(const char *name, int flags, ...)
         mode = va_arg(more, mode_t);
         va_end(more);
     }
+    if (strcmp(name, "/") == 0)
+        return __open(name, flags, mode);
     return fails(OPENING, EACCES) ? -1 : __open(name, flags, mode);
 }
