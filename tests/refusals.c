@@ -1,7 +1,8 @@
 /* Refuses calls of a program that is loaded after this library (LD_PRELOAD), and counts them.
  *
  * Growths (calls that take memory), reads, writes and openings of files count from 1, each kind for itself, from the
- * start of the program's own code. Writes to the standard error aren't counted, and never fail.
+ * start of the program's own code. Writes to the standard error aren't counted, and never fail; nor are openings of the
+ * folder `/`, which the program keeps in place of standard streams that are closed.
  *
  *   REFUSE_GROWTH, REFUSE_READ, REFUSE_WRITE, REFUSE_OPENING   the number of the call that fails, once
  *   INTERRUPT   where it is set, a read or write that fails was interrupted by a signal
@@ -170,6 +171,8 @@ int open(const char *name, int flags, ...)
         mode = va_arg(more, mode_t);
         va_end(more);
     }
+    if (strcmp(name, "/") == 0)
+        return __open(name, flags, mode);
     if (fails(OPENING, EACCES, flags & O_CREAT ? "created" : "opened", name))
         return -1;
     int file = __open(name, flags, mode);
