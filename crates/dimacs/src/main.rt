@@ -6,17 +6,32 @@ mod usage;
 
 use crate::files::SystemFiles;
 use dimacs_lines::FileSink;
-use dimacs_runs::{Failure, NO_RUN, RunError, complaint, exit_status, run_command};
+use dimacs_runs::{Failure, NO_RUN, RunError, complaint, exit_status, job, run_command};
+use std::fs::File;
 use std::io::ErrorKind;
+use std::os::fd::{AsRawFd, RawFd};
 use std::process::ExitCode;
 use std::{env, io};
 
+/// The last descriptor of a standard stream.
+const STANDARD_ERROR: RawFd = 2;
+
 fn main(rt: HostRuntime) -> ExitCode {
+    let _kept = (stand_in(&rt), stand_in(&rt), stand_in(&rt));
     let status = match words(&rt) {
         Ok(words) => run(&rt, words.get(1..).unwrap_or_default()),
         Err(error) => wordless(&rt, error),
     };
     ExitCode::from(status)
+}
+
+/// A file that stands for a standard stream that was closed, so that no file of a run gets its descriptor, and with it
+/// what is meant for the stream. The folder `/` is always there, and can neither be read nor written.
+fn stand_in(rt: &HostRuntime) -> Option<File> {
+    match File::open(rt, "/") {
+        Ok(folder) if folder.as_raw_fd() <= STANDARD_ERROR => Some(folder),
+        _ => None,
+    }
 }
 
 /// Runs what the words after the program's name ask for, and answers the exit status.
@@ -31,6 +46,9 @@ fn run(rt: &HostRuntime, words: &[String]) -> u8 {
             Failure::Output => output.reason(),
         };
         tell_failure(rt, failure, reason);
+    }
+    if let Some(name) = job(words).and_then(|job| job.written_twice()) {
+        let _ = eprintln!(rt; "dimacs: {name}: written twice");
     }
     ending.status
 }

@@ -1,5 +1,5 @@
 -- What a command does with its files and with the output, from its words to its exit status.
-use Rattle.std.specs.Prelude.{ℕ, ◌≡◌, ◌⊎◌, ◌++◌, List, [], ◌∷◌, Option, None, Some, Result, Ok, Err, IsErr, drop, map, take}
+use Rattle.std.specs.Prelude.{ℕ, ◌≡◌, ◌⊎◌, ◌++◌, List, [], ◌∷◌, Option, None, Some, Result, Ok, Err, IsErr, drop, map, slice_get, take}
 use Rattle.std.specs.List.{flat_map}
 use Rattle.std.specs.String.{string_bytes}
 use Rattle.dimacs_lines.specs.Devices.{Written, one_more}
@@ -64,6 +64,12 @@ plan_of (Show kind file) = reads (file.now ∷ [])
 plan_of (Judge kind files) = reads (map string_bytes files.now)
 plan_of (Certify kind files) = reads_first 2 (map string_bytes files.now)
 plan_of (Solve job files) = reads_first (read_count job) (map string_bytes files.now)
+
+-- a run writes a claim and its certificate to one file, of this name
+abbrev pub WritesTwice : Job → List ℕ → Type 0
+WritesTwice (Solve solves.Paths files) name = ⊥
+WritesTwice (Solve job files) name = (slice_get (map string_bytes files.now) 1 ≡ Some name) × (slice_get (map string_bytes files.now) 2 ≡ Some name)
+WritesTwice job name = ⊥
 
 -- what is told of the texts of the files that are read: by what those that are created and the output had accepted, and what they have then
 abbrev pub Telling : Type 1

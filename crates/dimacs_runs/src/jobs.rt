@@ -1,5 +1,8 @@
 //! What the command can be asked for.
 
+ghost use Rattle.std.specs.Prelude.{IfNone, IfSome, List, ℕ};
+ghost use Rattle.dimacs_runs.specs.Commands.{WritesTwice};
+
 use dimacs_records::TextKind;
 
 /// What a judge is asked about.
@@ -51,4 +54,18 @@ pub enum Job<'a> {
     /// Makes a claim. The file of the instance, which is read, and those of the claim and of its certificate, which are
     /// written; for distances those of the graph and of the queries, which are read, and that of the labels.
     Solve(SolveJob, &'a [String]),
+}
+
+impl<'a> Job<'a> {
+    /// The name of a file that the run writes twice, one text over the other; none where it writes each once.
+    pub fn written_twice(&self) -> Option<&'a str>
+        ensures twice { IfSome result (λ name. WritesTwice self.now name.now) }
+        ensures once { IfNone result ((name : List ℕ) → ¬ WritesTwice self.now name) }
+    {
+        match self {
+            Job::Solve(SolveJob::Max(_) | SolveJob::Min(_), [_, claim, certificate, ..])
+                if claim.as_str() == certificate.as_str() => { Some(claim.as_str()) }
+            _ => None,
+        }
+    }
 }

@@ -1,13 +1,16 @@
 //! The command from its words to its exit status, over files in memory.
 
-ghost use Rattle.std.specs.Prelude.{◌≡◌, ◌≢◌, ◌+◌, ◌%◌, ◌^◌, ◌==◌, if◌then◌else◌, not, None};
-ghost use Rattle.dimacs_runs.specs.declared.outcome.RunError.TheVariants.{Device};
+ghost use Rattle.std.specs.Prelude.{◌≡◌, ◌++◌, ◌∷◌, [], ◌==◌, if◌then◌else◌, map, not, Some};
+ghost use Rattle.std.specs.String.{string_bytes};
+ghost use Rattle.dimacs_lines.specs.Devices.{one_more};
+ghost use Rattle.dimacs_tests.specs.MemoryFiles.{event_of, is_device, text_of};
 
 use crate::checks::{holds, same};
 use crate::conversions::ODD;
+use crate::memory_files::{Done, held};
 use crate::tables::{case, cell, rows};
 use crate::words::words;
-use dimacs_lines::{DeviceFault, FlakySink, FlakySource, MemorySink, Sink, Source};
+use dimacs_lines::{FlakySink, FlakySource, MemorySink};
 use dimacs_runs::{Counted, Files, RunError, run_command};
 use std::alloc::Global;
 use std::fmt::Write;
@@ -15,7 +18,7 @@ use std::process::Abort;
 use std::test::Fail;
 
 /// Texts by the names of their files.
-static HELD: [(&str, &str); 19] = [
+static HELD: [(&str, &str); 22] = [
     ("road", ODD),
     ("nothing", ""),
     (
@@ -41,63 +44,76 @@ static HELD: [(&str, &str); 19] = [
     ("supply", "p min 2 1\nn 1 1\nn 2 -1\na 1 2 0 1 3\n"),
     ("source", "p aux sp ss 1\ns 1\n"),
     ("negative", "p sp 2 2\na 1 2 -4\na 2 1 3\n"),
+    (
+        "dear",
+        "p min 1 1\na 1 1 0 9000000000000000000 -9000000000000000000\n",
+    ),
+    ("broken", "p sp 1 0\n"),
+    ("greedy", ""),
 ];
 
-/// A device that tells no contract what it holds.
+/// Files in memory, with the names of those that are there and what was done so far. Each name that is not there can be
+/// created, but for `denied`; a text that is written can't be read again.
 #[derive(Drop)]
-struct Quiet<D>(Counted<D>);
-
-impl<S: Source> Source for Quiet<S> {
-    ghost coming = { λ s. None };
-
-    ghost faults = { λ s. s.0.faults };
-
-    fn pull(&mut self, into: &mut [u8]) -> Result<usize, DeviceFault> {
-        self.0.pull(into)
-    }
-}
-
-impl<K: Sink> Sink for Quiet<K> {
-    ghost seen = { λ s. record { accepted = None; faults = s.0.faults } };
-
-    fn put(&mut self, bytes: &[u8]) -> Result<usize, DeviceFault> {
-        self.0.put(bytes)
-    }
-}
-
-/// The files in memory, and a line for each thing done with them: `<` and the name of a file that was opened, `>` and
-/// that of one that was created, `=` and that of one that was closed, and after that line what was written.
-#[derive(Drop)]
-struct MemoryFiles {
+struct MemoryFiles<'a, A> {
+    rt: &'a A,
     alloc: Global,
-    done: String,
+    held: &'a [(&'a str, &'a str)],
+    done: Vec<Done>,
     faults: u64,
 }
 
-impl MemoryFiles {
-    /// Adds to what was done.
-    fn note(&mut self, what: &str, name: &str) -> Result<(), RunError>
-        ensures faults { self.new.faults ≡ self.old.faults }
-        ensures no_device { result ≢ Err Device }
-    {
-        match writeln!(self.done, "{what} {name}") {
-            Ok(()) => Ok(()),
-            Err(_) => Err(RunError::Memory),
+impl<'a, A: Abort> MemoryFiles<'a, A> {
+    fn new(rt: &'a A, alloc: Global, held: &'a [(&'a str, &'a str)]) -> MemoryFiles<'a, A> {
+        MemoryFiles {
+            rt,
+            alloc,
+            held,
+            done: Vec::new(alloc),
+            faults: 0,
         }
     }
 
-    fn refuse(&mut self) -> RunError
-        ensures fault { self.new.faults ≡ (self.old.faults + 1) % 2 ^ 64 }
-        ensures device { result ≡ Device }
+    /// A name of one's own.
+    fn named(&self, name: &str) -> String
+        ensures { string_bytes result ≡ name.now }
     {
-        self.faults = self.faults.wrapping_add(1);
-        RunError::Device
+        match String::from_str(self.alloc, name) {
+            Ok(name) => name,
+            Err(_) => self.rt.abort(),
+        }
+    }
+
+    /// Adds to what was done.
+    fn note(&mut self, done: Done)
+        ensures done { self.new.done.items ≡ self.old.done.items ++ done ∷ [] }
+        ensures held { self.new.held.now ≡ self.old.held.now }
+        ensures faults { self.new.faults ≡ self.old.faults }
+    {
+        if self.done.push(done).is_err() {
+            self.rt.abort();
+        }
+    }
+
+    /// Counts a file that was refused for this reason.
+    fn refuse(&mut self, error: RunError) -> RunError
+        ensures error { result ≡ error }
+        ensures fault { self.new.faults ≡ (if is_device error then one_more self.old.faults else self.old.faults) }
+        ensures done { self.new.done ≡ self.old.done }
+        ensures held { self.new.held.now ≡ self.old.held.now }
+    {
+        if error == RunError::Device {
+            self.faults = self.faults.wrapping_add(1);
+        }
+        error
     }
 
     /// Counts a file that is closed after so many faults, and answers whether there were any.
     fn count(&mut self, faults: u64) -> bool
         ensures failed { result ≡ not (faults == 0) }
-        ensures fault { self.new.faults ≡ (if faults == 0 then self.old.faults else (self.old.faults + 1) % 2 ^ 64) }
+        ensures fault { self.new.faults ≡ (if faults == 0 then self.old.faults else one_more self.old.faults) }
+        ensures done { self.new.done ≡ self.old.done }
+        ensures held { self.new.held.now ≡ self.old.held.now }
     {
         let failed = faults != 0;
         if failed {
@@ -107,139 +123,155 @@ impl MemoryFiles {
     }
 }
 
-/// The text in the file of this name.
-fn held(name: &str) -> Option<&'static str> {
-    for &(held, text) in &HELD {
-        if held == name {
-            return Some(text);
-        }
-    }
-    None
-}
+impl<'a, A: Abort> Files for MemoryFiles<'a, A> {
+    type Input = Counted<FlakySource<'a>>;
 
-impl Files for MemoryFiles {
-    type Input = Quiet<FlakySource<'static>>;
+    type Output = Counted<FlakySink<'static>>;
 
-    type Output = Quiet<FlakySink<'static>>;
+    ghost holds = { λ s name. text_of (map (λ f. (f.0.now, f.1.now)) s.held.now) name };
 
-    ghost holds = { λ s name. None };
+    ghost empty = { Some [] };
 
-    ghost empty = { None };
+    ghost seen = { λ s. record { done = Some (map event_of s.done.items); faults = s.faults } };
 
-    ghost seen = { λ s. record { done = None; faults = s.faults } };
-
-    fn open(&mut self, name: &str) -> Result<Quiet<FlakySource<'static>>, RunError> {
-        if name == "greedy" {
-            return Err(RunError::Memory);
-        }
-        let fails: &'static [u64] = if name == "broken" { &[1] } else { &[] };
-        let text = match held(name) {
-            Some(text) => text,
-            None if name == "broken" => "p sp 1 0\n",
-            None => return Err(self.refuse()),
+    fn open(&mut self, name: &str) -> Result<Counted<FlakySource<'a>>, RunError> {
+        let text = match held(self.held, name) {
+            Some(text) if name != "greedy" => text,
+            known => {
+                let error = if known.is_some() {
+                    RunError::Memory
+                } else {
+                    RunError::Device
+                };
+                let named = self.named(name);
+                self.note(Done::NotOpened(named, error));
+                return Err(self.refuse(error));
+            }
         };
-        self.note("<", name)?;
-        Ok(Quiet(Counted::new(FlakySource::new(text.as_bytes(), &[], fails))))
+        let named = self.named(name);
+        self.note(Done::Opened(named));
+        let fails: &'static [u64] = if name == "broken" { &[2] } else { &[] };
+        Ok(Counted::new(FlakySource::new(text.as_bytes(), &[4], fails)))
     }
 
-    fn create(&mut self, name: &str) -> Result<Quiet<FlakySink<'static>>, RunError> {
+    fn create(&mut self, name: &str) -> Result<Counted<FlakySink<'static>>, RunError> {
         if name == "denied" {
-            return Err(self.refuse());
+            let named = self.named(name);
+            self.note(Done::NotCreated(named, RunError::Device));
+            return Err(self.refuse(RunError::Device));
         }
-        let fails: &'static [u64] = if name == "full" { &[1] } else { &[] };
-        self.note(">", name)?;
-        Ok(Quiet(Counted::new(FlakySink::new(self.alloc, &[], fails))))
+        let named = self.named(name);
+        self.note(Done::Created(named));
+        let fails: &'static [u64] = if name == "full" { &[2] } else { &[] };
+        Ok(Counted::new(FlakySink::new(self.alloc, &[4], fails)))
     }
 
-    fn close_input(&mut self, _name: &str, file: Quiet<FlakySource<'static>>) -> bool {
-        self.count(file.0.faults())
+    fn close_input(&mut self, name: &str, file: Counted<FlakySource<'a>>) -> bool {
+        let named = self.named(name);
+        self.note(Done::Read(named, file.faults()));
+        self.count(file.faults())
     }
 
-    fn close_output(&mut self, name: &str, file: Quiet<FlakySink<'static>>) -> bool {
-        let _ = self.note("=", name);
-        if let Ok(text) = str::from_utf8(file.0.device().bytes()) {
-            let _ = self.done.push_str(text);
-        }
-        self.count(file.0.faults())
+    fn close_output(&mut self, name: &str, file: Counted<FlakySink<'static>>) -> bool {
+        let named = self.named(name);
+        let text = match file.device().bytes().to_vec(self.alloc) {
+            Ok(text) => text,
+            Err(_) => self.rt.abort(),
+        };
+        self.note(Done::Wrote(named, text, file.faults()));
+        self.count(file.faults())
     }
 }
 
-/// Command lines, each with what is done with files, as far as it is written here, what it prints, and its exit status.
-static COMMANDS: &str = "\
-convert gr road | < road; | p sp 2 1;a 1 2 7; | 0
-convert gr nothing | < nothing; | x instance 1 0 ProblemMissing; | 1
-show max max | < max; | i max 4 5 1 4; | 0
-show cut cut | < cut; | i cut 4 1; | 0
-judge-max max flow cut | < max;< flow;< cut; | v max 6; | 0
-judge-max max cut flow | < max;< cut;< flow; | x solution 1 1 UnknownLine; | 1
-judge-min min least pot | < min;< least;< pot; | v min 14; | 0
-judge-infeasible unmet set | < unmet;< set; | v infeasible; | 0
-judge-paths cycle pairs labels | < cycle;< pairs;< labels; | v 1 2 5;v 1 4 unreachable; | 0
-certify-max max flow a | < max;< flow;> a;= a;p cut 4 1;u 1; | v max 6; | 0
-certify-max max flow | < max;< flow; | v max 6; | 0
-certify-max pipe zero a | < pipe;< zero;> a;= a;s 3;f 1 2 3; | x solution 1 2 NotMaximum; | 1
-certify-max pipe zero | < pipe;< zero; | x solution 1 2 NotMaximum; | 1
-certify-max pipe full-pipe a | < pipe;< full-pipe;> a;= a;p cut 2 1;u 1; | v max 3; | 0
-certify-max flow max a | < flow;< max;> a;= a; | x instance 1 1 UnknownLine; | 1
-certify-max flow flow a | < flow;< flow;> a;= a; | x instance 1 1 UnknownLine; | 1
-certify-min min least a | < min;< least;> a;= a;p pot 4 3; | v min 14; | 0
-certify-min min least | < min;< least; | v min 14; | 0
-certify-min min zero a | < min;< zero;> a;= a; | x node 1 Balance; | 1
-solve-max pipe a b | < pipe;> a;> b;= a;s 3;f 1 2 3;= b;p cut 2 1;u 1; | v max 3; | 0
-solve-max pipe a b --limit 0 | < pipe;> a;> b;= a;= b; | g limit; | 5
-solve-min supply a b | < supply;> a;> b;= a;s 3;f 1 2 1;= b;p pot 2  | v min 3; | 0
-solve-min unmet a b | < unmet;> a;> b;= a;= b;p cut 2  | v infeasible; | 0
-solve-paths cycle source a | < cycle;< source;> a;= a;p dist 4 1;t 1 1;d 2 5 1; | v sp ss 1; | 0
-solve-paths negative source a | < negative;< source;> a;= a; | x arc 1 NegativeWeight; | 1
-convert gr absent |  |  | 3
-convert gr broken | < broken; |  | 3
-convert gr greedy |  |  | 4
-show max absent |  |  | 3
-judge-max max absent cut | < max; |  | 3
-judge-max absent flow cut |  |  | 3
-judge-infeasible unmet absent | < unmet; |  | 3
-certify-max max absent a | < max; |  | 3
-certify-max absent flow |  |  | 3
-certify-max max flow denied | < max;< flow; |  | 3
-certify-max max broken a | < max;< broken;> a;= a; |  | 3
-certify-max max flow full | < max;< flow;> full;= full; |  | 3
-certify-min min greedy a | < min; |  | 4
-solve-max absent a b |  |  | 3
-solve-max pipe a denied | < pipe;> a; |  | 3
-solve-max pipe full b | < pipe;> full;> b;= full;= b; |  | 3
-solve-paths cycle source denied | < cycle;< source; |  | 3
-judge-max max flow |  |  | 2
-certify-max max |  |  | 2
-certify-max max flow a b |  |  | 2
---help |  |  | 2
-solve-max pipe a b --limit |  |  | 2";
+/// A line for each thing done with files: `<` and the name of a file that was opened, `>` and that of one that was
+/// created, `-` and that of one that was closed after it was read, `=` and that of one that was closed after it was
+/// written, and after that line its text; `!` for what was refused.
+fn shown(alloc: Global, done: &[Done]) -> Result<String, Fail> {
+    let mut lines = String::new(alloc);
+    for it in done {
+        match it {
+            Done::Opened(name) => writeln!(lines, "< {name}")?,
+            Done::NotOpened(name, _) => writeln!(lines, "! < {name}")?,
+            Done::Created(name) => writeln!(lines, "> {name}")?,
+            Done::NotCreated(name, _) => writeln!(lines, "! > {name}")?,
+            Done::Read(name, _) => writeln!(lines, "- {name}")?,
+            Done::Wrote(name, text, _) => {
+                let text = str::from_utf8(text).unwrap_or("not UTF-8");
+                write!(lines, "= {name}\n{text}")?;
+            }
+        }
+    }
+    Ok(lines)
+}
 
-/// Command lines, each with the device that fails and what could not be done with it.
-static FAILURES: &str = "\
-convert gr absent | absent cannot be opened
-convert gr broken | broken cannot be read
-judge-max max absent cut | absent cannot be opened
-judge-max broken broken broken | broken cannot be read
-certify-max max absent | absent cannot be opened
-certify-max max broken a | broken cannot be read
-certify-max max flow denied | denied cannot be created
-certify-max max flow full | full cannot be written
-solve-max pipe a denied | denied cannot be created
-solve-max pipe full b | full cannot be written
-solve-max pipe a full | full cannot be written
-solve-paths cycle source full | full cannot be written";
+/// Command lines, each with what is done with files, what it prints, the device that fails and what could not be done
+/// with it, and its exit status.
+static COMMANDS: &str = "\
+convert gr road | < road;- road; | p sp 2 1;a 1 2 7; |  | 0
+convert gr nothing | < nothing;- nothing; | x instance 1 0 ProblemMissing; |  | 1
+show max max | < max;- max; | i max 4 5 1 4; |  | 0
+show cut cut | < cut;- cut; | i cut 4 1; |  | 0
+judge-max max flow cut | < max;< flow;< cut;- max;- flow;- cut; | v max 6; |  | 0
+judge-max max cut flow | < max;< cut;< flow;- max;- cut;- flow; | x solution 1 1 UnknownLine; |  | 1
+judge-min min least pot | < min;< least;< pot;- min;- least;- pot; | v min 14; |  | 0
+judge-infeasible unmet set | < unmet;< set;- unmet;- set; | v infeasible; |  | 0
+judge-paths cycle pairs labels | < cycle;< pairs;< labels;- cycle;- pairs;- labels; | v 1 2 5;v 1 4 unreachable; |  | 0
+certify-max max flow a | < max;< flow;> a;- max;- flow;= a;p cut 4 1;u 1; | v max 6; |  | 0
+certify-max max flow | < max;< flow;- max;- flow; | v max 6; |  | 0
+certify-max pipe zero a | < pipe;< zero;> a;- pipe;- zero;= a;s 3;f 1 2 3; | x solution 1 2 NotMaximum; |  | 1
+certify-max pipe zero zero | < pipe;< zero;> zero;- pipe;- zero;= zero;s 3;f 1 2 3; | x solution 1 2 NotMaximum; |  | 1
+certify-max pipe zero | < pipe;< zero;- pipe;- zero; | x solution 1 2 NotMaximum; |  | 1
+certify-max pipe full-pipe a | < pipe;< full-pipe;> a;- pipe;- full-pipe;= a;p cut 2 1;u 1; | v max 3; |  | 0
+certify-max flow max a | < flow;< max;> a;- flow;- max;= a; | x instance 1 1 UnknownLine; |  | 1
+certify-max flow flow a | < flow;< flow;> a;- flow;- flow;= a; | x instance 1 1 UnknownLine; |  | 1
+certify-min min least a | < min;< least;> a;- min;- least;= a;p pot 4 3;y 1 3;y 2 1;y 4 -1; | v min 14; |  | 0
+certify-min min least | < min;< least;- min;- least; | v min 14; |  | 0
+certify-min min zero a | < min;< zero;> a;- min;- zero;= a; | x node 1 Balance; |  | 1
+certify-min dear zero a | < dear;< zero;> a;- dear;- zero;= a; | x solution 1 2 NotLeast; |  | 1
+solve-max pipe a b | < pipe;> a;> b;- pipe;= a;s 3;f 1 2 3;= b;p cut 2 1;u 1; | v max 3; |  | 0
+solve-max pipe a b --limit 0 | < pipe;> a;> b;- pipe;= a;= b; | g limit; |  | 5
+solve-max flow a b | < flow;> a;> b;- flow;= a;= b; | x instance 1 1 UnknownLine; |  | 1
+solve-min supply a b | < supply;> a;> b;- supply;= a;s 3;f 1 2 1;= b;p pot 2 1;y 2 -3; | v min 3; |  | 0
+solve-min unmet a b | < unmet;> a;> b;- unmet;= a;= b;p cut 2 2;u 1;u 2; | v infeasible; |  | 0
+solve-paths cycle source a | < cycle;< source;> a;- cycle;- source;= a;p dist 4 1;t 1 1;d 2 5 1; | v sp ss 1; |  | 0
+solve-paths negative source a | < negative;< source;> a;- negative;- source;= a; | x arc 1 NegativeWeight; |  | 1
+convert gr absent | ! < absent; |  | absent cannot be opened | 3
+convert gr broken | < broken;- broken; |  | broken cannot be read | 3
+convert gr greedy | ! < greedy; |  |  | 4
+show max absent | ! < absent; |  | absent cannot be opened | 3
+judge-max max absent cut | < max;! < absent; |  | absent cannot be opened | 3
+judge-max absent flow cut | ! < absent; |  | absent cannot be opened | 3
+judge-max broken broken broken | < broken;< broken;< broken;- broken;- broken;- broken; |  | broken cannot be read | 3
+judge-infeasible unmet absent | < unmet;! < absent; |  | absent cannot be opened | 3
+certify-max max absent a | < max;! < absent; |  | absent cannot be opened | 3
+certify-max absent flow | ! < absent; |  | absent cannot be opened | 3
+certify-max max flow denied | < max;< flow;! > denied; |  | denied cannot be created | 3
+certify-max flow flow denied | < flow;< flow;! > denied; |  | denied cannot be created | 3
+certify-max max broken a | < max;< broken;> a;- max;- broken;= a; |  | broken cannot be read | 3
+certify-max max flow full | < max;< flow;> full;- max;- flow;= full;p cu |  | full cannot be written | 3
+certify-min min greedy a | < min;! < greedy; |  |  | 4
+solve-max absent a b | ! < absent; |  | absent cannot be opened | 3
+solve-max pipe denied b | < pipe;! > denied; |  | denied cannot be created | 3
+solve-max pipe a denied | < pipe;> a;! > denied;= a; |  | denied cannot be created | 3
+solve-max broken a b | < broken;> a;> b;- broken;= a;= b; |  | broken cannot be read | 3
+solve-max pipe full b | < pipe;> full;> b;- pipe;= full;s 3;= b; |  | full cannot be written | 3
+solve-max pipe a full | < pipe;> a;> full;- pipe;= a;s 3;f 1 2 3;= full;p cu |  | full cannot be written | 3
+solve-paths cycle source denied | < cycle;< source;! > denied; |  | denied cannot be created | 3
+solve-paths cycle source full | < cycle;< source;> full;- cycle;- source;= full;p di |  | full cannot be written | 3
+judge-max max flow |  |  |  | 2
+certify-max max |  |  |  | 2
+certify-max max flow a b |  |  |  | 2
+--help |  |  |  | 2
+solve-max pipe a b --limit |  |  |  | 2";
 
 /// Whether the command line of a case ends as the case says.
 fn ends(rt: &impl Abort, alloc: Global, line: &str) -> Result<(), Fail> {
     let case = case(alloc, line)?;
     let (command, rest) = cell(rt, &case);
     let (done, rest) = cell(rt, rest);
-    let (output, status) = cell(rt, rest);
-    let mut files = MemoryFiles {
-        alloc,
-        done: String::new(alloc),
-        faults: 0,
-    };
+    let (output, rest) = cell(rt, rest);
+    let (told, status) = cell(rt, rest);
+    let mut files = MemoryFiles::new(rt, alloc, &HELD);
     let mut printed = MemorySink::new(alloc);
     let given = words(alloc, command)?;
     let ended = run_command(alloc, &given, &mut files, &mut printed);
@@ -250,39 +282,19 @@ fn ends(rt: &impl Abort, alloc: Global, line: &str) -> Result<(), Fail> {
         status.parse::<u8>().expect(rt, command),
     );
     holds(rt, command, printed.bytes() == output.as_bytes());
-    holds(rt, command, files.done.as_str().starts_with(done));
-    Ok(())
-}
-
-#[test]
-fn commands_end_with_their_statuses(rt: HostRuntime) -> Result<(), Fail> {
-    for line in rows(&rt, COMMANDS, 47) {
-        ends(&rt, rt.alloc(), line)?;
-    }
-    Ok(())
-}
-
-/// Whether the failure of a command line is told as the case says.
-fn tells(rt: &impl Abort, alloc: Global, line: &str) -> Result<(), Fail> {
-    let case = case(alloc, line)?;
-    let (command, told) = cell(rt, &case);
-    let mut files = MemoryFiles {
-        alloc,
-        done: String::new(alloc),
-        faults: 0,
+    same(rt, command, shown(alloc, &files.done)?.as_str(), done);
+    let failure = match ended.failure {
+        Some(failure) => format!(in alloc; "{} {}", failure.device(), failure.call())?,
+        None => String::new(alloc),
     };
-    let given = words(alloc, command)?;
-    let ended = run_command(alloc, &given, &mut files, &mut MemorySink::new(alloc));
-    let failure = ended.failure.expect(rt, command);
-    let words = format!(in alloc; "{} {}", failure.device(), failure.call())?;
-    same(rt, command, words.as_str(), told);
+    same(rt, command, failure.as_str(), told);
     Ok(())
 }
 
 #[test]
-fn failures_name_their_files(rt: HostRuntime) -> Result<(), Fail> {
-    for line in rows(&rt, FAILURES, 12) {
-        tells(&rt, rt.alloc(), line)?;
+fn commands_end_as_they_say(rt: HostRuntime) -> Result<(), Fail> {
+    for line in rows(&rt, COMMANDS, 56) {
+        ends(&rt, rt.alloc(), line)?;
     }
     Ok(())
 }

@@ -19,6 +19,7 @@ mod failures;
 mod flows;
 #[cfg(test)]
 mod judging;
+pub mod memory_files;
 #[cfg(test)]
 mod paths;
 #[cfg(test)]
