@@ -1,8 +1,7 @@
 /* Refuses calls of a program that is loaded after this library (LD_PRELOAD), and counts them.
  *
  * Growths (calls that take memory), reads, writes and openings of files count from 1, each kind for itself, from the
- * start of the program's own code. Writes to the standard error aren't counted, and never fail; nor are openings of the
- * folder `/`, which the program keeps in place of standard streams that are closed.
+ * start of the program's own code. Writes to the standard error aren't counted, and never fail.
  *
  *   REFUSE_GROWTH, REFUSE_READ, REFUSE_WRITE, REFUSE_OPENING   the number of the call that fails, once
  *   INTERRUPT   where it is set, a read or write that fails was interrupted by a signal

@@ -102,6 +102,14 @@ RUNS = [
     ("convert foo odd", 2, ""),
 ]
 
+# Runs that write one file twice, of which a line on the standard error tells; no write is refused, since the later text
+# stands over the earlier.
+TWICE = [
+    ("solve-max max CLAIM CLAIM", 0, "v max 6\n"),
+    ("solve-min surplus SHOWN SHOWN", 0, "v infeasible\n"),
+    ("solve-max max CLAIM CLAIM --limit 1", 5, "g limit\n"),
+]
+
 # Runs over a long path, whose tables grow in mid-course: only growths are refused.
 GROWING = [
     ("show gr long.gr", 0, "i sp 11701 39\n"),
@@ -397,13 +405,19 @@ def complaint_of(call, error=None):
     return f"dimacs: device fault\ndimacs: {call.name}: cannot be {call.done}: {why}\n"
 
 
+def twice(words):
+    """What the standard error has at its end where two of the files of a run that solves have one name."""
+    names = names_of(words)[1:] if words.startswith("solve-") else []
+    return "".join(f"dimacs: {name}: written twice\n" for name in {it for it in names if names.count(it) > 1})
+
+
 def is_whole_complaint(ran, words):
     """Whether the standard error of a run of which no call was refused is what its status asks for."""
     if ran.status == 2:
         return bool(re.fullmatch(USAGE, ran.complaint, re.DOTALL))
     if ran.status == 3:
         return ran.complaint == complaint_of(Call("opened", files_of(words)[0]), errno.ENOENT)
-    return ran.complaint == ""
+    return ran.complaint == twice(words)
 
 
 def is_same(ran, whole):
@@ -449,7 +463,7 @@ def fault_of(kind, words, ran, whole):
         return None
     if is_made_again or ran.status != kind.status:
         return f"status {ran.status}, complains {ran.complaint!r}"
-    if ran.complaint != complaint_of(ran.refused):
+    if ran.complaint != complaint_of(ran.refused) + twice(words):
         return f"complains {ran.complaint!r}"
     allowed = whole.outputs if kind.call == "write" else [""] * len(ran.outputs)
     if not is_beginning(ran.outputs, allowed):
@@ -628,6 +642,8 @@ def main():
             runs.write(name, text)
         for run in RUNS:
             cases.count(refuse_all(runs, *run, KINDS))
+        for run in TWICE:
+            cases.count(refuse_all(runs, *run, KINDS[:3]))
         for run in GROWING:
             cases.count(refuse_all(runs, *run, KINDS[:1]))
         for closed in CLOSED:

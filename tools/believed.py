@@ -130,9 +130,19 @@ def public_clauses(path):
     return imports(text), found
 
 
+def crates():
+    """The folders of the crates, without those of tests, whose definitions nobody has to believe."""
+    return sorted(it for it in glob.glob(f"{ROOT}/crates/*") if not it.endswith("_tests"))
+
+
+def sources():
+    """The files of code of these crates."""
+    return [path for crate in crates() for path in sorted(glob.glob(f"{crate}/src/**/*.rt", recursive=True))]
+
+
 def all_definitions():
     defined = Definitions()
-    for folder in sorted(glob.glob(f"{ROOT}/crates/*/specs")):
+    for folder in (f"{it}/specs" for it in crates()):
         crate = os.path.basename(os.path.dirname(folder))
         for path in sorted(glob.glob(f"{folder}/**/*.antt", recursive=True)):
             module = os.path.relpath(path, folder)[: -len(".antt")].replace("/", ".")
@@ -144,7 +154,7 @@ def all_definitions():
 def named_by_all():
     """The definitions that all public clauses name."""
     found = set()
-    for path in glob.glob(f"{ROOT}/crates/*/src/**/*.rt", recursive=True):
+    for path in sources():
         named, clauses = public_clauses(path)
         for lines in clauses.values():
             found |= named_in("\n".join(lines), named, [])
@@ -154,7 +164,7 @@ def named_by_all():
 def traits():
     """The text and the imports of each public trait, by its name."""
     found = {}
-    for path in glob.glob(f"{ROOT}/crates/*/src/**/*.rt", recursive=True):
+    for path in sources():
         text = open(path, encoding="utf-8").read()
         for name, block in re.findall(r"^pub trait (\w+)(.*?^})", text, re.M | re.S):
             found[name] = block, imports(text)

@@ -55,9 +55,7 @@ Exit status:
 
 Example:
   dimacs judge-max pipes.max pipes.solution pipes.cut
-  prints v max 12, or the first fault with its place, as x arc 3 NotSaturated
-
-dimacs 0.1.0";
+  prints v max 12, or the first fault with its place, as x arc 3 NotSaturated";
 
 /// The name and the version.
 static VERSION: &str = "dimacs 0.1.0";
