@@ -31,6 +31,7 @@ quick: build/quick/dimacs $(LIBRARY:%=build/quick/%)
 
 ## make check: runs all tests over build/quick, unproved
 check: quick
+	@tools/kit.py >/dev/null
 	@tests/check.py build/quick
 
 ## make prove: the gate: proves all from nothing, has wrong bodies refused, and runs the tests over what is proved

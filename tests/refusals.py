@@ -463,7 +463,10 @@ def fault_of(kind, words, ran, whole):
         return None
     if is_made_again or ran.status != kind.status:
         return f"status {ran.status}, complains {ran.complaint!r}"
-    if ran.complaint != complaint_of(ran.refused) + twice(words):
+    wanted = [complaint_of(ran.refused) + twice(words)]
+    if kind.call == "growth" and ran.counts.opening <= OTHER_OPENINGS:  # its words may not be known yet
+        wanted.append(complaint_of(ran.refused))
+    if ran.complaint not in wanted:
         return f"complains {ran.complaint!r}"
     allowed = whole.outputs if kind.call == "write" else [""] * len(ran.outputs)
     if not is_beginning(ran.outputs, allowed):

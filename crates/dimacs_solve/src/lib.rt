@@ -13,7 +13,6 @@ mod least;
 mod marks;
 mod maximum;
 mod paths;
-mod preflow;
 mod question;
 mod search;
 

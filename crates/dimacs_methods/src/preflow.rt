@@ -1,37 +1,32 @@
-//! Preflows that are pushed to a maximum flow: highest label first, with global relabelling and gaps, as Goldberg and
+//! Preflows: excess is pushed to deficits, highest label first, with global relabelling and gaps, as Goldberg and
 //! Cherkassky describe it.
-//!
-//! Nothing here is promised but that it is safe. What comes out counts only if it passes the test of a feasible flow.
-
-ghost use Rattle.std.specs.Prelude.{◌≡◌, length};
 
 mod levels;
 mod residual;
-mod tables;
 mod waiting;
 
 use crate::preflow::levels::Levels;
 use crate::preflow::residual::{Half, Residual};
-use crate::preflow::tables::{member, set_member};
 use crate::preflow::waiting::Waiting;
-use dimacs_instance::MaxInstance;
-use dimacs_judge::Flow;
+use crate::tables::{member, set_member};
+use dimacs_instance::{MaxInstance, MinInstance};
 use dimacs_lines::Memory;
 use dimacs_network::Network;
 use std::alloc::Global;
 
-/// The height of a node from which the target can't be reached.
+/// The height of a node from which no deficit can be reached.
 const CUT_OFF: u32 = u32::MAX;
 
-/// A flow of which more may enter a node than leaves it. What is too much at a node is pushed down, from higher to
-/// lower nodes: a node's height is at most its distance to the target.
+/// A surplus that no flow makes up for: -2^120.
+const ENDLESS_DEFICIT: i128 = -1329227995784915872903807060280344576;
+
+/// A flow that leaves excess and deficits at nodes. Excess is pushed down, from higher to lower nodes: a node's height is
+/// at most one more than its distance to a deficit.
 #[derive(Drop)]
-pub(crate) struct Preflow {
-    source: u32,
-    sink: u32,
+struct Preflow {
     residual: Residual,
-    /// How much more enters each node than leaves it.
-    excess: Vec<i128>,
+    /// How much more enters each node than leaves it, with its supply; where it is negative the node has a deficit.
+    surplus: Vec<i128>,
     height: Vec<u32>,
     /// For each node the place before which no half leads down.
     cursor: Vec<u32>,
@@ -43,40 +38,50 @@ pub(crate) struct Preflow {
     enough: u64,
 }
 
-/// A flow of greatest value, if all goes well. Takes some 60 bytes for each node that has an arc, and 40 for each arc.
-pub(crate) fn pushed<N: Network>(
+/// A flow of greatest value, from a feasible one on. The amounts are those of the arcs in their order. Takes some 60 bytes
+/// for each node that has an arc, and 40 for each arc.
+pub fn raise_value<N: Network>(
     alloc: Global,
     instance: &MaxInstance<N>,
-    flow: &Flow,
-) -> Result<Flow, Memory>
-    requires { length flow.now ≡ length instance.now.arcs }
-{
-    let mut preflow = Preflow::new(alloc, instance, flow)?;
-    let source = preflow.source;
-    let sink = preflow.sink;
-    preflow.flood();
-    preflow.drain(sink);
-    preflow.drain(source);
-    preflow.residual.flow(alloc, instance.network())
+    amounts: &[i64],
+) -> Result<Vec<i64>, Memory> {
+    let network = instance.network();
+    let mut preflow = Preflow::new(alloc, network, amounts)?;
+    let source = preflow.residual.number(instance.source());
+    let sink = preflow.residual.number(instance.sink());
+    preflow.flood(source);
+    preflow.set_surplus(source, 0);
+    preflow.set_surplus(sink, ENDLESS_DEFICIT);
+    preflow.drain();
+    preflow.set_surplus(source, ENDLESS_DEFICIT);
+    preflow.set_surplus(sink, 0);
+    preflow.drain();
+    preflow.residual.amounts(alloc, network)
+}
+
+/// A flow that leaves as little excess as can be, from one within the bounds on. Takes as much memory.
+pub fn send_excess<N: Network>(
+    alloc: Global,
+    instance: &MinInstance<N>,
+    amounts: &[i64],
+) -> Result<Vec<i64>, Memory> {
+    let network = instance.network();
+    let mut preflow = Preflow::new(alloc, network, amounts)?;
+    preflow.supply(instance);
+    preflow.carry(network, amounts);
+    preflow.drain();
+    preflow.residual.amounts(alloc, network)
 }
 
 impl Preflow {
-    fn new<N: Network>(
-        alloc: Global,
-        instance: &MaxInstance<N>,
-        flow: &Flow,
-    ) -> Result<Preflow, Memory>
-        requires { length flow.now ≡ length instance.now.arcs }
-    {
-        let network = instance.network();
-        let residual = Residual::new(alloc, network, flow)?;
+    /// What these amounts leave room for, without excess or deficit.
+    fn new<N: Network>(alloc: Global, network: &N, amounts: &[i64]) -> Result<Preflow, Memory> {
+        let residual = Residual::new(alloc, network, amounts)?;
         let nodes = residual.nodes();
         let size = nodes as usize + 1;
         Ok(Preflow {
-            source: residual.number(instance.source()),
-            sink: residual.number(instance.sink()),
             residual,
-            excess: vec![in alloc; 0i128; size]?,
+            surplus: vec![in alloc; 0i128; size]?,
             height: vec![in alloc; 0u32; size]?,
             cursor: vec![in alloc; 0u32; size]?,
             levels: Levels::new(alloc, nodes)?,
@@ -86,39 +91,62 @@ impl Preflow {
         })
     }
 
-    /// Sends out of the source all that there is room for.
-    fn flood(&mut self) {
-        let source = self.source;
-        for place in self.residual.first(source)..self.residual.end(source) {
+    /// Adds the supplies to the surpluses.
+    fn supply<N: Network>(&mut self, instance: &MinInstance<N>) {
+        for node in 1..=self.residual.nodes() {
+            let id = self.residual.id(node);
+            self.add_surplus(node, i128::from(instance.supply(id)));
+        }
+    }
+
+    /// Adds to the surpluses what these amounts take and bring.
+    fn carry<N: Network>(&mut self, network: &N, amounts: &[i64]) {
+        for i in 0..network.arcs() {
+            let arc = network.arc(i);
+            let amount = i128::from(member(amounts, i, 0));
+            let tail = self.residual.number(arc.tail);
+            let head = self.residual.number(arc.head);
+            self.add_surplus(tail, amount.wrapping_neg());
+            self.add_surplus(head, amount);
+        }
+    }
+
+    /// Sends out of a node all that there is room for.
+    fn flood(&mut self, node: u32) {
+        for place in self.residual.first(node)..self.residual.end(node) {
             let half = self.residual.half(place);
             if half.room > 0 {
-                self.move_along(source, place, half, half.room);
+                self.move_along(node, place, half, half.room);
             }
         }
     }
 
-    /// Pushes excess to the target, until all that is left is cut off from it.
-    fn drain(&mut self, target: u32) {
-        self.measure(target);
+    /// Pushes excess to deficits, until all that is left is cut off from them.
+    fn drain(&mut self) {
+        self.measure();
         for _ in 0..u64::MAX {
             let Some(node) = self.waiting.pop() else {
                 return;
             };
             self.discharge(node);
             if self.work > self.enough {
-                self.measure(target);
+                self.measure();
             }
         }
     }
 
-    /// Makes heights distances to the target, level by level.
-    fn measure(&mut self, target: u32) {
+    /// Makes heights distances to the nodes that have a deficit, which are at height 1, level by level.
+    fn measure(&mut self) {
         self.height.fill(CUT_OFF);
         self.levels.clear();
         self.waiting.clear();
         self.work = 0;
-        self.raise_to(target, 0);
-        for height in 0..u32::MAX {
+        for node in 1..=self.residual.nodes() {
+            if self.surplus(node) < 0 {
+                self.raise_to(node, 1);
+            }
+        }
+        for height in 1..u32::MAX {
             let first = self.levels.first(height);
             if first == 0 {
                 return;
@@ -135,7 +163,7 @@ impl Preflow {
                 return;
             }
             self.reach_back(node, height);
-            if self.excess(node) > 0 && !self.is_end(node) {
+            if self.surplus(node) > 0 {
                 self.waiting.push(node, height);
             }
             node = self.levels.after(node);
@@ -146,10 +174,7 @@ impl Preflow {
     fn reach_back(&mut self, node: u32, height: u32) {
         for place in self.residual.first(node)..self.residual.end(node) {
             let half = self.residual.half(place);
-            if self.height(half.to) == CUT_OFF
-                && half.to != self.source
-                && self.residual.half(half.back).room > 0
-            {
+            if self.height(half.to) == CUT_OFF && self.residual.half(half.back).room > 0 {
                 self.raise_to(half.to, height.wrapping_add(1));
             }
         }
@@ -160,7 +185,7 @@ impl Preflow {
     fn discharge(&mut self, node: u32) {
         for _ in 0..u64::MAX {
             self.push_down(node);
-            if self.excess(node) <= 0 || !self.lift(node) {
+            if self.surplus(node) <= 0 || !self.lift(node) {
                 return;
             }
         }
@@ -169,11 +194,11 @@ impl Preflow {
     /// Pushes excess along the halves that lead one level down, as long as there is some.
     fn push_down(&mut self, node: u32) {
         let height = self.height(node);
-        for place in member(&self.cursor, node)..self.residual.end(node) {
+        for place in member(&self.cursor, node, 0)..self.residual.end(node) {
             let half = self.residual.half(place);
             if half.room > 0 && self.height(half.to).wrapping_add(1) == height {
                 self.push(node, place, half);
-                if self.excess(node) <= 0 {
+                if self.surplus(node) <= 0 {
                     set_member(&mut self.cursor, node, place);
                     return;
                 }
@@ -183,19 +208,20 @@ impl Preflow {
 
     /// Pushes as much as there is excess and room. A node that had none waits from now on.
     fn push(&mut self, from: u32, place: u32, half: Half) {
-        let amount = least(half.room, self.excess(from));
-        if self.excess(half.to) == 0 && !self.is_end(half.to) {
+        let amount = least(half.room, self.surplus(from));
+        let had = self.surplus(half.to);
+        self.move_along(from, place, half, amount);
+        if had <= 0 && self.surplus(half.to) > 0 {
             let height = self.height(half.to);
             self.waiting.push(half.to, height);
         }
-        self.move_along(from, place, half, amount);
     }
 
     #[inline(always)]
     fn move_along(&mut self, from: u32, place: u32, half: Half, amount: i64) {
         self.residual.send(place, amount);
-        self.add_excess(from, i128::from(amount).wrapping_neg());
-        self.add_excess(half.to, i128::from(amount));
+        self.add_surplus(from, i128::from(amount).wrapping_neg());
+        self.add_surplus(half.to, i128::from(amount));
     }
 
     /// Lifts a node to one above the lowest that it leads to. Where none does, or no node is left at its old height,
@@ -261,27 +287,23 @@ impl Preflow {
     }
 
     #[inline(always)]
-    fn is_end(&self, node: u32) -> bool {
-        node == self.source || node == self.sink
-    }
-
-    #[inline(always)]
     fn height(&self, node: u32) -> u32 {
-        member(&self.height, node)
+        member(&self.height, node, 0)
     }
 
     #[inline(always)]
-    fn excess(&self, node: u32) -> i128 {
-        match self.excess.get(node as usize) {
-            Some(&amount) => amount,
-            None => 0,
-        }
+    fn surplus(&self, node: u32) -> i128 {
+        member(&self.surplus, node, 0)
+    }
+
+    fn set_surplus(&mut self, node: u32, amount: i128) {
+        set_member(&mut self.surplus, node, amount);
     }
 
     #[inline(always)]
-    fn add_excess(&mut self, node: u32, amount: i128) {
-        if let Some(excess) = self.excess.get_mut(node as usize) {
-            *excess = excess.wrapping_add(amount);
+    fn add_surplus(&mut self, node: u32, amount: i128) {
+        if let Some(surplus) = self.surplus.get_mut(node as usize) {
+            *surplus = surplus.wrapping_add(amount);
         }
     }
 }

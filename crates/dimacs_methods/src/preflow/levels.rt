@@ -1,6 +1,6 @@
 //! Nodes by height.
 
-use crate::preflow::tables::{member, set_member};
+use crate::tables::{member, set_member};
 use dimacs_lines::Memory;
 use std::alloc::Global;
 
@@ -38,12 +38,12 @@ impl Levels {
 
     /// The first node of a height.
     pub(crate) fn first(&self, height: u32) -> u32 {
-        member(&self.first, height)
+        member(&self.first, height, 0)
     }
 
     /// The next node of the same height.
     pub(crate) fn after(&self, node: u32) -> u32 {
-        member(&self.after, node)
+        member(&self.after, node, 0)
     }
 
     pub(crate) fn insert(&mut self, node: u32, height: u32) {
@@ -59,7 +59,7 @@ impl Levels {
 
     pub(crate) fn remove(&mut self, node: u32, height: u32) {
         let next = self.after(node);
-        let earlier = member(&self.before, node);
+        let earlier = member(&self.before, node, 0);
         if next > 0 {
             set_member(&mut self.before, next, earlier);
         }

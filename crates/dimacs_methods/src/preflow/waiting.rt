@@ -1,6 +1,6 @@
 //! Nodes that wait, the highest first.
 
-use crate::preflow::tables::{member, set_member};
+use crate::tables::{member, set_member};
 use dimacs_lines::Memory;
 use std::alloc::Global;
 
@@ -29,7 +29,7 @@ impl Waiting {
     }
 
     pub(crate) fn push(&mut self, node: u32, height: u32) {
-        set_member(&mut self.after, node, member(&self.first, height));
+        set_member(&mut self.after, node, member(&self.first, height, 0));
         set_member(&mut self.first, height, node);
         self.highest = self.highest.max(height);
     }
@@ -37,18 +37,18 @@ impl Waiting {
     /// Takes out a node of the greatest height.
     pub(crate) fn pop(&mut self) -> Option<u32> {
         self.descend();
-        let node = member(&self.first, self.highest);
+        let node = member(&self.first, self.highest, 0);
         if node == 0 {
             return None;
         }
-        set_member(&mut self.first, self.highest, member(&self.after, node));
+        set_member(&mut self.first, self.highest, member(&self.after, node, 0));
         Some(node)
     }
 
     /// Goes down to the greatest height at which a node waits.
     fn descend(&mut self) {
         for _ in 0..self.highest {
-            if member(&self.first, self.highest) > 0 {
+            if member(&self.first, self.highest, 0) > 0 {
                 return;
             }
             self.highest = self.highest.wrapping_sub(1);
