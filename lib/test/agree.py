@@ -9,10 +9,12 @@ Not compared, since arrays and texts differ there by design:
   - wrong lengths, and numbers past the limits of instances, which are misuse of arrays and faults of texts;
   - a claimed value, which a text has and arrays haven't: the right one is printed;
   - where NotMaximum and NotLeast are told, which is at the text's VALUE, and of arrays `solution 0 0`;
-  - potentials past 64 bits, which a text can say: then certify_min_arrays gives up, and the text has to get a yes;
+  - potentials past 64 bits, which a text can say: then certify_min_arrays and solve_min_arrays give up, and the text has to
+    get a yes;
   - predecessors that don't lead back to the source: no text has an order of labels for them, so each is refused by
     PredUnknown at a line, and the arrays at a node; and predecessors that are no nodes, or of nodes without a distance,
     which no label says.
+  - a distance of 2^63 - 1 or more, which a text can say: then solve_paths_arrays gives up.
 certify_paths_arrays has no command of its own. Its yes is judged as a text with the labels of its predecessors, and its
 no is compared with the tests that dimacs.h names, which are made here.
 """
@@ -380,7 +382,61 @@ def certified_paths(chance, texts):
         yield "certify paths", f"x {no}", it.first_fault()
 
 
+def solved(name, it, solve, other, judge, certificate, texts):
+    """An instance: the line of its solver, that of the texts, and what it handed out as a text."""
+    try:
+        value, flows, shown = solve()
+        yield name, f"v {name[-3:]} {value}", other
+        yield f"{name}, what was made", other, texts.line(judge, *it.texts(flows), certificate(shown))
+    except dimacs.Infeasible as no:
+        yield name, "v infeasible", other
+        yield f"{name}, its set", other, texts.line("judge-infeasible", it.texts()[0], it.cut(no.inside))
+    except dimacs.GaveUp:
+        if other == "g limit":  # the least cost is out of range
+            yield name, "g limit", other
+        else:
+            yield f"{name}, past 64 bits", "v", other.split()[0]
+
+
+def solved_line(solve, instance):
+    """The line of texts that are solved."""
+    try:
+        made = solve(instance)
+        return f"v {'max' if solve is dimacs.solve_max else 'min'} {made.value}"
+    except dimacs.Infeasible:
+        return "v infeasible"
+    except dimacs.GaveUp:
+        return "g limit"
+
+
+def solved_max(chance, texts):
+    it = MaxCase(chance)
+    other = solved_line(dimacs.solve_max, it.texts()[0])
+    return solved("solve max", it, lambda: dimacs.solve_max_arrays(*it.arrays[:-1]), other, "judge-max", it.cut, texts)
+
+
+def solved_min(chance, texts):
+    it = InfeasibleCase(chance)
+    other = solved_line(dimacs.solve_min, it.texts()[0])
+    return solved("solve min", it, lambda: dimacs.solve_min_arrays(*it.instance()), other, "judge-min", it.potentials, texts)
+
+
+def solved_paths(chance, texts):
+    it = PathsCase(chance)
+    it.costs = [max(0, weight) for weight in it.costs] if chance.random() < 0.8 else it.costs
+    it.graph = it.nodes, it.tails, it.heads, it.costs, it.source
+    try:
+        _, it.distances, it.predecessors = dimacs.solve_paths_arrays(*it.graph)
+        found, wanted = it.distances, it.search()[0]
+        yield "solve paths", f"v {found}", f"v {wanted}"
+        yield "solve paths, what was made", "v sp ss 1", texts.line("judge-paths", *it.texts()[0])
+    except dimacs.Refused as no:
+        negative = [number for number, weight in enumerate(it.costs, 1) if weight < 0]
+        yield "solve paths", f"x {no}", f"x arc {negative[0]} NegativeWeight"
+
+
 COMPARED = [judged_max, judged_min, judged_infeasible, judged_paths, certified_max, certified_min, certified_paths]
+COMPARED += [solved_max, solved_min, solved_paths]
 
 
 def main():

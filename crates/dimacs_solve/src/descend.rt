@@ -2,7 +2,7 @@
 
 ghost use Rattle.std.specs.Prelude.{◌≡◌, ◌+◌, length, map, take, IfOk};
 ghost use Rattle.dimacs_solve.specs.Descending.{start_amount, start_flow};
-ghost use Rattle.dimacs_solve.specs.inside.Descending.{Descends};
+ghost use Rattle.dimacs_solve.specs.Descending.{Descends};
 
 use crate::jump::jump;
 use crate::question::{Reply, ask_over};
@@ -16,16 +16,17 @@ use std::alloc::Global;
 
 /// Where a descent ends.
 #[derive(Drop)]
-pub(crate) enum Descent {
+pub enum Descent {
     /// At a flow of least cost, with potentials that show it.
     Bottom(Flow, Potentials),
     /// At a set that shows that no flow is feasible.
     Nowhere(Cut),
+    /// At none: after so many steps, each to a better flow, the flow is still not least.
     GaveUp,
 }
 
 /// Goes from the start flow to its end, in one step where there may be one, else as `descend_by_steps`.
-pub(crate) fn descend<N: Network>(
+pub fn solve_min_flow<N: Network>(
     alloc: Global,
     instance: &MinInstance<N>,
     limit: u64,

@@ -2,7 +2,7 @@
 
 ghost use Rattle.std.specs.Prelude.{◌<◌, ℕ, IfOk, IfSome};
 ghost use Rattle.dimacs_decide.specs.Bounds.{KeepsBounds};
-ghost use Rattle.dimacs_solve.specs.inside.Descending.{Descends};
+ghost use Rattle.dimacs_solve.specs.Descending.{Descends};
 
 use crate::descend::Descent;
 use crate::question::{Reply, ask};

@@ -80,6 +80,10 @@ IDS = Items("I", 4, 0, 2**32 - 1)
 NUMBERS = Items("q", 8, -(2**63), 2**63 - 1)
 MARKS = Items("B", 1, 0, 2**8 - 1)
 DISTANCES = NUMBERS._replace(infinity=UNREACHED)
+LIMITS = Items("Q", 8, 0, 2**64 - 1)
+
+#: The limit where none is given.
+LIMIT = 1_000_000
 
 #: The codes of buffers that have such items already, by their code here.
 _SAME = {"I": ("I", "L", "=I", "@I", "<I"), "q": ("q", "l", "=q", "@q", "<q"), "B": ("B", "?", "<B", "<?")}

@@ -1,5 +1,5 @@
 use Rattle.dimacs_solve.proofs.Rising.{first_flow, next_flow}
-use Rattle.dimacs_solve.proofs.climb.climb.Goals as goal
+use Rattle.dimacs_solve.proofs.climb.solve_max_flow.Goals as goal
 
 pub loop-turn-init : goal.loop-turn-init
 loop-turn-init g c = first_flow c.args.instance.now c.in_ok-flow.flow c.network-network.ensures.lawful (rw (c.arcs.ensures, c.network-network.ensures.arcs) at c.in_ok-flow.ensures)
