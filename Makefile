@@ -15,8 +15,8 @@ FROM = build$(if $(UNPROVED),/quick)
 IN = $(DESTDIR)$(PREFIX)
 MAN = $(if $(wildcard tools/man_pages.py),build/man)
 
-CODE := Makefile crates.txt $(shell find crates -path '*/out' -prune -o -path '*/src/*.rt' -print)
-PROOFS := $(shell find crates -path '*/out' -prune -o -path '*/must-fail' -prune -o -name '*.antt' -print)
+CODE := crates.txt $(shell find crates -path '*/out' -prune -o -path '*_tests' -prune -o -path '*/src/*.rt' -print)
+PROOFS := $(shell find crates -path '*/out' -prune -o -path '*_tests' -prune -o -name '*.antt' -print)
 TOOLS = tools/kit.py tools/quick_build.py
 
 ## make: proves the program and the library, and builds build/dimacs, build/libdimacs.a and build/libdimacs.so

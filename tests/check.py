@@ -31,6 +31,7 @@ SCRIPTS = {
     "batch": ["{build}/dimacs"],
     "shown_runs": ["{build}/dimacs"],
     "version": ["{build}"],
+    "promises": [],
     "man_pages": [],
     "completion": [],
 }

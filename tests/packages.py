@@ -143,6 +143,17 @@ def test_program(its, program):
     its.expect("the version of the program", f"dimacs {its.version}\n" in said)
 
 
+def test_batch(its):
+    """A row with the verdict of one answer."""
+    if not os.path.exists(f"{its.usr}/bin/dimacs-batch"):
+        print("left out: dimacs-batch")
+        return
+    os.mkdir(f"{its.place}/answers")
+    for name, text in (("one.max", MAX), ("one.solution", FLOW)):
+        put(f"{its.place}/answers/{name}", text)
+    its.expect("dimacs-batch", ",v max 3,3," in its.run(f"{its.usr}/bin/dimacs-batch", "answers"))
+
+
 def test_tarball(its):
     """The program where the tarball is unpacked."""
     name = f"dimacs-{its.version}-x86_64-linux"
@@ -224,6 +235,7 @@ def test_all(dist, is_root):
         test_sums(its)
         test_debian(its, is_root)
         test_program(its, f"{its.usr}/bin/dimacs")
+        test_batch(its)
         test_tarball(its)
         test_pkg_config(its)
         test_cmake(its)

@@ -27,13 +27,13 @@ def order(listed):
 
 
 def prove(name, words, left):
-    """Runs rt in a crate's folder, and says each minute that it is at work."""
+    """Runs rt in a crate's folder, and prints a line each minute."""
     begun = time.monotonic()
     with tempfile.TemporaryFile("w+", errors="replace") as said:
         ran = subprocess.Popen(["rt", *words], cwd=f"{CRATES}/{name}", stdout=said, stderr=said, stdin=subprocess.DEVNULL)
         while True:
             minutes = (time.monotonic() - begun) / 60
-            print(f"{name} is at work for {minutes:.0f} minutes, and {left} crates are left after it", flush=True)
+            print(f"{name}: at work for {minutes:.0f} minutes, and {left} crates are left after it", flush=True)
             try:
                 status = ran.wait(60)
                 break
