@@ -247,7 +247,8 @@ def tidy(lines):
 
 def page(name):
     title, number = name.split(".")
-    head = ["'\\\" t", f'.TH {title.upper()} {number} {date()} "dimacs {version()}"', ".nh", ".ad l"]
+    # One page of any length: a page break may fall into a table.
+    head = ["'\\\" t", f'.TH {title.upper()} {number} {date()} "dimacs {version()}"', ".if n .pl 9999v", ".nh", ".ad l"]
     text = "\n".join(head + tidy(troff(blocks(read(f"man/{name}.md")), 0))) + "\n"
     itself = f"{title}({number})"
     text = re.sub(rf"(^|\. ){re.escape(itself)} (?=says|has)", r"\1This page ", text, flags=re.MULTILINE)
