@@ -1,14 +1,10 @@
-"""Runs programs in turn and tells what they took, for the scripts beside it, which are called with
+"""Runs programs in turn, and prints what they took in tables.
 
-    DIR SIZES ROUNDS [BINARY]
-
-DIR has the built programs; the texts are kept there. SIZES are in MB. The programs take turns, in an order that changes
-from round to round, at least ROUNDS times, and more often while runs are short. A time is the median of the rounds. A
-ratio is the median of the rounds' own ratios, each of two runs that lie beside each other, and its spread is that of
-the middle half of them: on a machine that others use too, the best times of two programs may lie in different minutes.
+The programs take turns, in an order that changes from round to round, and more often than asked for while runs are
+short. A time is the median of the rounds. A ratio is the median of the rounds' own ratios, each of two runs beside each
+other: on a machine that others use too, the best times of two programs may lie in different minutes.
 """
 
-import fcntl
 import math
 import os
 import re
@@ -16,39 +12,21 @@ import statistics
 import subprocess
 import sys
 import time
-from dataclasses import dataclass
+from collections import namedtuple
 
 HERE = os.path.dirname(os.path.abspath(__file__))
+PYTHON = os.environ.get("PYTHON", sys.executable)
 
+NO_LIMIT = 0
+OVER_LIMIT = 128 + 24  # the status of a run that was ended at its limit
+NO_SUCH_PROGRAM = 127
 
-class Asked:
-    """What the words and the environment ask for. Goes to DIR, where one script at a time may run: they write there."""
+# Rounds are added, up to so many times as many, while all of them together took no longer than so many seconds each.
+MORE_ROUNDS = 5
+SHORT_ROUND = 2
 
-    def __init__(self):
-        self.sizes = [int(size) for size in sys.argv[2].split(",")]
-        self.rounds = int(sys.argv[3])
-        self.binary = os.path.abspath(sys.argv[4]) if len(sys.argv) > 4 else None
-        self.only = os.environ.get("ONLY", "")
-        os.chdir(sys.argv[1])
-        self.lock = open("lock", "w")
-        try:
-            fcntl.flock(self.lock, fcntl.LOCK_EX | fcntl.LOCK_NB)
-        except BlockingIOError:
-            sys.exit(f"another script runs in {sys.argv[1]}")
-
-    def wants(self, name):
-        return re.search(self.only, name)
-
-
-@dataclass
-class Taken:
-    """What a run took, its status, and what it printed where that was asked for."""
-
-    wall: float
-    cpu: float
-    peak_bytes: int
-    status: int = 0
-    printed: str = None
+# What a run took, its status, and what it printed where that was asked for.
+Taken = namedtuple("Taken", "wall cpu peak_bytes status printed", defaults=(0, 0, None))
 
 
 class Rounds:
@@ -73,18 +51,14 @@ class Rounds:
         return statistics.median(ratios), ratios[quarter], ratios[-1 - quarter]
 
 
-NO_LIMIT = 0
-OVER_LIMIT = 128 + 24  # the status of a run that was ended at its limit
-
-
-def pinned(command):
-    core = os.environ.get("CORE")
-    return ["taskset", "-c", core] + command if core else command
+def wants(name):
+    return re.search(os.environ.get("ONLY", ""), name)
 
 
 def measure(command, limit=NO_LIMIT, stdout=subprocess.DEVNULL):
     """Runs a command, for so many seconds of processor time at most."""
-    words = ["./runner", "taken", str(limit)] + pinned(command)
+    core = os.environ.get("CORE")
+    words = ["./runner", "taken", str(limit), *(["taskset", "-c", core] if core else []), *command]
     run = subprocess.run(words, stdout=stdout, stderr=subprocess.DEVNULL, text=True, check=False)
     with open("taken") as line:
         wall, cpu, kilobytes = line.read().split()
@@ -94,11 +68,6 @@ def measure(command, limit=NO_LIMIT, stdout=subprocess.DEVNULL):
 def printed(command):
     """What a command prints, whatever its status."""
     return subprocess.run(command, capture_output=True, text=True, check=False).stdout
-
-
-# Rounds are added, up to so many times as many, while all of them together took no longer than so many seconds each.
-MORE_ROUNDS = 5
-SHORT_ROUND = 2
 
 
 def measure_in_turn(commands, rounds):
@@ -117,16 +86,15 @@ def mean(ratios):
     return math.exp(sum(map(math.log, ratios)) / len(ratios))
 
 
-# ---- tables
+def row(*cells):
+    print("| " + " | ".join(map(str, cells)) + " |", flush=True)
 
 
-def line(*cells):
-    return "| " + " | ".join(cells) + " |"
-
-
-def head(title, columns):
+def head(title, *columns):
     """What stands above the rows of a table."""
-    return f"\n### {title}\n\n{columns}\n{'|---' * (columns.count('|') - 1)}|"
+    print(f"\n### {title}\n")
+    row(*columns)
+    print("|---" * len(columns) + "|", flush=True)
 
 
 def spread(ratio):

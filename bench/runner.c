@@ -1,11 +1,10 @@
-// Runs a program and tells what it took:
+// Runs a program and says what it took:
 //
 //   runner OUT LIMIT PROGRAM WORD..
 //
-// OUT gets one line: the seconds that went by, the seconds of processor time, and the peak memory in kilobytes. The
-// program is ended after LIMIT seconds of processor time, where that isn't 0. The exit status is the program's, or 128
-// and the number of the signal that ended it. The kernel counts the memory of the process that starts a program to the program's
-// peak; so this is a program of its own, and a small one.
+// OUT gets a line: the seconds that went by, those of processor time, and the peak memory in kilobytes. The program is
+// ended after LIMIT seconds of processor time, where that isn't 0. The status is the program's, or 128 and the number of
+// the signal that ended it. The kernel counts the memory of whoever starts a program to its peak: so this is a small one.
 #include <stdio.h>
 #include <stdlib.h>
 #include <sys/resource.h>
@@ -16,35 +15,23 @@
 static double seconds(struct timeval t) { return t.tv_sec + t.tv_usec * 1e-6; }
 
 int main(int count, char **words) {
-    if (count < 4) {
-        fprintf(stderr, "runner OUT LIMIT PROGRAM WORD..\n");
-        return 2;
-    }
+    if (count < 4) return 2;
     rlim_t limit = strtoul(words[2], NULL, 10);
     struct timespec start, end;
     clock_gettime(CLOCK_MONOTONIC, &start);
     pid_t child = fork();
-    if (child < 0) {
-        perror("fork");
-        return 126;
-    }
     if (child == 0) {
-        struct rlimit seconds = {limit, limit + 1};  // with both the same, the signal would be SIGKILL
-        if (limit) setrlimit(RLIMIT_CPU, &seconds);
+        struct rlimit most = {limit, limit + 1};  // with both the same, the signal would be SIGKILL
+        if (limit) setrlimit(RLIMIT_CPU, &most);
         execvp(words[3], words + 3);
-        perror(words[3]);
         _exit(127);
     }
     int status;
     struct rusage usage;
-    wait4(child, &status, 0, &usage);
+    FILE *out = fopen(words[1], "w");
+    if (child < 0 || wait4(child, &status, 0, &usage) < 0 || !out) return 126;
     clock_gettime(CLOCK_MONOTONIC, &end);
     double wall = end.tv_sec - start.tv_sec + (end.tv_nsec - start.tv_nsec) * 1e-9;
-    FILE *out = fopen(words[1], "w");
-    if (!out) {
-        perror(words[1]);
-        return 126;
-    }
     fprintf(out, "%.6f %.6f %ld\n", wall, seconds(usage.ru_utime) + seconds(usage.ru_stime), usage.ru_maxrss);
     fclose(out);
     return WIFEXITED(status) ? WEXITSTATUS(status) : 128 + WTERMSIG(status);

@@ -1,68 +1,68 @@
-"""Generates the texts that are measured. They are kept in the folder where the scripts run, for the next time."""
+"""Generates the texts that are measured. They are kept in the folder where a work runs, for the next time."""
 
 import os
 import shutil
 import subprocess
 
-# The families of instances, by kind, and the words of the generator that makes one of a size in MB.
+from families import hard, least, most
+from families.instance import SEED
+
+# The families of instances, by kind, and what makes one of a size in MB: a function and its numbers, or gen's words.
 FAMILIES = {
     "max": {
-        "frames": {1: "most frames 14 65 1000", 20: "most frames 30 240 1000"},
-        "grid": {1: "least grid 130 150 1000 1", 20: "least grid 560 620 1000 1"},
-        "image": {1: "most image 110 110 200", 20: "most image 458 458 200"},
-        "layers": {1: "most layers 100 200 10000", 20: "most layers 500 650 10000"},
-        "matching": {1: "most matching 7500 6", 20: "most matching 131000 6"},
-        "planted": {1: "gen max 10000 60000", 20: "gen max 175000 1050000"},
+        "frames": {1: (most.frames, 14, 65, 1000), 20: (most.frames, 30, 240, 1000)},
+        "grid": {1: (least.grid, 130, 150, 1000, 1), 20: (least.grid, 560, 620, 1000, 1)},
+        "image": {1: (most.image, 110, 110, 200), 20: (most.image, 458, 458, 200)},
+        "layers": {1: (most.layers, 100, 200, 10000), 20: (most.layers, 500, 650, 10000)},
+        "matching": {1: (most.matching, 7500, 6), 20: (most.matching, 131000, 6)},
+        "planted": {1: ("max", 10000, 60000), 20: ("max", 175000, 1050000)},
     },
     "min": {
-        "assign": {1: "least assign 6000 8 10000", 20: "least assign 110000 8 10000"},
-        "dense": {1: "least dense 400 45000 1000 10000 10", 20: "least dense 5000 800000 1000 10000 50"},
-        "goto": {1: "least goto 5000 8 1000 4096", 20: "least goto 90000 8 1000 4096"},
-        "long grid": {1: "least grid 32 400 1000 10000", 20: "least grid 128 1800 1000 10000"},
-        "netgen": {1: "least netgen 8000 48000 400 400 100000", 20: "least netgen 150000 900000 7500 7500 1900000"},
-        "planted": {1: "gen min 4625 37000", 20: "gen min 81250 650000"},
-        "road": {1: "least road 20000 20 5", 20: "least road 350000 60 5"},
-        "square grid": {1: "least grid 113 113 1000 10000", 20: "least grid 480 480 1000 10000"},
-        "torus": {1: "least torus 70 70 1000", 20: "least torus 300 300 1000"},
-        "transport": {1: "least transport 230 230 10000", 20: "least transport 950 950 10000"},
+        "assign": {1: (least.assign, 6000, 8, 10000), 20: (least.assign, 110000, 8, 10000)},
+        "dense": {1: (least.dense, 400, 45000, 1000, 10000, 10), 20: (least.dense, 5000, 800000, 1000, 10000, 50)},
+        "goto": {1: (least.goto, 5000, 8, 1000, 4096), 20: (least.goto, 90000, 8, 1000, 4096)},
+        "long grid": {1: (least.grid, 32, 400, 1000, 10000), 20: (least.grid, 128, 1800, 1000, 10000)},
+        "netgen": {
+            1: (least.netgen, 8000, 48000, 400, 400, 100000),
+            20: (least.netgen, 150000, 900000, 7500, 7500, 1900000),
+        },
+        "planted": {1: ("min", 4625, 37000), 20: ("min", 81250, 650000)},
+        "road": {1: (least.road, 20000, 20, 5), 20: (least.road, 350000, 60, 5)},
+        "square grid": {1: (least.grid, 113, 113, 1000, 10000), 20: (least.grid, 480, 480, 1000, 10000)},
+        "torus": {1: (least.torus, 70, 70, 1000), 20: (least.torus, 300, 300, 1000)},
+        "transport": {1: (least.transport, 230, 230, 10000), 20: (least.transport, 950, 950, 10000)},
     },
     "gr": {
-        "long grid": {1: "least grid 32 500 1 10000", 20: "least grid 128 2300 1 10000"},
-        "netgen": {1: "least netgen 9000 54000 1 1 1", 20: "least netgen 170000 1020000 1 1 1"},
-        "road": {1: "gen road 20000 2.44", 20: "gen road 380000 2.44"},
-        "square grid": {1: "least grid 125 125 1 10000", 20: "least grid 540 540 1 10000"},
-        "torus": {1: "least torus 80 80 1", 20: "least torus 340 340 1"},
+        "long grid": {1: (least.grid, 32, 500, 1, 10000), 20: (least.grid, 128, 2300, 1, 10000)},
+        "netgen": {1: (least.netgen, 9000, 54000, 1, 1, 1), 20: (least.netgen, 170000, 1020000, 1, 1, 1)},
+        "road": {1: ("road", 20000, 2.44), 20: ("road", 380000, 2.44)},
+        "square grid": {1: (least.grid, 125, 125, 1, 10000), 20: (least.grid, 540, 540, 1, 10000)},
+        "torus": {1: (least.torus, 80, 80, 1), 20: (least.torus, 340, 340, 1)},
     },
 }
-
-# Families of least cost in which the flow that carries nothing is least, and in which it is hard to find potentials.
 HARD = {
-    "acyclic": {1: "hard acyclic 5000 40000", 20: "hard acyclic 100000 800000"},
-    "shifted grid": {1: "hard grid 100 100 1000000", 20: "hard grid 450 450 1000000"},
-    "shifted random": {1: "hard random 5000 40000 100000", 20: "hard random 100000 800000 100000"},
-    "path": {1: "hard path 20000", 20: "hard path 400000"},
+    "acyclic": {1: (hard.acyclic, 5000, 40000), 20: (hard.acyclic, 100000, 800000)},
+    "shifted grid": {1: (hard.grid, 100, 100, 1000000), 20: (hard.grid, 450, 450, 1000000)},
+    "shifted random": {1: (hard.random_arcs, 5000, 40000, 100000), 20: (hard.random_arcs, 100000, 800000, 100000)},
+    "path": {1: (hard.path, 20000), 20: (hard.path, 400000)},
 }
 
-# The generators that write several texts, and add the endings of their names themselves.
-SEVERAL = ("gen max", "gen min", "hard")
-
-SEED = 1
-
 SOURCES = {1: 8, 20: 4}  # of a graph, by the size of the texts in MB
-
-# so many units more from one end to another than can be moved
-UNITS = 5_000_000_000
+UNITS = 5_000_000_000  # so many more from one end to another than can be moved
 
 
 def generate(folder, *commands):
-    """Runs the commands in a new folder, once. A folder that isn't whole is never left under this name."""
+    """Runs commands, or functions of the folder, in a new one, once. It gets its name when it is whole."""
     if os.path.isdir(folder):
         return
     part = folder + ".part"
     shutil.rmtree(part, ignore_errors=True)
     os.mkdir(part)
     for command in commands:
-        words = [os.path.abspath(command[0])] + [str(word) for word in command[1:]]
+        if callable(command):
+            command(part)
+            continue
+        words = [os.path.abspath(command[0]), *map(str, command[1:])]
         subprocess.run(words, cwd=part, check=True, stdout=subprocess.DEVNULL)
     os.rename(part, folder)
 
@@ -70,47 +70,54 @@ def generate(folder, *commands):
 def declared(file):
     """The nodes and arcs of the problem line."""
     with open(file) as text:
-        for line in text:
-            if line.startswith("p "):
-                return [int(number) for number in line.split()[2:]]
-    raise ValueError(f"{file} has no problem line")
+        problem = next(line for line in text if line.startswith("p "))
+    return [int(number) for number in problem.split()[2:]]
 
 
 def declared_arcs(file):
     return declared(file)[1]
 
 
+def nothing_sent(part):
+    """The solution of a hard instance."""
+    with open(f"{part}/instance.solution", "w") as text:
+        text.write("s 0\n")
+
+
 def instance(kind, family, megabytes):
     """The file of an instance of a family."""
-    words = (HARD.get(family) or FAMILIES[kind][family])[megabytes]
+    make, *numbers = (HARD.get(family) or FAMILIES[kind][family])[megabytes]
     folder = f"{kind}-{family.replace(' ', '-')}-{megabytes}"
-    name = "instance" if words.startswith(SEVERAL) else f"instance.{kind}"
-    generate(folder, [*words.split(), SEED, name])
+    if callable(make):
+        written = [lambda part: make(*numbers).write(f"{part}/instance.{kind}")]
+        generate(folder, *written, *[nothing_sent] * (family in HARD))
+    else:
+        generate(folder, ["gen", make, *numbers, SEED, "instance.gr" if kind == "gr" else "instance"])
     return f"{folder}/instance.{kind}"
 
 
 def beside(file, name, *command):
     """The folder beside an instance in which a command was run."""
     folder = f"{os.path.dirname(file)}-{name}"
-    generate(folder, command)
+    generate(folder, command[0] if callable(command[0]) else command)
     return folder
 
 
 def infeasible(file):
     """The file of an infeasible instance that is like another."""
-    folder = beside(file, "infeasible", "least", "infeasible", UNITS, os.path.abspath(file), "instance.min")
+    folder = beside(file, "infeasible", lambda part: least.infeasible(UNITS, file).write(f"{part}/instance.min"))
     return f"{folder}/instance.min"
 
 
 def solved(binary, file):
-    """The files of a claim that `dimacs` makes of an instance of a flow, and of its certificate."""
+    """The files of a claim that dimacs makes of an instance of a flow, and of its certificate."""
     kind = file.split(".")[-1]
     folder = beside(file, "solved", binary, f"solve-{kind}", os.path.abspath(file), "solution", "certificate")
     return f"{folder}/solution", f"{folder}/certificate"
 
 
 def claimed(binary, file):
-    """The file of a claim of an instance: the one that was made with it, or else one that `dimacs` makes."""
+    """The file of a claim of an instance: the one that was made with it, or else one that dimacs makes."""
     made = file[: file.rindex(".")] + ".solution"
     return made if os.path.exists(made) else solved(binary, file)[0]
 
@@ -122,7 +129,7 @@ def queries(file, megabytes):
 
 
 def labelled(binary, file, megabytes):
-    """The file of the labels that `dimacs` makes of a graph for its queries."""
+    """The file of the labels that dimacs makes of a graph for its queries."""
     words = [os.path.abspath(it) for it in (file, queries(file, megabytes))]
     return beside(file, "labelled", binary, "solve-paths", *words, "labels") + "/labels"
 

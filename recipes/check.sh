@@ -5,11 +5,12 @@
 #   recipes/check.sh [BINARY]
 #
 # BINARY is the built `dimacs`; without it the variable DIMACS, or else crates/dimacs/out/dimacs. The recipes that judge
-# in their own process need lib/out too, which `make -C lib` builds.
+# in their own process need the library too, in the folder BUILD.
 #
 # Environment:
 #   PYTHON   the Python that has the packages; python3
 #   CXX      the C++ compiler; g++
+#   BUILD    the folder where make built the library; build
 #   ONLY     run only the recipes whose names match this pattern, as 'lemon|glpsol'
 #
 # The last lines tell what was left out, and how many answers were accepted, refused and judged otherwise than expected.
@@ -18,6 +19,8 @@ set -eu
 here=$(cd "$(dirname "$0")" && pwd)
 examples=$here/../examples
 lib=$here/../lib
+build=$(realpath -m "${BUILD:-$here/../build}")
+export DIMACS_LIBRARY=$build/libdimacs.so
 DIMACS=$(realpath "${1:-${DIMACS:-$here/../crates/dimacs/out/dimacs}}")
 export DIMACS
 PYTHON=${PYTHON:-python3}
@@ -108,15 +111,15 @@ is_there() {
 lacks() {
     if ! is_there "$2" "$3"; then
         echo "$2 $3"
-    elif is_in_process "$1" && [ ! -e "$lib/out/libdimacs.so" ]; then
-        echo "lib/out"
+    elif is_in_process "$1" && [ ! -e "$DIMACS_LIBRARY" ]; then
+        echo "the library"
     fi
 }
 
 # Builds a recipe in C++. lemon_scaling is lemon_min with its other solver.
 build() {
     local linked=()
-    ! is_in_process "$1" || linked=(-x none "$lib/out/libdimacs.a")
+    ! is_in_process "$1" || linked=(-x none "$build/libdimacs.a")
     case $1 in
         lemon_scaling.cpp) sed 's/NetworkSimplex</CostScaling</' "$here/lemon_min.cpp" ;;
         *) cat "$here/$1" ;;
@@ -187,10 +190,11 @@ try_batch() {
     mkdir "$folder/folder.solution"
     cp "$examples/pipes-careless.solution" "$folder/careless.solution"
     sed 's/^f 1 2 6/f 1 2 5/' "$examples/pipes.solution" >"$folder/wrong.solution"
-    sh "$here/batch.sh" "$examples/pipes.max" "$folder" >"$dir/batch"
-    for line in "$right yes .*: v max 12" "1 no .*/wrong.solution: x node 2 Balance" \
-        "1 no .*/careless.solution: x solution 2 2 NotMaximum" "1 ?? .*/folder.solution: .*"; do
-        [ "$(grep -c -x "${line#* }" "$dir/batch")" = "${line%% *}" ] || fail "batch.sh: $(cat "$dir/batch")"
+    "$PYTHON" "$here/../tools/dimacs-batch" -o "$dir/batch" "$examples/pipes.max" "$folder" 2>"$dir/log" || [ $? = 3 ]
+    for line in "$right .*,v max 12,12,.*,0," "1 .*/wrong.solution,x node 2 Balance,,.*,1,claim" \
+        "1 .*/careless.solution,x solution 2 2 NotMaximum,,.*,1,claim" "1 .*/folder.solution,dimacs: .*,,.*,3,"; do
+        [ "$(grep -c -x "${line#* }" "$dir/batch")" = "${line%% *}" ] ||
+            fail "dimacs-batch: $(cat "$dir/batch" "$dir/log")"
     done
 }
 

@@ -2,7 +2,7 @@
 //
 // Reads INSTANCE, and writes nothing: the library is asked, and what it says is printed. In the folder above this one:
 //
-//     g++ -O2 -std=c++17 -Ilib/include -o lemon_library recipes/lemon_library.cpp lib/out/libdimacs.a
+//     g++ -O2 -std=c++17 -Ilib/include -o lemon_library recipes/lemon_library.cpp build/libdimacs.a
 #include <dimacs.h>
 #include <lemon/network_simplex.h>
 #include <lemon/smart_graph.h>

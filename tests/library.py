@@ -1,12 +1,13 @@
 #!/usr/bin/env python3
-"""Tests the library for C, C++, Python and Rust: tests/library.py [--instances N] [--runs M]
+"""Tests the library for C, C++, Python and Rust: tests/library.py [--build FOLDER] [--instances N] [--runs M]
 
-Builds lib/out, by `make -C lib` or over what rt ci proved, and then runs what stands in lib/test: in C, under
-sanitizers where they fit and by valgrind, the calls over texts and arrays with room and without, in eight threads, with
-each growth of memory refused in turn, over texts of 100 MB, and over arrays of a million arcs; in C++, what LEMON
-answers; and in Python, by each of `python3` and /usr/bin/python3. N random small instances in arrays are compared with
-the texts that are printed from them, M of which go through crates/dimacs/out/dimacs: `--runs 20000` has all of them do
-so, which takes some minutes. Then it installs the wheel and calls it, and builds and runs what docs/LIBRARY.md shows.
+FOLDER is where `make` built the library and the program: build, or build/quick for those that aren't proved. It runs
+what stands in lib/test: in C, under sanitizers where they fit and by valgrind, the calls over texts and arrays with
+room and without, in eight threads, with each growth of memory refused in turn, over texts of 100 MB, and over arrays of
+a million arcs; in C++, what LEMON answers; and in Python, by each of `python3` and /usr/bin/python3. N random small
+instances in arrays are compared with the texts that are printed from them, M of which go through the program: `--runs
+20000` has all of them do so, which takes some minutes. Then it installs the wheel and calls it, and builds and runs
+what docs/LIBRARY.md shows.
 
 What needs a tool that isn't there is left out, and named. The last line counts what passed and what failed.
 """
@@ -22,9 +23,6 @@ import tempfile
 TOP = os.path.dirname(os.path.dirname(os.path.abspath(__file__)))
 LIB = os.path.join(TOP, "lib")
 TEST = os.path.join(LIB, "test")
-ARCHIVE = os.path.join(LIB, "out/libdimacs.a")
-PROGRAM = os.path.join(TOP, "crates/dimacs/out/dimacs")
-os.environ.pop("DIMACS_LIBRARY", None)  # it is lib/out that is tested
 CC, CXX = os.environ.get("CC", "cc"), os.environ.get("CXX", "c++")
 WARN = ["-O1", "-g", "-Wall", "-Wextra", "-Werror", f"-I{LIB}/include"]
 SANITIZERS = ["-fsanitize=address,undefined", "-fno-sanitize-recover=undefined"]
@@ -95,48 +93,6 @@ def run(*words, **how):
     return subprocess.run(words, capture_output=True, text=True, errors="replace", check=False, **how)
 
 
-def below(listed, name):
-    """The crates of the repository that a crate stands on, lowest first."""
-    found = []
-    for it in listed[name]:
-        if it in listed:
-            found += [*below(listed, it), it]
-    return list(dict.fromkeys(found))
-
-
-def crates():
-    """Each crate of crates.txt, and the libraries that its line names."""
-    with open(f"{TOP}/crates.txt", encoding="utf-8") as it:
-        lines = [line.partition("#")[0].partition(":") for line in it if ":" in line]
-    return {name.split()[0]: named.split() for name, _, named in lines}
-
-
-def build_over(listed):
-    """Proves and builds dimacs_c over the libraries that rt ci proved. rt lib takes none of these, since they hold
-    statements alone, and would prove them all again."""
-    kit = os.path.dirname(os.path.dirname(os.path.realpath(shutil.which("rt"))))
-    rlib = "../{0}/out/rlib/{0}.rlib".format
-    words = ["build", "--crate-name", "dimacs_c", "src/lib.rt", "--crate-type", "staticlib"]
-    words += ["--extern", f"std={kit}/rlibs/std.rlib", "-L", f"dependency={kit}/rlibs"]
-    for it in listed["dimacs_c"]:
-        words += ["--extern", f"{it}={rlib(it)}"]
-    for it in below(listed, "dimacs_c"):
-        words += ["-L", f"dependency=../{it}/out/rlib"]
-    words += ["--antt-project", f"{kit}/rattle/logic/antt-project.json", "--logic-built", f"{kit}/logic_built"]
-    words += ["--toolchain", f"{kit}/toolchain", "-o", "out/libdimacs_c.a"]
-    os.makedirs(f"{TOP}/crates/dimacs_c/out", exist_ok=True)
-    built = run(f"{kit}/bin/rattle", *words, cwd=f"{TOP}/crates/dimacs_c")
-    return built if built.returncode else run("make", "-C", LIB, "link")
-
-
-def build():
-    """Builds lib/out."""
-    listed = crates()
-    rlibs = [f"{TOP}/crates/{it}/out/rlib" for it in below(listed, "dimacs_c")]
-    is_by_ci = all(os.path.isdir(it) and not os.path.exists(f"{it}/stamp") for it in rlibs)
-    return build_over(listed) if is_by_ci else run("make", "-C", LIB)
-
-
 def watchers(counts, place):
     """What watches over tests: flags of the compiler, and words before the program."""
     found = {"nothing": [([], [])], "sanitizers": [(SANITIZERS, [])], "both": [(SANITIZERS, [])]}
@@ -151,33 +107,33 @@ def watchers(counts, place):
     return found
 
 
-def test_c(counts, place):
+def test_c(counts, build, place):
     """The tests in C."""
     found = watchers(counts, place)
     for name, watched, more in C_TESTS:
         made = os.path.join(place, name)
         for flags, by in found[watched]:
-            built = run(CC, *WARN, *flags, "-o", made, f"{TEST}/{name}.c", ARCHIVE, *more)
+            built = run(CC, *WARN, *flags, "-o", made, f"{TEST}/{name}.c", f"{build}/libdimacs.a", *more)
             ran = run(*by, made) if built.returncode == 0 else built
             counts.add(" ".join([*by[:1], f"{name}.c"]), ran, by_count)
 
 
-def test_lemon(counts, place):
+def test_lemon(counts, build, place):
     """What LEMON answers. One of its headers gets a warning."""
     made = os.path.join(place, "lemon")
     if not shutil.which(CXX) or run(CXX, "-E", "-x", "c++", "-", input="#include <lemon/core.h>").returncode:
         counts.leave_out("lemon.cpp", "LEMON")
         return
     flags = [*WARN, "-Wno-maybe-uninitialized", "-std=c++17"]
-    built = run(CXX, *flags, "-o", made, f"{TEST}/lemon.cpp", ARCHIVE)
+    built = run(CXX, *flags, "-o", made, f"{TEST}/lemon.cpp", f"{build}/libdimacs.a")
     counts.add("lemon.cpp", run(made) if built.returncode == 0 else built, by_count)
 
 
-def test_exports(counts):
+def test_exports(counts, build):
     """The shared library exports the calls of the header, and nothing else."""
     with open(f"{LIB}/include/dimacs.h", encoding="ascii") as it:
         declared = set(re.findall(r"^uint32_t (\w+)\(", it.read(), re.M))
-    listed = run("nm", "-D", "--defined-only", f"{LIB}/out/libdimacs.so")
+    listed = run("nm", "-D", "--defined-only", f"{build}/libdimacs.so")
     symbols = [line.split()[-2:] for line in listed.stdout.splitlines()]
     exported = {name for kind, name in symbols if kind != "A"}  # names of versions are absolute
     is_same = declared == exported and len(declared) > 0
@@ -191,28 +147,26 @@ def pythons():
     return list(dict.fromkeys(it for it in found if it))
 
 
-def package():
-    """How Python finds the package where it stands."""
-    return {**os.environ, "PYTHONPATH": f"{LIB}/python", "PYTHONDONTWRITEBYTECODE": "1"}
+def package(build):
+    """How Python finds the package where it stands, its library, and the instances of the scripts here."""
+    found = {"PYTHONPATH": f"{LIB}/python:{TOP}/tests", "DIMACS_LIBRARY": f"{build}/libdimacs.so"}
+    return {**os.environ, **found, "PYTHONDONTWRITEBYTECODE": "1"}
 
 
-def test_python(counts):
+def test_python(counts, build):
     for python in pythons():
         words = [python, "-m", "unittest", "discover", "-v", "-s", TEST]
-        counts.add(f"unittest by {python}", run(*words, cwd=TEST, env=package()), by_unittest)
+        counts.add(f"unittest by {python}", run(*words, cwd=TEST, env=package(build)), by_unittest)
 
 
-def test_agreement(counts, instances, runs):
+def test_agreement(counts, build, instances, runs):
     """Arrays and the texts that say the same."""
     words = [pythons()[0], f"{TEST}/agree.py", "--instances", str(instances), "--runs", str(runs)]
-    if os.path.exists(PROGRAM):
-        words += ["--program", PROGRAM]
-    else:
-        counts.leave_out("agree.py by the program", "crates/dimacs/out/dimacs")
-    counts.add("agree.py", run(*words, env=package()), by_count)
+    words += ["--program", f"{build}/dimacs"]
+    counts.add("agree.py", run(*words, env=package(build)), by_count)
 
 
-def test_wheel(counts, place):
+def test_wheel(counts, build, place):
     """Installs the wheel without the network, and calls the library that is inside of it."""
     python = pythons()[0]
     if run(python, "-m", "pip", "--version").returncode:
@@ -220,9 +174,10 @@ def test_wheel(counts, place):
         return
     target = os.path.join(place, "installed")
     words = ["--no-index", "--no-deps", "--quiet", "--disable-pip-version-check", "--target", target]
-    made = run(python, "-m", "pip", "install", *words, f"{LIB}/python", env=package())
+    installed = {name: it for name, it in os.environ.items() if name != "DIMACS_LIBRARY"} | {"PYTHONPATH": target}
+    made = run(python, "-m", "pip", "install", *words, f"{LIB}/python", env=package(build))
     call = "import dimacs; print(dimacs.show('cut', 'p cut 4 1\\nu 1\\n'), dimacs.__file__)"
-    ran = made if made.returncode else run(python, "-c", call, cwd=place, env={**os.environ, "PYTHONPATH": target})
+    ran = made if made.returncode else run(python, "-c", call, cwd=place, env=installed)
     if ran.returncode == 0 and not (ran.stdout.startswith("i cut 4 1\n") and target in ran.stdout):
         ran.returncode = 1
     counts.add("the wheel", ran, by_status)
@@ -244,11 +199,11 @@ def lacking_for(program, lacks):
     return None if shutil.which(program) else program
 
 
-def test_page(counts, place):
-    """The commands of docs/LIBRARY.md, in a folder that has the repository's lib and examples."""
-    for name in ("lib", "examples"):
-        os.symlink(os.path.join(TOP, name), os.path.join(place, name))
-    commands = list(shown())
+def test_page(counts, build, place):
+    """The commands of docs/LIBRARY.md, in a folder that has lib and examples, and as build the one that is tested."""
+    for name, at in (("lib", LIB), ("examples", f"{TOP}/examples"), ("build", build)):
+        os.symlink(at, os.path.join(place, name))
+    commands, environment = list(shown()), package(build)
     if not commands:
         counts.add("docs/LIBRARY.md", subprocess.CompletedProcess([], 1, "it shows no command", ""), by_status)
     lacks = {}  # by the programs that commands make
@@ -263,7 +218,7 @@ def test_page(counts, place):
         if lacking:
             counts.leave_out(f"$ {command}", lacking)
             continue
-        ran = run("sh", "-c", command, cwd=place, env={**os.environ, "PYTHONDONTWRITEBYTECODE": "1"})
+        ran = run("sh", "-c", command, cwd=place, env=environment)
         module = re.search(r"No module named '(\w+)'", ran.stderr)
         if module:
             counts.leave_out(f"$ {command}", module[1])
@@ -280,21 +235,19 @@ def wanted_status(lines):
 
 def main():
     words = argparse.ArgumentParser(description="Tests the library for C, C++, Python and Rust.")
+    words.add_argument("--build", default=f"{TOP}/build", help="the folder of the library and the program")
     words.add_argument("--instances", type=int, default=20_000, help="how many are compared in arrays and as texts")
     words.add_argument("--runs", type=int, default=300, help="how many of their texts go through the program")
     asked = words.parse_args()
-    counts = Counts()
-    built = build()
-    counts.add("make -C lib", built, by_status)
-    if built.returncode == 0:
-        with tempfile.TemporaryDirectory() as place:
-            test_c(counts, place)
-            test_lemon(counts, place)
-            test_exports(counts)
-            test_python(counts)
-            test_agreement(counts, asked.instances, asked.runs)
-            test_wheel(counts, place)
-            test_page(counts, place)
+    counts, build = Counts(), os.path.abspath(asked.build)
+    with tempfile.TemporaryDirectory() as place:
+        test_c(counts, build, place)
+        test_lemon(counts, build, place)
+        test_exports(counts, build)
+        test_python(counts, build)
+        test_agreement(counts, build, asked.instances, asked.runs)
+        test_wheel(counts, build, place)
+        test_page(counts, build, place)
     for it in counts.left_out:
         print(f"left out: {it}")
     print(f"{counts.passed} passed, {counts.failed} failed")

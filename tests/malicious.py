@@ -18,6 +18,8 @@ import subprocess
 import sys
 import tempfile
 
+from instances import BINARY, max_text, text
+
 HERE = os.path.dirname(os.path.abspath(__file__))
 
 # How much more a malicious text may take than a kind one: of time, and of memory.
@@ -34,11 +36,6 @@ DIRECTORIES = 32
 
 # The greatest ID.
 MOST = 134_217_728
-
-
-def lines(items):
-    """A text of these lines."""
-    return "".join(item + "\n" for item in items)
 
 
 def near(count):
@@ -69,12 +66,9 @@ def max_texts(nodes, arcs, ends, value, entries, caps=lambda arc: 1):
     """An instance, a flow that fills each arc of these entries, and the set that has the source alone."""
     source, sink = ends
     return [
-        lines(
-            [f"p max {nodes} {len(arcs)}", f"n {source} s", f"n {sink} t"]
-            + [f"a {arc[0]} {arc[1]} {caps(arc)}" for arc in arcs]
-        ),
-        lines([f"s {value}", *(f"f {arc[0]} {arc[1]} {caps(arc)}" for arc in entries)]),
-        lines([f"p cut {nodes} 1", f"u {source}"]),
+        max_text(nodes, source, sink, [(*arc, 0, caps(arc)) for arc in arcs]),
+        text(f"s {value}", *(f"f {arc[0]} {arc[1]} {caps(arc)}" for arc in entries)),
+        text(f"p cut {nodes} 1", f"u {source}"),
     ]
 
 
@@ -108,21 +102,19 @@ def min_path(ids, nodes):
     """A path that carries 1 at the cost of 1 for each arc, and a potential for each node."""
     count = len(ids) - 1
     arcs = path(ids)
+    ends = f"n {ids[0]} 1", f"n {ids[-1]} -1"
     return [
-        lines(
-            [f"p min {nodes} {count}", f"n {ids[0]} 1", f"n {ids[-1]} -1"]
-            + [f"a {tail} {head} 0 1 1" for tail, head in arcs]
-        ),
-        lines([f"s {count}", *(f"f {tail} {head} 1" for tail, head in arcs)]),
-        lines([f"p pot {nodes} {len(ids)}", *(f"y {id} {count - i}" for i, id in enumerate(ids))]),
+        text(f"p min {nodes} {count}", *ends, *(f"a {tail} {head} 0 1 1" for tail, head in arcs)),
+        text(f"s {count}", *(f"f {tail} {head} 1" for tail, head in arcs)),
+        text(f"p pot {nodes} {len(ids)}", *(f"y {id} {count - i}" for i, id in enumerate(ids))),
     ]
 
 
 def supplies(ids, nodes):
     """An instance without arcs in which every other node sends 1, and the set of those."""
     return [
-        lines([f"p min {nodes} 0", *(f"n {id} {1 - 2 * (i % 2)}" for i, id in enumerate(ids))]),
-        lines([f"p cut {nodes} {len(ids[::2])}", *(f"u {id}" for id in ids[::2])]),
+        text(f"p min {nodes} 0", *(f"n {id} {1 - 2 * (i % 2)}" for i, id in enumerate(ids))),
+        text(f"p cut {nodes} {len(ids[::2])}", *(f"u {id}" for id in ids[::2])),
     ]
 
 
@@ -133,9 +125,9 @@ def label_texts(nodes, arcs, paths, radius=""):
         blocks.append(f"t {along[0]} {len(along) - 1}{radius}")
         blocks += [f"d {head} {i + 1} {tail}" for i, (tail, head) in enumerate(path(along))]
     return [
-        lines([f"p sp {nodes} {len(arcs)}", *(f"a {tail} {head} {weight}" for tail, head, weight in arcs)]),
-        lines(["p aux sp p2p 0"]),
-        lines([f"p dist {nodes} {len(paths)}", *blocks]),
+        text(f"p sp {nodes} {len(arcs)}", *(f"a {tail} {head} {weight}" for tail, head, weight in arcs)),
+        text("p aux sp p2p 0"),
+        text(f"p dist {nodes} {len(paths)}", *blocks),
     ]
 
 
@@ -201,7 +193,7 @@ def label_cases(n):
     yield "paths: IDs far apart", words, apart, wide, PAGES_LIMIT
     yield "paths: IDs falling", words, distances([falling(ids)], n), kind, LIMIT
     yield "paths: arcs falling", words, distances([ids], n, falling), kind, LIMIT
-    asked = lines(["p aux sp ss 1", "s 1"])
+    asked = text("p aux sp ss 1", "s 1")
     solved, wide_solved = [apart[0], asked], [wide[0], asked]
     yield "solve-paths: IDs far apart", "solve-paths I S shown", solved, wide_solved, PAGES_LIMIT
     count = n // 3
@@ -239,9 +231,9 @@ class Runner:
     def measure(self, words, texts):
         """The status of a run, its processor time in seconds, and the most memory that it held, in MB."""
         with tempfile.TemporaryDirectory() as folder:
-            for name, text in zip("ISC", texts):
+            for name, lines in zip("ISC", texts):
                 with open(os.path.join(folder, name), "w", encoding="ascii") as it:
-                    it.write(text)
+                    it.write(lines)
             counts = os.path.join(folder, "counts")
             before = resource.getrusage(resource.RUSAGE_CHILDREN)
             ran = subprocess.run(
@@ -268,8 +260,7 @@ def end_after_a_minute():
 
 
 def main():
-    built = os.path.join(HERE, "../crates/dimacs/out/dimacs")
-    binary = os.path.abspath(sys.argv[1] if len(sys.argv) > 1 else built)
+    binary = os.path.abspath(sys.argv[1] if len(sys.argv) > 1 else BINARY)
     count = int(sys.argv[2]) if len(sys.argv) > 2 else 100_000
     word = sys.argv[3] if len(sys.argv) > 3 else ""
     passed = failed = 0

@@ -170,6 +170,8 @@ int open(const char *name, int flags, ...)
         mode = va_arg(more, mode_t);
         va_end(more);
     }
+    if (strcmp(name, "/") == 0)
+        return __open(name, flags, mode);
     if (fails(OPENING, EACCES, flags & O_CREAT ? "created" : "opened", name))
         return -1;
     int file = __open(name, flags, mode);

@@ -149,7 +149,7 @@ CLOSED = [
 ]
 
 # What the usage text begins with and has in it. It is left out for want of memory.
-USAGE = r"dimacs: usage\nReads, .*\n\nUsage: dimacs COMMAND FILE\.\.\.\n.*\n  convert KIND FILE .*\n"
+USAGE = r"dimacs: usage\ndimacs \d+\.\d+\.\d+\nReads, .*\n\nUsage: dimacs COMMAND FILE\.\.\.\n.*\n  convert KIND FILE .*\n"
 NO_TEXT = "dimacs: usage\n"
 
 # The calls of each kind that a run made, the most memory that it held at once, in kB, and the bytes of its growths.

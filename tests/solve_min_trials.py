@@ -10,30 +10,19 @@ and may do so where the cost on some of the arcs is, and with the limit 0, with 
 again. BINARY is the built program; crates/dimacs/out/dimacs
 where none is given.
 """
-import itertools
-import os
 import random
 import resource
-import subprocess
 import sys
 import tempfile
 
+from instances import Program, asked, cost, flows, min_text, nets, network
 
-def instance(rng, parallel):
-    """A network of few nodes and arcs, and the supplies that aren't 0."""
-    nodes = rng.randint(1, 4)
-    arcs = []
-    for _ in range(rng.randint(0, 6)):
-        tail, head = rng.randint(1, nodes), rng.randint(1, nodes)
-        if not parallel and any(a[:2] == (tail, head) for a in arcs):
-            continue
-        low = rng.choice([0, 0, 0, 1, 2])
-        arcs.append((tail, head, low, low + rng.randint(0, 3), rng.randint(-4, 6)))
-    supplies = [0] * (nodes + 1)
-    for arc in arcs if rng.random() < 0.8 else []:
-        amount = rng.randint(arc[2], arc[3])
-        supplies[arc[0]] += amount
-        supplies[arc[1]] -= amount
+
+def instance(rng):
+    """A network of few nodes and arcs, and its supplies."""
+    nodes, arcs = network(rng, 1, 4)
+    carrying = arcs if rng.random() < 0.8 else []
+    supplies = nets(nodes, carrying, [rng.randint(arc[2], arc[3]) for arc in carrying])
     if rng.random() < 0.3:
         supplies[rng.randint(1, nodes)] += rng.randint(-2, 2)
     return nodes, supplies, arcs
@@ -60,37 +49,18 @@ def wide_instance(rng):
         if most_cost == 2**63 - 1 and rng.random() < 0.1:
             cost = -(2**63)
         arcs.append((rng.randint(1, nodes), rng.randint(1, nodes), low, cap, cost))
-    supplies = [0] * (nodes + 1)
-    for tail, head, low, cap, _ in arcs if rng.random() < 0.8 else []:
-        amount = low + wide_number(rng, cap - low)
-        supplies[tail] += amount
-        supplies[head] -= amount
+    carrying = arcs if rng.random() < 0.8 else []
+    supplies = nets(nodes, carrying, [arc[2] + wide_number(rng, arc[3] - arc[2]) for arc in carrying])
     supplies = [max(1 - 2**63, min(2**63 - 1, supply)) for supply in supplies]
     if rng.random() < 0.2:
         supplies[rng.randint(1, nodes)] = rng.choice([1, -1]) * wide_number(rng, 2**63 - 1)
     return nodes, supplies, arcs
 
 
-def text(nodes, supplies, arcs):
-    """The text of an instance."""
-    lines = [f"p min {nodes} {len(arcs)}"]
-    lines += [f"n {id} {supply}" for id, supply in enumerate(supplies) if id > 0 and supply != 0]
-    lines += ["a " + " ".join(map(str, arc)) for arc in arcs]
-    return "\n".join(lines) + "\n"
-
-
-def least(supplies, arcs):
+def least(nodes, supplies, arcs):
     """The verdict, by all flows."""
-    best = None
-    for flow in itertools.product(*(range(arc[2], arc[3] + 1) for arc in arcs)):
-        net = [0] * len(supplies)
-        for arc, amount in zip(arcs, flow):
-            net[arc[0]] += amount
-            net[arc[1]] -= amount
-        if net == supplies:
-            cost = sum(arc[4] * amount for arc, amount in zip(arcs, flow))
-            best = cost if best is None else min(best, cost)
-    return "v infeasible" if best is None else f"v min {best}"
+    costs = [cost(arcs, flow) for flow in flows(arcs) if nets(nodes, arcs, flow) == supplies]
+    return f"v min {min(costs)}" if costs else "v infeasible"
 
 
 class Residual:
@@ -150,9 +120,8 @@ def least_by_paths(supplies, arcs):
         pass
     if any(residual.excess):
         return "v infeasible"
-    amounts = [arc[3] - residual.rooms[2 * place] for place, arc in enumerate(arcs)]
-    cost = sum(arc[4] * amount for arc, amount in zip(arcs, amounts))
-    return f"v min {cost}" if abs(cost) <= WIDE else "g limit"
+    found = cost(arcs, [arc[3] - residual.rooms[2 * place] for place, arc in enumerate(arcs)])
+    return f"v min {found}" if abs(found) <= WIDE else "g limit"
 
 
 def may_leave_range(arcs):
@@ -160,33 +129,21 @@ def may_leave_range(arcs):
     return sum(abs(cost) * cap for _, _, _, cap, cost in arcs) > WIDE
 
 
-class Trials:
-    """Runs of the program over files in one folder."""
-
-    def __init__(self, binary, folder):
-        self.binary = binary
-        self.instance, self.solution, self.certificate = (
-            os.path.join(folder, name) for name in ("instance", "solution", "certificate")
-        )
-
-    def run(self, *words):
-        """What the program prints."""
-        ran = subprocess.run([self.binary, *words], capture_output=True, text=True, check=False)
-        return ran.stdout.strip()
+class Trials(Program):
+    """Runs of the program over the files `instance`, `solution` and `certificate`."""
 
     def solve(self, *limit):
-        return self.run("solve-min", self.instance, self.solution, self.certificate, *limit)
+        return self.run("solve-min", "instance", "solution", "certificate", *limit)
 
     def judge(self, verdict):
         """What the judge says of the files that were written."""
         if verdict == "v infeasible":
-            return self.run("judge-infeasible", self.instance, self.certificate)
-        return self.run("judge-min", self.instance, self.solution, self.certificate)
+            return self.run("judge-infeasible", "instance", "certificate")
+        return self.run("judge-min", "instance", "solution", "certificate")
 
     def faults(self, lines, wanted, again, may_give_up=False):
         """What is wrong with the answers to one instance."""
-        with open(self.instance, "w", encoding="ascii") as it:
-            it.write(lines)
+        self.write("instance", lines)
         before = seconds_of_runs()
         said = self.solve()
         took = seconds_of_runs() - before
@@ -210,22 +167,19 @@ def seconds_of_runs():
 def trials(rng, count):
     """The instances, the verdicts that are wanted, and whether the program may give up."""
     for _ in range(count):
-        nodes, supplies, arcs = instance(rng, parallel=True)
-        yield text(nodes, supplies, arcs), least(supplies, arcs), False
+        nodes, supplies, arcs = instance(rng)
+        yield min_text(nodes, supplies, arcs), least(nodes, supplies, arcs), False
     for _ in range(count):
         nodes, supplies, arcs = wide_instance(rng)
-        yield text(nodes, supplies, arcs), least_by_paths(supplies, arcs), may_leave_range(arcs)
+        yield min_text(nodes, supplies, arcs), least_by_paths(supplies, arcs), may_leave_range(arcs)
 
 
 def main():
-    count = int(sys.argv[1]) if len(sys.argv) > 1 else 1000
-    seed = int(sys.argv[2]) if len(sys.argv) > 2 else 1
-    top = os.path.join(os.path.dirname(os.path.abspath(__file__)), "..")
-    binary = sys.argv[3] if len(sys.argv) > 3 else os.path.join(top, "crates/dimacs/out/dimacs")
+    count, seed, binary = asked()
     rng = random.Random(seed)
     failed = infeasible = 0
     with tempfile.TemporaryDirectory() as folder:
-        program = Trials(os.path.abspath(binary), folder)
+        program = Trials(binary, folder)
         for number, (lines, wanted, may_give_up) in enumerate(trials(rng, count)):
             infeasible += wanted == "v infeasible"
             for fault in program.faults(lines, wanted, number % 10 == 0, may_give_up):

@@ -1,20 +1,21 @@
-/* dimacs.h: claims about flows and distances judged and certified in memory, by functions that are proved.
+/* dimacs.h: claims about flows and distances judged, certified and made in memory, by functions that are proved.
  *
  * Link with libdimacs.a or libdimacs.so; both stand alone. There is nothing to set up and nothing to free: a call keeps
  * nothing, opens no file, prints nothing and starts no thread. It takes memory by malloc and realloc, and has given all
  * of it back by free when it returns.
  *
- * What each call answers is the exit status of the command, and what it hands out is what the command prints. By the
- * rule of snprintf: as much of it as `room` has place for goes to `out`, with no 0 after it, and the length of the
- * whole to *told. Where *told is greater than room, call again with so much room. A room of 0 is right, and its `out`
- * may then be null.
+ * What each call answers is the exit status of the command, and what it hands out is what the command prints and writes
+ * to files. By the rule of snprintf: as much of it as `room` has place for goes to `out`, with no 0 after it, and the
+ * length of the whole to *told. Where *told is greater than room, call again with so much room. A room of 0 is right, and
+ * its `out` may then be null.
  *
- * What no contract sees, and a caller answers for:
+ * What no contract sees, and a caller answers for; where it isn't so, what a call does is undefined:
  *   - A pointer is of memory that has the length that stands beside it; with the length 0 it may be null. A `told`
  *     is never null.
+ *   - A pointer is aligned as its type wants it: to int64_t, size_t or an instance it is a multiple of 8, to uint32_t of 4.
  *   - What a call writes (`out`, `told` and their like) overlaps neither what it reads nor another room.
  *   - The same holds of each array of an instance. Its length is a number of items, as are the lengths of rooms for items,
- *     and the memory holds so many, each at a multiple of its size. A pointer to an instance is never null.
+ *     and the memory holds so many. A pointer to an instance is never null.
  *   - Calls may run side by side in several threads, also over the same texts and arrays, where none of them writes what
  *     another one reads or writes. None is made from a signal handler, nor in the forked child of a process with threads.
  *   - A thread that calls has 64 KB of stack left.
@@ -29,19 +30,33 @@
 extern "C" {
 #endif
 
+/* The version of this header, also as one number: 10000 times the first, 100 times the second, and the third. */
+#define DIMACS_VERSION "0.1.0"
+#define DIMACS_VERSION_MAJOR 0
+#define DIMACS_VERSION_MINOR 1
+#define DIMACS_VERSION_PATCH 0
+#define DIMACS_VERSION_NUMBER (DIMACS_VERSION_MAJOR * 10000 + DIMACS_VERSION_MINOR * 100 + DIMACS_VERSION_PATCH)
+
+/* The number of the version of the library that was linked or loaded. */
+uint32_t dimacs_version(void);
+
 /* What a call answers. */
 enum {
-    DIMACS_DONE = 0,      /* done, or a yes */
+    DIMACS_DONE = 0,      /* done, or a yes; also where it is found that no flow is feasible */
     DIMACS_REFUSED = 1,   /* a no: a text has a fault, or a test fails */
     DIMACS_MISUSED = 2,   /* nothing was judged: a number names no kind, or an array has a wrong length, and nothing is
                              handed out; or a number of an instance in arrays is past its limit, and the line says where */
     DIMACS_NO_MEMORY = 4, /* there was not enough memory, and nothing is said of the claim. Nothing is handed out */
-    DIMACS_GAVE_UP = 5    /* a flow costs least, and two of the potentials that were found are 2^64 or more apart; others
-                             may fit. `g limit` is handed out */
+    DIMACS_GAVE_UP = 5    /* a limit was reached, or the least cost is out of range; or arrays can't say what was found: a
+                             distance is 2^63 - 1 or more, or two potentials are 2^64 or more apart (others may fit).
+                             `g limit` is handed out, and nothing else */
 };
 
-/* What is judged; the first two are what is certified. */
+/* What is judged; the first two are what is certified, and all but DIMACS_INFEASIBLE what is solved. */
 enum { DIMACS_MAX = 0, DIMACS_MIN = 1, DIMACS_INFEASIBLE = 2, DIMACS_PATHS = 3 };
+
+/* The limit that the command has where none is given. */
+#define DIMACS_LIMIT 1000000
 
 /* The distance of a node that isn't reached, in arrays. */
 #define DIMACS_UNREACHED INT64_MAX
@@ -75,6 +90,17 @@ uint32_t dimacs_judge(uint32_t kind, const uint8_t *instance, size_t instance_le
 uint32_t dimacs_certify(uint32_t kind, const uint8_t *instance, size_t instance_length, const uint8_t *solution,
                         size_t solution_length, uint8_t *out, size_t room, size_t *told, uint8_t *shown,
                         size_t shown_room, size_t *shown_told);
+
+/* Solves an instance: DIMACS_MAX, DIMACS_MIN or DIMACS_PATHS. Hands out the line of the verdict to `out`, and texts with
+ * which dimacs_judge says yes to `solution` and `certificate`: a solution and a cut or potentials; where no flow is feasible,
+ * `v infeasible`, a set alone; for paths, whose queries are read (else they aren't), labels alone, and the lines that answer
+ * the queries. Of a fault, and where a weight is negative, the line alone, as the judge does. Gives up after `limit` flows
+ * (DIMACS_MAX) or steps to a better one (DIMACS_MIN) that aren't best, or where the least cost is out of range; paths have
+ * no limit. The time that it takes isn't bounded by the length of the texts, but for paths. */
+uint32_t dimacs_solve(uint32_t kind, const uint8_t *instance, size_t instance_length, const uint8_t *queries,
+                      size_t queries_length, uint64_t limit, uint8_t *out, size_t room, size_t *told, uint8_t *solution,
+                      size_t solution_room, size_t *solution_told, uint8_t *certificate, size_t certificate_room,
+                      size_t *certificate_told);
 
 /* The canonical form of a text of this kind (DIMACS_TEXT_ ..), or the line of its fault. It is made whole before it is
  * handed out: with too little room all of the work is done twice. Room as long as the text is often enough, and
@@ -147,8 +173,8 @@ uint32_t dimacs_judge_min_arrays(const dimacs_min *instance, const int64_t *flow
                                  size_t *told);
 
 /* Judges that an instance has no feasible flow, as the set shows of the nodes whose byte in `inside` isn't 0: what they
- * supply together can't flow out of it. Hands out `v infeasible`; of a no `x certificate 0 0 NotViolated`, and there may
- * be no flow all the same, by another set. */
+ * supply together is more than can flow out of it, or less than has to. Hands out `v infeasible`; of a no
+ * `x certificate 0 0 NotViolated`, and there may be no flow all the same, by another set. */
 uint32_t dimacs_judge_infeasible_arrays(const dimacs_min *instance, const uint8_t *inside, size_t inside_length,
                                         uint8_t *out, size_t room, size_t *told);
 
@@ -185,6 +211,27 @@ uint32_t dimacs_certify_min_arrays(const dimacs_min *instance, const int64_t *fl
 uint32_t dimacs_certify_paths_arrays(const dimacs_graph *graph, uint32_t source, const int64_t *distances,
                                      size_t distances_length, uint8_t *out, size_t room, size_t *told,
                                      uint32_t *predecessors, size_t predecessors_room, size_t *predecessors_told);
+
+/* Solves maximum flow, from the flow of zeros on; gives up after `limit` flows that aren't maximum. Hands out `v max VALUE`,
+ * an amount for each arc to `flows`, and a byte for each node to `inside`, by which dimacs_judge_max_arrays says yes. */
+uint32_t dimacs_solve_max_arrays(const dimacs_max *instance, uint64_t limit, uint8_t *out, size_t room, size_t *told,
+                                 int64_t *flows, size_t flows_room, size_t *flows_told, uint8_t *inside,
+                                 size_t inside_room, size_t *inside_told);
+
+/* Solves least cost; gives up after `limit` steps, each to a better flow, or where the least cost is out of range. Hands out
+ * `v min COST`, an amount for each arc to `flows`, and a potential for each node, by which dimacs_judge_min_arrays says yes;
+ * where no flow is feasible `v infeasible`, and a byte for each node to `inside` alone, by which
+ * dimacs_judge_infeasible_arrays says yes. */
+uint32_t dimacs_solve_min_arrays(const dimacs_min *instance, uint64_t limit, uint8_t *out, size_t room, size_t *told,
+                                 int64_t *flows, size_t flows_room, size_t *flows_told, int64_t *potentials,
+                                 size_t potentials_room, size_t *potentials_told, uint8_t *inside, size_t inside_room,
+                                 size_t *inside_told);
+
+/* Solves shortest paths from the source. Hands out `v sp ss 1`, and a distance and a predecessor for each node, by which
+ * dimacs_judge_paths_arrays says yes. Refuses the first arc of negative weight, `x arc K NegativeWeight`. */
+uint32_t dimacs_solve_paths_arrays(const dimacs_graph *graph, uint32_t source, uint8_t *out, size_t room, size_t *told,
+                                   int64_t *distances, size_t distances_room, size_t *distances_told,
+                                   uint32_t *predecessors, size_t predecessors_room, size_t *predecessors_told);
 
 #ifdef __cplusplus
 }

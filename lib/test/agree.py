@@ -9,29 +9,26 @@ Not compared, since arrays and texts differ there by design:
   - wrong lengths, and numbers past the limits of instances, which are misuse of arrays and faults of texts;
   - a claimed value, which a text has and arrays haven't: the right one is printed;
   - where NotMaximum and NotLeast are told, which is at the text's VALUE, and of arrays `solution 0 0`;
-  - potentials past 64 bits, which a text can say: then certify_min_arrays gives up, and the text has to get a yes;
+  - potentials past 64 bits, which a text can say: then certify_min_arrays and solve_min_arrays give up, and the text has to
+    get a yes;
   - predecessors that don't lead back to the source: no text has an order of labels for them, so each is refused by
     PredUnknown at a line, and the arrays at a node; and predecessors that are no nodes, or of nodes without a distance,
     which no label says.
+  - a distance of 2^63 - 1 or more, which a text can say: then solve_paths_arrays gives up.
 certify_paths_arrays has no command of its own. Its yes is judged as a text with the labels of its predecessors, and its
 no is compared with the tests that dimacs.h names, which are made here.
 """
 
 import argparse
 import collections
-import os
 import random
-import subprocess
 import sys
 import tempfile
 
 import dimacs
+from instances import Program, cost, max_text, min_text, nets, text
 
 MOST_VALUE = 10**30  # the greatest VALUE of a solution
-
-
-def text(*lines):
-    return "".join(f"{line}\n" for line in lines)
 
 
 # ---- instances, and their texts
@@ -57,13 +54,12 @@ class Arcs:
     def count(self):
         return len(self.tails)
 
+    def arcs(self):
+        return list(zip(self.tails, self.heads, self.lows, self.caps, self.costs))
+
     def nets(self, flows):
         """What leaves each node less what enters it."""
-        nets = [0] * self.nodes
-        for tail, head, flow in zip(self.tails, self.heads, flows):
-            nets[tail - 1] += flow
-            nets[head - 1] -= flow
-        return nets
+        return nets(self.nodes, self.arcs(), flows)[1:]
 
     def solution(self, value, flows):
         value = max(-MOST_VALUE, min(value, MOST_VALUE))  # past it CostRange comes before the value is looked at
@@ -132,9 +128,7 @@ class MaxCase(Arcs):
 
     def texts(self, flows=None):
         flows = self.flows if flows is None else flows
-        arcs = (f"a {arc[0]} {arc[1]} {arc[2]}" for arc in zip(self.tails, self.heads, self.caps))
-        ends = f"n {self.source} s", f"n {self.sink} t"
-        instance = text(f"p max {self.nodes} {self.count()}", *ends, *arcs)
+        instance = max_text(self.nodes, self.source, self.sink, self.arcs())
         return instance, self.solution(self.nets(flows)[self.source - 1], flows)
 
 
@@ -177,10 +171,8 @@ class MinCase(Arcs):
 
     def texts(self, flows=None):
         flows = self.flows if flows is None else flows
-        arcs = zip(self.tails, self.heads, self.lows, self.caps, self.costs)
-        supplies = (f"n {node} {supply}" for node, supply in enumerate(self.supplies, 1) if supply)
-        instance = text(f"p min {self.nodes} {self.count()}", *supplies, *(f"a {' '.join(map(str, arc))}" for arc in arcs))
-        return instance, self.solution(sum(map(int.__mul__, self.costs, flows)), flows)
+        instance = min_text(self.nodes, [0, *self.supplies], self.arcs())
+        return instance, self.solution(cost(self.arcs(), flows), flows)
 
 
 class InfeasibleCase(MinCase):
@@ -295,10 +287,9 @@ class Texts:
         "certify-min": lambda *words: dimacs.Verdict("min", dimacs.certify_min(*words).value),
     }
 
-    def __init__(self, program, every, place):
+    def __init__(self, program, every):
         self.program = program
         self.every = every
-        self.place = place
         self.asked = self.ran = 0
 
     def line(self, command, *texts):
@@ -306,12 +297,10 @@ class Texts:
         if not self.program or self.asked % self.every:
             return said(self.CALLS[command], *texts)
         self.ran += 1
-        files = [os.path.join(self.place, f"{k}") for k in range(len(texts))]
+        files = [f"{k}" for k in range(len(texts))]
         for file, it in zip(files, texts):
-            with open(file, "w", encoding="ascii") as to:
-                to.write(it)
-        ran = subprocess.run([self.program, command, *files], capture_output=True, text=True, check=False)
-        return ran.stdout.rstrip("\n") if ran.returncode in (0, 1) else f"status {ran.returncode}"
+            self.program.write(file, it)
+        return self.program.run(command, *files)
 
 
 # ---- comparisons: each yields a name, the line of the arrays, and that of the texts
@@ -393,7 +382,61 @@ def certified_paths(chance, texts):
         yield "certify paths", f"x {no}", it.first_fault()
 
 
+def solved(name, it, solve, other, judge, certificate, texts):
+    """An instance: the line of its solver, that of the texts, and what it handed out as a text."""
+    try:
+        value, flows, shown = solve()
+        yield name, f"v {name[-3:]} {value}", other
+        yield f"{name}, what was made", other, texts.line(judge, *it.texts(flows), certificate(shown))
+    except dimacs.Infeasible as no:
+        yield name, "v infeasible", other
+        yield f"{name}, its set", other, texts.line("judge-infeasible", it.texts()[0], it.cut(no.inside))
+    except dimacs.GaveUp:
+        if other == "g limit":  # the least cost is out of range
+            yield name, "g limit", other
+        else:
+            yield f"{name}, past 64 bits", "v", other.split()[0]
+
+
+def solved_line(solve, instance):
+    """The line of texts that are solved."""
+    try:
+        made = solve(instance)
+        return f"v {'max' if solve is dimacs.solve_max else 'min'} {made.value}"
+    except dimacs.Infeasible:
+        return "v infeasible"
+    except dimacs.GaveUp:
+        return "g limit"
+
+
+def solved_max(chance, texts):
+    it = MaxCase(chance)
+    other = solved_line(dimacs.solve_max, it.texts()[0])
+    return solved("solve max", it, lambda: dimacs.solve_max_arrays(*it.arrays[:-1]), other, "judge-max", it.cut, texts)
+
+
+def solved_min(chance, texts):
+    it = InfeasibleCase(chance)
+    other = solved_line(dimacs.solve_min, it.texts()[0])
+    return solved("solve min", it, lambda: dimacs.solve_min_arrays(*it.instance()), other, "judge-min", it.potentials, texts)
+
+
+def solved_paths(chance, texts):
+    it = PathsCase(chance)
+    it.costs = [max(0, weight) for weight in it.costs] if chance.random() < 0.8 else it.costs
+    it.graph = it.nodes, it.tails, it.heads, it.costs, it.source
+    try:
+        _, it.distances, it.predecessors = dimacs.solve_paths_arrays(*it.graph)
+        found, wanted = it.distances, it.search()[0]
+        yield "solve paths", f"v {found}", f"v {wanted}"
+        yield "solve paths, what was made", "v sp ss 1", texts.line("judge-paths", *it.texts()[0])
+    except dimacs.Refused as no:
+        negative = [number for number, weight in enumerate(it.costs, 1) if weight < 0]
+        yield "solve paths", f"x {no}", f"x arc {negative[0]} NegativeWeight"
+
+
 COMPARED = [judged_max, judged_min, judged_infeasible, judged_paths, certified_max, certified_min, certified_paths]
+COMPARED += [solved_max, solved_min, solved_paths]
 
 
 def main():
@@ -406,8 +449,8 @@ def main():
     chance = random.Random(asked.seed)
     seen, different = collections.Counter(), 0
     with tempfile.TemporaryDirectory() as place:
-        program = os.path.abspath(asked.program) if asked.program else None
-        texts = Texts(program, max(1, asked.instances // asked.runs), place)
+        program = Program(asked.program, place) if asked.program else None
+        texts = Texts(program, max(1, asked.instances // asked.runs))
         for k in range(asked.instances):
             for name, line, other in COMPARED[k % len(COMPARED)](chance, texts):
                 answer = str(other).split()

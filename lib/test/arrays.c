@@ -413,6 +413,131 @@ static void certifies_paths(void) {
     }
 }
 
+/* ---- solving: what is handed out is judged too ---- */
+
+static int64_t amounts[9];
+static size_t amounts_told, inside_told;
+
+static const struct {
+    const char *name;
+    dimacs_max instance;
+    uint64_t limit;
+    uint32_t status;
+    const char *said;
+    size_t amounts, inside;
+} solved_max[] = {
+    {"a maximum flow", NETWORK, DIMACS_LIMIT, 0, "v max 6\n", 5, 4},
+    {"no arcs", {3, 1, 3, EMPTY, EMPTY, EMPTY}, 1, 0, "v max 0\n", 0, 3},
+    {"a value past 64 bits", {2, 1, 2, IDS(1, 1, 1), IDS(2, 2, 2), NUMBERS(LAST, LAST, LAST)}, 9, 0,
+     "v max 27670116110564327421\n", 3, 2},
+    {"no flow is asked about", NETWORK, 0, 5, "g limit\n", 0, 0},
+    {"the zero flow alone", NETWORK, 1, 5, "g limit\n", 0, 0},
+    {"fewer heads", {4, 1, 4, TAILS, IDS(2, 3, 3, 4), CAPS}, 9, 2, "", 0, 0},
+    {"source and sink are one", {4, 4, 4, TAILS, HEADS, CAPS}, 9, 2, "x node 4 NodeTwice\n", 0, 0},
+    {"a capacity below 0", {4, 1, 4, TAILS, HEADS, NUMBERS(4, 2, 2, 3, -1)}, 9, 2, "x arc 5 BoundOrder\n", 0, 0},
+};
+
+static void solves_max(void) {
+    EACH(k, solved_max) {
+        dimacs_max instance = exact_max(solved_max[k].instance);
+        const char *name = solved_max[k].name;
+        told = amounts_told = inside_told = 99;
+        uint32_t status = dimacs_solve_max_arrays(&instance, solved_max[k].limit, out, 100, &told, amounts, 9, &amounts_told,
+                                                  inside, 9, &inside_told);
+        check(name, status, out, told, solved_max[k].status, solved_max[k].said);
+        check_that(name, amounts_told == solved_max[k].amounts && inside_told == solved_max[k].inside);
+        if (status == DIMACS_DONE) {
+            status = dimacs_judge_max_arrays(&instance, amounts, amounts_told, inside, inside_told, out, 100, &told);
+            check(name, status, out, told, 0, solved_max[k].said);
+        }
+        let_go();
+    }
+}
+
+static const struct {
+    const char *name;
+    dimacs_min instance;
+    uint64_t limit;
+    uint32_t status;
+    const char *said;
+    size_t amounts, potentials, inside;
+} solved_min[] = {
+    {"a flow of least cost", SHIPPING, DIMACS_LIMIT, 0, "v min 14\n", 5, 4, 0},
+    {"no nodes at all", {0, EMPTY, EMPTY, EMPTY, EMPTY, EMPTY, EMPTY}, 0, 0, "v min 0\n", 0, 0, 0},
+    {"a cost below 0, without a step", ROUND_TRIP(3, 5, -2), 0, 0, "v min -10\n", 1, 1, 0},
+    {"no step", SHIPPING, 0, 5, "g limit\n", 0, 0, 0},
+    {"no feasible flow", {2, IDS(1), IDS(2), NUMBERS(0), NUMBERS(5), NUMBERS(0), NUMBERS(6, -6)}, 9, 0, "v infeasible\n", 0, 0,
+     2},
+    {"a least cost past its range", ROUND_TRIP(LAST, LAST, LAST), 9, 5, "g limit\n", 0, 0, 0},
+    {"potentials past 64 bits",
+     {4, IDS(1, 2, 3), IDS(2, 3, 4), NUMBERS(0, 0, 0), NUMBERS(2, 2, 2), NUMBERS(LAST, LAST, LAST), NUMBERS(1, 0, 0, -1)},
+     9, 5, "g limit\n", 0, 0, 0},
+    {"fewer supplies", {4, TAILS, HEADS, LOWS, CAPS, COSTS, NUMBERS(4, 0, -4)}, 9, 2, "", 0, 0, 0},
+    {"bounds in the wrong order", ROUND_TRIP(3, 2, 0), 9, 2, "x arc 1 BoundOrder\n", 0, 0, 0},
+};
+
+static void solves_min(void) {
+    EACH(k, solved_min) {
+        dimacs_min instance = exact_min(solved_min[k].instance);
+        const char *name = solved_min[k].name;
+        told = amounts_told = shown_told = inside_told = 99;
+        uint32_t status = dimacs_solve_min_arrays(&instance, solved_min[k].limit, out, 100, &told, amounts, 9, &amounts_told,
+                                                  potentials, 9, &shown_told, inside, 9, &inside_told);
+        check(name, status, out, told, solved_min[k].status, solved_min[k].said);
+        check_that(name, amounts_told == solved_min[k].amounts && shown_told == solved_min[k].potentials);
+        check_that(name, inside_told == solved_min[k].inside);
+        if (status == DIMACS_DONE) {
+            status = inside_told
+                         ? dimacs_judge_infeasible_arrays(&instance, inside, inside_told, out, 100, &told)
+                         : dimacs_judge_min_arrays(&instance, amounts, amounts_told, potentials, shown_told, out, 100, &told);
+            check(name, status, out, told, 0, solved_min[k].said);
+        }
+        let_go();
+    }
+}
+
+static const struct {
+    const char *name;
+    dimacs_graph graph;
+    uint32_t source;
+    uint32_t status;
+    const char *said;
+    dimacs_numbers distances;
+    dimacs_nodes predecessors;
+} solved_paths[] = {
+    {"distances", ROAD, 1, 0, "v sp ss 1\n", NUMBERS(0, 5, NONE, NONE), IDS(0, 1, 0, 0)},
+    {"from a node in the circle", ROAD, 3, 0, "v sp ss 1\n", NUMBERS(NONE, NONE, 0, 0), IDS(0, 0, 0, 3)},
+    {"a node alone", {1, EMPTY, EMPTY, EMPTY}, 1, 0, "v sp ss 1\n", NUMBERS(0), IDS(0)},
+    {"the greatest distance", {3, IDS(1, 2), IDS(2, 3), NUMBERS(1, LAST - 2)}, 1, 0, "v sp ss 1\n", NUMBERS(0, 1, LAST - 1),
+     IDS(0, 1, 2)},
+    {"a distance that stands for none", {3, IDS(1, 2), IDS(2, 3), NUMBERS(1, LAST - 1)}, 1, 5, "g limit\n", EMPTY, EMPTY},
+    {"a distance past 64 bits", {3, IDS(1, 2), IDS(2, 3), NUMBERS(LAST, LAST)}, 1, 5, "g limit\n", EMPTY, EMPTY},
+    {"a weight below 0", CHAIN, 1, 1, "x arc 1 NegativeWeight\n", EMPTY, EMPTY},
+    {"fewer weights", {4, IDS(1, 3, 4), IDS(2, 4, 3), EMPTY}, 1, 2, "", EMPTY, EMPTY},
+    {"source 5", ROAD, 5, 2, "x node 5 NodeRange\n", EMPTY, EMPTY},
+};
+
+static void solves_paths(void) {
+    EACH(k, solved_paths) {
+        dimacs_graph graph = exact_graph(solved_paths[k].graph);
+        dimacs_numbers far = solved_paths[k].distances;
+        dimacs_nodes before = solved_paths[k].predecessors;
+        const char *name = solved_paths[k].name;
+        uint32_t source = solved_paths[k].source;
+        told = amounts_told = shown_told = 99;
+        uint32_t status = dimacs_solve_paths_arrays(&graph, source, out, 100, &told, amounts, 9, &amounts_told, predecessors, 9,
+                                                    &shown_told);
+        check(name, status, out, told, solved_paths[k].status, solved_paths[k].said);
+        check_that(name, amounts_told == far.length && (far.length == 0 || !memcmp(amounts, far.at, 8 * far.length)));
+        check_that(name, shown_told == before.length && (shown_told == 0 || !memcmp(predecessors, before.at, 4 * shown_told)));
+        if (status == DIMACS_DONE) {
+            status = dimacs_judge_paths_arrays(&graph, source, amounts, amounts_told, predecessors, shown_told, out, 100, &told);
+            check(name, status, out, told, 0, "v sp ss 1\n");
+        }
+        let_go();
+    }
+}
+
 /* ---- rooms, and counts that are too great ---- */
 
 /* Rooms of all lengths up to more than is needed: the front is written, and nothing after it. */
@@ -439,6 +564,9 @@ static void keeps_to_the_room(void) {
                                            &better_told);
         check_that("a better flow", status == 1 && told == 26 && shown_told == 0 && better_told == 5);
         check_that("its front", !memcmp(flow, whole, 8 * (room < 5 ? room : 5)) && (room < 6 || flow[5] == -1));
+        status = dimacs_solve_max_arrays(&network, 9, line, room, &told, flow, room, &amounts_told, set, room, &inside_told);
+        check_that("a flow and its cut", status == 0 && told == 8 && amounts_told == 5 && inside_told == 4);
+        check_that("their fronts", room == 0 || (flow[0] == 4 && set[0] == 1 && line[0] == 'v'));
         free(line);
         free(set);
         free(flow);
@@ -476,6 +604,9 @@ int main(void) {
     certifies_max();
     certifies_min();
     certifies_paths();
+    solves_max();
+    solves_min();
+    solves_paths();
     keeps_to_the_room();
     refuses_great_counts();
     return count();

@@ -44,6 +44,7 @@ static const char dear[] = "s 15\nf 1 2 2\nf 1 3 2\nf 2 3 1\nf 2 4 1\nf 3 4 3\n"
 static const char pot[] = "p pot 4 3\ny 1 4\ny 2 2\ny 3 1\n";
 static const char graph[] = "p sp 4 3\na 1 2 5\na 3 4 0\na 4 3 0\n";
 static const char pairs[] = "p aux sp p2p 2\nq 1 2\nq 1 4\n";
+static const char surplus[] = "p min 2 1\nn 1 1\na 1 2 0 5 1\n";
 static const char dist[] = "p dist 4 1\nt 1 1\nd 2 5 1\n";
 
 /* The same in arrays. */
@@ -61,14 +62,16 @@ static const dimacs_graph graph_arrays = {4, {tails, 5}, {heads, 5}, {weights, 5
 /* What calls hand out; a room that a call hasn't is told as 99. */
 typedef struct {
     uint8_t out[400];
-    int64_t shown[50], better[50];
-    size_t told, shown_told, better_told;
+    int64_t shown[50], better[50], marks[50];
+    size_t told, shown_told, better_told, marks_told;
 } Handed;
 
 static Handed to;
 
 #define OUT to.out, 400, &to.told
 #define SHOWN (uint8_t *)to.shown, 400, &to.shown_told
+#define BETTER to.better, 50, &to.better_told
+#define MARKS (uint8_t *)to.marks, 400, &to.marks_told
 
 static uint32_t judge_max(void) { return dimacs_judge(DIMACS_MAX, TEXT(max), TEXT(flow), TEXT(cut), OUT); }
 static uint32_t judge_min(void) { return dimacs_judge(DIMACS_MIN, TEXT(min), TEXT(least), TEXT(pot), OUT); }
@@ -77,6 +80,14 @@ static uint32_t certify_max(void) { return dimacs_certify(DIMACS_MAX, TEXT(max),
 static uint32_t certify_slow(void) { return dimacs_certify(DIMACS_MAX, TEXT(max), TEXT(slow), OUT, SHOWN); }
 static uint32_t certify_min(void) { return dimacs_certify(DIMACS_MIN, TEXT(min), TEXT(least), OUT, SHOWN); }
 static uint32_t certify_dear(void) { return dimacs_certify(DIMACS_MIN, TEXT(min), TEXT(dear), OUT, SHOWN); }
+static uint32_t solve(uint32_t kind, const char *instance, uint64_t limit) {
+    return dimacs_solve(kind, TEXT(instance), TEXT(pairs), limit, OUT, (uint8_t *)to.better, 400, &to.better_told, SHOWN);
+}
+static uint32_t solve_max(void) { return solve(DIMACS_MAX, max, 9); }
+static uint32_t solve_min(void) { return solve(DIMACS_MIN, min, 9); }
+static uint32_t solve_surplus(void) { return solve(DIMACS_MIN, surplus, 9); }
+static uint32_t solve_paths(void) { return solve(DIMACS_PATHS, graph, 9); }
+static uint32_t give_up(void) { return solve(DIMACS_MAX, max, 1); }
 static uint32_t convert(void) { return dimacs_convert(DIMACS_TEXT_MIN, TEXT(min), OUT); }
 static uint32_t show(void) { return dimacs_show(DIMACS_TEXT_POT, TEXT(pot), OUT); }
 
@@ -100,6 +111,19 @@ static uint32_t certify_dear_arrays(void) { return certify_min_by(dear_flows); }
 static uint32_t certify_paths_arrays(void) {
     return dimacs_certify_paths_arrays(&graph_arrays, 1, distances, 4, OUT, (uint32_t *)to.shown, 100, &to.shown_told);
 }
+static uint32_t solve_max_arrays(void) { return dimacs_solve_max_arrays(&max_arrays, 9, OUT, BETTER, MARKS); }
+static uint32_t solve_min_by(const dimacs_min *instance) {
+    return dimacs_solve_min_arrays(instance, 9, OUT, BETTER, to.shown, 50, &to.shown_told, MARKS);
+}
+static uint32_t solve_min_arrays(void) { return solve_min_by(&min_arrays); }
+static uint32_t solve_surplus_arrays(void) {
+    dimacs_min more = min_arrays;
+    more.supplies.at = potentials;
+    return solve_min_by(&more);
+}
+static uint32_t solve_paths_arrays(void) {
+    return dimacs_solve_paths_arrays(&graph_arrays, 1, OUT, BETTER, (uint32_t *)to.shown, 100, &to.shown_told);
+}
 
 static const struct {
     const char *name;
@@ -113,6 +137,11 @@ static const struct {
     {"certify a slow flow", certify_slow, 1},
     {"certify min", certify_min, 0},
     {"certify a dear flow", certify_dear, 1},
+    {"solve max", solve_max, 0},
+    {"solve min", solve_min, 0},
+    {"solve min without a flow", solve_surplus, 0},
+    {"solve paths", solve_paths, 0},
+    {"give up", give_up, 5},
     {"convert", convert, 0},
     {"show", show, 0},
     {"judge max in arrays", judge_max_arrays, 0},
@@ -125,12 +154,16 @@ static const struct {
     {"certify min in arrays", certify_min_arrays, 0},
     {"certify a dear flow in arrays", certify_dear_arrays, 1},
     {"certify paths in arrays", certify_paths_arrays, 0},
+    {"solve max in arrays", solve_max_arrays, 0},
+    {"solve min in arrays", solve_min_arrays, 0},
+    {"solve min in arrays without a flow", solve_surplus_arrays, 0},
+    {"solve paths in arrays", solve_paths_arrays, 0},
 };
 
 /* Whatever was handed out before is gone. */
 static void clear(Handed *it) {
     memset(it, '#', sizeof *it);
-    it->told = it->shown_told = it->better_told = 99;
+    it->told = it->shown_told = it->better_told = it->marks_told = 99;
 }
 
 /* Whether nothing is handed out. */
@@ -140,6 +173,7 @@ static int is_nothing(const Handed *it) {
     nothing.told = 0;
     nothing.shown_told = it->shown_told ? 99 : 0;
     nothing.better_told = it->better_told ? 99 : 0;
+    nothing.marks_told = it->marks_told ? 99 : 0;
     return !memcmp(it, &nothing, sizeof nothing);
 }
 

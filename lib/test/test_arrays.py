@@ -8,13 +8,20 @@ import fractions
 import pickle
 import unittest
 from pathlib import Path
+from unittest import mock
 
 import dimacs
+from dimacs import arrays, buffers, library
 
 try:
     import numpy
 except ImportError:
     numpy = None
+
+try:
+    import pandas
+except ImportError:
+    pandas = None
 
 LAST = 2**63 - 1
 
@@ -157,6 +164,50 @@ class Certifies(unittest.TestCase):
             self.assertEqual((type(again), str(again), vars(again)), (type(it), str(it), vars(it)))
 
 
+def answering(status, line, *counts):
+    """A call of a library that hands out this line, and says that it has so many items for each room."""
+
+    def call(*words):
+        out, _, told, *rooms = words[-9:]
+        out[: len(line)] = line
+        told._obj.value = len(line)
+        for room_told, count in zip(rooms[2::3], counts):
+            room_told._obj.value = count
+        return status
+
+    return call
+
+
+class Rooms(unittest.TestCase):
+    """What is handed out is whole, or nothing is."""
+
+    def test_more_arcs_than_the_most_nodes(self):
+        for certify, instance, claim, better in [
+            (dimacs.certify_max_arrays, MAX, SLOW, FLOW),
+            (dimacs.certify_min_arrays, MIN, DEAR, LEAST),
+        ]:
+            with mock.patch.object(arrays, "MOST_NODES", 4), self.assertRaises(dimacs.NotOptimal) as caught:
+                certify(*instance, claim)
+            self.assertEqual(len(caught.exception.better), len(better))
+
+    def test_other_lengths_than_the_rooms(self):
+        no = library.REFUSED, b"x solution 0 0 NotMaximum\n"
+        for answer in [
+            (library.DONE, b"v max 6\n", 3, 0),
+            (library.DONE, b"v max 6\n", 5, 0),
+            (*no, 0, 4),
+            (*no, 0, 6),
+            (*no, 4, 0),
+        ]:
+            stub = mock.patch.object(library, "certify_max_arrays", answering(*answer))
+            with self.subTest(answer), stub, self.assertRaises(RuntimeError):
+                dimacs.certify_max_arrays(*MAX, FLOW)
+
+    def test_more_nodes_than_there_may_be(self):
+        with mock.patch.object(arrays, "MOST_NODES", 3), self.assertRaises(RuntimeError):
+            dimacs.certify_max_arrays(*MAX, FLOW)
+
+
 class Misuse(unittest.TestCase):
     def test_lengths(self):
         cases = [
@@ -291,6 +342,82 @@ class Forms(unittest.TestCase):
             (of(ctypes.c_int64.__ctype_be__), of(ctypes.c_uint32.__ctype_be__), of(ctypes.c_uint16.__ctype_be__)),
         ]:
             self.judged(numbers, ids, marks)
+
+    def aligned(self, of):
+        """Judges arrays that `of` makes with their first item at each offset, few of which are multiples of its width."""
+        for offset in range(8):
+            for items, code in [(buffers.NUMBERS, "q"), (buffers.IDS, "I")]:
+                found = buffers.array_of(of(code, offset)(FLOW), items, "flows")
+                self.assertEqual((found.address % items.width, found.length), (0, len(FLOW)))
+            self.judged(of("q", offset), of("I", offset), of("B", offset))
+
+    def test_views_at_any_address(self):
+        def of(code, offset):
+            return lambda items: memoryview(bytes(offset) + array.array(code, items).tobytes())[offset:].cast(code)
+
+        self.aligned(of)
+
+    @unittest.skipUnless(numpy, "numpy isn't there")
+    def test_numpy_at_any_address(self):
+        def of(code, offset):
+            return lambda items: numpy.frombuffer(bytes(offset) + array.array(code, items).tobytes(), code, offset=offset)
+
+        self.aligned(of)
+
+    def test_labels(self):
+        class Labelled:
+            """Is gone through by its labels, as a DataFrame is."""
+
+            def __init__(self, items):
+                self._items = items
+
+            def __iter__(self):
+                return iter(range(len(self._items)))
+
+            def to_numpy(self):
+                return self._items
+
+        def of(code):
+            return lambda items: Labelled(array.array(code, items))
+
+        def listed(items):
+            return Labelled(list(items))
+
+        self.judged(listed, listed, listed)
+        self.judged(of("q"), of("I"), of("B"))
+        with self.assertRaises(ValueError):
+            self.judged(of("q"), of("I"), lambda items: Labelled([2**8] * len(items)))
+
+    @unittest.skipUnless(pandas, "pandas isn't there")
+    def test_pandas(self):
+        def of(kind):
+            return lambda items: pandas.Series(items, dtype=kind, index=range(len(items), 0, -1))
+
+        def column(kind):
+            return lambda items: pandas.DataFrame({"a": items, "b": [77] * len(items)}, dtype=kind)["a"]
+
+        for numbers, ids, marks in [
+            (of("int64"), of("uint32"), of("bool")),
+            (of("Int64"), of("UInt32"), of("boolean")),
+            (of("float64"), of("Float32"), of("uint8")),
+            (of("object"), of("object"), of("object")),
+            (column("int64"), column("uint32"), column("uint8")),
+            (pandas.Index, pandas.Index, pandas.array),
+        ]:
+            self.judged(numbers, ids, marks)
+
+    @unittest.skipUnless(pandas, "pandas isn't there")
+    def test_pandas_that_does_not_fit(self):
+        for flows, kind in [
+            (pandas.DataFrame({"flow": FLOW}), ValueError),
+            (pandas.DataFrame([FLOW], columns=FLOW), ValueError),
+            (pandas.Series([*FLOW[:4], None], dtype="Int64"), TypeError),
+            (pandas.Series([*FLOW[:4], None]), ValueError),
+            (pandas.Series(FLOW, dtype="string"), TypeError),
+            (pandas.Series(FLOW, dtype="datetime64[ns]"), TypeError),
+        ]:
+            with self.subTest(flows), self.assertRaises(kind):
+                dimacs.judge_max_arrays(*MAX, flows, CUT)
 
     @unittest.skipUnless(numpy, "numpy isn't there")
     def test_numpy(self):

@@ -135,7 +135,13 @@ class MaximumFlow(Networkx):
             self.assertIn("side", str(it))
         for form in ({**says, "moat": False}, {*side, "moat"}):
             self.refused(ValueError, dimacs.judge_networkx_max, graph, *ends, flow, form)
-        for form in ((side, others), 3, None):
+        class Table(list):
+            """Is gone through by the names of its columns, as a DataFrame is."""
+
+            def to_numpy(self):
+                return [[1] * len(self)]
+
+        for form in ((side, others), Table(side), 3, None):
             self.refused(TypeError, dimacs.judge_networkx_max, graph, *ends, flow, form)
         view = graph.subgraph(side).nodes
         self.assertEqual(dimacs.judge_networkx_max(graph, *ends, flow, view), dimacs.Verdict("max", value))

@@ -25,8 +25,8 @@ static const char mutual[] = "p dist 4 1\nt 1 3\nd 2 5 1\nd 3 0 4\nd 4 0 3\n";
 static const char surplus[] = "p min 2 1\nn 1 1\na 1 2 0 5 1\n";
 static const char both[] = "p cut 2 2\nu 1\nu 2\n";
 
-static uint8_t out[400], shown[400];
-static size_t told, shown_told;
+static uint8_t out[400], shown[400], solved[400];
+static size_t told, shown_told, solved_told;
 
 static const struct {
     const char *name;
@@ -103,6 +103,59 @@ static void accepts_its_own(void) {
 static const struct {
     const char *name;
     uint32_t kind;
+    const char *instance, *queries;
+    uint64_t limit;
+    uint32_t status;
+    const char *said, *solution, *certificate;
+} solves[] = {
+    {"a maximum flow", DIMACS_MAX, max, "?", DIMACS_LIMIT, 0, "v max 6\n", "s 6\n", "p cut 4 1\nu 1\n"},
+    {"no arcs", DIMACS_MAX, "p max 2 0\nn 1 s\nn 2 t\n", "", 1, 0, "v max 0\n", "s 0\n", "p cut 2 1\nu 1\n"},
+    {"no flow is asked about", DIMACS_MAX, max, "", 0, 5, "g limit\n", "", ""},
+    {"the zero flow alone", DIMACS_MAX, max, "", 1, 5, "g limit\n", "", ""},
+    {"a flow of least cost", DIMACS_MIN, min, "?", DIMACS_LIMIT, 0, "v min 14\n", "s 14\nf 1 2 2\n", "p pot 4 "},
+    {"no step", DIMACS_MIN, min, "", 0, 5, "g limit\n", "", ""},
+    {"a least cost past its range", DIMACS_MIN,
+     "p min 1 1\na 1 1 9223372036854775807 9223372036854775807 9223372036854775807\n", "", 9, 5, "g limit\n", "", ""},
+    {"no feasible flow", DIMACS_MIN, surplus, "", DIMACS_LIMIT, 0, "v infeasible\n", "", both},
+    {"distances", DIMACS_PATHS, graph, source, 0, 0, "v sp ss 1\n", "", dist},
+    {"answers to pairs", DIMACS_PATHS, graph, pairs, 0, 0, "v 1 2 5\nv 1 4 unreachable\n", "", dist},
+    {"a weight below 0", DIMACS_PATHS, "p sp 2 2\na 1 2 0\na 2 1 -1\n", source, 0, 1, "x arc 2 NegativeWeight\n", "", ""},
+    {"a query of no node", DIMACS_PATHS, graph, "p aux sp ss 1\ns 5\n", 0, 1, "x node 5 QueryNode\n", "", ""},
+    {"a query with a fault", DIMACS_PATHS, graph, "", 0, 1, "x query 1 0 ProblemMissing\n", "", ""},
+    {"an instance with a fault", DIMACS_MIN, max, "", 9, 1, "x instance 1 2 BadWord\n", "", ""},
+    {"sets aren't asked for", DIMACS_INFEASIBLE, surplus, "", 9, 2, "", "", ""},
+    {"no kind", 4, max, "", 9, 2, "", "", ""},
+};
+
+static int begins(const uint8_t *text, size_t length, const char *front) {
+    size_t wanted = strlen(front);
+    return wanted == 0 ? length == 0 : length >= wanted && !memcmp(text, front, wanted);
+}
+
+/* What is solved is judged too, with what was handed out. */
+static void solves_all(void) {
+    for (size_t k = 0; k < sizeof solves / sizeof *solves; k++) {
+        const char *name = solves[k].name;
+        told = shown_told = solved_told = 99;
+        uint32_t kind = solves[k].kind;
+        uint32_t status = dimacs_solve(kind, TEXT(solves[k].instance), TEXT(solves[k].queries), solves[k].limit, out,
+                                       sizeof out, &told, solved, sizeof solved, &solved_told, shown, sizeof shown, &shown_told);
+        check(name, status, out, told, solves[k].status, solves[k].said);
+        check_that(name, begins(solved, solved_told, solves[k].solution) && begins(shown, shown_told, solves[k].certificate));
+        if (status == DIMACS_DONE) {
+            int is_set = kind == DIMACS_MIN && solved_told == 0;
+            const uint8_t *claim = kind == DIMACS_PATHS ? (const uint8_t *)solves[k].queries : solved;
+            size_t length = kind == DIMACS_PATHS ? strlen(solves[k].queries) : solved_told;
+            status = dimacs_judge(is_set ? DIMACS_INFEASIBLE : kind, TEXT(solves[k].instance), claim, length, shown, shown_told,
+                                  out, sizeof out, &told);
+            check(name, status, out, told, 0, solves[k].said);
+        }
+    }
+}
+
+static const struct {
+    const char *name;
+    uint32_t kind;
     const char *text;
     uint32_t status;
     const char *converted, *shown;
@@ -140,6 +193,10 @@ static void keeps_to_the_room(void) {
         check_that("nothing after it", room < 9 || exact[8] == '#');
         status = dimacs_certify(DIMACS_MAX, TEXT(max), TEXT(flow), exact, room, &told, other, 9 - room, &shown_told);
         check_that("two rooms", status == 0 && told == 8 && shown_told == 14 && !memcmp(other, "p cut 4 1", 9 - room));
+        status = dimacs_solve(DIMACS_MIN, TEXT(surplus), NULL, 0, 9, exact, room, &told, NULL, 0, &solved_told, other, 9 - room,
+                              &shown_told);
+        check_that("three rooms", status == 0 && told == 13 && shown_told == 18 && solved_told == 0 &&
+                                      !memcmp(exact, "v infeasi", room) && !memcmp(other, "p cut 2 2", 9 - room));
         free(exact);
         free(other);
     }
@@ -177,6 +234,7 @@ int main(void) {
     judges();
     certifies();
     accepts_its_own();
+    solves_all();
     converts_and_shows();
     keeps_to_the_room();
     reads_any_bytes();

@@ -71,7 +71,25 @@ static void add(Said *said, uint32_t status, size_t told) {
 typedef struct {
     int64_t flows[NODES - 1], far[NODES], better[NODES - 1], potentials[NODES];
     uint32_t predecessors[NODES];
+    uint8_t inside[NODES];
 } Claim;
+
+/* Solves the instances that all share. */
+static void solve_arrays(Said *said, Claim *claim, size_t arcs) {
+    size_t told = 0, flows = 0, shown = 0, marked = 0;
+    uint32_t status = dimacs_solve_max_arrays(&max_arrays, 9, ROOM, &told, claim->better, arcs, &flows, claim->inside, NODES,
+                                              &marked);
+    int are_those = !memcmp(claim->better, ones, sizeof ones) && flows == arcs && marked == NODES;
+    add(said, status + 10 * are_those, told);
+    status = dimacs_solve_min_arrays(&min_arrays, 9, ROOM, &told, claim->better, arcs, &flows, claim->potentials, NODES, &shown,
+                                     claim->inside, NODES, &marked);
+    are_those = !memcmp(claim->better, ones, sizeof ones) && flows == arcs && shown == NODES && marked == 0;
+    add(said, status + 10 * are_those, told);
+    status = dimacs_solve_paths_arrays(&graph, 1, ROOM, &told, claim->potentials, NODES, &flows, claim->predecessors, NODES,
+                                       &shown);
+    are_those = !memcmp(claim->potentials, distances, sizeof distances) && flows == NODES && shown == NODES;
+    add(said, status + 10 * are_those, told);
+}
 
 /* Calls with a flow that carries `first` on its first arc, and with distances that make this arc as long. */
 static void call_over_arrays(Said *said, int64_t first) {
@@ -98,7 +116,20 @@ static void call_over_arrays(Said *said, int64_t first) {
     status = dimacs_certify_paths_arrays(&graph, 1, claim->far, NODES, ROOM, &told, claim->predecessors, NODES, &shown);
     int are_those = shown == NODES && !memcmp(claim->predecessors, predecessors, sizeof predecessors);
     add(said, status + 10 * are_those, told);
+    solve_arrays(said, claim, arcs);
     free(claim);
+}
+
+static void solve_texts(Said *said) {
+    size_t told = 0, solved = 0, shown = 0;
+    uint8_t line[100], *solution = malloc(sizeof flow);
+    uint32_t status = dimacs_solve(DIMACS_MAX, TEXT(max), NULL, 0, 9, line, sizeof line, &told, solution, sizeof flow, &solved,
+                                   ROOM, &shown);
+    add(said, status + 10 * (solved == strlen(flow) && !memcmp(solution, flow, solved)), shown);
+    status = dimacs_solve(DIMACS_MIN, TEXT(min), NULL, 0, 9, line, sizeof line, &told, solution, sizeof flow, &solved, ROOM,
+                          &shown);
+    add(said, status + 10 * (solved == strlen(least) && !memcmp(solution, least, solved)), shown);
+    free(solution);
 }
 
 static void call_all(Said *said, const char *claim, int64_t first) {
@@ -117,6 +148,7 @@ static void call_all(Said *said, const char *claim, int64_t first) {
     add(said, status, shown);
     status = dimacs_certify(DIMACS_MIN, TEXT(min), TEXT(least), line, sizeof line, &told, ROOM, &shown);
     add(said, status, shown);
+    solve_texts(said);
     call_over_arrays(said, first);
 }
 

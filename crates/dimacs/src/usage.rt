@@ -38,8 +38,9 @@ static NOTES: &str = "\
 A judge is given what shows that a claim is true. A certify run needs no such
 file, and writes one to CERTIFICATE, if it is named, or a better solution there.
 A solve run reads INSTANCE, or GRAPH and QUERY, and writes its other files; the
-other runs write no file. N is how many flows or steps are tried, a number from
-0 to 1000000000, and 1000000 if it isn't told.
+other runs write no file. What is written is emptied before anything is read, so
+no other word may name it. N is how many flows or steps are tried, a number from
+0 to 1000000000, and 1000000 if it isn't given.
 
 KIND:
   max    an instance of maximum flow       solution  a claimed flow
@@ -56,10 +57,13 @@ Example:
   dimacs judge-max pipes.max pipes.solution pipes.cut
   prints v max 12, or the first fault with its place, as x arc 3 NotSaturated";
 
-/// Writes the usage text to the standard error, where memory is there for it.
+/// The name and the version.
+static VERSION: &str = "dimacs 0.1.0";
+
+/// Writes the version and the usage text to the standard error, where memory is there for it.
 pub fn tell(rt: &HostRuntime) {
     if let Ok(text) = usage_text(rt.alloc()) {
-        let _ = eprintln!(rt; "{text}");
+        let _ = eprintln!(rt; "{VERSION}\n{text}");
     }
 }
 

@@ -1,13 +1,13 @@
 -- One node more of what arrays say by node.
-use Rattle.std.proofs.Common.{◌≡◌, inl, inr, ℕ, zero, suc, ◌+◌, ◌<◌, ◌≤◌, ◌==◌, ◌||◌, ◌⊎◌, ◌^◌, List, [], ◌∷◌, length, get_or, map, Option, Some, None, Bool, true, false, cond, refl, sym, subst, ◌∙◌, ap, add-one, arith}
+use Rattle.std.proofs.Common.{◌≡◌, inl, inr, ℕ, zero, suc, ◌+◌, ◌<◌, ◌≤◌, ◌==◌, ◌||◌, ◌⊎◌, ◌^◌, List, [], ◌∷◌, length, get_or, map, Option, Some, None, Result, Ok, Err, Bool, true, false, cond, refl, sym, subst, ◌∙◌, ap, add-one, arith}
 use Rattle.std.proofs.Math.Path.{fun_ext}
 use mir.Val.{bool_byte}
-use Rattle.std.specs.Prelude.{ℤ, pos, neg_ℤ, ◌+ℤ◌, ◌≤ℤ◌, nat_lt, if◌then◌else◌, unwrap_or}
+use Rattle.std.specs.Prelude.{ℤ, pos, neg_ℤ, ◌+ℤ◌, ◌≤ℤ◌, nat_lt, if◌then◌else◌, unwrap_or, IfNone, IfOk}
 use Rattle.std.specs.List.{range_with_len}
 use Rattle.std.specs.Ordering.{int_eq, nat_cmp}
 use Rattle.std.specs.Cmp.{signed_Decides}
 use Rattle.std.specs.FinMap.{empty, get, insert, remove}
-use Rattle.std.proofs.lemmas.Bool.{cases_lt, cases_order, eq-eqb, le-ltb, lt-ltb, ne_eqb}
+use Rattle.std.proofs.lemmas.Bool.{cases_Bool, cases_lt, cases_order, eq-eqb, le-ltb, lt-ltb, ne_eqb}
 use Rattle.std.proofs.lemmas.List.{get_or_past}
 use Rattle.std.proofs.lemmas.List.Elements.{All-cons, All-nil}
 use Rattle.std.proofs.lemmas.List.FromFn.{get_or-map-range_with_len, length-map-range_with_len}
@@ -16,7 +16,7 @@ use Rattle.std.proofs.lemmas.Int.{by_lt_z, ints}
 use Rattle.dimacs_records.specs.Ranges.{IsWide}
 use Rattle.dimacs_lines.specs.Limits.{IsNode}
 use Rattle.dimacs_records.proofs.ZeroLemmas.{get-removed}
-use Rattle.dimacs_claims.specs.Cuts.{CutValue, empty_cut, with_node}
+use Rattle.dimacs_claims.specs.Cuts.{CutValue, IsCut, empty_cut, with_node}
 use Rattle.dimacs_claims.specs.Potentials.{PotentialsValue, potential_of, with_potential, zero_potentials}
 use Rattle.dimacs_judge.specs.Cuts.{members}
 use Rattle.dimacs_arrays.specs.inside.MinCertified.{AreShifted, IsLeastOf, IsWiderBy}
@@ -98,9 +98,26 @@ one_if true = refl
 one_if false = refl
 
 -- the bytes of a set mark its nodes
-pub marked-bytes : (set : ℕ → Bool) (nodes v : ℕ) → IsNode nodes v → marked (map (byte_in set) (range_with_len 1 nodes)) v ≡ set v
+marked-bytes : (set : ℕ → Bool) (nodes v : ℕ) → IsNode nodes v → marked (map (byte_in set) (range_with_len 1 nodes)) v ≡ set v
 marked-bytes set nodes zero node = absurd (omega (arith, node.0))
 marked-bytes set nodes (suc k) node = ap (λ n. nat_lt 0 n) (get_or-map-range_with_len (byte_in set) 1 nodes k (suc k) 0 (omega (arith, node.1)) (omega arith)) ∙ one_if (set (suc k))
+
+-- and no other
+pub marked_set : (c : CutValue) → IsCut c → marked (map (byte_in (members c)) (range_with_len 1 c.nodes)) ≡ members c
+marked_set c law = fun_ext each
+  where
+    bytes : List ℕ
+    bytes = map (byte_in (members c)) (range_with_len 1 c.nodes)
+
+    outside : (v : ℕ) → (¬ IsNode c.nodes v) → false ≡ members c v
+    outside v off = elim (cases_Bool (members c v)) [ inl is ↦ absurd (off (law.within v is)) | inr none ↦ sym none ]
+
+    each : (v : ℕ) → marked bytes v ≡ members c v
+    each zero = outside zero (λ node. omega (arith, node.0))
+    each (suc k) = elim (cases_lt k c.nodes) [
+      | inl within ↦ marked-bytes (members c) c.nodes (suc k) (omega arith, omega (arith, within))
+      | inr past ↦ ap (nat_lt 0) (get_or_past bytes k 0 (omega (arith, past, length-map-range_with_len (byte_in (members c)) 1 c.nodes))) ∙ outside (suc k) (λ node. omega (arith, node.1, past))
+    ]
 
 one_bit : (b : Bool) → bool_byte b ≤ 1
 one_bit true = omega arith
@@ -197,3 +214,8 @@ wider_by p least shift is moved (v, node, more) =
     let (w, inside, same) = is.found (omega (arith, node.0, node.1)) in
     let low = is.below v node in
     (v, w, node, inside, by_lt_z (potential_of p v) (potential_of p w +ℤ pos (2 ^ 64)) (λ less. absurd (more (omega (arith, ints, moved, low), omega (arith, ints, moved, same, less)))) (λ far. omega (arith, ints, far)))
+
+pub if_wider : {X E : Type 0} (p : PotentialsValue) (shift : ℤ) → (IsWiderBy p shift → IsWider p) → (result : Result (Option X) E) → IfOk result (λ told. IfNone told (IsWiderBy p shift)) → IfOk result (λ told. IfNone told (IsWider p))
+if_wider p shift wider (Ok None) by = wider by
+if_wider p shift wider (Ok (Some x)) by = tt
+if_wider p shift wider (Err error) by = tt

@@ -1,25 +1,27 @@
 -- Flows that are certified over arrays.
-use Rattle.std.proofs.Common.{◌≡◌, ℕ, Bool, List, [], ◌∷◌, All, ℤ, pos, ◌+ℤ◌, ◌<ℤ◌, arith, inl, sym, subst, ◌∙◌, Result}
+use Rattle.std.proofs.Common.{◌≡◌, ℕ, List, [], ◌∷◌, All, length, ℤ, pos, ◌+ℤ◌, ◌<ℤ◌, arith, inl, sym, subst, ◌∙◌, Result}
 use Rattle.std.specs.Prelude.{IsErrAnd}
 use Rattle.std.specs.List.{AllZip}
 use Rattle.std.proofs.lemmas.List.Elements.{All-head, All-tail}
 use Rattle.dimacs_lines.specs.Limits.{IsNode}
 use Rattle.dimacs_records.specs.declared.reasons.Reason.{Reason}
+use Rattle.dimacs_claims.specs.Cuts.{CutValue}
 use Rattle.dimacs_claims.specs.Potentials.{PotentialsValue, potential_of}
 use Rattle.dimacs_network.specs.declared.network.ArcView.{ArcView}
 use Rattle.dimacs_network.specs.Arcs.{JoinsNodes}
-use Rattle.dimacs_instance.specs.MaxFlows.{MaxValue, IsMax}
+use Rattle.dimacs_instance.specs.MaxFlows.{MaxValue}
 use Rattle.dimacs_instance.specs.MinFlows.{MinValue}
 use Rattle.dimacs_judge.specs.declared.verdict.JudgeError.{JudgeError}
 use Rattle.dimacs_judge.specs.declared.verdict.JudgeError.TheVariants.{Refused}
 use Rattle.dimacs_judge.specs.declared.verdict.Where.{Where}
-use Rattle.dimacs_judge.specs.Cuts.{CutTight, IsTightAt}
-use Rattle.dimacs_judge.specs.Feasible.{FeasibleMax, FeasibleMin}
+use Rattle.dimacs_judge.specs.Cuts.{CutTight, members}
+use Rattle.dimacs_judge.specs.Feasible.{FeasibleMax, FeasibleMin, value}
 use Rattle.dimacs_judge.specs.Flows.{cost}
 use Rattle.dimacs_judge.specs.FlowTests.{cost_row, feasible_min_rows, min_demand}
-use Rattle.dimacs_judge.specs.Potentials.{IsSlackAt, reduced_cost}
+use Rattle.dimacs_judge.specs.Optimum.{Least, Maximum}
+use Rattle.dimacs_judge.specs.Potentials.{IsSlackAt, Slack, reduced_cost}
 use Rattle.std.proofs.lemmas.Int.{ints}
-use Rattle.dimacs_arrays.specs.ByNode.{number_of}
+use Rattle.dimacs_arrays.specs.ByNode.{AreBits, marked, number_of}
 use Rattle.dimacs_judge.specs.Tests.{AllClear, Clear, First, FirstOfRow, Refutes, Settles}
 use Rattle.dimacs_judge.specs.inside.Tests.{Refuses}
 use Rattle.dimacs_judge.proofs.Firsts.{AllOneWay}
@@ -35,28 +37,16 @@ use Rattle.dimacs_arrays.specs.declared.certify_max.MaxCertified.{MaxCertified}
 use Rattle.dimacs_arrays.specs.declared.certify_max.MaxCertified.TheVariants as max_told
 use Rattle.dimacs_arrays.specs.declared.certify_min.MinCertified.{MinCertified}
 use Rattle.dimacs_arrays.specs.declared.certify_min.MinCertified.TheVariants as min_told
-use Rattle.dimacs_arrays.specs.MaxArrays.{CertifiesMaxFlow}
-use Rattle.dimacs_arrays.specs.MinArrays.{CertifiesMinFlow, min_claimed_rows}
-use Rattle.dimacs_arrays.specs.inside.MinCertified.{IsLeastBy}
+use Rattle.dimacs_arrays.specs.MaxArrays.{CertifiesMaxFlow, IsMaxBy}
+use Rattle.dimacs_arrays.specs.MinArrays.{CertifiesMinFlow, IsMinBy, IsMinByWider, IsWider, min_claimed_rows}
+use Rattle.dimacs_arrays.specs.inside.MinCertified.{AreShifted, IsLeastBy}
 
 -- ---- maximum
--- a cut with the same nodes is tight too
-module _ (i : MaxValue) (law : IsMax i) (x : List ℤ) (set other : ℕ → Bool) (same : (v : ℕ) → IsNode i.nodes v → other v ≡ set v) where
-  tight_at : (a : ArcView) (z : ℤ) → JoinsNodes i.nodes a → IsTightAt set a z → IsTightAt other a z
-  tight_at a z joined tight = rw (same a.tail joined.0, same a.head joined.1) tight
-
-  all_tight : (arcs : List ArcView) (y : List ℤ) → All (JoinsNodes i.nodes) arcs → AllZip (IsTightAt set) arcs y → AllZip (IsTightAt other) arcs y
-  all_tight [] [] joined tight = tt
-  all_tight [] (z ∷ y) joined tight = absurd tight
-  all_tight (a ∷ arcs) [] joined tight = absurd tight
-  all_tight (a ∷ arcs) (z ∷ y) joined tight = (tight_at a z (All-head (JoinsNodes i.nodes) a arcs joined) tight.0, all_tight arcs y (All-tail (JoinsNodes i.nodes) a arcs joined) tight.1)
-
-  pub same_cut : CutTight i x set → CutTight i x other
-  same_cut cut = record {
-    source_inside = same i.source law.source_within ∙ cut.source_inside;
-    sink_outside = same i.sink law.sink_within ∙ cut.sink_outside;
-    tight = all_tight i.arcs x law.joined cut.tight;
-  }
+-- a cut that is tight, in bytes
+pub max_by : (i : MaxValue) (x : List ℤ) (cut : CutValue) (total : ℤ) (bytes : List ℕ) → Maximum i x → CutTight i x (members cut) → cut.nodes ≡ i.nodes → total ≡ value i x
+    → length bytes ≡ cut.nodes → marked bytes ≡ members cut → AreBits bytes → IsMaxBy i x total bytes
+max_by i x cut total bytes maximum tight nodes total_is each marks bits =
+    ((record { feasible = maximum.feasible; tight = subst (CutTight i x) (sym marks) tight }, maximum), total_is, each ∙ nodes, bits)
 
 module _ (i : MaxValue) (x : List ℤ) where
   -- whatever is said of the flow, it is feasible
@@ -80,6 +70,19 @@ module _ (nodes : ℕ) (p q : ℕ → ℤ) (shift : ℤ) (sums : (v : ℕ) → I
   all_slack [] (z ∷ y) joined slack = absurd slack
   all_slack (a ∷ arcs) [] joined slack = absurd slack
   all_slack (a ∷ arcs) (z ∷ y) joined slack = (slack_at a z (All-head (JoinsNodes nodes) a arcs joined) slack.0, all_slack arcs y (All-tail (JoinsNodes nodes) a arcs joined) slack.1)
+
+module _ (i : MinValue) (x : List ℤ) (p : PotentialsValue) (total : ℤ) where
+  -- potentials that are slack, in an array
+  pub min_by : (numbers : List ℤ) → All (JoinsNodes i.nodes) i.arcs → Least i x → Clear (cost_row i.arcs x) → Slack i.arcs x (potential_of p) → p.nodes ≡ i.nodes → total ≡ cost i.arcs x
+      → (shift : ℤ) → AreShifted p shift numbers → IsMinBy i x total numbers
+  min_by numbers joined least costs slack nodes total_is shift are =
+      let sums = subst (λ (n : ℕ). (v : ℕ) → IsNode n v → number_of numbers v ≡ potential_of p v +ℤ shift) nodes are.sums in
+      let moved = all_slack i.nodes (potential_of p) (number_of numbers) shift sums i.arcs x joined slack in
+      ((record { feasible = least.feasible; costs_wide = costs_wide i.arcs x costs; slack = moved }, least), total_is, are.each ∙ nodes)
+
+  -- or wider than that
+  pub min_by_wider : Least i x → Clear (cost_row i.arcs x) → Slack i.arcs x (potential_of p) → p.nodes ≡ i.nodes → total ≡ cost i.arcs x → IsWider p → IsMinByWider i x total p
+  min_by_wider least costs slack nodes total_is wider = ((record { feasible = least.feasible; costs_wide = costs_wide i.arcs x costs; slack = slack }, least), total_is, nodes, wider)
 
 module _ (i : MinValue) (x : List ℤ) where
   min_one_way : AllOneWay (min_claimed_rows i x)
@@ -109,11 +112,6 @@ module _ (i : MinValue) (x : List ℤ) where
       min_better y told = record { claimed = feasible; costs_wide = costs_wide i.arcs x costs; not_least = told.0; feasible = told.1; less = told.2 }
 
       pub min_least : All (JoinsNodes i.nodes) i.arcs → (total : ℤ) (p : PotentialsValue) (told : MinCertified) → total ≡ cost i.arcs x → DecidesMin i x (of_min.Optimal p) → IsLeastBy total p told → CertifiesMinFlow i x told
-      min_least joined total p (min_told.Optimal said potentials) total_is decided is =
-          let (shift, are) = is.1 in
-          let sums = subst (λ (nodes : ℕ). (v : ℕ) → IsNode nodes v → number_of potentials.items v ≡ potential_of p v +ℤ shift) decided.2 are.sums in
-          let slack = all_slack i.nodes (potential_of p) (number_of potentials.items) shift sums i.arcs x joined decided.1 in
-          ((record { feasible = feasible; costs_wide = costs_wide i.arcs x costs; slack = slack }, decided.0), is.0 ∙ total_is, are.each ∙ decided.2)
-      min_least joined total p (min_told.Wide said q) total_is decided is =
-          rw is.1 ((record { feasible = feasible; costs_wide = costs_wide i.arcs x costs; slack = decided.1 }, decided.0), is.0 ∙ total_is, decided.2, is.2)
+      min_least joined total p (min_told.Optimal said potentials) total_is decided is = min_by i x p said potentials.items joined decided.0 costs decided.1 decided.2 (is.0 ∙ total_is) is.1.0 is.1.1
+      min_least joined total p (min_told.Wide said q) total_is decided is = rw is.1 (min_by_wider i x p said decided.0 costs decided.1 decided.2 (is.0 ∙ total_is) is.2)
       min_least joined total p (min_told.Better y) total_is decided is = absurd is

@@ -11,7 +11,9 @@ mod MaxLemmas
 mod MinLemmas
 mod OrderLemmas
 mod PredLemmas
+mod ReachedLemmas
 mod RisingLemmas
 mod SinkLemmas
+mod SolveLemmas
 mod TreeLemmas
 mod WayLemmas

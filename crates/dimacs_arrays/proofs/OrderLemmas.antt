@@ -7,14 +7,16 @@ use Rattle.dimacs_lines.specs.Limits.{IsNode}
 use Rattle.dimacs_network.specs.Arcs.{JoinsNodes, NetworkValue, arc_at, no_arc}
 use Rattle.dimacs_instance.specs.QueryTexts.{Sources}
 use Rattle.dimacs_claims.specs.declared.block.Label.{Label}
-use Rattle.dimacs_claims.specs.Labels.{BlockValue, IsLabel, IsNear, LabelsValue, distance_in, label, no_label}
+use Rattle.dimacs_claims.specs.Labels.{BlockValue, IsBlock, IsLabel, IsNear, LabelsValue, distance_in, label, no_label}
 use Rattle.dimacs_claims.proofs.ByIdLemmas.{distance_in-at, fresh_apart}
 use Rattle.dimacs_judge.specs.Answers.{block_of}
 use Rattle.dimacs_judge.specs.Labels.{HasTightArc, IsReached, IsRelaxed, LabelsOk}
 use Rattle.dimacs_judge.specs.PathsJudge.{PassesPaths}
 use Rattle.dimacs_judge.specs.QueryTests.{HasFullBlock}
-use Rattle.dimacs_arrays.specs.Paths.{AreLabelsBy}
-use Rattle.dimacs_arrays.proofs.CertifyPathsLemmas.{not_source}
+use Rattle.dimacs_decide.specs.Distances.{AreLabelsOf}
+use Rattle.dimacs_arrays.specs.Paths.{AreLabelsBy, ArePredecessors, pred_by_node}
+use Rattle.dimacs_arrays.specs.inside.LabelTrees.{ArePredsOf}
+use Rattle.dimacs_arrays.proofs.CertifyPathsLemmas.{labels_by, not_source}
 
 -- the label of a distance
 label_at_distance : (ls : List Label) (v : ℕ) (d : ℤ) → distance_in ls v ≡ Some d → (m : Label) × Contains ls m × (m.id ≡ v) × (m.dist ≡ d)
@@ -77,3 +79,14 @@ module _ (g : NetworkValue) (s : ℕ) (claim : ℕ → Option ℤ) (pred : ℕ �
         blocks = All-cons (HasFullBlock two.blocks) s [] (b', ap (λ blocks. block_of blocks s) yours_alone ∙ found_two, yours.whole) (All-nil _);
         labels = subst (All (LabelsOk g.arcs)) (sym yours_alone) (All-cons (LabelsOk g.arcs) b' [] (labels_pass (All-head (LabelsOk g.arcs) b [] (subst (All (LabelsOk g.arcs)) mine_alone passes.labels))) (All-nil _));
       }
+
+-- labels that are decided to be right, by the predecessors of their one block
+pub predecessors_by : (g : NetworkValue) (s : ℕ) (claim : ℕ → Option ℤ) (labels : LabelsValue) (b : BlockValue) (preds : List ℕ) → AreLabelsOf g s claim labels → labels.blocks ≡ b ∷ [] → IsBlock g.nodes b → ArePredsOf g.nodes b.labels preds
+    → All (JoinsNodes g.nodes) g.arcs → ArePredecessors g s claim preds
+predecessors_by g s claim labels b preds of alone lawful named joined =
+    let by = labels_by g s claim labels b preds of alone lawful named in
+    record {
+      each = named.each;
+      some = (labels, by);
+      pass = λ other says. both_pass g s claim (pred_by_node preds) joined labels other by says of.passes;
+    }

@@ -17,9 +17,10 @@ use Rattle.dimacs_arrays.specs.declared.error.Array.TheVariants as arrays
 use Rattle.dimacs_arrays.specs.declared.error.ArrayError.{ArrayError}
 use Rattle.dimacs_arrays.specs.declared.lengths.ArrayLength.{ArrayLength}
 use Rattle.dimacs_arrays.specs.declared.graph.GraphArrays.{GraphArrays}
+use Rattle.dimacs_arrays.specs.declared.solve_paths.PathsSolved.{PathsSolved}
 use Rattle.dimacs_arrays.specs.Answers.{AnswersArrays, length_of}
 use Rattle.dimacs_arrays.specs.Limits.{count_rows, limit_row}
-use Rattle.dimacs_arrays.specs.Paths.{CertifiesByNode, JudgesByNode, pred_by_node}
+use Rattle.dimacs_arrays.specs.Paths.{CertifiesByNode, JudgesByNode, SolvesByNode, pred_by_node}
 
 -- the arc of this index
 abbrev pub weighted_arc : GraphArrays → ℕ → ArcView
@@ -54,7 +55,7 @@ graph_limits a s = count_rows a.nodes (length a.tails.now) ++ (source_rows a.nod
 abbrev pub IsGraphFrom : GraphArrays → ℕ → Type 0
 IsGraphFrom a s = IsGraph (graph_spelled a) × IsNode a.nodes s
 
--- what judging and certifying over the arrays may answer
+-- what judging, certifying and solving over the arrays may answer
 abbrev pub JudgesPathsArrays : GraphArrays → ℕ → List ℤ → List ℕ → Result Verdict ArrayError → Type 0
 JudgesPathsArrays a s distances preds =
     AnswersArrays (paths_judge_lengths a distances preds) (graph_limits a s) (IsGraphFrom a s)
@@ -63,3 +64,6 @@ JudgesPathsArrays a s distances preds =
 abbrev pub CertifiesPathsArrays : GraphArrays → ℕ → List ℤ → Result (Vec ℕ) ArrayError → Type 0
 CertifiesPathsArrays a s distances =
     AnswersArrays (paths_lengths a distances) (graph_limits a s) (IsGraphFrom a s) (CertifiesByNode (graph_spelled a) s (claimed_by_node distances))
+
+abbrev pub SolvesPathsArrays : GraphArrays → ℕ → Result PathsSolved ArrayError → Type 0
+SolvesPathsArrays a s = AnswersArrays (graph_lengths a) (graph_limits a s) (IsGraphFrom a s) (SolvesByNode (graph_spelled a) s)

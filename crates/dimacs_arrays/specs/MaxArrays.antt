@@ -1,5 +1,5 @@
 -- The arrays of maximum flow instances, and what they spell.
-use Rattle.std.specs.Prelude.{ℕ, ◌≡◌, Bool, List, [], ◌∷◌, ◌++◌, length, get_or, map, ℤ, pos, ◌<ℤ◌, Result}
+use Rattle.std.specs.Prelude.{ℕ, ◌≡◌, ◌<◌, Bool, List, [], ◌∷◌, ◌++◌, length, get_or, map, ℤ, pos, ◌<ℤ◌, Result, Ok, Err}
 use Rattle.std.specs.List.{range_with_len}
 use Rattle.dimacs_lines.specs.Limits.{IsNode}
 use Rattle.dimacs_records.specs.declared.reasons.Reason.TheVariants.{NodeRange, NodeTwice}
@@ -7,6 +7,7 @@ use Rattle.dimacs_network.specs.declared.network.ArcView.{ArcView}
 use Rattle.dimacs_instance.specs.MaxFlows.{MaxValue, IsMax}
 use Rattle.dimacs_network.specs.KeptArcs.{capacity_arc}
 use Rattle.dimacs_judge.specs.declared.verdict.JudgeError.{JudgeError}
+use Rattle.dimacs_judge.specs.declared.verdict.JudgeError.TheVariants.{Refused, Memory}
 use Rattle.dimacs_judge.specs.declared.verdict.Verdict.{Verdict}
 use Rattle.dimacs_judge.specs.declared.verdict.Verdict.TheVariants.{Max}
 use Rattle.dimacs_judge.specs.declared.verdict.Where.TheVariants.{Node}
@@ -16,12 +17,15 @@ use Rattle.dimacs_judge.specs.FlowTests.{feasible_max_rows}
 use Rattle.dimacs_judge.specs.Optimum.{Maximum}
 use Rattle.dimacs_judge.specs.Rows.{one_test}
 use Rattle.dimacs_judge.specs.Tests.{Judges, Row, Settles}
+use Rattle.dimacs_solve.specs.Climbing.{GivesUp}
 use Rattle.dimacs_arrays.specs.declared.error.Array.TheVariants as arrays
 use Rattle.dimacs_arrays.specs.declared.error.ArrayError.{ArrayError}
 use Rattle.dimacs_arrays.specs.declared.lengths.ArrayLength.{ArrayLength}
 use Rattle.dimacs_arrays.specs.declared.max.MaxArrays.{MaxArrays}
 use Rattle.dimacs_arrays.specs.declared.certify_max.MaxCertified.{MaxCertified}
 use Rattle.dimacs_arrays.specs.declared.certify_max.MaxCertified.TheVariants.{Optimal, Better}
+use Rattle.dimacs_arrays.specs.declared.solve_max.MaxSolved.{MaxSolved}
+use Rattle.dimacs_arrays.specs.declared.solve_max.MaxSolved.TheVariants as solved
 use Rattle.dimacs_arrays.specs.Answers.{AnswersArrays, length_of}
 use Rattle.dimacs_arrays.specs.ByNode.{AreBits, marked}
 use Rattle.dimacs_arrays.specs.Limits.{count_rows, limit_row}
@@ -68,13 +72,23 @@ pub record IsMaxFlowImproved (i : MaxValue) (x y : List ℤ) : Type 0 where
   pub feasible : FeasibleMax i y
   pub greater : value i x <ℤ value i y
 
--- the flow is maximum by the cut of the marked nodes, has this value, and each byte is 0 or 1; or it isn't, and the other is better
+-- the flow is maximum by the cut of the marked nodes, has this value, and each byte is 0 or 1
+abbrev pub IsMaxBy : MaxValue → List ℤ → ℤ → List ℕ → Type 0
+IsMaxBy i x total inside = ShowsMaxFlow i x (marked inside) × (total ≡ value i x) × (length inside ≡ i.nodes) × AreBits inside
+
+-- the flow is maximum by a cut, and has this value; or it isn't, and the other is better
 abbrev pub CertifiesMaxFlow : MaxValue → List ℤ → MaxCertified → Type 0
-CertifiesMaxFlow i x (Optimal total inside) =
-    ShowsMaxFlow i x (marked inside.items) × (total ≡ value i x) × (length inside.items ≡ i.nodes) × AreBits inside.items
+CertifiesMaxFlow i x (Optimal total inside) = IsMaxBy i x total inside.items
 CertifiesMaxFlow i x (Better y) = IsMaxFlowImproved i x y
 
--- what judging and certifying over the arrays may answer
+-- a flow that is maximum by a cut, and its value; or none of so many flows is, as with the limit 0; want of memory says nothing, and no test fails
+abbrev pub SolvesMaxFlow : MaxValue → ℕ → Result MaxSolved JudgeError → Type 0
+SolvesMaxFlow i limit (Ok (solved.Optimal total x inside)) = (0 < limit) × IsMaxBy i x total inside.items
+SolvesMaxFlow i limit (Ok solved.GaveUp) = GivesUp i limit
+SolvesMaxFlow i limit (Err (Refused place reason)) = ⊥
+SolvesMaxFlow i limit (Err Memory) = Unit
+
+-- what judging, certifying and solving over the arrays may answer
 abbrev pub JudgesMaxArrays : MaxArrays → List ℤ → List ℕ → Result Verdict ArrayError → Type 0
 JudgesMaxArrays a flows inside =
     AnswersArrays (max_judge_lengths a flows inside) (max_limits a) (IsMax (max_spelled a)) (JudgesMaxFlow (max_spelled a) flows (marked inside))
@@ -83,3 +97,6 @@ abbrev pub CertifiesMaxArrays : MaxArrays → List ℤ → Result MaxCertified A
 CertifiesMaxArrays a flows =
     AnswersArrays (max_flow_lengths a flows) (max_limits a) (IsMax (max_spelled a))
     (Settles (CertifiesMaxFlow (max_spelled a) flows) (feasible_max_rows (max_spelled a) flows))
+
+abbrev pub SolvesMaxArrays : MaxArrays → ℕ → Result MaxSolved ArrayError → Type 0
+SolvesMaxArrays a limit = AnswersArrays (max_lengths a) (max_limits a) (IsMax (max_spelled a)) (SolvesMaxFlow (max_spelled a) limit)

@@ -1,5 +1,5 @@
 -- The arrays of minimum cost flow instances, and what they spell.
-use Rattle.std.specs.Prelude.{ℕ, ◌≡◌, ◌<◌, Bool, List, [], ◌∷◌, ◌++◌, length, get_or, map, ℤ, pos, ◌^◌, ◌+ℤ◌, ◌<ℤ◌, ◌≤ℤ◌, Result}
+use Rattle.std.specs.Prelude.{ℕ, ◌≡◌, ◌<◌, Bool, List, [], ◌∷◌, ◌++◌, length, get_or, map, ℤ, pos, ◌^◌, ◌+ℤ◌, ◌<ℤ◌, ◌≤ℤ◌, Result, Ok, Err}
 use Rattle.std.specs.List.{range_with_len, zip}
 use Rattle.std.specs.Ordering.{nat_cmp}
 use Rattle.std.specs.FinMap.{FinMap, from_entries}
@@ -11,6 +11,7 @@ use Rattle.dimacs_network.specs.declared.network.ArcView.{ArcView}
 use Rattle.dimacs_instance.specs.MinFlows.{MinValue, IsMin}
 use Rattle.dimacs_network.specs.KeptArcs.{cost_arc}
 use Rattle.dimacs_judge.specs.declared.verdict.JudgeError.{JudgeError}
+use Rattle.dimacs_judge.specs.declared.verdict.JudgeError.TheVariants.{Refused, Memory}
 use Rattle.dimacs_judge.specs.declared.verdict.Verdict.{Verdict}
 use Rattle.dimacs_judge.specs.declared.verdict.Verdict.TheVariants.{Infeasible, Min}
 use Rattle.dimacs_judge.specs.CertificateTests.{violated_row}
@@ -21,14 +22,17 @@ use Rattle.dimacs_judge.specs.Optimum.{Least, NoFlow}
 use Rattle.dimacs_judge.specs.FlowJudges.{ShowsMinFlow, min_flow_rows}
 use Rattle.dimacs_judge.specs.Tests.{Judges, Row, Settles}
 use Rattle.dimacs_judge.specs.ViolatedSets.{Violated}
+use Rattle.dimacs_solve.specs.Descending.{GivesUpMin, start_flow}
 use Rattle.dimacs_arrays.specs.declared.error.Array.TheVariants as arrays
 use Rattle.dimacs_arrays.specs.declared.error.ArrayError.{ArrayError}
 use Rattle.dimacs_arrays.specs.declared.lengths.ArrayLength.{ArrayLength}
 use Rattle.dimacs_arrays.specs.declared.min.MinArrays.{MinArrays}
 use Rattle.dimacs_arrays.specs.declared.certify_min.MinCertified.{MinCertified}
 use Rattle.dimacs_arrays.specs.declared.certify_min.MinCertified.TheVariants.{Optimal, Wide, Better}
+use Rattle.dimacs_arrays.specs.declared.solve_min.MinSolved.{MinSolved}
+use Rattle.dimacs_arrays.specs.declared.solve_min.MinSolved.TheVariants as solved
 use Rattle.dimacs_arrays.specs.Answers.{AnswersArrays, length_of}
-use Rattle.dimacs_arrays.specs.ByNode.{marked, number_of}
+use Rattle.dimacs_arrays.specs.ByNode.{AreBits, marked, number_of}
 use Rattle.dimacs_arrays.specs.Limits.{count_rows, limit_row}
 
 -- the arc of this index
@@ -82,10 +86,18 @@ pub record IsMinFlowImproved (i : MinValue) (x y : List ℤ) : Type 0 where
 abbrev pub IsWider : PotentialsValue → Type 0
 IsWider p = (v : ℕ) × (w : ℕ) × IsNode p.nodes v × IsNode p.nodes w × ((potential_of p w +ℤ pos (2 ^ 64)) ≤ℤ potential_of p v)
 
--- the flow is least by these potentials, in an array or wider than that, and has this cost; or it isn't, and the other is better
+-- the flow is least by these potentials, in an array, and has this cost
+abbrev pub IsMinBy : MinValue → List ℤ → ℤ → List ℤ → Type 0
+IsMinBy i x total potentials = ShowsMinFlow i x (number_of potentials) × (total ≡ cost i.arcs x) × (length potentials ≡ i.nodes)
+
+-- or by wider ones
+abbrev pub IsMinByWider : MinValue → List ℤ → ℤ → PotentialsValue → Type 0
+IsMinByWider i x total p = ShowsMinFlow i x (potential_of p) × (total ≡ cost i.arcs x) × (p.nodes ≡ i.nodes) × IsWider p
+
+-- the flow is least by potentials, and has this cost; or it isn't, and the other is better
 abbrev pub CertifiesMinFlow : MinValue → List ℤ → MinCertified → Type 0
-CertifiesMinFlow i x (Optimal total potentials) = ShowsMinFlow i x (number_of potentials.items) × (total ≡ cost i.arcs x) × (length potentials.items ≡ i.nodes)
-CertifiesMinFlow i x (Wide total p) = ShowsMinFlow i x (potential_of p) × (total ≡ cost i.arcs x) × (p.nodes ≡ i.nodes) × IsWider p
+CertifiesMinFlow i x (Optimal total potentials) = IsMinBy i x total potentials.items
+CertifiesMinFlow i x (Wide total p) = IsMinByWider i x total p
 CertifiesMinFlow i x (Better y) = IsMinFlowImproved i x y
 
 -- the tests of a flow before those of a certificate, in order
@@ -100,7 +112,16 @@ ShowsInfeasible i set = Violated i set × NoFlow i
 abbrev pub JudgesInfeasible : MinValue → (ℕ → Bool) → Result Verdict JudgeError → Type 0
 JudgesInfeasible i set = Judges (violated_row i set ∷ []) (ShowsInfeasible i set) (λ verdict. verdict ≡ Infeasible)
 
--- what judging and certifying over the arrays may answer
+-- a flow that is least by potentials, with its cost, where the limit is 0 the flow to start from; marked nodes that show that no flow is feasible, where each byte is 0 or 1; or that none of so many flows is least, or that the least cost is out of range; want of memory says nothing, and no test fails
+abbrev pub SolvesMinFlow : MinValue → ℕ → Result MinSolved JudgeError → Type 0
+SolvesMinFlow i limit (Ok (solved.Optimal total x potentials)) = IsMinBy i x total potentials.items × (limit ≡ 0 → x ≡ start_flow i.arcs)
+SolvesMinFlow i limit (Ok (solved.Wide total x p)) = IsMinByWider i x total p × (limit ≡ 0 → x ≡ start_flow i.arcs)
+SolvesMinFlow i limit (Ok (solved.Infeasible inside)) = ShowsInfeasible i (marked inside.items) × (length inside.items ≡ i.nodes) × AreBits inside.items
+SolvesMinFlow i limit (Ok solved.GaveUp) = GivesUpMin i limit
+SolvesMinFlow i limit (Err (Refused place reason)) = ⊥
+SolvesMinFlow i limit (Err Memory) = Unit
+
+-- what judging, certifying and solving over the arrays may answer
 abbrev pub JudgesMinArrays : MinArrays → List ℤ → List ℤ → Result Verdict ArrayError → Type 0
 JudgesMinArrays a flows potentials =
     AnswersArrays (min_judge_lengths a flows potentials) (min_limits a) (IsMin (min_spelled a)) (JudgesMinFlow (min_spelled a) flows (number_of potentials))
@@ -113,3 +134,6 @@ abbrev pub CertifiesMinArrays : MinArrays → List ℤ → Result MinCertified A
 CertifiesMinArrays a flows =
     AnswersArrays (min_flow_lengths a flows) (min_limits a) (IsMin (min_spelled a))
     (Settles (CertifiesMinFlow (min_spelled a) flows) (min_claimed_rows (min_spelled a) flows))
+
+abbrev pub SolvesMinArrays : MinArrays → ℕ → Result MinSolved ArrayError → Type 0
+SolvesMinArrays a limit = AnswersArrays (min_lengths a) (min_limits a) (IsMin (min_spelled a)) (SolvesMinFlow (min_spelled a) limit)

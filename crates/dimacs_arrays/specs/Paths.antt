@@ -1,9 +1,10 @@
 -- Distances and predecessors in the order of IDs, and the labels that they spell.
-use Rattle.std.specs.Prelude.{ℕ, zero, suc, ◌≡◌, ◌≢◌, ◌<◌, ◌⊎◌, List, [], ◌∷◌, All, get_or, length, Option, None, IsSome, Result, Ok, Err, ℤ}
+use Rattle.std.specs.Prelude.{ℕ, zero, suc, ◌≡◌, ◌≢◌, ◌<◌, ◌-◌, ◌^◌, ◌⊎◌, List, [], ◌∷◌, All, Contains, get_or, length, Option, None, IsSome, Result, Ok, Err, ℤ, pos}
 use Rattle.std.specs.Global.{Vec}
 use Rattle.std.specs.Result.{IsErrAnd}
 use Rattle.dimacs_lines.specs.Limits.{IsNode}
-use Rattle.dimacs_records.specs.declared.reasons.Reason.TheVariants.{NodeRange, PredUnknown}
+use Rattle.dimacs_records.specs.declared.reasons.Reason.TheVariants.{NegativeWeight, NodeRange, PredUnknown}
+use Rattle.dimacs_records.specs.Ranges.{IsWhole}
 use Rattle.dimacs_network.specs.Arcs.{NetworkValue}
 use Rattle.dimacs_instance.specs.QueryTexts.{Sources}
 use Rattle.dimacs_claims.specs.declared.block.Label.{Label}
@@ -15,7 +16,12 @@ use Rattle.dimacs_judge.specs.Tests.{FirstAlone, Judges, Refutes, Row}
 use Rattle.dimacs_judge.specs.declared.verdict.JudgeError.{JudgeError}
 use Rattle.dimacs_judge.specs.declared.verdict.JudgeError.TheVariants.{Refused, Memory}
 use Rattle.dimacs_judge.specs.declared.verdict.Verdict.{Verdict}
+use Rattle.dimacs_judge.specs.declared.verdict.Where.TheVariants.{Arc}
+use Rattle.dimacs_decide.specs.Claims.{claimed_by_node}
 use Rattle.dimacs_decide.specs.Distances.{AreDistancesFrom, claim_rows, source_row}
+use Rattle.dimacs_solve.specs.Paths.{AreProduced, HasNoNegativeWeight, IsFirstNegative}
+use Rattle.dimacs_arrays.specs.declared.solve_paths.PathsSolved.{PathsSolved}
+use Rattle.dimacs_arrays.specs.declared.solve_paths.PathsSolved.TheVariants.{Distances, Far}
 
 -- the predecessor of a node stands at its ID less 1; 0 past the end
 abbrev pub pred_by_node : List ℕ → ℕ → ℕ
@@ -101,3 +107,22 @@ abbrev pub CertifiesByNode : NetworkValue → ℕ → (ℕ → Option ℤ) → R
 CertifiesByNode g s claim (Ok preds) = AreDistancesFrom g s claim × ArePredecessors g s claim preds.items
 CertifiesByNode g s claim (Err (Refused place reason)) = FirstAlone (claim_rows g s claim) place reason × ¬ AreDistancesFrom g s claim
 CertifiesByNode g s claim (Err Memory) = Unit
+
+-- an array can say the distance: 64 bits take it, and it isn't their greatest number, which stands for none
+abbrev pub IsSayable : ℤ → Type 0
+IsSayable dist = IsWhole dist × (dist ≢ pos (2 ^ 63 - 1))
+
+abbrev pub HasFar : BlockValue → Type 0
+HasFar b = (l : Label) × Contains b.labels l × ¬ IsSayable l.dist
+
+-- distances that are true and predecessors that show it; or labels that show distances, of which an array can't say all
+abbrev pub FindsByNode : NetworkValue → ℕ → PathsSolved → Type 0
+FindsByNode g s (Distances distances preds) =
+    (length distances.items ≡ g.nodes) × AreDistancesFrom g s (claimed_by_node distances.items) × ArePredecessors g s (claimed_by_node distances.items) preds.items
+FindsByNode g s (Far labels) = AreProduced g (Sources (s ∷ [])) labels × ((b : BlockValue) × (labels.blocks ≡ b ∷ []) × HasFar b)
+
+-- distances, where no weight is negative; else the first arc of a negative one; want of memory says nothing
+abbrev pub SolvesByNode : NetworkValue → ℕ → Result PathsSolved JudgeError → Type 0
+SolvesByNode g s (Ok found) = All HasNoNegativeWeight g.arcs × FindsByNode g s found
+SolvesByNode g s (Err (Refused place reason)) = (reason ≡ NegativeWeight) × ((k : ℕ) × IsFirstNegative g.arcs k × (place ≡ Arc k))
+SolvesByNode g s (Err Memory) = Unit

@@ -1,4 +1,5 @@
 pub mod Answers
 pub mod LabelTrees
 pub mod MinCertified
+pub mod Reached
 pub mod Rising

@@ -1,11 +1,13 @@
 //! Certificates that are said by node, to and from arrays.
 
 ghost use Rattle.std.specs.Prelude.{◌≡◌, ◌≤◌, ◌⊎◌, ◌^◌, ◌+ℤ◌, ◌≤ℤ◌, ℕ, ℤ, pos, neg_ℤ, length, IfNone, IfOk, IfSome};
-ghost use Rattle.dimacs_lines.specs.Limits.{most_nodes, IsNode};
+ghost use Rattle.dimacs_lines.specs.Limits.{most_nodes};
 ghost use Rattle.dimacs_records.specs.Ranges.{IsWhole, IsWide};
+ghost use Rattle.dimacs_claims.specs.Cuts.{IsCut};
 ghost use Rattle.dimacs_claims.specs.Potentials.{potential_of};
 ghost use Rattle.dimacs_judge.specs.Cuts.{members};
 ghost use Rattle.dimacs_arrays.specs.ByNode.{AreBits, marked, number_of};
+ghost use Rattle.dimacs_arrays.specs.MinArrays.{IsWider};
 ghost use Rattle.dimacs_arrays.specs.inside.MinCertified.{AreShifted, IsLeastOf, IsShift, IsWiderBy};
 
 use dimacs_claims::{Cut, Potentials};
@@ -29,14 +31,14 @@ pub(crate) fn cut_of(alloc: Global, nodes: u32, inside: &[u8]) -> Result<Cut, Me
 }
 
 /// A byte for each node, 1 where it is in the set.
-pub(crate) fn bytes_of(alloc: Global, nodes: u32, cut: &Cut) -> Result<Vec<u8>, Memory>
-    requires few { nodes ≤ most_nodes }
-    ensures one_each { IfOk result (λ inside. length inside.items ≡ nodes) }
-    ensures marked { IfOk result (λ inside. (v : ℕ) → IsNode nodes v → marked inside.items v ≡ members cut.now v) }
+pub(crate) fn bytes_of(alloc: Global, cut: &Cut) -> Result<Vec<u8>, Memory>
+    requires { IsCut cut.now }
+    ensures one_each { IfOk result (λ inside. length inside.items ≡ cut.now.nodes) }
+    ensures marked { IfOk result (λ inside. marked inside.items ≡ members cut.now) }
     ensures bits { IfOk result (λ inside. AreBits inside.items) }
 {
     let mut inside = Vec::new(alloc);
-    for i in 0..nodes {
+    for i in 0..cut.nodes() {
         inside.push(u8::from(cut.contains(i + 1)))?;
     }
     Ok(inside)
@@ -78,6 +80,18 @@ pub(crate) fn numbers_of(
         numbers.push(number)?;
     }
     Ok(Some(numbers))
+}
+
+/// These potentials in 64 bits: as they are if they fit, else moved by one number. None where two of them are 2^64 or more
+/// apart.
+pub(crate) fn fitted(alloc: Global, potentials: &Potentials) -> Result<Option<Vec<i64>>, Memory>
+    ensures numbers { IfOk result (λ told. IfSome told (λ numbers. (shift : ℤ) × AreShifted potentials.now shift numbers.items)) }
+    ensures wider { IfOk result (λ told. IfNone told (IsWider potentials.now)) }
+{
+    if let Some(numbers) = numbers_of(alloc, potentials, 0)? {
+        return Ok(Some(numbers));
+    }
+    numbers_of(alloc, potentials, lowest_shift(potentials))
 }
 
 /// The sum in 64 bits, where it fits.

@@ -55,7 +55,7 @@ fn certify_over<N: Network>(
         MaxDecision::Better(better) => Ok(MaxCertified::Better(better)),
         MaxDecision::Optimal(cut) => Ok(MaxCertified::Optimal {
             value: value_of(instance, &flow),
-            inside: bytes_of(alloc, instance.network().nodes(), &cut)?,
+            inside: bytes_of(alloc, &cut)?,
         }),
     }
 }

@@ -5,7 +5,7 @@ ghost use Rattle.dimacs_judge.specs.Tests.{Settles};
 ghost use Rattle.dimacs_arrays.specs.MinArrays.{CertifiesMinArrays, CertifiesMinFlow, min_claimed_rows};
 ghost use Rattle.dimacs_arrays.specs.inside.MinCertified.{IsLeastBy};
 
-use crate::by_node::{lowest_shift, numbers_of};
+use crate::by_node::fitted;
 use crate::error::{Array, ArrayError};
 use crate::lengths::{ArrayLength, lengths_hold};
 use crate::min::MinArrays;
@@ -62,17 +62,11 @@ fn certify_over<N: Network>(
     }
 }
 
-/// What is said of a flow of this cost that these potentials show least: these, if they fit, else moved by one number.
+/// What is said of a flow of this cost that these potentials show least.
 fn least_by(alloc: Global, cost: i128, potentials: Potentials) -> Result<MinCertified, Memory>
     ensures { IfOk result (IsLeastBy cost potentials) }
 {
-    if let Some(numbers) = numbers_of(alloc, &potentials, 0)? {
-        return Ok(MinCertified::Optimal {
-            cost,
-            potentials: numbers,
-        });
-    }
-    match numbers_of(alloc, &potentials, lowest_shift(&potentials))? {
+    match fitted(alloc, &potentials)? {
         Some(numbers) => Ok(MinCertified::Optimal {
             cost,
             potentials: numbers,

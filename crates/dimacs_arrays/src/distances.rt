@@ -45,7 +45,7 @@ pub fn judge_paths_by_node<N: Network>(
 }
 
 /// The query for all distances from a source.
-fn all_from(alloc: Global, source: u32) -> Result<Queries, Memory>
+pub(crate) fn all_from(alloc: Global, source: u32) -> Result<Queries, Memory>
     ensures { IfOk result (λ queries. asked queries ≡ Sources (source ∷ [])) }
 {
     let mut sources = Vec::new(alloc);

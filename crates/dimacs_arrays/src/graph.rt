@@ -16,6 +16,7 @@ use dimacs_records::Reason;
 use std::alloc::Global;
 
 /// A graph as arrays: the k-th arc goes from the k-th tail to the k-th head and has the k-th weight.
+#[repr(C)]
 #[derive(Clone, Copy)]
 pub struct GraphArrays<'a> {
     pub nodes: u32,

@@ -1,10 +1,10 @@
-//! Judging and certifying over arrays, for programs that hold an instance, a flow or distances in memory and print no
-//! text of them.
+//! Judging, certifying and solving over arrays, for programs that hold an instance, a flow or distances in memory and print
+//! no text of them.
 //!
 //! An instance is a struct of slices: the k-th arc goes from the k-th tail to the k-th head. Nodes count from 1, and what
 //! is said by node begins with node 1. Each call first tests the lengths of the arrays, and then whether the numbers lie
-//! within the limits of instances; its answer is that of the judge, or of the certifier, for the instance that the arrays
-//! spell.
+//! within the limits of instances; its answer is that of the judge, the certifier or the solver, for the instance that
+//! the arrays spell.
 #![tactic(auto)]
 
 mod by_node;
@@ -25,7 +25,11 @@ mod limits;
 mod max;
 mod min;
 mod predecessors;
+mod reached;
 mod rising;
+mod solve_max;
+mod solve_min;
+mod solve_paths;
 mod way_back;
 
 pub use certify_max::{MaxCertified, certify_max_arrays};
@@ -41,3 +45,6 @@ pub use judge_paths::judge_paths_arrays;
 pub use lengths::ArrayLength;
 pub use max::MaxArrays;
 pub use min::MinArrays;
+pub use solve_max::{MaxSolved, solve_max_arrays};
+pub use solve_min::{MinSolved, solve_min_arrays};
+pub use solve_paths::{PathsSolved, solve_paths_arrays};

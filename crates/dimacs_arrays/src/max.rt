@@ -16,6 +16,7 @@ use dimacs_records::Reason;
 use std::alloc::Global;
 
 /// A maximum flow instance as arrays: the k-th arc goes from the k-th tail to the k-th head and has the k-th capacity.
+#[repr(C)]
 #[derive(Clone, Copy)]
 pub struct MaxArrays<'a> {
     pub nodes: u32,

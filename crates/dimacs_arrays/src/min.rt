@@ -16,6 +16,7 @@ use std::alloc::Global;
 
 /// A minimum cost flow instance as arrays: the k-th arc goes from the k-th tail to the k-th head and has the k-th lower
 /// bound, capacity and cost. The supplies are by node: that of node 1 comes first.
+#[repr(C)]
 #[derive(Clone, Copy)]
 pub struct MinArrays<'a> {
     pub nodes: u32,

@@ -1,25 +1,25 @@
 -- What was put into memory is what is handed out.
-use Rattle.std.proofs.Common.{◌≡◌, ◌∙◌, ◌++◌, ℕ, List, [], ◌∷◌, Option, Some, Result, Ok, Err, ap, subst, inl, inr}
+use Rattle.std.proofs.Common.{◌≡◌, ◌∙◌, ◌++◌, ℕ, List, [], ◌∷◌, Option, None, Some, Result, Ok, Err, ap, subst, get_or, drop, inl, inr}
 use Rattle.std.specs.Prelude.{unwrap_or}
-use Rattle.dimacs_runs.specs.declared.jobs.CertifyKind.{CertifyKind}
-use Rattle.dimacs_runs.specs.declared.jobs.CertifyKind.TheVariants as claims
 use Rattle.dimacs_runs.specs.declared.jobs.JudgeKind.{JudgeKind}
 use Rattle.dimacs_runs.specs.declared.outcome.RunError.{RunError}
 use Rattle.dimacs_runs.specs.declared.outcome.Status.{Status}
-use Rattle.dimacs_runs.specs.declared.outcome.Status.TheVariants.{Done, Refused, GaveUp}
-use Rattle.dimacs_records.specs.declared.kinds.TextKind.TheVariants as kinds
-use Rattle.dimacs_records.specs.declared.reasons.Reason.TheVariants.{NotLeast, NotMaximum}
-use Rattle.dimacs_runs.specs.Certified.{Certified, value_refused}
+use Rattle.dimacs_runs.specs.declared.jobs.SolveJob.{SolveJob}
+use Rattle.dimacs_runs.specs.declared.jobs.SolveJob.TheVariants.{Max, Min, Paths}
 use Rattle.dimacs_runs.specs.Judged.{IsClaim}
-use Rattle.dimacs_runs.specs.Outputs.{AcceptAll, ReportsAll, TellsAlike}
-use Rattle.dimacs_runs.specs.Refusals.{refusal_line}
-use Rattle.dimacs_runs.specs.Runs.{Reports, text_word}
-use Rattle.dimacs_runs.specs.Verdicts.{failure_line, max_line, min_line}
-use Rattle.dimacs_c.specs.Calls.{Answers, AnswersPair, Handed, HandsOut}
+use Rattle.dimacs_runs.specs.Outputs.{AcceptAll, ReportsAll}
+use Rattle.dimacs_runs.specs.Runs.{Reports}
+use Rattle.dimacs_runs.specs.Solved.{AreQueries}
+use Rattle.dimacs_c.specs.Calls.{Answers, AnswersTexts, Handed, HandNothing, HandsEach, HandsOut}
 use Rattle.dimacs_c.specs.inside.Calls.{Ends}
 
 pub is_claim : (k : JudgeKind) (coming : Option (List ℕ)) (b : List ℕ) → coming ≡ Some b → IsClaim k coming b
 is_claim kind coming b is = λ some. is
+
+pub are_queries : (job : SolveJob) (coming : Option (List ℕ)) (b : List ℕ) → coming ≡ Some b → AreQueries job coming b
+are_queries (Max limit) coming b is = tt
+are_queries (Min limit) coming b is = tt
+are_queries Paths coming b is = is
 
 pub bytes_of : {a b : List ℕ} → Some a ≡ Some b → a ≡ b
 bytes_of is = ap (λ (held : Option (List ℕ)). unwrap_or held []) is
@@ -32,32 +32,43 @@ answered tells (Ok s) start bytes answer h empty reports ends =
     inl (s, reports.0, reports.1, ends.0, subst (λ text. HandsOut text h) whole ends.1)
 answered tells (Err error) start bytes answer h empty reports ends = inr ends
 
--- ---- certifying tells two texts
-abbrev IsPair : List (List ℕ) → Type 0
-IsPair out = (text : List ℕ) × (report : List ℕ) × (out ≡ text ∷ report ∷ [])
+-- ---- several texts, each from a sink of its own
+-- what a sink holds, and the room for it
+abbrev pub Kept : Type 0
+Kept = List ℕ × Handed ℕ
 
-pub certified_pair : (k : CertifyKind) (a b : List ℕ) (s : Status) (out : List (List ℕ)) → Certified k a b s out → IsPair out
-certified_pair claims.Max a b s out (inl h) = ([], refusal_line (text_word kinds.Max) h.0 h.1 h.2, h.5)
-certified_pair claims.Max a b s out (inr (i, spelled, inl h)) = ([], refusal_line (text_word kinds.Solution) h.0 h.1 h.2, h.5)
-certified_pair claims.Max a b Done out (inr (i, spelled, inr (v, also, h))) = (h.0, max_line v.value, h.2)
-certified_pair claims.Max a b Refused out (inr (i, spelled, inr (v, also, inl h))) = ([], failure_line h.0 h.1, h.3)
-certified_pair claims.Max a b Refused out (inr (i, spelled, inr (v, also, inr h))) = (h.0, value_refused v NotMaximum, h.2)
-certified_pair claims.Max a b GaveUp out (inr (i, spelled, inr (v, also, h))) = absurd h
-certified_pair claims.Min a b s out (inl h) = ([], refusal_line (text_word kinds.Min) h.0 h.1 h.2, h.5)
-certified_pair claims.Min a b s out (inr (i, spelled, inl h)) = ([], refusal_line (text_word kinds.Solution) h.0 h.1 h.2, h.5)
-certified_pair claims.Min a b Done out (inr (i, spelled, inr (v, also, h))) = (h.0, min_line v.value, h.2)
-certified_pair claims.Min a b Refused out (inr (i, spelled, inr (v, also, inl h))) = ([], failure_line h.0 h.1, h.3)
-certified_pair claims.Min a b Refused out (inr (i, spelled, inr (v, also, inr h))) = (h.0, value_refused v NotLeast, h.2)
-certified_pair claims.Min a b GaveUp out (inr (i, spelled, inr (v, also, h))) = absurd h
+abbrev pub begun : List Kept → List (Option (List ℕ))
+begun [] = []
+begun (k ∷ kept) = Some [] ∷ begun kept
 
--- two sinks were empty, and what they have now was handed out
-pub answered_pair : (tells : Status → List (List ℕ) → Type 0) (ended : Result Status RunError) (start1 start2 text report : List ℕ) (first answer : ℕ) (shown said : Handed ℕ)
-    → ((s : Status) (out : List (List ℕ)) → tells s out → IsPair out) → start1 ≡ [] → start2 ≡ []
-    → ReportsAll (TellsAlike tells) ended (Some start1 ∷ Some start2 ∷ []) (Some text ∷ Some report ∷ []) → Ends ended text first shown → Ends ended report answer said → AnswersPair tells answer shown said
-answered_pair tells (Ok s) start1 start2 text report first answer shown said pair empty1 empty2 reports shows ends =
-    let p = pair s reports.0 reports.1.0 in
-    let put = subst (λ out. AcceptAll out (Some start1 ∷ Some start2 ∷ []) (Some text ∷ Some report ∷ [])) p.2 reports.2 in
-    let text_is : text ≡ p.0 = bytes_of put.0 ∙ ap (λ front. front ++ p.0) empty1 in
-    let report_is : report ≡ p.1 = bytes_of put.1.0 ∙ ap (λ front. front ++ p.1) empty2 in
-    inl (s, p.0, p.1, subst (λ out. TellsAlike tells s out) p.2 reports.1, ends.0, subst (λ t. HandsOut t shown) text_is shows.1, subst (λ t. HandsOut t said) report_is ends.1)
-answered_pair tells (Err error) start1 start2 text report first answer shown said pair empty1 empty2 reports shows ends = inr (ends.0, shows.1, ends.1)
+abbrev pub held : List Kept → List (Option (List ℕ))
+held [] = []
+held (k ∷ kept) = Some k.0 ∷ held kept
+
+abbrev pub rooms_of : List Kept → List (Handed ℕ)
+rooms_of [] = []
+rooms_of (k ∷ kept) = k.1 ∷ rooms_of kept
+
+-- each room was handed what its sink holds, or nothing
+abbrev pub EndEach : Result Status RunError → List Kept → Type 0
+EndEach ended [] = Unit {0}
+EndEach ended (k ∷ kept) = ((answer : ℕ) × Ends ended k.0 answer k.1) × EndEach ended kept
+
+hands_each : (s : Status) (texts : List (List ℕ)) (kept : List Kept) → AcceptAll texts (begun kept) (held kept) → EndEach (Ok s) kept → HandsEach texts (rooms_of kept)
+hands_each s [] [] same ends = tt
+hands_each s [] (k ∷ kept) same ends =
+    let empty : k.0 ≡ [] = bytes_of (ap (λ sinks. get_or sinks 0 None) same) in
+    let rest : held kept ≡ begun kept = ap (drop 1) same in
+    (subst (λ text. HandsOut text k.1) empty ends.0.1.1, hands_each s [] kept rest ends.1)
+hands_each s (text ∷ texts) [] never ends = absurd never
+hands_each s (text ∷ texts) (k ∷ kept) accepted ends = (subst (λ t. HandsOut t k.1) (bytes_of accepted.0) ends.0.1.1, hands_each s texts kept accepted.1 ends.1)
+
+hand_nothing : (error : RunError) (kept : List Kept) → EndEach (Err error) kept → HandNothing (rooms_of kept)
+hand_nothing error [] ends = tt
+hand_nothing error (k ∷ kept) ends = (ends.0.1.1, hand_nothing error kept ends.1)
+
+-- all sinks were empty, and what they have now was handed out
+pub answered_texts : (tells : Status → List (List ℕ) → Type 0) (ended : Result Status RunError) (kept : List Kept) (report : List ℕ) (answer : ℕ) (last : Handed ℕ)
+    → ReportsAll tells ended (begun kept) (held kept) → EndEach ended kept → Ends ended report answer last → AnswersTexts tells answer (rooms_of kept)
+answered_texts tells (Ok s) kept report answer last reports ends status = inl (s, reports.0, reports.1, status.0, hands_each s reports.0 kept reports.2 ends)
+answered_texts tells (Err error) kept report answer last reports ends status = inr (status.0, hand_nothing error kept ends)

@@ -2,7 +2,6 @@
 use Rattle.std.specs.Prelude.{ℕ, ◌≡◌, ◌++◌, ◌⊎◌, List, [], ◌∷◌, Option, None, Some, Ok, length, take, drop}
 use Rattle.dimacs_runs.specs.declared.outcome.Status.{Status}
 use Rattle.dimacs_runs.specs.Outcomes.{status_number}
-use Rattle.dimacs_runs.specs.Outputs.{TellsAlike}
 use Rattle.dimacs_runs.specs.Runs.{TellsAlone}
 
 -- a caller's room for bytes or numbers, as it was and as the call left it, and the length that the call told
@@ -20,7 +19,7 @@ pub record HandsOut {X : Type 0} (items : List X) (h : Handed X) : Type 0 where
   pub front : h.left ≡ take (length h.room) items ++ drop (length items) h.room
 
 -- the room is as it was, and the length that is told is 0
-pub record HandsNothing (h : Handed ℕ) : Type 0 where
+pub record HandsNothing {X : Type 0} (h : Handed X) : Type 0 where
   pub told : h.told ≡ 0
   pub unchanged : h.left ≡ h.room
 
@@ -35,13 +34,24 @@ abbrev pub AnswersKind : {K : Type 0} → Option K → (K → Status → List �
 AnswersKind None tells answer h = (answer ≡ 2) × HandsNothing h
 AnswersKind (Some kind) tells answer h = Answers (tells kind) answer h
 
--- a text and a report that may be told are handed out, and any other that may be told has this report and this status; or there was no memory
-abbrev pub AnswersPair : (Status → List (List ℕ) → Type 0) → ℕ → Handed ℕ → Handed ℕ → Type 0
-AnswersPair tells answer shown said =
-    ((s : Status) × (text : List ℕ) × (report : List ℕ) × TellsAlike tells s (text ∷ report ∷ []) × (answer ≡ status_number (Ok s))
-    × HandsOut text shown × HandsOut report said)
-    ⊎ ((answer ≡ 4) × HandsNothing shown × HandsNothing said)
+-- each text is handed out to its room, in order; a room past the last text gets an empty one
+abbrev pub HandsEach : List (List ℕ) → List (Handed ℕ) → Type 0
+HandsEach [] [] = Unit {0}
+HandsEach [] (h ∷ rooms) = HandsOut [] h × HandsEach [] rooms
+HandsEach (text ∷ texts) [] = ⊥
+HandsEach (text ∷ texts) (h ∷ rooms) = HandsOut text h × HandsEach texts rooms
 
-abbrev pub AnswersPairKind : {K : Type 0} → Option K → (K → Status → List (List ℕ) → Type 0) → ℕ → Handed ℕ → Handed ℕ → Type 0
-AnswersPairKind None tells answer shown said = (answer ≡ 2) × HandsNothing shown × HandsNothing said
-AnswersPairKind (Some kind) tells answer shown said = AnswersPair (tells kind) answer shown said
+abbrev pub HandNothing : List (Handed ℕ) → Type 0
+HandNothing [] = Unit {0}
+HandNothing (h ∷ rooms) = HandsNothing h × HandNothing rooms
+
+-- texts that may be told are handed out, the report last, and the answer is the command's exit status; or there was no memory
+abbrev pub AnswersTexts : (Status → List (List ℕ) → Type 0) → ℕ → List (Handed ℕ) → Type 0
+AnswersTexts tells answer rooms =
+    ((s : Status) × (texts : List (List ℕ)) × tells s texts × (answer ≡ status_number (Ok s)) × HandsEach texts rooms)
+    ⊎ ((answer ≡ 4) × HandNothing rooms)
+
+-- the same where a number names a kind; 2 where it names none
+abbrev pub AnswersTextsKind : {K : Type 0} → Option K → (K → Status → List (List ℕ) → Type 0) → ℕ → List (Handed ℕ) → Type 0
+AnswersTextsKind None tells answer rooms = (answer ≡ 2) × HandNothing rooms
+AnswersTextsKind (Some kind) tells answer rooms = AnswersTexts (tells kind) answer rooms

@@ -6,6 +6,8 @@ use Rattle.dimacs_runs.specs.declared.jobs.CertifyKind.{CertifyKind}
 use Rattle.dimacs_runs.specs.declared.jobs.CertifyKind.TheVariants as claims
 use Rattle.dimacs_runs.specs.declared.jobs.JudgeKind.{JudgeKind}
 use Rattle.dimacs_runs.specs.declared.jobs.JudgeKind.TheVariants as judges
+use Rattle.dimacs_runs.specs.declared.jobs.SolveJob.{SolveJob}
+use Rattle.dimacs_runs.specs.declared.jobs.SolveJob.TheVariants as jobs
 
 abbrev pub judge_kind : ℕ → Option JudgeKind
 judge_kind number =
@@ -19,6 +21,14 @@ abbrev pub certify_kind : ℕ → Option CertifyKind
 certify_kind number =
     if number == 0 then Some claims.Max
     else if number == 1 then Some claims.Min
+    else None
+
+-- a set is made where least cost is asked for and there is no flow
+abbrev pub solve_job : ℕ → ℕ → Option SolveJob
+solve_job number limit =
+    if number == 0 then Some (jobs.Max limit)
+    else if number == 1 then Some (jobs.Min limit)
+    else if number == 3 then Some jobs.Paths
     else None
 
 abbrev pub text_kind : ℕ → Option TextKind

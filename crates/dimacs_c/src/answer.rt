@@ -1,9 +1,10 @@
 //! How a call ends.
 
 ghost use Rattle.std.specs.Prelude.{◌≡◌};
-ghost use Rattle.dimacs_c.specs.Calls.{HandsNothing, HandsOut, handed};
-ghost use Rattle.dimacs_c.specs.inside.Calls.{Ends};
+ghost use Rattle.dimacs_c.specs.Calls.{HandsOut, handed};
+ghost use Rattle.dimacs_c.specs.inside.Calls.{Ends, EndsSaid};
 
+use dimacs_lines::DeviceFault;
 use dimacs_runs::{RunError, Status, exit_status};
 
 /// The status of a misused call. Others are the command's.
@@ -33,6 +34,28 @@ pub(crate) fn end(
     }
 }
 
+/// Hands out items of a call over arrays, where its line was put, and answers the call's status. The one device that can
+/// fail is memory that has to grow.
+pub(crate) fn hand_said<T: Copy>(
+    put: Result<u32, DeviceFault>,
+    items: &[T],
+    room: &mut [T],
+    told: &mut usize,
+) -> u32
+    ensures { EndsSaid put items.now result (handed room.old room.new told.new) }
+{
+    match put {
+        Ok(status) => {
+            hand_out(items, room, told);
+            status
+        }
+        Err(_) => {
+            *told = 0;
+            NO_MEMORY
+        }
+    }
+}
+
 /// Ends a call that is misused.
 pub(crate) fn misuse(told: &mut usize) -> u32
     ensures told { told.new ≡ 0 }
@@ -43,7 +66,7 @@ pub(crate) fn misuse(told: &mut usize) -> u32
 }
 
 /// Copies as much as there is room for.
-pub(crate) fn hand_out<T: Copy>(items: &[T], room: &mut [T], told: &mut usize)
+fn hand_out<T: Copy>(items: &[T], room: &mut [T], told: &mut usize)
     ensures { HandsOut items.now (handed room.old room.new told.new) }
 {
     let count = items.len().min(room.len());

@@ -1,8 +1,10 @@
 //! Certifying texts in memory.
 
-ghost use Rattle.dimacs_c.specs.Calls.{AnswersPair, AnswersPairKind, handed};
+ghost use Rattle.std.specs.Prelude.{◌∷◌, []};
+ghost use Rattle.dimacs_c.specs.Calls.{AnswersTexts, AnswersTextsKind, handed};
 ghost use Rattle.dimacs_c.specs.Kinds.{certify_kind};
 ghost use Rattle.dimacs_runs.specs.Certified.{Certified};
+ghost use Rattle.dimacs_runs.specs.Outputs.{TellsAlike};
 
 use crate::answer::{end, misuse};
 use crate::kinds::certify_of;
@@ -23,8 +25,8 @@ pub extern "C" fn dimacs_certify(
     shown: &mut [u8],
     shown_told: &mut usize,
 ) -> u32
-    ensures { AnswersPairKind (certify_kind kind) (λ k. Certified k instance.now solution.now) result
-        (handed shown.old shown.new shown_told.new) (handed out.old out.new told.new) }
+    ensures { AnswersTextsKind (certify_kind kind) (λ k. TellsAlike (Certified k instance.now solution.now)) result
+        (handed shown.old shown.new shown_told.new ∷ handed out.old out.new told.new ∷ []) }
 {
     match certify_of(kind) {
         Some(kind) => certify(
@@ -47,8 +49,8 @@ fn certify(
     shown: &mut [u8],
     shown_told: &mut usize,
 ) -> u32
-    ensures { AnswersPair (Certified kind instance.now solution.now) result
-        (handed shown.old shown.new shown_told.new) (handed out.old out.new told.new) }
+    ensures { AnswersTexts (TellsAlike (Certified kind instance.now solution.now)) result
+        (handed shown.old shown.new shown_told.new ∷ handed out.old out.new told.new ∷ []) }
 {
     let mut certificate = MemorySink::new(alloc);
     let mut report = MemorySink::new(alloc);

@@ -1,10 +1,10 @@
 //! The numbers that name kinds.
 
 ghost use Rattle.std.specs.Prelude.{◌≡◌};
-ghost use Rattle.dimacs_c.specs.Kinds.{certify_kind, judge_kind, text_kind};
+ghost use Rattle.dimacs_c.specs.Kinds.{certify_kind, judge_kind, solve_job, text_kind};
 
 use dimacs_records::TextKind;
-use dimacs_runs::{CertifyKind, JudgeKind};
+use dimacs_runs::{CertifyKind, JudgeKind, SolveJob};
 
 pub(crate) fn judge_of(number: u32) -> Option<JudgeKind>
     ensures { result ≡ judge_kind number }
@@ -24,6 +24,17 @@ pub(crate) fn certify_of(number: u32) -> Option<CertifyKind>
     match number {
         0 => Some(CertifyKind::Max),
         1 => Some(CertifyKind::Min),
+        _ => None,
+    }
+}
+
+pub(crate) fn solve_of(number: u32, limit: u64) -> Option<SolveJob>
+    ensures { result ≡ solve_job number limit }
+{
+    match number {
+        0 => Some(SolveJob::Max(limit)),
+        1 => Some(SolveJob::Min(limit)),
+        3 => Some(SolveJob::Paths),
         _ => None,
     }
 }

@@ -1,8 +1,8 @@
 //! The calls of the library for C: `lib/include/dimacs.h` declares them, and says what a caller has to know.
 //!
-//! Each answers the exit status that the command would end with, and hands out what the command would print: as much
-//! of it as there is room for, and the length of the whole. Those over arrays hand out certificates and better flows as
-//! arrays, by the same rule, and answer 2 where the arrays don't fit or a number is past its limit.
+//! Each answers the exit status that the command would end with, and hands out what the command would print and write to
+//! files: as much of it as there is room for, and the length of the whole. Those over arrays hand out flows, distances and
+//! certificates as arrays, by the same rule, and answer 2 where the arrays don't fit or a number is past its limit.
 #![tactic(auto)]
 
 mod answer;
@@ -13,4 +13,6 @@ mod lines;
 mod max;
 mod min;
 mod paths;
+mod solve;
 mod texts;
+mod version;

@@ -7,7 +7,7 @@ ghost use Rattle.dimacs_c.specs.Arrays.{error_line, error_status, said, verdict_
 ghost use Rattle.dimacs_c.specs.Calls.{handed};
 ghost use Rattle.dimacs_c.specs.inside.Arrays.{EndsLine};
 
-use crate::answer::{MISUSED, NO_MEMORY, hand_out};
+use crate::answer::{MISUSED, NO_MEMORY, hand_said};
 use dimacs_arrays::ArrayError;
 use dimacs_judge::{Verdict, Where};
 use dimacs_lines::{DeviceFault, MemorySink, Sink};
@@ -37,16 +37,8 @@ pub(crate) fn hand_judged(
     ensures { EndsLine (said verdict_said answer) result (handed out.old out.new told.new) }
 {
     let mut line = MemorySink::new(alloc);
-    match put_judged(&mut line, answer) {
-        Ok(status) => {
-            hand_out(line.bytes(), out, told);
-            status
-        }
-        Err(_) => {
-            *told = 0;
-            NO_MEMORY
-        }
-    }
+    let put = put_judged(&mut line, answer);
+    hand_said(put, line.bytes(), out, told)
 }
 
 /// Puts the line of a judge's answer, and answers its status.

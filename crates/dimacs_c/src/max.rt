@@ -1,62 +1,35 @@
 //! Maximum flows over arrays.
 
-ghost use Rattle.std.specs.Prelude.{◌≡◌, ℕ, List, Option, IfOk};
+ghost use Rattle.std.specs.Prelude.{◌≡◌, ℕ, List, Option, None, Some, IfOk};
 ghost use Rattle.dimacs_lines.specs.Puts.{Puts};
-ghost use Rattle.dimacs_arrays.specs.MaxArrays.{CertifiesMaxArrays, JudgesMaxArrays};
-ghost use Rattle.dimacs_c.specs.Arrays.{AnswersCertified, AnswersLine, max_arrays, max_said, rooms, said, verdict_said};
+ghost use Rattle.dimacs_arrays.specs.MaxArrays.{CertifiesMaxArrays, JudgesMaxArrays, SolvesMaxArrays};
+ghost use Rattle.dimacs_c.specs.Arrays.{AnswersItems, AnswersLine, max_found, max_said, rooms, said};
 ghost use Rattle.dimacs_c.specs.Calls.{handed};
 
-use crate::answer::{NO_MEMORY, hand_out};
-use crate::lines::{WHOLE_FLOW, hand_judged, put_error, put_no, put_yes};
-use dimacs_arrays::{ArrayError, MaxArrays, MaxCertified, certify_max_arrays, judge_max_arrays};
+use crate::answer::hand_said;
+use crate::lines::{WHOLE_FLOW, hand_judged, put_error, put_no, put_wide, put_yes};
+use dimacs_arrays::{
+    ArrayError, MaxArrays, MaxCertified, MaxSolved, certify_max_arrays, judge_max_arrays,
+    solve_max_arrays,
+};
 use dimacs_judge::Verdict;
 use dimacs_lines::{DeviceFault, MemorySink, Sink};
 use dimacs_records::Reason;
 use std::alloc::Global;
 
-/// A maximum flow instance, as `MaxArrays`.
-#[repr(C)]
-#[derive(Drop)]
-pub struct DimacsMax<'a> {
-    pub nodes: u32,
-    pub source: u32,
-    pub sink: u32,
-    pub tails: &'a [u32],
-    pub heads: &'a [u32],
-    pub caps: &'a [i64],
-}
-
-impl DimacsMax<'_> {
-    ghost use Rattle.std.specs.Prelude.{◌≡◌};
-    ghost use Rattle.dimacs_c.specs.Arrays.{max_arrays};
-
-    pub(crate) fn arrays(&self) -> MaxArrays<'_>
-        ensures { result ≡ max_arrays self.now }
-    {
-        MaxArrays {
-            nodes: self.nodes,
-            source: self.source,
-            sink: self.sink,
-            tails: self.tails,
-            heads: self.heads,
-            caps: self.caps,
-        }
-    }
-}
-
 /// Judges that a flow is maximum by the nodes inside, as `judge_max_arrays`.
 #[unsafe(no_mangle)]
 pub extern "C" fn dimacs_judge_max_arrays(
     alloc: Global,
-    instance: &DimacsMax<'_>,
+    instance: &MaxArrays<'_>,
     flows: &[i64],
     inside: &[u8],
     out: &mut [u8],
     told: &mut usize,
 ) -> u32
-    ensures { AnswersLine (JudgesMaxArrays (max_arrays instance.now) flows.now inside.now) result (handed out.old out.new told.new) }
+    ensures { AnswersLine (JudgesMaxArrays instance.now flows.now inside.now) result (handed out.old out.new told.new) }
 {
-    let answer = judge_max_arrays(alloc, &instance.arrays(), flows, inside);
+    let answer = judge_max_arrays(alloc, instance, flows, inside);
     hand_judged(alloc, answer, out, told)
 }
 
@@ -65,7 +38,7 @@ pub extern "C" fn dimacs_judge_max_arrays(
 #[unsafe(no_mangle)]
 pub extern "C" fn dimacs_certify_max_arrays(
     alloc: Global,
-    instance: &DimacsMax<'_>,
+    instance: &MaxArrays<'_>,
     flows: &[i64],
     out: &mut [u8],
     told: &mut usize,
@@ -74,25 +47,15 @@ pub extern "C" fn dimacs_certify_max_arrays(
     better: &mut [i64],
     better_told: &mut usize,
 ) -> u32
-    ensures { AnswersCertified max_said (CertifiesMaxArrays (max_arrays instance.now) flows.now) result
-        (rooms (handed out.old out.new told.new) (handed inside.old inside.new inside_told.new) (handed better.old better.new better_told.new)) }
+    ensures { AnswersItems max_said (CertifiesMaxArrays instance.now flows.now) result
+        (rooms (handed out.old out.new told.new) (Some (handed inside.old inside.new inside_told.new)) None (Some (handed better.old better.new better_told.new))) }
 {
-    let answer = certify_max_arrays(alloc, &instance.arrays(), flows);
+    let answer = certify_max_arrays(alloc, instance, flows);
     let mut line = MemorySink::new(alloc);
-    match put_certified(&mut line, &answer) {
-        Ok(status) => {
-            hand_out(line.bytes(), out, told);
-            hand_out(inside_of(&answer), inside, inside_told);
-            hand_out(better_of(&answer), better, better_told);
-            status
-        }
-        Err(_) => {
-            *told = 0;
-            *inside_told = 0;
-            *better_told = 0;
-            NO_MEMORY
-        }
-    }
+    let put = put_certified(&mut line, &answer);
+    hand_said(put, inside_of(&answer), inside, inside_told);
+    hand_said(put, better_of(&answer), better, better_told);
+    hand_said(put, line.bytes(), out, told)
 }
 
 /// Puts the line of what is certified, and answers its status.
@@ -112,7 +75,7 @@ fn put_certified<K: Sink>(
 
 /// The nodes inside, where they show the flow maximum.
 fn inside_of(answer: &Result<MaxCertified, ArrayError>) -> &[u8]
-    ensures { result.now ≡ (said max_said answer.now).certificate }
+    ensures { result.now ≡ (said max_said answer.now).marks }
 {
     match answer {
         Ok(MaxCertified::Optimal { inside, .. }) => inside,
@@ -122,10 +85,69 @@ fn inside_of(answer: &Result<MaxCertified, ArrayError>) -> &[u8]
 
 /// The better flow, where there is one.
 fn better_of(answer: &Result<MaxCertified, ArrayError>) -> &[i64]
-    ensures { result.now ≡ (said max_said answer.now).better }
+    ensures { result.now ≡ (said max_said answer.now).amounts }
 {
     match answer {
         Ok(MaxCertified::Better(flow)) => flow.amounts(),
+        _ => &[],
+    }
+}
+
+/// Solves maximum flow, as `solve_max_arrays`. The second room is for the flow, and the third for the nodes inside.
+#[unsafe(no_mangle)]
+pub extern "C" fn dimacs_solve_max_arrays(
+    alloc: Global,
+    instance: &MaxArrays<'_>,
+    limit: u64,
+    out: &mut [u8],
+    told: &mut usize,
+    flows: &mut [i64],
+    flows_told: &mut usize,
+    inside: &mut [u8],
+    inside_told: &mut usize,
+) -> u32
+    ensures { AnswersItems max_found (SolvesMaxArrays instance.now limit) result
+        (rooms (handed out.old out.new told.new) (Some (handed inside.old inside.new inside_told.new)) None (Some (handed flows.old flows.new flows_told.new))) }
+{
+    let answer = solve_max_arrays(alloc, instance, limit);
+    let mut line = MemorySink::new(alloc);
+    let put = put_solved(&mut line, &answer);
+    hand_said(put, inside_by(&answer), inside, inside_told);
+    hand_said(put, flow_of(&answer), flows, flows_told);
+    hand_said(put, line.bytes(), out, told)
+}
+
+/// Puts the line of what is solved, and answers its status.
+fn put_solved<K: Sink>(
+    sink: &mut K,
+    answer: &Result<MaxSolved, ArrayError>,
+) -> Result<u32, DeviceFault>
+    ensures status { IfOk result (λ status. status ≡ (said max_found answer.now).status) }
+    ensures line { Puts result (K.seen sink.old) (said max_found answer.now).line (K.seen sink.new) }
+{
+    match answer {
+        Ok(MaxSolved::Optimal { value, .. }) => put_yes(sink, &Verdict::Max(*value)),
+        Ok(MaxSolved::GaveUp) => put_wide(sink),
+        Err(error) => put_error(sink, *error),
+    }
+}
+
+/// The nodes inside, which show that the flow that was found is maximum.
+fn inside_by(answer: &Result<MaxSolved, ArrayError>) -> &[u8]
+    ensures { result.now ≡ (said max_found answer.now).marks }
+{
+    match answer {
+        Ok(MaxSolved::Optimal { inside, .. }) => inside,
+        _ => &[],
+    }
+}
+
+/// The flow that was found.
+fn flow_of(answer: &Result<MaxSolved, ArrayError>) -> &[i64]
+    ensures { result.now ≡ (said max_found answer.now).amounts }
+{
+    match answer {
+        Ok(MaxSolved::Optimal { flow, .. }) => flow.amounts(),
         _ => &[],
     }
 }

@@ -1,68 +1,35 @@
 //! Flows of least cost over arrays, and instances without a feasible flow.
 
-ghost use Rattle.std.specs.Prelude.{◌≡◌, ℕ, List, Option, IfOk};
+ghost use Rattle.std.specs.Prelude.{◌≡◌, ℕ, List, Option, None, Some, IfOk};
 ghost use Rattle.dimacs_lines.specs.Puts.{Puts};
-ghost use Rattle.dimacs_arrays.specs.MinArrays.{CertifiesMinArrays, JudgesInfeasibleArrays, JudgesMinArrays};
-ghost use Rattle.dimacs_c.specs.Arrays.{AnswersCertified, AnswersLine};
-ghost use Rattle.dimacs_c.specs.Arrays.{min_arrays, min_said, rooms, said};
+ghost use Rattle.dimacs_arrays.specs.MinArrays.{CertifiesMinArrays, JudgesInfeasibleArrays, JudgesMinArrays, SolvesMinArrays};
+ghost use Rattle.dimacs_c.specs.Arrays.{AnswersItems, AnswersLine, min_found, min_said, rooms, said};
 ghost use Rattle.dimacs_c.specs.Calls.{handed};
 
-use crate::answer::{NO_MEMORY, hand_out};
+use crate::answer::hand_said;
 use crate::lines::{WHOLE_FLOW, hand_judged, put_error, put_no, put_wide, put_yes};
 use dimacs_arrays::{
-    ArrayError, MinArrays, MinCertified, certify_min_arrays, judge_infeasible_arrays,
-    judge_min_arrays,
+    ArrayError, MinArrays, MinCertified, MinSolved, certify_min_arrays, judge_infeasible_arrays,
+    judge_min_arrays, solve_min_arrays,
 };
 use dimacs_judge::Verdict;
 use dimacs_lines::{DeviceFault, MemorySink, Sink};
 use dimacs_records::Reason;
 use std::alloc::Global;
 
-/// A minimum cost flow instance, as `MinArrays`.
-#[repr(C)]
-#[derive(Drop)]
-pub struct DimacsMin<'a> {
-    pub nodes: u32,
-    pub tails: &'a [u32],
-    pub heads: &'a [u32],
-    pub lows: &'a [i64],
-    pub caps: &'a [i64],
-    pub costs: &'a [i64],
-    pub supplies: &'a [i64],
-}
-
-impl DimacsMin<'_> {
-    ghost use Rattle.std.specs.Prelude.{◌≡◌};
-    ghost use Rattle.dimacs_c.specs.Arrays.{min_arrays};
-
-    pub(crate) fn arrays(&self) -> MinArrays<'_>
-        ensures { result ≡ min_arrays self.now }
-    {
-        MinArrays {
-            nodes: self.nodes,
-            tails: self.tails,
-            heads: self.heads,
-            lows: self.lows,
-            caps: self.caps,
-            costs: self.costs,
-            supplies: self.supplies,
-        }
-    }
-}
-
 /// Judges that a flow costs least by the potentials, as `judge_min_arrays`.
 #[unsafe(no_mangle)]
 pub extern "C" fn dimacs_judge_min_arrays(
     alloc: Global,
-    instance: &DimacsMin<'_>,
+    instance: &MinArrays<'_>,
     flows: &[i64],
     potentials: &[i64],
     out: &mut [u8],
     told: &mut usize,
 ) -> u32
-    ensures { AnswersLine (JudgesMinArrays (min_arrays instance.now) flows.now potentials.now) result (handed out.old out.new told.new) }
+    ensures { AnswersLine (JudgesMinArrays instance.now flows.now potentials.now) result (handed out.old out.new told.new) }
 {
-    let answer = judge_min_arrays(alloc, &instance.arrays(), flows, potentials);
+    let answer = judge_min_arrays(alloc, instance, flows, potentials);
     hand_judged(alloc, answer, out, told)
 }
 
@@ -70,14 +37,14 @@ pub extern "C" fn dimacs_judge_min_arrays(
 #[unsafe(no_mangle)]
 pub extern "C" fn dimacs_judge_infeasible_arrays(
     alloc: Global,
-    instance: &DimacsMin<'_>,
+    instance: &MinArrays<'_>,
     inside: &[u8],
     out: &mut [u8],
     told: &mut usize,
 ) -> u32
-    ensures { AnswersLine (JudgesInfeasibleArrays (min_arrays instance.now) inside.now) result (handed out.old out.new told.new) }
+    ensures { AnswersLine (JudgesInfeasibleArrays instance.now inside.now) result (handed out.old out.new told.new) }
 {
-    let answer = judge_infeasible_arrays(alloc, &instance.arrays(), inside);
+    let answer = judge_infeasible_arrays(alloc, instance, inside);
     hand_judged(alloc, answer, out, told)
 }
 
@@ -86,7 +53,7 @@ pub extern "C" fn dimacs_judge_infeasible_arrays(
 #[unsafe(no_mangle)]
 pub extern "C" fn dimacs_certify_min_arrays(
     alloc: Global,
-    instance: &DimacsMin<'_>,
+    instance: &MinArrays<'_>,
     flows: &[i64],
     out: &mut [u8],
     told: &mut usize,
@@ -95,25 +62,15 @@ pub extern "C" fn dimacs_certify_min_arrays(
     better: &mut [i64],
     better_told: &mut usize,
 ) -> u32
-    ensures { AnswersCertified min_said (CertifiesMinArrays (min_arrays instance.now) flows.now) result
-        (rooms (handed out.old out.new told.new) (handed potentials.old potentials.new potentials_told.new) (handed better.old better.new better_told.new)) }
+    ensures { AnswersItems min_said (CertifiesMinArrays instance.now flows.now) result
+        (rooms (handed out.old out.new told.new) None (Some (handed potentials.old potentials.new potentials_told.new)) (Some (handed better.old better.new better_told.new))) }
 {
-    let answer = certify_min_arrays(alloc, &instance.arrays(), flows);
+    let answer = certify_min_arrays(alloc, instance, flows);
     let mut line = MemorySink::new(alloc);
-    match put_certified(&mut line, &answer) {
-        Ok(status) => {
-            hand_out(line.bytes(), out, told);
-            hand_out(potentials_of(&answer), potentials, potentials_told);
-            hand_out(better_of(&answer), better, better_told);
-            status
-        }
-        Err(_) => {
-            *told = 0;
-            *potentials_told = 0;
-            *better_told = 0;
-            NO_MEMORY
-        }
-    }
+    let put = put_certified(&mut line, &answer);
+    hand_said(put, potentials_of(&answer), potentials, potentials_told);
+    hand_said(put, better_of(&answer), better, better_told);
+    hand_said(put, line.bytes(), out, told)
 }
 
 /// Puts the line of what is certified, and answers its status.
@@ -134,7 +91,7 @@ fn put_certified<K: Sink>(
 
 /// The potentials, where they show that the flow costs least.
 fn potentials_of(answer: &Result<MinCertified, ArrayError>) -> &[i64]
-    ensures { result.now ≡ (said min_said answer.now).certificate }
+    ensures { result.now ≡ (said min_said answer.now).numbers }
 {
     match answer {
         Ok(MinCertified::Optimal { potentials, .. }) => potentials,
@@ -144,10 +101,85 @@ fn potentials_of(answer: &Result<MinCertified, ArrayError>) -> &[i64]
 
 /// The better flow, where there is one.
 fn better_of(answer: &Result<MinCertified, ArrayError>) -> &[i64]
-    ensures { result.now ≡ (said min_said answer.now).better }
+    ensures { result.now ≡ (said min_said answer.now).amounts }
 {
     match answer {
         Ok(MinCertified::Better(flow)) => flow.amounts(),
+        _ => &[],
+    }
+}
+
+/// Solves minimum cost flow, as `solve_min_arrays`. The second room is for the flow, the third for potentials, and the fourth
+/// for the nodes inside a set that shows that there is no flow.
+#[unsafe(no_mangle)]
+pub extern "C" fn dimacs_solve_min_arrays(
+    alloc: Global,
+    instance: &MinArrays<'_>,
+    limit: u64,
+    out: &mut [u8],
+    told: &mut usize,
+    flows: &mut [i64],
+    flows_told: &mut usize,
+    potentials: &mut [i64],
+    potentials_told: &mut usize,
+    inside: &mut [u8],
+    inside_told: &mut usize,
+) -> u32
+    ensures { AnswersItems min_found (SolvesMinArrays instance.now limit) result
+        (rooms (handed out.old out.new told.new) (Some (handed inside.old inside.new inside_told.new))
+        (Some (handed potentials.old potentials.new potentials_told.new)) (Some (handed flows.old flows.new flows_told.new))) }
+{
+    let answer = solve_min_arrays(alloc, instance, limit);
+    let mut line = MemorySink::new(alloc);
+    let put = put_solved(&mut line, &answer);
+    hand_said(put, inside_by(&answer), inside, inside_told);
+    hand_said(put, potentials_by(&answer), potentials, potentials_told);
+    hand_said(put, flow_of(&answer), flows, flows_told);
+    hand_said(put, line.bytes(), out, told)
+}
+
+/// Puts the line of what is solved, and answers its status.
+fn put_solved<K: Sink>(
+    sink: &mut K,
+    answer: &Result<MinSolved, ArrayError>,
+) -> Result<u32, DeviceFault>
+    ensures status { IfOk result (λ status. status ≡ (said min_found answer.now).status) }
+    ensures line { Puts result (K.seen sink.old) (said min_found answer.now).line (K.seen sink.new) }
+{
+    match answer {
+        Ok(MinSolved::Optimal { cost, .. }) => put_yes(sink, &Verdict::Min(*cost)),
+        Ok(MinSolved::Infeasible { .. }) => put_yes(sink, &Verdict::Infeasible),
+        Ok(MinSolved::Wide { .. } | MinSolved::GaveUp) => put_wide(sink),
+        Err(error) => put_error(sink, *error),
+    }
+}
+
+/// The nodes inside, where they show that there is no flow.
+fn inside_by(answer: &Result<MinSolved, ArrayError>) -> &[u8]
+    ensures { result.now ≡ (said min_found answer.now).marks }
+{
+    match answer {
+        Ok(MinSolved::Infeasible { inside }) => inside,
+        _ => &[],
+    }
+}
+
+/// The potentials, which show that the flow that was found costs least.
+fn potentials_by(answer: &Result<MinSolved, ArrayError>) -> &[i64]
+    ensures { result.now ≡ (said min_found answer.now).numbers }
+{
+    match answer {
+        Ok(MinSolved::Optimal { potentials, .. }) => potentials,
+        _ => &[],
+    }
+}
+
+/// The flow that was found, with potentials that an array can say.
+fn flow_of(answer: &Result<MinSolved, ArrayError>) -> &[i64]
+    ensures { result.now ≡ (said min_found answer.now).amounts }
+{
+    match answer {
+        Ok(MinSolved::Optimal { flow, .. }) => flow.amounts(),
         _ => &[],
     }
 }

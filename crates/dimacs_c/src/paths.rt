@@ -1,58 +1,35 @@
 //! Distances over arrays.
 
-ghost use Rattle.std.specs.Prelude.{◌≡◌, ℕ, List, Option, IfOk};
+ghost use Rattle.std.specs.Prelude.{◌≡◌, ℕ, List, Option, None, Some, IfOk};
 ghost use Rattle.dimacs_lines.specs.Puts.{Puts};
-ghost use Rattle.dimacs_arrays.specs.GraphArrays.{CertifiesPathsArrays, JudgesPathsArrays};
-ghost use Rattle.dimacs_c.specs.Arrays.{AnswersCertified, AnswersLine, graph_arrays, no_room, paths_said, rooms, said};
+ghost use Rattle.dimacs_arrays.specs.GraphArrays.{CertifiesPathsArrays, JudgesPathsArrays, SolvesPathsArrays};
+ghost use Rattle.dimacs_c.specs.Arrays.{AnswersItems, AnswersLine, paths_found, paths_said, rooms, said};
 ghost use Rattle.dimacs_c.specs.Calls.{handed};
 
-use crate::answer::{NO_MEMORY, hand_out};
-use crate::lines::{hand_judged, put_error, put_yes};
-use dimacs_arrays::{ArrayError, GraphArrays, certify_paths_arrays, judge_paths_arrays};
+use crate::answer::hand_said;
+use crate::lines::{hand_judged, put_error, put_wide, put_yes};
+use dimacs_arrays::{
+    ArrayError, GraphArrays, PathsSolved, certify_paths_arrays, judge_paths_arrays,
+    solve_paths_arrays,
+};
 use dimacs_judge::Verdict;
 use dimacs_lines::{DeviceFault, MemorySink, Sink};
 use std::alloc::Global;
-
-/// A graph, as `GraphArrays`.
-#[repr(C)]
-#[derive(Drop)]
-pub struct DimacsGraph<'a> {
-    pub nodes: u32,
-    pub tails: &'a [u32],
-    pub heads: &'a [u32],
-    pub weights: &'a [i64],
-}
-
-impl DimacsGraph<'_> {
-    ghost use Rattle.std.specs.Prelude.{◌≡◌};
-    ghost use Rattle.dimacs_c.specs.Arrays.{graph_arrays};
-
-    pub(crate) fn arrays(&self) -> GraphArrays<'_>
-        ensures { result ≡ graph_arrays self.now }
-    {
-        GraphArrays {
-            nodes: self.nodes,
-            tails: self.tails,
-            heads: self.heads,
-            weights: self.weights,
-        }
-    }
-}
 
 /// Judges distances by their predecessors, as `judge_paths_arrays`.
 #[unsafe(no_mangle)]
 pub extern "C" fn dimacs_judge_paths_arrays(
     alloc: Global,
-    graph: &DimacsGraph<'_>,
+    graph: &GraphArrays<'_>,
     source: u32,
     distances: &[i64],
     predecessors: &[u32],
     out: &mut [u8],
     told: &mut usize,
 ) -> u32
-    ensures { AnswersLine (JudgesPathsArrays (graph_arrays graph.now) source distances.now predecessors.now) result (handed out.old out.new told.new) }
+    ensures { AnswersLine (JudgesPathsArrays graph.now source distances.now predecessors.now) result (handed out.old out.new told.new) }
 {
-    let answer = judge_paths_arrays(alloc, &graph.arrays(), source, distances, predecessors);
+    let answer = judge_paths_arrays(alloc, graph, source, distances, predecessors);
     hand_judged(alloc, answer, out, told)
 }
 
@@ -60,7 +37,7 @@ pub extern "C" fn dimacs_judge_paths_arrays(
 #[unsafe(no_mangle)]
 pub extern "C" fn dimacs_certify_paths_arrays(
     alloc: Global,
-    graph: &DimacsGraph<'_>,
+    graph: &GraphArrays<'_>,
     source: u32,
     distances: &[i64],
     out: &mut [u8],
@@ -68,23 +45,19 @@ pub extern "C" fn dimacs_certify_paths_arrays(
     predecessors: &mut [u32],
     predecessors_told: &mut usize,
 ) -> u32
-    ensures { AnswersCertified paths_said (CertifiesPathsArrays (graph_arrays graph.now) source distances.now) result
-        (rooms (handed out.old out.new told.new) (handed predecessors.old predecessors.new predecessors_told.new) no_room) }
+    ensures { AnswersItems paths_said (CertifiesPathsArrays graph.now source distances.now) result
+        (rooms (handed out.old out.new told.new) (Some (handed predecessors.old predecessors.new predecessors_told.new)) None None) }
 {
-    let answer = certify_paths_arrays(alloc, &graph.arrays(), source, distances);
+    let answer = certify_paths_arrays(alloc, graph, source, distances);
     let mut line = MemorySink::new(alloc);
-    match put_certified(&mut line, &answer) {
-        Ok(status) => {
-            hand_out(line.bytes(), out, told);
-            hand_out(predecessors_of(&answer), predecessors, predecessors_told);
-            status
-        }
-        Err(_) => {
-            *told = 0;
-            *predecessors_told = 0;
-            NO_MEMORY
-        }
-    }
+    let put = put_certified(&mut line, &answer);
+    hand_said(
+        put,
+        predecessors_of(&answer),
+        predecessors,
+        predecessors_told,
+    );
+    hand_said(put, line.bytes(), out, told)
 }
 
 /// Puts the line of what is certified, and answers its status.
@@ -103,10 +76,76 @@ fn put_certified<K: Sink>(
 
 /// The predecessors, where the distances are true.
 fn predecessors_of(answer: &Result<Vec<u32>, ArrayError>) -> &[u32]
-    ensures { result.now ≡ (said paths_said answer.now).certificate }
+    ensures { result.now ≡ (said paths_said answer.now).marks }
 {
     match answer {
         Ok(predecessors) => predecessors,
         Err(_) => &[],
+    }
+}
+
+/// Solves shortest paths from a source, as `solve_paths_arrays`. The second room is for the distances, and the third for the
+/// predecessors.
+#[unsafe(no_mangle)]
+pub extern "C" fn dimacs_solve_paths_arrays(
+    alloc: Global,
+    graph: &GraphArrays<'_>,
+    source: u32,
+    out: &mut [u8],
+    told: &mut usize,
+    distances: &mut [i64],
+    distances_told: &mut usize,
+    predecessors: &mut [u32],
+    predecessors_told: &mut usize,
+) -> u32
+    ensures { AnswersItems paths_found (SolvesPathsArrays graph.now source) result
+        (rooms (handed out.old out.new told.new) (Some (handed predecessors.old predecessors.new predecessors_told.new))
+        (Some (handed distances.old distances.new distances_told.new)) None) }
+{
+    let answer = solve_paths_arrays(alloc, graph, source);
+    let mut line = MemorySink::new(alloc);
+    let put = put_solved(&mut line, &answer);
+    hand_said(
+        put,
+        predecessors_by(&answer),
+        predecessors,
+        predecessors_told,
+    );
+    hand_said(put, distances_by(&answer), distances, distances_told);
+    hand_said(put, line.bytes(), out, told)
+}
+
+/// Puts the line of what is solved, and answers its status.
+fn put_solved<K: Sink>(
+    sink: &mut K,
+    answer: &Result<PathsSolved, ArrayError>,
+) -> Result<u32, DeviceFault>
+    ensures status { IfOk result (λ status. status ≡ (said paths_found answer.now).status) }
+    ensures line { Puts result (K.seen sink.old) (said paths_found answer.now).line (K.seen sink.new) }
+{
+    match answer {
+        Ok(PathsSolved::Distances { .. }) => put_yes(sink, &Verdict::Sources(1)),
+        Ok(PathsSolved::Far(_)) => put_wide(sink),
+        Err(error) => put_error(sink, *error),
+    }
+}
+
+/// The predecessors of the nodes that are reached.
+fn predecessors_by(answer: &Result<PathsSolved, ArrayError>) -> &[u32]
+    ensures { result.now ≡ (said paths_found answer.now).marks }
+{
+    match answer {
+        Ok(PathsSolved::Distances { predecessors, .. }) => predecessors,
+        _ => &[],
+    }
+}
+
+/// The distances that were found, where an array can say them.
+fn distances_by(answer: &Result<PathsSolved, ArrayError>) -> &[i64]
+    ensures { result.now ≡ (said paths_found answer.now).numbers }
+{
+    match answer {
+        Ok(PathsSolved::Distances { distances, .. }) => distances,
+        _ => &[],
     }
 }

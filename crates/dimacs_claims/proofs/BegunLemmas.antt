@@ -31,7 +31,7 @@ use Rattle.dimacs_claims.proofs.BlockLemmas.{label_id, near_radius, is_some-labe
 use Rattle.dimacs_claims.proofs.LabelRecords.{source_of, opened_with, last_after, last_cases, last_is, say_taken, short_told, list_any-has_source, lines_of_blocks-push_block, lines_of_blocks-push_label, lines_of_blocks-zero, new_source, push_same}
 
 -- what is told of the records is so
-lines_told : (b : LabelsBegun) → after_lines b ≡ after_records (labels_begun_records b)
+pub lines_told : (b : LabelsBegun) → after_lines b ≡ after_records (labels_begun_records b)
 lines_told b = ap (earlier_of (after_lines b).problem) (sym ((say_taken b).counted ∙ length-map b.blocks source_of))
 
 pub source_told : (begun : LabelsBegun) (source : ℕ) → list_any (names source) (labels_begun_records begun) ≡ list_any (has_source source) begun.blocks
@@ -90,7 +90,7 @@ module _ (begun : LabelsBegun) (are : AreLabelsBegun begun) (source count : ℕ)
 
 -- after these blocks, of which b is the last
 module _ (begun : LabelsBegun) (front : List BlockValue) (b : BlockValue) (is : begun.blocks ≡ front ++ b ∷ []) (l : Label) where
-  in_last : block_in (labels_begun_records begun) ≡ Some (opened_with begun.missing b)
+  pub in_last : block_in (labels_begun_records begun) ≡ Some (opened_with begun.missing b)
   in_last = (say_taken begun).block ∙ last_is begun.blocks begun.missing (front, b, is)
 
   pub label_told : record (after_lines begun) { named = is_some (label b l.id); block_full = begun.missing == 0; pred_unknown = not (is_some (label b l.pred)); past_radius = is_past b.radius l.dist } ≡ before begun (label_line l)

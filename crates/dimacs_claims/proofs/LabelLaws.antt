@@ -8,6 +8,7 @@ use Rattle.std.proofs.lemmas.Int.{ints}
 use Rattle.std.proofs.lemmas.List.{length-append, length-map, append-nil, map-append}
 use Rattle.std.proofs.lemmas.List.Elements.{All-nil, All-cons, All-head, All-tail, All-append}
 use Rattle.dimacs_lines.specs.Limits.{most_nodes}
+use Rattle.dimacs_records.specs.declared.kinds.TextKind.{TextKind}
 use Rattle.dimacs_records.specs.declared.kinds.TextKind.TheVariants.{Labels}
 use Rattle.dimacs_records.specs.declared.records.Record.{Record}
 use Rattle.dimacs_records.specs.declared.records.Record.TheVariants.{LabelsProblem, LabelsBlock, LabelsNode}
@@ -29,7 +30,7 @@ use Rattle.dimacs_claims.proofs.LabelStates.{Say, opened, is_source, say_problem
 use Rattle.dimacs_claims.proofs.LabelRecords.{source_of, say_labels}
 
 -- each record is allowed after the earlier ones and those before it
-AllAllowed : List Record → List Record → Type 0
+unfoldable pub AllAllowed : List Record → List Record → Type 0
 AllAllowed earlier [] = Unit {0}
 AllAllowed earlier (r ∷ rs) = IsAllowed earlier r × AllAllowed (earlier ++ r ∷ []) rs
 
@@ -38,7 +39,7 @@ unfolding AllAllowed
 all_allowed-append [] ys earlier a b = subst (λ e. AllAllowed e ys) (append-nil earlier) b
 all_allowed-append (x ∷ xs) ys earlier a b = (a.0, all_allowed-append xs ys (earlier ++ x ∷ []) a.1 (subst (λ e. AllAllowed e ys) (sym (append_assoc earlier (x ∷ []) xs)) b))
 
-allowed_at : (before all after earlier : List Record) (r : Record) → AllAllowed earlier all → all ≡ before ++ r ∷ after → IsAllowed (earlier ++ before) r
+pub allowed_at : (before all after earlier : List Record) (r : Record) → AllAllowed earlier all → all ≡ before ++ r ∷ after → IsAllowed (earlier ++ before) r
 unfolding AllAllowed
 allowed_at before [] after earlier r a e = absurd (omega (arith, ap length e, length-append before (r ∷ after)))
 allowed_at [] (x ∷ xs) after earlier r a e = let first : x ≡ r = cc in subst (λ t. IsAllowed t r) (sym (append-nil earlier)) (subst (IsAllowed earlier) first a.0)
@@ -116,19 +117,25 @@ blocks_fit (b ∷ bs) done earlier nodes declared last say full all are sources 
       complete = subst (IsComplete Labels) (append_assoc earlier (block_lines b) (flat_map block_lines bs)) rest.complete;
     }
 
-faultless_records : (labels : LabelsValue) → AreLabels labels → AreFaultless Labels (label_records labels)
+-- all records of labels are allowed, and complete
+pub record Whole (rs : List Record) : Type 0 where
+  pub allowed : AllAllowed [] rs
+  pub complete : IsComplete Labels rs
+
+pub whole_records : (labels : LabelsValue) → AreLabels labels → Whole (label_records labels)
 unfolding AllAllowed
-faultless_records labels are =
+whole_records labels are =
     let declared = length labels.blocks in
     let fit = blocks_fit labels.blocks [] (LabelsProblem labels.nodes declared ∷ []) labels.nodes declared None (say_problem labels.nodes declared) refl (omega arith) are.blocks are.sources in
-    let all : AllAllowed [] (label_records labels) = (first_problem labels.nodes declared, fit.allowed) in
-    record {
-      allowed = λ before after r e. allowed_at before (label_records labels) after [] r all e;
-      complete = fit.complete;
-    }
+    record { allowed = (first_problem labels.nodes declared, fit.allowed); complete = fit.complete }
 
 pub labels_faultless : (rs : List LineRecord) (labels : LabelsValue) → GivesLabels rs labels → AreFaultless Labels (records_of rs)
-labels_faultless rs labels h = rw h.0 (faultless_records labels h.1)
+labels_faultless rs labels h =
+    let whole = whole_records labels h.1 in
+    rw h.0 (record {
+      allowed = λ before after r e. allowed_at before (label_records labels) after [] r whole.allowed e;
+      complete = whole.complete;
+    })
 
 -- the labels before the first block line, and the blocks
 abbrev Parts : Type 0
@@ -143,7 +150,7 @@ parts_of : List Record → Parts
 parts_of [] = ([], [])
 parts_of (r ∷ rs) = with_record r (parts_of rs)
 
-labels_of : List Record → LabelsValue
+pub labels_of : List Record → LabelsValue
 labels_of (LabelsProblem nodes count ∷ rs) = record { nodes = nodes; blocks = (parts_of rs).1 }
 labels_of rs = record { nodes = 0; blocks = [] }
 
@@ -160,7 +167,7 @@ parts_of-blocks (b ∷ bs) =
     let labels : parts_of (map label_line b.labels ++ rest) ≡ (b.labels, bs) = parts_of-labels b.labels rest ∙ (ap (λ (p : Parts). (b.labels ++ p.0, p.1)) (parts_of-blocks bs) ∙ ap (λ ls. (ls, bs)) (append-nil b.labels)) in
     ap (with_record (LabelsBlock b.source (length b.labels) b.radius)) labels
 
-labels_of-label_records : (labels : LabelsValue) → labels_of (label_records labels) ≡ labels
+pub labels_of-label_records : (labels : LabelsValue) → labels_of (label_records labels) ≡ labels
 unfolding labels_of
 labels_of-label_records labels = ap (λ (p : Parts). record { nodes = labels.nodes; blocks = p.1 }) (parts_of-blocks labels.blocks)
 
@@ -213,20 +220,23 @@ blocks_spelled nodes (b ∷ bs) few are =
     All-append (CanBeSpelled Labels) (block_lines b) (flat_map block_lines bs) (All-cons (CanBeSpelled Labels) (LabelsBlock b.source (length b.labels) b.radius) (map label_line b.labels) (block_fits nodes b b.radius few is is.radius_within) (labels_fit nodes b.labels few is.within))
     (blocks_spelled nodes bs few (All-tail (IsBlock nodes) b bs are))
 
+pub records_fit : (labels : LabelsValue) → AreLabels labels → All (CanBeSpelled Labels) (label_records labels)
+records_fit labels are = All-cons (CanBeSpelled Labels) (LabelsProblem labels.nodes (length labels.blocks)) (flat_map block_lines labels.blocks) (problem_fits labels are) (blocks_spelled labels.nodes labels.blocks are.nodes_few are.blocks)
+
 -- the canonical text of labels spells them
 pub labels_round_trip : (labels : LabelsValue) → AreLabels labels → FitText labels → SpellsLabels (canonical_labels labels) labels
 labels_round_trip labels are few =
     let rs = label_records labels in
-    let fit : All (CanBeSpelled Labels) rs = All-cons (CanBeSpelled Labels) (LabelsProblem labels.nodes (length labels.blocks)) (flat_map block_lines labels.blocks) (problem_fits labels are) (blocks_spelled labels.nodes labels.blocks are.nodes_few are.blocks) in
     record {
       said = map (λ (r : Record). Some r) rs;
-      spelled = canonical_spelled Labels rs fit few;
+      spelled = canonical_spelled Labels rs (records_fit labels are) few;
       given = (numbered_all rs, are);
     }
 
--- the labels of a text have no more lines than it
-pub fit_read : (all : List (List ℕ)) (told : Result LabelsValue ReadError) → Reads (SpellsValue Labels GivesLabels all) (Fault Labels all) told → IfOk told FitText
-fit_read all (Ok labels) h =
+-- the labels of a text have no more lines than it, whichever of the two kinds it has
+pub fit_read : (kind : TextKind) (gives : List LineRecord → LabelsValue → Type 0) → ((rs : List LineRecord) (labels : LabelsValue) → gives rs labels → length (records_of rs) ≡ length (label_records labels))
+    → (all : List (List ℕ)) (told : Result LabelsValue ReadError) → Reads (SpellsValue kind gives all) (Fault kind all) told → IfOk told FitText
+fit_read kind gives as_many all (Ok labels) h =
     let spells = h.0 in
-    omega (arith, one_a_line Labels all spells.said 1 spells.spelled.spell, spells.spelled.few, ap length spells.given.0, length-map (numbered 1 spells.said) (λ (r : LineRecord). r.says))
-fit_read all (Err error) h = tt
+    omega (arith, one_a_line kind all spells.said 1 spells.spelled.spell, spells.spelled.few, as_many (numbered 1 spells.said) labels spells.given, length-map (numbered 1 spells.said) (λ (r : LineRecord). r.says))
+fit_read kind gives as_many all (Err error) h = tt

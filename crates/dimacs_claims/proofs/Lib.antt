@@ -2,6 +2,8 @@ pub mod BegunLemmas
 pub mod BlockLemmas
 pub mod ByIdLemmas
 mod CutLemmas
+mod DistanceLaws
+mod DistanceStates
 pub mod LabelLaws
 pub mod LabelRecords
 pub mod LabelStates

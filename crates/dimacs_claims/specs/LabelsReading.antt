@@ -1,11 +1,11 @@
 -- How far labels have been read.
-use Rattle.std.specs.Prelude.{ℕ, ◌≡◌, ◌≤◌, ◌+◌, List, [], ◌∷◌, ◌++◌, map, length, is_some, ◌==◌, Some, is_none, not}
+use Rattle.std.specs.Prelude.{ℕ, ◌≡◌, ◌≤◌, ◌+◌, List, [], ◌∷◌, ◌++◌, map, length, is_some, ◌==◌, Some, None, false, is_none, not}
 use Rattle.std.specs.List.{All, list_any}
 use Rattle.dimacs_lines.specs.Limits.{most_count, most_nodes}
 use Rattle.dimacs_nodes.specs.declared.node_table.NodeTable.{NodeTable}
 use Rattle.dimacs_nodes.specs.Tables.{value_of}
 use Rattle.dimacs_records.specs.declared.records.Record.{Record}
-use Rattle.dimacs_records.specs.declared.records.Record.TheVariants.{LabelsProblem, LabelsBlock, LabelsNode}
+use Rattle.dimacs_records.specs.declared.records.Record.TheVariants.{LabelsProblem, LabelsBlock, LabelsNode, DistancesBlock, DistancesNode}
 use Rattle.dimacs_claims.specs.Labels.{BlockValue, EachAfter, IsBlock, IsNewSource, distance_in}
 use Rattle.dimacs_claims.specs.LabelTexts.{label_line}
 use Rattle.dimacs_records.specs.declared.order.Earlier.{Earlier}
@@ -78,3 +78,9 @@ before begun (LabelsNode id dist pred) =
       past_radius = is_past_block block dist;
     }
 before begun r = after_lines begun
+
+-- what they say of one more line of distances: what they say of that of labels, but for PRED and RADIUS
+abbrev pub before_bare : LabelsBegun → Record → Earlier
+before_bare begun (DistancesBlock source count) = before begun (LabelsBlock source count None)
+before_bare begun (DistancesNode id dist) = record (before begun (LabelsNode id dist id)) { pred_unknown = false; past_radius = false }
+before_bare begun r = after_lines begun

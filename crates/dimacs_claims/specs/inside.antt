@@ -1,2 +1,3 @@
 pub mod ById
+pub mod Lines
 pub mod SolutionReading

@@ -1,6 +1,6 @@
 //! The labels of a block, in little memory.
 
-ghost use Rattle.std.specs.Prelude.{◌≡◌, ◌<◌, ◌++◌, ◌∷◌, [], length, map, slice_index_or, IfOk, OnOk, OnErr};
+ghost use Rattle.std.specs.Prelude.{◌≡◌, ◌↔◌, ◌<◌, ◌++◌, ◌∷◌, [], IsTrue, length, map, slice_get, slice_index_or, IfOk, OnOk, OnErr};
 ghost use Rattle.dimacs_claims.specs.Labels.{distance_in, no_label};
 ghost use Rattle.dimacs_claims.specs.LabelLists.{widened};
 
@@ -88,6 +88,29 @@ impl LabelList {
             self.near.len()
         } else {
             self.far.len()
+        }
+    }
+
+    pub fn is_empty(&self) -> bool
+        ensures { IsTrue result ↔ (self.now ≡ []) }
+    {
+        self.near.is_empty() && self.far.is_empty()
+    }
+
+    pub fn first(&self) -> Option<Label>
+        ensures { result ≡ slice_get self.now 0 }
+    {
+        self.get(0)
+    }
+
+    /// The label at this place, which counts from 0; none past the last.
+    pub fn get(&self, place: usize) -> Option<Label>
+        ensures { result ≡ slice_get self.now place }
+    {
+        if place < self.len() {
+            Some(self.at(place))
+        } else {
+            None
         }
     }
 

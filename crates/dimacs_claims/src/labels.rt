@@ -1,6 +1,6 @@
 //! Labels: claimed distances from sources.
 
-ghost use Rattle.std.specs.Prelude.{◌≡◌, ◌<◌, ◌≤◌, ◌++◌, ◌∷◌, [], ℕ, List, Option, Some, None, OnOk, OnErr, IfOk, IfSome, is_some, length, option_map, refl, slice_get};
+ghost use Rattle.std.specs.Prelude.{◌≡◌, ◌<◌, ◌≤◌, ◌++◌, ◌∷◌, [], ℕ, ℤ, List, Option, Some, None, OnOk, OnErr, IfOk, IfSome, is_some, length, map, option_map, refl, slice_get};
 ghost use Rattle.dimacs_lines.specs.Limits.{most_count, most_nodes};
 ghost use Rattle.dimacs_lines.specs.Lines.{lines};
 ghost use Rattle.dimacs_lines.specs.Pages.{Appends};
@@ -9,8 +9,8 @@ ghost use Rattle.dimacs_records.specs.declared.kinds.TextKind.TheVariants as kin
 ghost use Rattle.dimacs_records.specs.declared.records.Record.TheVariants.{LabelsBlock};
 ghost use Rattle.dimacs_records.specs.Canonical.{canonical_text};
 ghost use Rattle.dimacs_records.specs.Faults.{Fault};
-ghost use Rattle.dimacs_records.specs.Readings.{CountsRead};
-ghost use Rattle.dimacs_records.specs.Tests.{Passes};
+ghost use Rattle.dimacs_records.specs.Readings.{CountsRead, LineRecord, records_of};
+ghost use Rattle.dimacs_records.specs.Tests.{Passes, PassesEnd};
 ghost use Rattle.dimacs_records.specs.Texts.{Reads};
 ghost use Rattle.dimacs_claims.specs.ById.{AreIndexed};
 ghost use Rattle.dimacs_claims.specs.Labels as claims;
@@ -19,8 +19,10 @@ ghost use Rattle.std.specs.FinSet as set;
 ghost use Rattle.std.specs.List.{All};
 ghost use Rattle.std.specs.Ordering.{nat_cmp};
 ghost use Rattle.dimacs_records.specs.Ranges.{IsRadius, IsWide};
-ghost use Rattle.dimacs_claims.specs.LabelTexts.{FitText, GivesLabels, SpellsLabels, block_lines, canonical_labels, label_line};
-ghost use Rattle.dimacs_claims.specs.LabelsReading.{labels_begun_records, after_lines, before, before_end};
+ghost use Rattle.dimacs_claims.specs.DistanceTexts.{bare};
+ghost use Rattle.dimacs_claims.specs.LabelTexts.{FitText, GivesLabels, SpellsLabels, block_lines, canonical_labels, label_line, label_records};
+ghost use Rattle.dimacs_claims.specs.inside.Lines.{in_kind, line_in_kind};
+ghost use Rattle.dimacs_claims.specs.LabelsReading.{AreLabelsBegun, labels_begun_records, after_lines, before, before_end};
 
 use crate::block::{Block, Label};
 use crate::by_id::{ById, distance_by};
@@ -162,6 +164,35 @@ impl Model for BegunLabels {
 }
 
 impl BegunLabels {
+    /// After a problem line that declares so many nodes and blocks.
+    pub(crate) fn new(alloc: Global, nodes: u32, declared: u32) -> BegunLabels
+        requires nodes { nodes ≤ most_nodes }
+        requires declared { declared ≤ most_count }
+        ensures { result ≡ record { nodes = nodes; declared = declared; missing = 0; blocks = [] } }
+    {
+        BegunLabels {
+            nodes,
+            declared,
+            missing: 0,
+            sources: NodeSet::new(alloc),
+            labelled: NodeTable::new(alloc, 0),
+            blocks: Vec::new(alloc),
+        }
+    }
+
+    /// The labels that came, which are whole.
+    pub(crate) fn labels(self, alloc: Global) -> Labels
+        requires { PassesEnd kinds.Labels (before_end self) }
+        ensures labels { result ≡ record { nodes = self.nodes; blocks = self.blocks } }
+        ensures gives { (rs : List LineRecord) → records_of rs ≡ labels_begun_records self → GivesLabels rs result }
+    {
+        Labels {
+            nodes: self.nodes,
+            blocks: self.blocks,
+            indices: Vec::new(alloc),
+        }
+    }
+
     /// The number of blocks.
     #[inline(always)]
     fn len(&self) -> u32
@@ -178,9 +209,21 @@ impl BegunLabels {
         source == id || self.labelled.get(id) == self.len()
     }
 
+    /// The source of the last block; 0 where there is none.
+    #[inline(always)]
+    pub(crate) fn last_source(&self) -> u32
+        ensures last { (front : List BlockValue) (b : BlockValue) → self.now.blocks ≡ front ++ b ∷ [] → result ≡ b.source }
+        ensures lawful { AreLabelsBegun self.now }
+    {
+        match self.blocks.last() {
+            Some(block) => block.source(),
+            None => 0,
+        }
+    }
+
     /// What is told of a record that asks for no block.
     #[inline(always)]
-    fn lines(&self) -> Earlier
+    pub(crate) fn lines(&self) -> Earlier
         ensures { result ≡ after_lines self.now }
     {
         let nodes = Some(self.nodes);
@@ -188,9 +231,20 @@ impl BegunLabels {
         Earlier::of(Some(Declared { nodes, count }), self.len())
     }
 
+    /// What the records that were taken say of a block of this source.
+    #[inline(always)]
+    pub(crate) fn before_block(&self, source: u32) -> Earlier
+        ensures { (count : ℕ) (radius : Option ℤ) → result ≡ before self.now (LabelsBlock source count radius) }
+    {
+        Earlier {
+            named: self.sources.contains(source),
+            ..self.before_end()
+        }
+    }
+
     /// What the records that were taken say of a label.
     #[inline(always)]
-    fn before_label(&self, label: Label) -> Earlier
+    pub(crate) fn before_label(&self, label: Label) -> Earlier
         ensures { result ≡ before self.now (label_line label) }
     {
         let Some(block) = self.blocks.last() else {
@@ -211,12 +265,18 @@ impl BegunLabels {
     }
 
     /// Opens a block after the others.
-    fn open(&mut self, source: u32, count: u32, radius: Option<i128>) -> Result<(), Memory>
+    pub(crate) fn open(
+        &mut self,
+        source: u32,
+        count: u32,
+        radius: Option<i128>,
+    ) -> Result<(), Memory>
         requires source { 1 ≤ source }
         requires count { count ≤ most_count }
         requires radius { IfSome radius IsRadius }
         requires passes { Passes (before self.old (LabelsBlock source count radius)) (LabelsBlock source count radius) }
         ensures opened { OnOk result (labels_begun_records self.new ≡ labels_begun_records self.old ++ LabelsBlock source count radius ∷ []) }
+        ensures block { OnOk result (self.new.blocks ≡ self.old.blocks ++ record { source = source; radius = radius; labels = [] } ∷ []) }
         ensures unchanged { OnErr result (self.new ≡ self.old) }
     {
         let block = Block::within(*self.blocks.allocator(), source, radius);
@@ -231,12 +291,14 @@ impl BegunLabels {
 
     /// Keeps a label of the last block.
     #[inline(always)]
-    fn keep_label(&mut self, label: Label) -> Result<(), Memory>
+    pub(crate) fn keep_label(&mut self, label: Label) -> Result<(), Memory>
         requires id { 1 ≤ label.id }
         requires pred { 1 ≤ label.pred }
         requires dist { IsWide label.dist }
         requires passes { Passes (before self.old (label_line label)) (label_line label) }
         ensures kept { OnOk result (labels_begun_records self.new ≡ labels_begun_records self.old ++ label_line label ∷ []) }
+        ensures last { OnOk result ((front : List BlockValue) (b : BlockValue) → self.old.blocks ≡ front ++ b ∷ []
+            → self.new.blocks ≡ front ++ with_label b label ∷ []) }
         ensures unchanged { OnErr result (self.new ≡ self.old) }
     {
         let number = self.len();
@@ -280,24 +342,14 @@ impl Begun for BegunLabels {
         let Record::LabelsProblem { nodes, blocks } = problem else {
             unreachable!()
         };
-        BegunLabels {
-            nodes,
-            declared: blocks,
-            missing: 0,
-            sources: NodeSet::new(alloc),
-            labelled: NodeTable::new(alloc, 0),
-            blocks: Vec::new(alloc),
-        }
+        BegunLabels::new(alloc, nodes, blocks)
     }
 
     #[inline(always)]
     fn before(&self, said: Record) -> Earlier {
         match said {
             Record::LabelsNode { id, dist, pred } => self.before_label(Label { dist, id, pred }),
-            Record::LabelsBlock { source, .. } => Earlier {
-                named: self.sources.contains(source),
-                ..self.before_end()
-            },
+            Record::LabelsBlock { source, .. } => self.before_block(source),
             Record::LabelsProblem { .. } => self.lines(),
             _ => unreachable!(),
         }
@@ -325,11 +377,7 @@ impl Begun for BegunLabels {
     }
 
     fn value(self, alloc: Global) -> Result<Labels, Memory> {
-        Ok(Labels {
-            nodes: self.nodes,
-            blocks: self.blocks,
-            indices: Vec::new(alloc),
-        })
+        Ok(self.labels(alloc))
     }
 
     ghost has_problem = { refl };
@@ -362,51 +410,83 @@ pub fn write_labels<S: Sink>(labels: &Labels, sink: &mut S) -> Result<(), Device
     ensures same_text { FitText labels.now → (read : LabelsValue) → SpellsLabels (canonical_labels labels.now) read
         → canonical_labels read ≡ canonical_labels labels.now }
 {
+    write_in_kind(TextKind::Labels, labels, sink)
+}
+
+/// Writes labels in a text of this kind. The kind is constant in each copy of it.
+#[inline(always)]
+pub(crate) fn write_in_kind<S: Sink>(
+    kind: TextKind,
+    labels: &Labels,
+    sink: &mut S,
+) -> Result<(), DeviceFault>
+    ensures puts { Puts result (S.seen sink.old) (canonical_text (map (in_kind kind) (label_records labels.now))) (S.seen sink.new) }
+    ensures lawful { AreLabels labels.now }
+{
     let nodes = labels.nodes();
     let blocks = labels.blocks();
     let count = blocks.len() as u32;
+    let problem = Record::LabelsProblem {
+        nodes,
+        blocks: count,
+    };
     let mut page = Page::new();
-    write_record(
-        &mut page,
-        sink,
-        &Record::LabelsProblem {
-            nodes,
-            blocks: count,
-        },
-    );
+    write_record(&mut page, sink, &in_kind(kind, problem));
     for block in blocks {
-        write_block(&mut page, sink, block);
+        write_block(&mut page, sink, kind, block);
     }
     page.finish(sink)
 }
 
 /// Writes the line of a block and those of its labels.
-fn write_block<S: Sink>(page: &mut Page, sink: &mut S, block: &Block)
+#[inline(always)]
+fn write_block<S: Sink>(page: &mut Page, sink: &mut S, kind: TextKind, block: &Block)
     requires { length block.now.labels ≤ most_count }
-    ensures { Appends (canonical_text (block_lines block.now)) (S.seen sink.old) page.old (S.seen sink.new) page.new }
+    ensures { Appends (canonical_text (map (in_kind kind) (block_lines block.now))) (S.seen sink.old) page.old (S.seen sink.new) page.new }
 {
     let labels = block.labels();
     let source = block.source();
     let count = labels.len() as u32;
     let radius = block.radius();
-    write_record(
-        page,
-        sink,
-        &Record::LabelsBlock {
-            source,
-            count,
-            radius,
-        },
-    );
+    let opening = Record::LabelsBlock {
+        source,
+        count,
+        radius,
+    };
+    write_record(page, sink, &in_kind(kind, opening));
     write_lines(
         page,
         sink,
         labels.len(),
         |i|
             requires { i < length labels.now }
-            ensures { result ≡ option_map label_line (slice_get labels.entry.now i) }
-        { Some(label_record(labels.at(i))) },
+            ensures { result ≡ option_map (line_in_kind kind) (slice_get labels.entry.now i) }
+        { Some(in_kind(kind, label_record(labels.at(i)))) },
     );
+}
+
+/// What a text of the kind has of a line of labels.
+#[inline(always)]
+fn in_kind(kind: TextKind, said: Record) -> Record
+    ensures { result ≡ in_kind kind said }
+{
+    match kind {
+        TextKind::Distances => bare(said),
+        _ => said,
+    }
+}
+
+/// A line of labels without PRED and RADIUS.
+#[inline(always)]
+fn bare(said: Record) -> Record
+    ensures { result ≡ bare said }
+{
+    match said {
+        Record::LabelsProblem { nodes, blocks } => Record::DistancesProblem { nodes, blocks },
+        Record::LabelsBlock { source, count, .. } => Record::DistancesBlock { source, count },
+        Record::LabelsNode { id, dist, .. } => Record::DistancesNode { id, dist },
+        _ => said,
+    }
 }
 
 /// The line of a label.

@@ -1,10 +1,12 @@
-//! Claims and certificates: solutions, cuts, potentials and labels, read from texts and written in the canonical form.
+//! Claims and certificates: solutions, cuts, potentials, labels and distances, read from texts and written in the canonical form.
 #![tactic(auto)]
 
 mod block;
 mod by_id;
 mod cut;
+mod distances;
 mod far_list;
+mod label_iter;
 mod label_list;
 mod labels;
 mod place;
@@ -14,6 +16,8 @@ mod texts;
 
 pub use block::{Block, Label};
 pub use cut::{Cut, CutReading, read_cut, write_cut};
+pub use distances::{Distances, DistancesReading, read_distances, write_distances};
+pub use label_iter::LabelIter;
 pub use label_list::LabelList;
 pub use labels::{Labels, LabelsReading, read_labels, read_plain_labels, write_labels};
 pub use place::{Place, Placed};

@@ -23,7 +23,7 @@ use std::alloc::Global;
 
 /// A claimed flow: its value or its cost, and what arcs carry. The fields are open: what was read is lawful, and
 /// `read_solution` says so.
-#[derive(Drop)]
+#[derive(Debug, PartialEq, Eq, Drop)]
 pub struct Solution {
     pub value: i128,
     /// The line of the text that says the value.

@@ -3,12 +3,14 @@
 ghost use Rattle.std.specs.Prelude.{◌≡◌, ℕ, List};
 ghost use Rattle.dimacs_records.specs.declared.kinds.TextKind.TheVariants as kinds;
 ghost use Rattle.dimacs_claims.specs.Cuts.{CutValue, SpellsCut, canonical_cut, shown_cut};
+ghost use Rattle.dimacs_claims.specs.DistanceTexts.{SpellsDistances, canonical_distances, shown_distances};
 ghost use Rattle.dimacs_claims.specs.Labels.{LabelsValue};
 ghost use Rattle.dimacs_claims.specs.LabelTexts.{SpellsLabels, canonical_labels, shown_labels};
 ghost use Rattle.dimacs_claims.specs.Potentials.{PotentialsValue, SpellsPotentials, canonical_potentials, shown_potentials};
 ghost use Rattle.dimacs_claims.specs.SolutionTexts.{SolutionValue, SpellsSolution, canonical_solution, claimed, shown_solution};
 
 use crate::cut::{Cut, read_cut, write_cut};
+use crate::distances::{Distances, read_distances, write_distances};
 use crate::labels::{Labels, read_plain_labels, write_labels};
 use crate::potentials::{Potentials, read_potentials, write_potentials};
 use crate::solution::{Solution, read_solution, write_solution};
@@ -171,6 +173,47 @@ impl Text for Labels {
                 Part::Word(b"dist"),
                 Part::Number(i64::from(self.nodes())),
                 Part::Wide(self.blocks().len() as i128),
+            ],
+        )
+    }
+}
+
+impl Text for Distances {
+    ghost kind = { kinds.Distances };
+
+    ghost Said = { LabelsValue };
+
+    ghost said = { λ d. d };
+
+    ghost spells = { λ text d. SpellsDistances text d };
+
+    ghost lawful = { λ v. Unit {0} };
+
+    ghost canonical = { λ d. canonical_distances d };
+
+    ghost shown = { λ d. shown_distances d };
+
+    fn kind() -> TextKind {
+        TextKind::Distances
+    }
+
+    fn read<S: Source>(alloc: Global, source: &mut S) -> Result<Self, ReadError> {
+        read_distances(alloc, source)
+    }
+
+    fn write<K: Sink>(&self, sink: &mut K) -> Result<(), DeviceFault> {
+        write_distances(self, sink)
+    }
+
+    fn show<K: Sink>(&self, sink: &mut K) -> Result<(), DeviceFault> {
+        let blocks = self.blocks();
+        put_line(
+            sink,
+            b"i",
+            &[
+                Part::Word(b"distances"),
+                Part::Number(i64::from(self.nodes())),
+                Part::Wide(blocks.len() as i128),
             ],
         )
     }

@@ -38,3 +38,11 @@ excess_more surplus (suc id) sum some size is =
 
 pub excess_is : (i : MinValue) (x : List ℤ) (surplus : ℕ → ℤ) → AreSurpluses i x surplus → sum_nodes (λ v. pos (positive_part (surplus v))) i.nodes ≡ total_excess i x
 excess_is i x surplus are = sum_nodes-same (λ v. pos (positive_part (surplus v))) (λ v. pos (positive_part (surplus_at i x v))) i.nodes (λ v h. ap (λ (z : ℤ). pos (positive_part z)) (are v h))
+
+-- ---- the sum of all
+sum_some : (f : ℕ → ℕ) (n : ℕ) → pos 0 ≤ℤ sum_nodes (λ v. pos (f v)) n
+sum_some f zero = omega (arith, ints)
+sum_some f (suc n) = omega (arith, ints, sum_some f n)
+
+pub excess_some : (i : MinValue) (x : List ℤ) → pos 0 ≤ℤ total_excess i x
+excess_some i x = sum_some (λ v. positive_part (surplus_at i x v)) i.nodes

@@ -7,7 +7,7 @@ ghost use Rattle.dimacs_nodes.specs.Tables.{value_of};
 ghost use Rattle.dimacs_decide.specs.Bounds.{KeepsBounds};
 ghost use Rattle.dimacs_decide.specs.FeasibilityDecision.{DecidesFeasible};
 ghost use Rattle.dimacs_decide.specs.Links.{IsIncidenceOf};
-ghost use Rattle.dimacs_decide.specs.inside.Surpluses.{AreSurpluses};
+ghost use Rattle.dimacs_decide.specs.inside.Surpluses.{AreSurpluses, IsLook};
 
 use crate::links::Incidence;
 use crate::search::Search;
@@ -43,8 +43,13 @@ pub fn decide_feasible<N: Network>(
     requires { KeepsBounds instance.now.arcs flow.now }
     ensures { IfOk result (DecidesFeasible instance.now flow.now) }
 {
-    let incidence = Incidence::new(alloc, instance.network())?;
-    decide_feasible_over(alloc, instance, &incidence, flow)
+    match first_look(alloc, instance, flow)? {
+        Look::Decided(decision) => Ok(decision),
+        Look::Excess(surplus) => {
+            let incidence = Incidence::new(alloc, instance.network())?;
+            nearer_or_stuck(alloc, instance, &incidence, flow, surplus)
+        }
+    }
 }
 
 /// Decides it over the arcs by their ends, which several questions can share.
@@ -58,12 +63,38 @@ pub fn decide_feasible_over<N: Network>(
     requires incidence { IsIncidenceOf instance.now.arcs incidence.now }
     ensures { IfOk result (DecidesFeasible instance.now flow.now) }
 {
+    match first_look(alloc, instance, flow)? {
+        Look::Decided(decision) => Ok(decision),
+        Look::Excess(surplus) => nearer_or_stuck(alloc, instance, incidence, flow, surplus),
+    }
+}
+
+/// What a look at the nodes gives.
+#[derive(Drop)]
+enum Look {
+    /// No node has an excess.
+    Decided(FeasibilityDecision),
+    /// Some node has one: what each has too much.
+    Excess(NodeTable<i128>),
+}
+
+/// Decides it where no node has an excess.
+fn first_look<N: Network>(
+    alloc: Global,
+    instance: &MinInstance<N>,
+    flow: &Flow,
+) -> Result<Look, Memory>
+    requires { KeepsBounds instance.now.arcs flow.now }
+    ensures { IfOk result (IsLook instance.now flow.now) }
+{
     let surplus = surpluses(alloc, instance, flow)?;
     let nodes = instance.network().nodes();
     match assess(nodes, &surplus) {
-        Standing::Even => Ok(FeasibilityDecision::Balanced),
-        Standing::Short => Ok(FeasibilityDecision::Infeasible(every_node(alloc, nodes)?)),
-        Standing::Excess => nearer_or_stuck(alloc, instance, incidence, flow, surplus),
+        Standing::Even => Ok(Look::Decided(FeasibilityDecision::Balanced)),
+        Standing::Short => Ok(Look::Decided(FeasibilityDecision::Infeasible(every_node(
+            alloc, nodes,
+        )?))),
+        Standing::Excess => Ok(Look::Excess(surplus)),
     }
 }
 

@@ -22,7 +22,7 @@ use dimacs_network::{Network, OfCapacityArcs, OfCostArcs, OfWeightArcs};
 use dimacs_records::{Part, ReadError, Text, TextKind, put_line, read_counted};
 use std::alloc::Global;
 
-impl<N: OfCapacityArcs> Text for MaxInstance<N> {
+impl<N: OfCapacityArcs + Drop> Text for MaxInstance<N> {
     ghost kind = { kinds.Max };
 
     ghost Said = { MaxValue };
@@ -54,7 +54,7 @@ impl<N: OfCapacityArcs> Text for MaxInstance<N> {
     }
 }
 
-impl<N: OfCostArcs> Text for MinInstance<N> {
+impl<N: OfCostArcs + Drop> Text for MinInstance<N> {
     ghost kind = { kinds.Min };
 
     ghost Said = { MinValue };
@@ -86,7 +86,7 @@ impl<N: OfCostArcs> Text for MinInstance<N> {
     }
 }
 
-impl<N: OfWeightArcs> Text for Graph<N> {
+impl<N: OfWeightArcs + Drop> Text for Graph<N> {
     ghost kind = { kinds.Graph };
 
     ghost Said = { NetworkValue };

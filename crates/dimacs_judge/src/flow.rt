@@ -62,6 +62,13 @@ impl Flow {
         })
     }
 
+    /// The flow that carries these amounts, which it takes over.
+    pub fn from_vec(amounts: Vec<i64>) -> Flow
+        ensures { result ≡ amounts.items }
+    {
+        Flow { amounts }
+    }
+
     /// Changes the amount on one arc.
     pub fn set(&mut self, arc: u32, amount: i64)
         requires { arc < length self.old }

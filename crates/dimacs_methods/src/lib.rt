@@ -8,11 +8,12 @@ mod least_flow;
 mod node_numbers;
 mod number;
 mod potentials;
+mod preflow;
 mod problem;
 mod scaling;
 mod simplex;
 mod tables;
 
 pub use least_flow::{LeastFlow, make_least_flow};
-pub use node_numbers::NodeNumbers;
 pub use potentials::{Guess, ResidualArc, guess_potentials};
+pub use preflow::{raise_value, send_excess};

@@ -9,7 +9,7 @@ use std::alloc::Global;
 /// A number for each node that has an arc or a supply, from 0, so that tables by node grow with what came and not with
 /// the number of nodes that is declared.
 #[derive(Drop)]
-pub struct NodeNumbers {
+pub(crate) struct NodeNumbers {
     numbers: NodeMap<u32>,
     /// The ID of each number.
     ids: Vec<u32>,
@@ -17,7 +17,7 @@ pub struct NodeNumbers {
 
 impl NodeNumbers {
     /// Numbers the nodes in the order in which they occur.
-    pub fn new<N: Network>(
+    pub(crate) fn new<N: Network>(
         alloc: Global,
         instance: &MinInstance<N>,
     ) -> Result<NodeNumbers, Memory> {
@@ -31,7 +31,7 @@ impl NodeNumbers {
     }
 
     /// Numbers the nodes that have an arc, in the order in which they occur.
-    pub fn of_ends<N: Network>(alloc: Global, network: &N) -> Result<NodeNumbers, Memory> {
+    pub(crate) fn of_ends<N: Network>(alloc: Global, network: &N) -> Result<NodeNumbers, Memory> {
         let mut numbers = NodeNumbers {
             numbers: NodeMap::new(alloc),
             ids: Vec::new(alloc),
@@ -56,12 +56,12 @@ impl NodeNumbers {
 
     /// The number of a node that occurs, and 0 of any other.
     #[inline]
-    pub fn of(&self, id: u32) -> u32 {
+    pub(crate) fn of(&self, id: u32) -> u32 {
         self.numbers.get(id).unwrap_or(0)
     }
 
     /// The IDs of the nodes that occur, by number.
-    pub fn ids(&self) -> &[u32] {
+    pub(crate) fn ids(&self) -> &[u32] {
         &self.ids
     }
 }

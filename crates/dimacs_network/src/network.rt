@@ -16,7 +16,7 @@ pub struct ArcView {
 }
 
 /// A number of nodes, and arcs in the order of the text. Nodes count from 1, arcs from 0. No call takes memory.
-pub trait Network: Drop {
+pub trait Network {
     ghost node_count: { Self → ℕ };
 
     ghost list: { Self → List ArcView };

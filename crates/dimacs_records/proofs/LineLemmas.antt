@@ -4,7 +4,7 @@ use Rattle.std.specs.Prelude.{IsTrue, ◌==◌, nat_le}
 use Rattle.std.specs.List.{Contains, list_all}
 use Rattle.std.specs.Str.{bytes_eq}
 use Rattle.dimacs_records.specs.declared.kinds.TextKind.{TextKind}
-use Rattle.dimacs_records.specs.declared.kinds.TextKind.TheVariants.{Max, Min, Graph, Queries, Solution, Cut, Potentials, Labels}
+use Rattle.dimacs_records.specs.declared.kinds.TextKind.TheVariants.{Max, Min, Graph, Queries, Solution, Cut, Potentials, Labels, Distances}
 use Rattle.dimacs_records.specs.declared.records.Record.{Record}
 use Rattle.dimacs_records.specs.declared.reasons.Reason.TheVariants.{UnknownLine}
 use Rattle.dimacs_records.specs.declared.faults.LineFault.{LineFault}
@@ -61,6 +61,7 @@ short_forms Solution = refl
 short_forms Cut = refl
 short_forms Potentials = refl
 short_forms Labels = refl
+short_forms Distances = refl
 
 short_types : (kind : TextKind) (letter : List ℕ) (types : List FieldType) → FormOf (forms kind) letter types → length types ≤ 5
 short_types kind letter types f =

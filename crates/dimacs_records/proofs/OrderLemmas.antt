@@ -1,10 +1,10 @@
 -- The first fault, by what is told of the earlier records.
 use Rattle.std.proofs.Common.{◌≡◌, [], List, false, true, Option, Some, None, Err, refl, ◌∙◌}
 use Rattle.dimacs_records.specs.declared.kinds.TextKind.{TextKind}
-use Rattle.dimacs_records.specs.declared.kinds.TextKind.TheVariants.{Max, Labels, Solution}
+use Rattle.dimacs_records.specs.declared.kinds.TextKind.TheVariants.{Max, Labels, Distances, Solution}
 use Rattle.dimacs_records.specs.declared.order.Earlier.{Earlier}
 use Rattle.dimacs_records.specs.declared.records.Record.{Record}
-use Rattle.dimacs_records.specs.declared.records.Record.TheVariants.{CutProblem, GraphProblem, LabelsNode, LabelsProblem, MaxProblem, MinProblem, PotentialsProblem, QueriesProblem}
+use Rattle.dimacs_records.specs.declared.records.Record.TheVariants.{CutProblem, DistancesNode, DistancesProblem, GraphProblem, LabelsNode, LabelsProblem, MaxProblem, MinProblem, PotentialsProblem, QueriesProblem}
 use Rattle.dimacs_records.specs.declared.reasons.Reason.{Reason}
 use Rattle.dimacs_records.specs.declared.reasons.Reason.TheVariants.{ProblemMissing}
 use Rattle.dimacs_records.specs.declared.faults.TakeError.{TakeError}
@@ -21,6 +21,7 @@ use Rattle.dimacs_records.proofs.ConditionLemmas.{first_place, first_reason_at_e
 -- what is told of the earlier records gives the first condition
 told : (e : Earlier) (earlier : List Record) (r : Record) → e ≡ told_of earlier r → first_place earlier r ≡ place_told e r
 told e earlier (LabelsNode id dist pred) so = rw so refl
+told e earlier (DistancesNode id dist) so = rw so refl
 told e earlier r so = rw so refl
 
 refused_at : (earlier : List Record) (r : Record) (place : Option Place) (error : TakeError) → first_place earlier r ≡ place → Err error ≡ answer_at place → RefusesRecord earlier r error
@@ -42,6 +43,7 @@ allowed_told e earlier r p so =
 end_told : (kind : TextKind) (e : Earlier) (all : List Record) → e ≡ told_at_end kind all → first_reason_at_end kind all ≡ reason_told kind e
 end_told Max e all so = rw so refl
 end_told Labels e all so = rw so refl
+end_told Distances e all so = rw so refl
 end_told Solution e all so = rw so refl
 end_told kind e all so = rw so refl
 
@@ -69,6 +71,7 @@ first_allowed (QueriesProblem asks k) h = is_allowed [] (QueriesProblem asks k) 
 first_allowed (CutProblem n k) h = is_allowed [] (CutProblem n k) refl
 first_allowed (PotentialsProblem n k) h = is_allowed [] (PotentialsProblem n k) refl
 first_allowed (LabelsProblem n k) h = is_allowed [] (LabelsProblem n k) refl
+first_allowed (DistancesProblem n k) h = is_allowed [] (DistancesProblem n k) refl
 first_allowed r h = absurd (cc)
 
 pub none_at_end : (kind : TextKind) → needs_problem kind ≡ true → FirstAtEnd kind [] ProblemMissing

@@ -9,7 +9,7 @@ use Rattle.std.proofs.lemmas.List.Elements.{All-contains}
 use Rattle.std.proofs.lemmas.List.Sums.{AllPass-from_list_all}
 use Rattle.dimacs_lines.specs.Number.{IsWithin}
 use Rattle.dimacs_records.specs.declared.kinds.TextKind.{TextKind}
-use Rattle.dimacs_records.specs.declared.kinds.TextKind.TheVariants.{Max, Min, Graph, Queries, Solution, Cut, Potentials, Labels}
+use Rattle.dimacs_records.specs.declared.kinds.TextKind.TheVariants.{Max, Min, Graph, Queries, Solution, Cut, Potentials, Labels, Distances}
 use Rattle.dimacs_records.specs.Forms.{FieldType, Word, Either, Number, Form, forms}
 use Rattle.dimacs_records.specs.Spelling.{Part, Text, Amount, Says, SayAll, is_comment}
 use Rattle.dimacs_records.specs.Canonical.{text_of, Fits, FitAll}
@@ -37,6 +37,7 @@ forms_plain Solution = refl
 forms_plain Cut = refl
 forms_plain Potentials = refl
 forms_plain Labels = refl
+forms_plain Distances = refl
 
 plain_from : (text : List ℕ) → is_plain text ≡ true → IsPlain text
 plain_from text test =

@@ -7,13 +7,13 @@ use Rattle.std.proofs.lemmas.Bool.{and_parts, not-true, eq-eqb}
 use Rattle.std.proofs.lemmas.List.Sums.{AllPass-from_list_all}
 use Rattle.dimacs_lines.specs.Number.{number_in}
 use Rattle.dimacs_records.specs.declared.kinds.TextKind.{TextKind}
-use Rattle.dimacs_records.specs.declared.kinds.TextKind.TheVariants.{Max, Min, Graph, Queries, Solution, Cut, Potentials, Labels}
+use Rattle.dimacs_records.specs.declared.kinds.TextKind.TheVariants.{Max, Min, Graph, Queries, Solution, Cut, Potentials, Labels, Distances}
 use Rattle.dimacs_records.specs.declared.records.End.{End}
 use Rattle.dimacs_records.specs.declared.records.End.TheVariants.{Source, Sink}
 use Rattle.dimacs_records.specs.declared.records.QueryKind.{QueryKind}
 use Rattle.dimacs_records.specs.declared.records.QueryKind.TheVariants.{Sources, Pairs}
 use Rattle.dimacs_records.specs.declared.records.Record.{Record}
-use Rattle.dimacs_records.specs.declared.records.Record.TheVariants.{MaxProblem, MaxNode, MaxArc, MinProblem, MinNode, MinArc, GraphProblem, GraphArc, QueriesProblem, SourceQuery, PairQuery, SolutionValue, SolutionEntry, CutProblem, CutNode, PotentialsProblem, PotentialsNode, LabelsProblem, LabelsBlock, LabelsNode}
+use Rattle.dimacs_records.specs.declared.records.Record.TheVariants.{MaxProblem, MaxNode, MaxArc, MinProblem, MinNode, MinArc, GraphProblem, GraphArc, QueriesProblem, SourceQuery, PairQuery, SolutionValue, SolutionEntry, CutProblem, CutNode, PotentialsProblem, PotentialsNode, LabelsProblem, LabelsBlock, LabelsNode, DistancesProblem, DistancesBlock, DistancesNode}
 use Rattle.dimacs_records.specs.Forms.{FieldType, Word, Either, Number, Form, forms}
 use Rattle.dimacs_records.specs.Spelling.{Part, Text, Amount, kind_of, letter_of, parts_of, Says, SayAll, SpellsRecord}
 use Rattle.dimacs_records.specs.Shapes.{types_in, types_or}
@@ -36,6 +36,7 @@ forms_apart Solution = refl
 forms_apart Cut = refl
 forms_apart Potentials = refl
 forms_apart Labels = refl
+forms_apart Distances = refl
 
 types_or-first : (types : List FieldType) (others : Option (List FieldType)) → types_or (length types) types others ≡ types
 types_or-first types None = refl
@@ -117,6 +118,8 @@ record_of Potentials letter (Amount id ∷ Amount value ∷ []) = Some (Potentia
 record_of Labels letter (Text word ∷ Amount nodes ∷ Amount blocks ∷ []) = Some (LabelsProblem (nat_abs nodes) (nat_abs blocks))
 record_of Labels letter (Amount source ∷ Amount count ∷ []) = Some (LabelsBlock (nat_abs source) (nat_abs count) None)
 record_of Labels letter (Amount id ∷ Amount dist ∷ Amount pred ∷ []) = if bytes_eq letter (codes "t") then Some (LabelsBlock (nat_abs id) (nat_abs dist) (Some pred)) else Some (LabelsNode (nat_abs id) dist (nat_abs pred))
+record_of Distances letter (Text word ∷ Amount nodes ∷ Amount blocks ∷ []) = Some (DistancesProblem (nat_abs nodes) (nat_abs blocks))
+record_of Distances letter (Amount id ∷ Amount n ∷ []) = if bytes_eq letter (codes "t") then Some (DistancesBlock (nat_abs id) (nat_abs n)) else Some (DistancesNode (nat_abs id) n)
 record_of kind letter parts = None
 
 record_of-parts_of : (r : Record) → record_of (kind_of r) (letter_of r) (parts_of r) ≡ Some r
@@ -143,6 +146,9 @@ record_of-parts_of (LabelsProblem nodes blocks) = refl
 record_of-parts_of (LabelsBlock source count None) = refl
 record_of-parts_of (LabelsBlock source count (Some radius)) = refl
 record_of-parts_of (LabelsNode id dist pred) = refl
+record_of-parts_of (DistancesProblem nodes blocks) = refl
+record_of-parts_of (DistancesBlock source count) = refl
+record_of-parts_of (DistancesNode id dist) = refl
 
 -- the record that fields of these types spell, if they spell one
 abbrev typed_record : TextKind → List ℕ → Option (List FieldType) → List (List ℕ) → Option Record

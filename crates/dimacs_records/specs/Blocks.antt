@@ -1,9 +1,9 @@
--- The blocks of labels among the earlier records of a text.
+-- The blocks of labels, or of distances, among the earlier records of a text.
 use Rattle.std.specs.Prelude.{ℕ, ◌==◌, Bool, List, [], ◌∷◌, ◌++◌, Option, Some, None, length, nat_lt, nat_le, ℤ, int_lt}
 use Rattle.std.specs.List.{fold, list_any}
 use Rattle.dimacs_records.specs.Earlier.{is_so}
 use Rattle.dimacs_records.specs.declared.records.Record.{Record}
-use Rattle.dimacs_records.specs.declared.records.Record.TheVariants.{LabelsBlock, LabelsNode}
+use Rattle.dimacs_records.specs.declared.records.Record.TheVariants.{LabelsBlock, LabelsNode, DistancesBlock, DistancesNode}
 
 -- a `t` line, and the IDs of the `d` lines after it
 pub record Block : Type 0 where
@@ -20,6 +20,8 @@ with_labelled (Some block) id = Some (record block { ids = block.ids ++ id ∷ [
 abbrev pub block_after : Option Block → Record → Option Block
 block_after block (LabelsBlock source count radius) = Some (record { source = source; count = count; radius = radius; ids = [] })
 block_after block (LabelsNode id dist pred) = with_labelled block id
+block_after block (DistancesBlock source count) = Some (record { source = source; count = count; radius = None; ids = [] })
+block_after block (DistancesNode id dist) = with_labelled block id
 block_after block r = block
 
 -- the last block

@@ -3,11 +3,11 @@ use Rattle.std.specs.Prelude.{ℕ, ◌==◌, Bool, true, false, ◌&&◌, ◌||�
 use Rattle.std.specs.List.{list_any}
 use Rattle.dimacs_lines.specs.Limits.{longest_line, most_lines}
 use Rattle.dimacs_records.specs.declared.kinds.TextKind.{TextKind}
-use Rattle.dimacs_records.specs.declared.kinds.TextKind.TheVariants.{Max, Solution, Labels}
+use Rattle.dimacs_records.specs.declared.kinds.TextKind.TheVariants.{Max, Solution, Labels, Distances}
 use Rattle.dimacs_records.specs.declared.order.Declared.{Declared}
 use Rattle.dimacs_records.specs.declared.records.QueryKind.TheVariants.{Sources, Pairs}
 use Rattle.dimacs_records.specs.declared.records.Record.{Record}
-use Rattle.dimacs_records.specs.declared.records.Record.TheVariants.{MaxNode, MaxArc, MinNode, MinArc, GraphArc, SourceQuery, PairQuery, SolutionValue, CutNode, PotentialsNode, LabelsBlock, LabelsNode}
+use Rattle.dimacs_records.specs.declared.records.Record.TheVariants.{MaxNode, MaxArc, MinNode, MinArc, GraphArc, SourceQuery, PairQuery, SolutionValue, CutNode, PotentialsNode, LabelsBlock, LabelsNode, DistancesBlock, DistancesNode}
 use Rattle.dimacs_records.specs.declared.reasons.Reason.{Reason}
 use Rattle.dimacs_records.specs.declared.reasons.Reason.TheVariants.{LineTooLong, ProblemMissing, ProblemTwice, RecordOrder, NodeRange, NodeTwice, EndTwice, EndMissing, BoundOrder, TooMany, TooFew, SolutionMissing, SolutionTwice, PredUnknown, LineLimit, PastRadius}
 use Rattle.dimacs_records.specs.Spelling.{kind_of}
@@ -36,6 +36,8 @@ bounded_ids (CutNode id) = (2, id) ∷ []
 bounded_ids (PotentialsNode id value) = (2, id) ∷ []
 bounded_ids (LabelsBlock source count radius) = (2, source) ∷ []
 bounded_ids (LabelsNode id dist pred) = (2, id) ∷ (4, pred) ∷ []
+bounded_ids (DistancesBlock source count) = (2, source) ∷ []
+bounded_ids (DistancesNode id dist) = (2, id) ∷ []
 bounded_ids r = []
 
 -- the ID in field f is above NODES
@@ -62,17 +64,22 @@ is_refused_for RecordOrder earlier (MinNode id supply) = list_any is_flow_arc ea
 is_refused_for RecordOrder earlier (SourceQuery id) = list_any (asks_for Pairs) earlier
 is_refused_for RecordOrder earlier (PairQuery from to) = list_any (asks_for Sources) earlier
 is_refused_for RecordOrder earlier (LabelsNode id dist pred) = is_none (block_in earlier)
+is_refused_for RecordOrder earlier (DistancesNode id dist) = is_none (block_in earlier)
 is_refused_for NodeTwice earlier (MaxNode id end) = list_any (names id) earlier
 is_refused_for NodeTwice earlier (MinNode id supply) = list_any (names id) earlier
 is_refused_for NodeTwice earlier (CutNode id) = list_any (names id) earlier
 is_refused_for NodeTwice earlier (PotentialsNode id value) = list_any (names id) earlier
 is_refused_for NodeTwice earlier (LabelsBlock source count radius) = list_any (names source) earlier
 is_refused_for NodeTwice earlier (LabelsNode id dist pred) = is_labelled (block_in earlier) id
+is_refused_for NodeTwice earlier (DistancesBlock source count) = list_any (names source) earlier
+is_refused_for NodeTwice earlier (DistancesNode id dist) = is_labelled (block_in earlier) id
 is_refused_for EndTwice earlier (MaxNode id end) = list_any (is_end_node end) earlier
 is_refused_for EndMissing earlier (MaxArc tail head cap) = lacks_end earlier
 is_refused_for TooMany earlier (LabelsNode id dist pred) = is_full_block (block_in earlier)
+is_refused_for TooMany earlier (DistancesNode id dist) = is_full_block (block_in earlier)
 is_refused_for TooMany earlier r = is_counted r && is_full (problem_in earlier) (counted_in earlier)
 is_refused_for TooFew earlier (LabelsBlock source count radius) = is_short_block (block_in earlier)
+is_refused_for TooFew earlier (DistancesBlock source count) = is_short_block (block_in earlier)
 is_refused_for SolutionTwice earlier (SolutionValue value) = list_any is_value earlier
 is_refused_for PredUnknown earlier (LabelsNode id dist pred) = not (is_labelled (block_in earlier) pred)
 is_refused_for PastRadius earlier (LabelsNode id dist pred) = is_past_block (block_in earlier) dist
@@ -89,6 +96,7 @@ abbrev pub end_condition : TextKind → List Record → Reason → Bool
 end_condition kind all ProblemMissing = needs_problem kind && is_none (problem_in all)
 end_condition Max all EndMissing = lacks_end all
 end_condition Labels all TooFew = is_short_block (block_in all) || is_short (problem_in all) (counted_in all)
+end_condition Distances all TooFew = is_short_block (block_in all) || is_short (problem_in all) (counted_in all)
 end_condition kind all TooFew = is_short (problem_in all) (counted_in all)
 end_condition Solution all SolutionMissing = not (list_any is_value all)
 end_condition kind all reason = false

@@ -7,7 +7,7 @@ use Rattle.dimacs_records.specs.declared.records.End.TheVariants.{Source, Sink}
 use Rattle.dimacs_records.specs.declared.records.QueryKind.{QueryKind}
 use Rattle.dimacs_records.specs.declared.records.QueryKind.TheVariants.{Sources, Pairs}
 use Rattle.dimacs_records.specs.declared.records.Record.{Record}
-use Rattle.dimacs_records.specs.declared.records.Record.TheVariants.{MaxProblem, MaxNode, MaxArc, MinProblem, MinNode, MinArc, GraphProblem, GraphArc, QueriesProblem, SourceQuery, PairQuery, SolutionValue, CutProblem, CutNode, PotentialsProblem, PotentialsNode, LabelsProblem, LabelsBlock}
+use Rattle.dimacs_records.specs.declared.records.Record.TheVariants.{MaxProblem, MaxNode, MaxArc, MinProblem, MinNode, MinArc, GraphProblem, GraphArc, QueriesProblem, SourceQuery, PairQuery, SolutionValue, CutProblem, CutNode, PotentialsProblem, PotentialsNode, LabelsProblem, LabelsBlock, DistancesProblem, DistancesBlock}
 
 -- what a problem line declares; that of queries has no NODES
 abbrev pub declares : ℕ → ℕ → Option Declared
@@ -21,6 +21,7 @@ problem_of (QueriesProblem asks count) = Some (record { nodes = None; count = co
 problem_of (CutProblem nodes count) = declares nodes count
 problem_of (PotentialsProblem nodes count) = declares nodes count
 problem_of (LabelsProblem nodes blocks) = declares nodes blocks
+problem_of (DistancesProblem nodes blocks) = declares nodes blocks
 problem_of r = None
 
 abbrev pub is_problem : Record → Bool
@@ -62,6 +63,7 @@ is_counted (PairQuery from to) = true
 is_counted (CutNode id) = true
 is_counted (PotentialsNode id value) = true
 is_counted (LabelsBlock source count radius) = true
+is_counted (DistancesBlock source count) = true
 is_counted r = false
 
 abbrev pub counted_in : List Record → ℕ
@@ -73,13 +75,14 @@ asks_for Sources (QueriesProblem Sources count) = true
 asks_for Pairs (QueriesProblem Pairs count) = true
 asks_for asks r = false
 
--- a line that names this node as its own: a node line, or that of a block of labels
+-- a line that names this node as its own: a node line, or that of a block
 abbrev pub names : ℕ → Record → Bool
 names id (MaxNode other end) = other == id
 names id (MinNode other supply) = other == id
 names id (CutNode other) = other == id
 names id (PotentialsNode other value) = other == id
 names id (LabelsBlock source count radius) = source == id
+names id (DistancesBlock source count) = source == id
 names id r = false
 
 abbrev pub is_max_node : Record → Bool

@@ -2,7 +2,7 @@
 use Rattle.std.specs.Prelude.{ℕ, ◌^◌, ◌-◌, List, [], ◌∷◌, ℤ, pos, neg_ℤ, codes}
 use Rattle.dimacs_lines.specs.Limits.{most_count, most_nodes}
 use Rattle.dimacs_records.specs.declared.kinds.TextKind.{TextKind}
-use Rattle.dimacs_records.specs.declared.kinds.TextKind.TheVariants.{Max, Min, Graph, Queries, Solution, Cut, Potentials, Labels}
+use Rattle.dimacs_records.specs.declared.kinds.TextKind.TheVariants.{Max, Min, Graph, Queries, Solution, Cut, Potentials, Labels, Distances}
 
 -- the type of a field: this word, one of these two words, or a number in this range
 pub data FieldType : Type 0 where
@@ -59,3 +59,6 @@ forms Labels = form (codes "p") (Word (codes "dist") ∷ Nodes ∷ Count ∷ [])
     ∷ form (codes "t") (Id ∷ Count ∷ [])
     ∷ form (codes "t") (Id ∷ Count ∷ Radius ∷ [])
     ∷ form (codes "d") (Id ∷ Wide ∷ Id ∷ []) ∷ []
+forms Distances = form (codes "p") (Word (codes "distances") ∷ Nodes ∷ Count ∷ [])
+    ∷ form (codes "t") (Id ∷ Count ∷ [])
+    ∷ form (codes "d") (Id ∷ Wide ∷ []) ∷ []

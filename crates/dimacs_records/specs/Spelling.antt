@@ -4,13 +4,13 @@ use Rattle.std.specs.List.{Contains}
 use Rattle.dimacs_lines.specs.Fields.{Run, fields_of}
 use Rattle.dimacs_lines.specs.Number.{Spells, IsWithin}
 use Rattle.dimacs_records.specs.declared.kinds.TextKind.{TextKind}
-use Rattle.dimacs_records.specs.declared.kinds.TextKind.TheVariants.{Max, Min, Graph, Queries, Solution, Cut, Potentials, Labels}
+use Rattle.dimacs_records.specs.declared.kinds.TextKind.TheVariants.{Max, Min, Graph, Queries, Solution, Cut, Potentials, Labels, Distances}
 use Rattle.dimacs_records.specs.declared.records.End.{End}
 use Rattle.dimacs_records.specs.declared.records.End.TheVariants.{Source, Sink}
 use Rattle.dimacs_records.specs.declared.records.QueryKind.{QueryKind}
 use Rattle.dimacs_records.specs.declared.records.QueryKind.TheVariants.{Sources, Pairs}
 use Rattle.dimacs_records.specs.declared.records.Record.{Record}
-use Rattle.dimacs_records.specs.declared.records.Record.TheVariants.{MaxProblem, MaxNode, MaxArc, MinProblem, MinNode, MinArc, GraphProblem, GraphArc, QueriesProblem, SourceQuery, PairQuery, SolutionValue, SolutionEntry, CutProblem, CutNode, PotentialsProblem, PotentialsNode, LabelsProblem, LabelsBlock, LabelsNode}
+use Rattle.dimacs_records.specs.declared.records.Record.TheVariants.{MaxProblem, MaxNode, MaxArc, MinProblem, MinNode, MinArc, GraphProblem, GraphArc, QueriesProblem, SourceQuery, PairQuery, SolutionValue, SolutionEntry, CutProblem, CutNode, PotentialsProblem, PotentialsNode, LabelsProblem, LabelsBlock, LabelsNode, DistancesProblem, DistancesBlock, DistancesNode}
 use Rattle.dimacs_records.specs.Forms.{FieldType, Word, Either, Number, Form, forms}
 
 -- what a field of a record says: a word or a number
@@ -61,6 +61,9 @@ record_line (PotentialsNode id value) = line Potentials (codes "y") (Amount (pos
 record_line (LabelsProblem nodes blocks) = line Labels (codes "p") (Text (codes "dist") ∷ Amount (pos nodes) ∷ Amount (pos blocks) ∷ [])
 record_line (LabelsBlock source count radius) = line Labels (codes "t") (Amount (pos source) ∷ Amount (pos count) ∷ radius_parts radius)
 record_line (LabelsNode id dist pred) = line Labels (codes "d") (Amount (pos id) ∷ Amount dist ∷ Amount (pos pred) ∷ [])
+record_line (DistancesProblem nodes blocks) = line Distances (codes "p") (Text (codes "distances") ∷ Amount (pos nodes) ∷ Amount (pos blocks) ∷ [])
+record_line (DistancesBlock source count) = line Distances (codes "t") (Amount (pos source) ∷ Amount (pos count) ∷ [])
+record_line (DistancesNode id dist) = line Distances (codes "d") (Amount (pos id) ∷ Amount dist ∷ [])
 
 abbrev pub kind_of : Record → TextKind
 kind_of r = (record_line r).kind

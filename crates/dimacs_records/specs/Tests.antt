@@ -4,13 +4,13 @@ use Rattle.std.specs.List.{list_any}
 use Rattle.dimacs_records.specs.declared.faults.TakeError.{TakeError}
 use Rattle.dimacs_records.specs.declared.faults.TakeError.TheVariants.{Refused}
 use Rattle.dimacs_records.specs.declared.kinds.TextKind.{TextKind}
-use Rattle.dimacs_records.specs.declared.kinds.TextKind.TheVariants.{Max, Labels, Solution}
+use Rattle.dimacs_records.specs.declared.kinds.TextKind.TheVariants.{Max, Labels, Distances, Solution}
 use Rattle.dimacs_records.specs.declared.order.Declared.{Declared}
 use Rattle.dimacs_records.specs.declared.order.Earlier.{Earlier}
 use Rattle.dimacs_records.specs.declared.reasons.Reason.{Reason}
 use Rattle.dimacs_records.specs.declared.reasons.Reason.TheVariants.{RecordOrder, NodeTwice, EndTwice, EndMissing, TooFew, SolutionTwice, PredUnknown, PastRadius}
 use Rattle.dimacs_records.specs.declared.records.Record.{Record}
-use Rattle.dimacs_records.specs.declared.records.Record.TheVariants.{LabelsNode}
+use Rattle.dimacs_records.specs.declared.records.Record.TheVariants.{LabelsNode, DistancesNode}
 use Rattle.dimacs_records.specs.Blocks.{block_in, is_full_block, is_short_block}
 use Rattle.dimacs_records.specs.Conditions.{bounded_ids, is_above_at, is_bound_wrong, is_refused_for, lacks_end, needs_problem}
 use Rattle.dimacs_records.specs.Earlier.{counted_in, is_counted, is_full, is_problem, is_short, is_value, problem_in}
@@ -28,6 +28,7 @@ after_records rs = earlier_of (problem_in rs) (counted_in rs)
 -- a label in a block that has as many as it declares
 abbrev pub is_full_label : List Record → Record → Bool
 is_full_label earlier (LabelsNode id dist pred) = is_full_block (block_in earlier)
+is_full_label earlier (DistancesNode id dist) = is_full_block (block_in earlier)
 is_full_label earlier r = false
 
 -- what the earlier records say of one more
@@ -50,11 +51,13 @@ told_of earlier r = record {
 abbrev pub told_at_end : TextKind → List Record → Earlier
 told_at_end Max all = record (after_records all) { lacks_end = lacks_end all }
 told_at_end Labels all = record (after_records all) { block_short = is_short_block (block_in all) }
+told_at_end Distances all = record (after_records all) { block_short = is_short_block (block_in all) }
 told_at_end Solution all = record (after_records all) { valued = list_any is_value all }
 told_at_end kind all = after_records all
 
 abbrev pub is_too_many_told : Earlier → Record → Bool
 is_too_many_told e (LabelsNode id dist pred) = e.block_full
+is_too_many_told e (DistancesNode id dist) = e.block_full
 is_too_many_told e r = is_counted r && is_full e.problem e.counted
 
 -- the first whose test fails: it is true where something is wrong

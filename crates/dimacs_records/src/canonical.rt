@@ -156,6 +156,15 @@ pub fn write_record<S: Sink>(page: &mut Page, sink: &mut S, said: &Record)
             b"d",
             &[unsigned(id), Part::Wide(dist), unsigned(pred)],
         ),
+        Record::DistancesProblem { nodes, blocks } => {
+            write_problem(page, sink, b"distances", nodes, blocks)
+        }
+        Record::DistancesBlock { source, count } => {
+            page.line(sink, b't', &[i64::from(source), i64::from(count)]);
+        }
+        Record::DistancesNode { id, dist } => {
+            write_line(page, sink, b"d", &[unsigned(id), Part::Wide(dist)])
+        }
     }
 }
 

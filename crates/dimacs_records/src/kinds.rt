@@ -19,4 +19,6 @@ pub enum TextKind {
     Potentials,
     /// Distance labels from some sources, as a certificate.
     Labels,
+    /// Distances from some sources, as a claim.
+    Distances,
 }

@@ -7,6 +7,7 @@ ghost use Rattle.dimacs_records.specs.LineReader.{ReadsLine};
 ghost use Rattle.dimacs_records.specs.inside.FieldReader.{IsUntouched, ReadsLetter, texts_left, fault_at};
 
 mod cut;
+mod distances;
 mod graph;
 mod labels;
 mod max;
@@ -64,6 +65,7 @@ fn letter_record(
         TextKind::Cut => cut::record(letter, fields),
         TextKind::Potentials => potentials::record(letter, fields),
         TextKind::Labels => labels::record(letter, fields),
+        TextKind::Distances => distances::record(letter, fields),
     }
 }
 

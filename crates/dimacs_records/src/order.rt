@@ -97,7 +97,7 @@ impl Earlier {
         ensures { result ≡ is_too_many_told self said }
     {
         match said {
-            Record::LabelsNode { .. } => self.block_full,
+            Record::LabelsNode { .. } | Record::DistancesNode { .. } => self.block_full,
             _ => counts(said) && self.is_full(),
         }
     }
@@ -268,7 +268,8 @@ pub(crate) fn declares(said: Record) -> bool
         | Record::QueriesProblem { .. }
         | Record::CutProblem { .. }
         | Record::PotentialsProblem { .. }
-        | Record::LabelsProblem { .. } => true,
+        | Record::LabelsProblem { .. }
+        | Record::DistancesProblem { .. } => true,
         _ => false,
     }
 }
@@ -283,10 +284,11 @@ fn second_id(said: Record) -> Option<u32>
         | Record::MinNode { id, .. }
         | Record::CutNode { id }
         | Record::PotentialsNode { id, .. }
-        | Record::LabelsNode { id, .. } => Some(id),
+        | Record::LabelsNode { id, .. }
+        | Record::DistancesNode { id, .. } => Some(id),
         Record::MaxArc { tail, .. } | Record::MinArc { tail, .. } | Record::GraphArc { tail, .. } =>
             Some(tail),
-        Record::LabelsBlock { source, .. } => Some(source),
+        Record::LabelsBlock { source, .. } | Record::DistancesBlock { source, .. } => Some(source),
         _ => None,
     }
 }
@@ -350,7 +352,8 @@ fn counts(said: Record) -> bool
         | Record::PairQuery { .. }
         | Record::CutNode { .. }
         | Record::PotentialsNode { .. }
-        | Record::LabelsBlock { .. } => true,
+        | Record::LabelsBlock { .. }
+        | Record::DistancesBlock { .. } => true,
         _ => false,
     }
 }

@@ -2,7 +2,7 @@
 //! the last. Their records are read straight from the bytes that are held; any other line is left to `record`.
 
 ghost use Rattle.std.specs.Prelude.{◌≡◌, ◌≤◌, ◌∷◌, [], pos, length, drop, IfSome, IsTrue};
-ghost use Rattle.dimacs_records.specs.declared.kinds.TextKind.TheVariants.{Min, Potentials, Labels};
+ghost use Rattle.dimacs_records.specs.declared.kinds.TextKind.TheVariants.{Min, Potentials, Labels, Distances};
 ghost use Rattle.dimacs_records.specs.Forms.{Id, Whole};
 ghost use Rattle.dimacs_records.specs.inside.Plain.{IsPlainLine, SaysArc, SaysFirst};
 ghost use Rattle.dimacs_records.specs.Spelling.{Amount};
@@ -47,6 +47,7 @@ pub(crate) fn plain_line<R: Reading>(kind: TextKind, bytes: &[u8]) -> Option<Pla
         TextKind::Solution => arc_line(kind, b'f', bytes),
         TextKind::Potentials => potentials_line(bytes),
         TextKind::Labels => labels_line(bytes),
+        TextKind::Distances => distances_line(bytes),
         TextKind::Queries | TextKind::Cut => None,
     }
 }
@@ -73,6 +74,19 @@ fn potentials_line(bytes: &[u8]) -> Option<PlainLine>
     let said = Record::PotentialsNode {
         id,
         value: i128::from(number),
+    };
+    Some(PlainLine { size, said })
+}
+
+/// A node of a block of distances.
+#[inline(always)]
+fn distances_line(bytes: &[u8]) -> Option<PlainLine>
+    ensures { IfSome result (λ line. SaysFirst Distances bytes.now line.said line.size) }
+{
+    let NodeLine { size, id, number } = node_line(bytes, b'd')?;
+    let said = Record::DistancesNode {
+        id,
+        dist: i128::from(number),
     };
     Some(PlainLine { size, said })
 }

@@ -111,6 +111,21 @@ pub enum Record {
         dist: i128,
         pred: u32,
     },
+    /// `p distances NODES B`
+    DistancesProblem {
+        nodes: u32,
+        blocks: u32,
+    },
+    /// `t SOURCE K`
+    DistancesBlock {
+        source: u32,
+        count: u32,
+    },
+    /// `d ID DIST`
+    DistancesNode {
+        id: u32,
+        dist: i128,
+    },
 }
 
 /// An end of a maximum flow.

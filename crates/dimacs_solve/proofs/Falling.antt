@@ -15,19 +15,13 @@ use Rattle.dimacs_judge.specs.Rows.{amount_at}
 use Rattle.dimacs_network.specs.Arcs.{arc_at}
 use Rattle.dimacs_decide.specs.Bounds.{KeepsBounds}
 use Rattle.dimacs_decide.specs.FeasibilityDecision.{surplus_at, total_excess}
+use Rattle.dimacs_decide.proofs.ExcessLemmas.{excess_some}
 use Rattle.dimacs_solve.specs.Descending.{AreFalling, IsBetter, StartsCheap, TakesMoreSteps, start_flow}
 
 -- ---- excess
-sum_some : (f : ℕ → ℕ) (n : ℕ) → pos 0 ≤ℤ sum_nodes (λ v. pos (f v)) n
-sum_some f zero = omega (arith, ints)
-sum_some f (suc n) = omega (arith, ints, sum_some f n)
-
 sum_none : (f : ℕ → ℤ) (n : ℕ) → ((v : ℕ) → IsNode n v → f v ≡ pos 0) → sum_nodes f n ≡ pos 0
 sum_none f zero none = refl
 sum_none f (suc n) none = let here = none (suc n) (omega arith, omega arith) in omega (arith, ints, here, sum_none f n (λ v h. none v (h.0, omega (arith, h.1))))
-
-excess_some : (i : MinValue) (x : List ℤ) → pos 0 ≤ℤ total_excess i x
-excess_some i x = sum_some (λ v. positive_part (surplus_at i x v)) i.nodes
 
 part_zero : (z : ℤ) → z ≡ pos 0 → pos (positive_part z) ≡ pos 0
 part_zero z e = rw e refl

@@ -1,7 +1,7 @@
 //! A maximum flow, by one better flow after another.
 
 ghost use Rattle.std.specs.Prelude.{IfOk};
-ghost use Rattle.dimacs_solve.specs.inside.Climbing.{Climbs};
+ghost use Rattle.dimacs_solve.specs.Climbing.{Climbs};
 
 use crate::improve::improve_max;
 use dimacs_claims::Cut;
@@ -14,14 +14,15 @@ use std::alloc::Global;
 
 /// Where a climb ends.
 #[derive(Drop)]
-pub(crate) enum Ascent {
+pub enum Ascent {
     /// At a maximum flow, with a tight cut.
     Top(Flow, Cut),
+    /// At none: so many flows were asked about, and none is maximum.
     GaveUp,
 }
 
 /// Goes from the zero flow to one better flow after another, as long as there may be another question.
-pub(crate) fn climb<N: Network>(
+pub fn solve_max_flow<N: Network>(
     alloc: Global,
     instance: &MaxInstance<N>,
     limit: u64,

@@ -2,11 +2,12 @@
 
 ghost use Rattle.std.specs.Prelude.{◌≡◌, ◌+◌, length, map, take, IfOk};
 ghost use Rattle.dimacs_solve.specs.Descending.{start_amount, start_flow};
-ghost use Rattle.dimacs_solve.specs.inside.Descending.{Descends};
+ghost use Rattle.dimacs_solve.specs.Descending.{Descends};
 
 use crate::jump::jump;
-use crate::question::{Reply, ask};
+use crate::question::{Reply, ask_over};
 use dimacs_claims::{Cut, Potentials};
+use dimacs_decide::Incidence;
 use dimacs_instance::MinInstance;
 use dimacs_judge::Flow;
 use dimacs_lines::Memory;
@@ -15,16 +16,17 @@ use std::alloc::Global;
 
 /// Where a descent ends.
 #[derive(Drop)]
-pub(crate) enum Descent {
+pub enum Descent {
     /// At a flow of least cost, with potentials that show it.
     Bottom(Flow, Potentials),
     /// At a set that shows that no flow is feasible.
     Nowhere(Cut),
+    /// At none: after so many steps, each to a better flow, the flow is still not least.
     GaveUp,
 }
 
 /// Goes from the start flow to its end, in one step where there may be one, else as `descend_by_steps`.
-pub(crate) fn descend<N: Network>(
+pub fn solve_min_flow<N: Network>(
     alloc: Global,
     instance: &MinInstance<N>,
     limit: u64,
@@ -47,24 +49,20 @@ fn descend_by_steps<N: Network>(
 ) -> Result<Descent, Memory>
     ensures { IfOk result (Descends instance.now limit) }
 {
+    let incidence = Incidence::new(alloc, instance.network())?;
     let mut flow = started(alloc, instance.network())?;
     for _step in 0..limit {
-        match ask(alloc, instance, &flow, nothing_known(alloc, instance))? {
+        match ask_over(alloc, instance, &incidence, &flow)? {
             Reply::Least(slack) => return Ok(Descent::Bottom(flow, slack)),
             Reply::Infeasible(set) => return Ok(Descent::Nowhere(set)),
             Reply::Better(better) => flow = better,
         }
     }
-    match ask(alloc, instance, &flow, nothing_known(alloc, instance))? {
+    match ask_over(alloc, instance, &incidence, &flow)? {
         Reply::Least(slack) => Ok(Descent::Bottom(flow, slack)),
         Reply::Infeasible(set) => Ok(Descent::Nowhere(set)),
         Reply::Better(_better) => Ok(Descent::GaveUp),
     }
-}
-
-/// Potentials to begin with where none are known.
-fn nothing_known<N: Network>(alloc: Global, instance: &MinInstance<N>) -> Potentials {
-    Potentials::new(alloc, instance.network().nodes())
 }
 
 /// The flow to start from.

@@ -3,9 +3,9 @@
 ghost use Rattle.std.specs.Prelude.{◌≡◌, ◌≤ℤ◌, length, IsTrue};
 ghost use Rattle.dimacs_judge.specs.Feasible.{FeasibleMax, value};
 
-use crate::preflow::pushed;
 use dimacs_instance::MaxInstance;
 use dimacs_judge::{Flow, feasible_max, value_of};
+use dimacs_methods::raise_value;
 use dimacs_network::Network;
 use std::alloc::Global;
 
@@ -16,10 +16,11 @@ pub fn improve_max<N: Network>(alloc: Global, instance: &MaxInstance<N>, flow: F
     ensures feasible { FeasibleMax instance.now result }
     ensures value { value instance.now flow ≤ℤ value instance.now result }
 {
-    if let Ok(other) = pushed(alloc, instance, &flow)
-        && is_no_worse(alloc, instance, &flow, &other)
-    {
-        return other;
+    if let Ok(amounts) = raise_value(alloc, instance, flow.amounts()) {
+        let other = Flow::from_vec(amounts);
+        if is_no_worse(alloc, instance, &flow, &other) {
+            return other;
+        }
     }
     flow
 }

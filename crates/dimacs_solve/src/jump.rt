@@ -1,14 +1,15 @@
 //! A step to the end of a descent, by code of which nothing is believed.
 
-ghost use Rattle.std.specs.Prelude.{◌≡◌, ◌<◌, ℕ, length, IfOk, IfSome};
+ghost use Rattle.std.specs.Prelude.{◌<◌, ℕ, IfOk, IfSome};
 ghost use Rattle.dimacs_decide.specs.Bounds.{KeepsBounds};
-ghost use Rattle.dimacs_solve.specs.inside.Descending.{Descends};
+ghost use Rattle.dimacs_solve.specs.Descending.{Descends};
 
 use crate::descend::Descent;
 use crate::question::{Reply, ask};
 use dimacs_claims::Potentials;
+use dimacs_decide::keeps_bounds;
 use dimacs_instance::MinInstance;
-use dimacs_judge::{Flow, bounds_hold};
+use dimacs_judge::Flow;
 use dimacs_lines::Memory;
 use dimacs_methods::make_least_flow;
 use dimacs_network::Network;
@@ -22,11 +23,11 @@ pub(crate) fn jump<N: Network>(
     ensures { IfOk result (λ found. IfSome found (λ end. (limit : ℕ) → 0 < limit → Descends instance.now limit end)) }
 {
     let made = make_least_flow(alloc, instance)?;
-    let flow = flow_of(alloc, instance.network(), &made.amounts)?;
-    match bounds_hold(instance.network(), &flow) {
-        Ok(()) => settled(alloc, instance, flow, made.potentials),
-        Err(_) => Ok(None),
+    let flow = Flow::from_vec(made.amounts);
+    if !keeps_bounds(instance.network(), &flow) {
+        return Ok(None);
     }
+    settled(alloc, instance, flow, made.potentials)
 }
 
 /// What it leads to, if the reply about this flow ends the descent.
@@ -44,15 +45,4 @@ fn settled<N: Network>(
         Reply::Infeasible(set) => Ok(Some(Descent::Nowhere(set))),
         Reply::Better(_better) => Ok(None),
     }
-}
-
-/// The flow of these amounts.
-fn flow_of<N: Network>(alloc: Global, network: &N, amounts: &[i64]) -> Result<Flow, Memory>
-    ensures { IfOk result (λ flow. length flow ≡ length (N.list network.now)) }
-{
-    let mut flow = Flow::zero(alloc, network.arcs())?;
-    for i in 0..network.arcs() {
-        flow.set(i, amounts.get(i as usize).copied().unwrap_or(0));
-    }
-    Ok(flow)
 }

@@ -7,7 +7,7 @@ ghost use Rattle.dimacs_judge.specs.Potentials.{Slack};
 ghost use Rattle.dimacs_solve.specs.Descending.{start_flow};
 ghost use Rattle.dimacs_solve.specs.SolveMin.{SolvesMin};
 
-use crate::descend::{Descent, descend};
+use crate::descend::{Descent, solve_min_flow};
 use crate::error::SolveError;
 use dimacs_claims::{Cut, Potentials, Solution};
 use dimacs_instance::MinInstance;
@@ -35,7 +35,7 @@ pub fn solve_min<N: Network>(
 ) -> Result<MinAnswer, SolveError>
     ensures { SolvesMin instance.now limit result }
 {
-    match descend(alloc, instance, limit)? {
+    match solve_min_flow(alloc, instance, limit)? {
         Descent::Bottom(flow, potentials) => told(alloc, instance, &flow, potentials),
         Descent::Nowhere(set) => Ok(MinAnswer::Infeasible(set)),
         Descent::GaveUp => Ok(MinAnswer::GaveUp),

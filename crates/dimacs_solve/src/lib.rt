@@ -13,10 +13,11 @@ mod least;
 mod marks;
 mod maximum;
 mod paths;
-mod preflow;
 mod question;
 mod search;
 
+pub use climb::{Ascent, solve_max_flow};
+pub use descend::{Descent, solve_min_flow};
 pub use error::SolveError;
 pub use improve::improve_max;
 pub use least::{MinAnswer, solve_min};

@@ -2,7 +2,7 @@
 
 ghost use Rattle.dimacs_solve.specs.SolveMax.{SolvesMax};
 
-use crate::climb::{Ascent, climb};
+use crate::climb::{Ascent, solve_max_flow};
 use crate::error::SolveError;
 use dimacs_claims::{Cut, Solution};
 use dimacs_instance::MaxInstance;
@@ -25,7 +25,7 @@ pub fn solve_max<N: Network>(
 ) -> Result<MaxAnswer, SolveError>
     ensures { SolvesMax instance.now limit result }
 {
-    match climb(alloc, instance, limit)? {
+    match solve_max_flow(alloc, instance, limit)? {
         Ascent::Top(flow, cut) => {
             let solution = max_solution(alloc, instance, &flow)?;
             Ok(MaxAnswer::Optimal(solution, cut))

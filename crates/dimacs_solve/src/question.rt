@@ -3,10 +3,15 @@
 ghost use Rattle.std.specs.Prelude.{IfOk};
 ghost use Rattle.dimacs_judge.specs.Feasible.{FeasibleMin};
 ghost use Rattle.dimacs_decide.specs.Bounds.{KeepsBounds};
+ghost use Rattle.dimacs_decide.specs.FeasibilityDecision.{DecidesFeasible};
+ghost use Rattle.dimacs_decide.specs.Links.{IsIncidenceOf};
 ghost use Rattle.dimacs_solve.specs.inside.Descending.{IsReply};
 
 use dimacs_claims::{Cut, Potentials};
-use dimacs_decide::{FeasibilityDecision, MinDecision, decide_feasible, decide_min_from};
+use dimacs_decide::{
+    FeasibilityDecision, Incidence, MinDecision, decide_feasible, decide_feasible_over,
+    decide_min_from,
+};
 use dimacs_instance::MinInstance;
 use dimacs_judge::Flow;
 use dimacs_lines::Memory;
@@ -34,7 +39,38 @@ pub(crate) fn ask<N: Network>(
     requires { KeepsBounds instance.now.arcs flow.now }
     ensures { IfOk result (IsReply instance.now flow.now) }
 {
-    match decide_feasible(alloc, instance, flow)? {
+    let decision = decide_feasible(alloc, instance, flow)?;
+    answered(alloc, instance, flow, decision, potentials)
+}
+
+/// Asks over the arcs by their ends, which several questions can share.
+pub(crate) fn ask_over<N: Network>(
+    alloc: Global,
+    instance: &MinInstance<N>,
+    incidence: &Incidence,
+    flow: &Flow,
+) -> Result<Reply, Memory>
+    requires within { KeepsBounds instance.now.arcs flow.now }
+    requires incidence { IsIncidenceOf instance.now.arcs incidence.now }
+    ensures { IfOk result (IsReply instance.now flow.now) }
+{
+    let decision = decide_feasible_over(alloc, instance, incidence, flow)?;
+    let nothing_known = Potentials::new(alloc, instance.network().nodes());
+    answered(alloc, instance, flow, decision, nothing_known)
+}
+
+/// The reply about a flow of which it is decided whether it is feasible.
+fn answered<N: Network>(
+    alloc: Global,
+    instance: &MinInstance<N>,
+    flow: &Flow,
+    decision: FeasibilityDecision,
+    potentials: Potentials,
+) -> Result<Reply, Memory>
+    requires { DecidesFeasible instance.now flow.now decision }
+    ensures { IfOk result (IsReply instance.now flow.now) }
+{
+    match decision {
         FeasibilityDecision::Balanced => ask_cost(alloc, instance, flow, potentials),
         FeasibilityDecision::Infeasible(set) => Ok(Reply::Infeasible(set)),
         FeasibilityDecision::Nearer(nearer) => Ok(Reply::Better(nearer)),

@@ -2,8 +2,9 @@
 
 use crate::checks::{holds, same};
 use dimacs_arrays::{
-    Array, ArrayError, MaxArrays, MaxCertified, MinArrays, MinCertified, certify_max_arrays,
-    certify_min_arrays, judge_infeasible_arrays, judge_max_arrays, judge_min_arrays,
+    Array, ArrayError, MaxArrays, MaxCertified, MaxSolved, MinArrays, MinCertified, MinSolved,
+    certify_max_arrays, certify_min_arrays, judge_infeasible_arrays, judge_max_arrays,
+    judge_min_arrays, solve_max_arrays, solve_min_arrays,
 };
 use dimacs_judge::{Verdict, Where};
 use dimacs_records::Reason;
@@ -103,5 +104,54 @@ fn least_flows_are_certified(rt: HostRuntime) {
         same(&rt, "better", flow.amounts(), &[2, 0]);
     } else {
         holds(&rt, "one by the other way", false);
+    }
+}
+
+#[test]
+fn maximum_flows_are_solved(rt: HostRuntime) {
+    let alloc = rt.alloc();
+    let answer = solve_max_arrays(alloc, &pipes(), 9);
+    if let Ok(
+        MaxSolved::Optimal {
+            value,
+            flow,
+            inside,
+        },
+    ) = &answer
+    {
+        same(&rt, "its value", *value, 2);
+        let shown = judge_max_arrays(alloc, &pipes(), flow.amounts(), inside);
+        same(&rt, "its cut", shown, Ok(Verdict::Max(2)));
+    } else {
+        holds(&rt, "a maximum flow", false);
+    }
+    let answer = solve_max_arrays(alloc, &pipes(), 1);
+    holds(&rt, "one flow", matches!(&answer, Ok(MaxSolved::GaveUp)));
+}
+
+#[test]
+fn least_flows_are_solved(rt: HostRuntime) {
+    let alloc = rt.alloc();
+    let answer = solve_min_arrays(alloc, &ways(&[2, -2]), 9);
+    if let Ok(
+        MinSolved::Optimal {
+            cost,
+            flow,
+            potentials,
+        },
+    ) = &answer
+    {
+        same(&rt, "its cost", *cost, 6);
+        let shown = judge_min_arrays(alloc, &ways(&[2, -2]), flow.amounts(), potentials);
+        same(&rt, "its potentials", shown, Ok(Verdict::Min(6)));
+    } else {
+        holds(&rt, "a least flow", false);
+    }
+    let answer = solve_min_arrays(alloc, &ways(&[4, -4]), 9);
+    if let Ok(MinSolved::Infeasible { inside }) = &answer {
+        let shown = judge_infeasible_arrays(alloc, &ways(&[4, -4]), inside);
+        same(&rt, "its set", shown, Ok(Verdict::Infeasible));
+    } else {
+        holds(&rt, "no flow", false);
     }
 }

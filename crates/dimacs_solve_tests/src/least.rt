@@ -52,9 +52,9 @@ more asked for than is supplied | p min 3 2; n 1 1; n 2 -1; n 3 -2; a 1 2 0 5 1;
 a set that holds back, beside one that doesn't | p min 4 3; n 1 2; n 2 -2; n 3 5; n 4 -5; a 1 2 0 9 1; a 3 4 0 4 1; a 2 3 0 9 1 | 1 | v infeasible
 numbers at the ends, of which the least cost is out of range | p min 5 9; n 1 -9223372036854775807; n 3 2556873396304625729; n 4 9223372036854775807; n 5 -2556873396304625729; a 3 5 2556873396304625723 2556873396304625723 4294967296; a 3 5 0 4294967296 -9223372036854775808; a 1 5 0 4 -5; a 3 1 0 0 7; a 1 5 0 2 -5; a 4 1 0 9223372036854775807 9223372036854775806; a 3 1 2 3 4; a 3 1 1 3 -2; a 3 5 1 2 3 | 10 | g limit";
 
-type Instance = MinInstance<ForwardStar<ArcView>>;
+pub type Instance = MinInstance<ForwardStar<ArcView>>;
 
-fn instance(alloc: Global, lines: &str) -> Result<Instance, Fail> {
+pub fn instance(alloc: Global, lines: &str) -> Result<Instance, Fail> {
     let text = case(alloc, lines)?;
     let instance = read_min(alloc, &mut MemorySource::new(text.as_bytes()))?;
     Ok(instance)

@@ -11,6 +11,8 @@ mod checks;
 #[cfg(test)]
 mod distances;
 #[cfg(test)]
+mod feasibility;
+#[cfg(test)]
 mod flows_arrays;
 #[cfg(test)]
 mod least;

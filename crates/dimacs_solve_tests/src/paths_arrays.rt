@@ -1,8 +1,10 @@
 //! Distances over arrays: which arrays are refused, and that the others are judged as the same by node.
 
-use crate::checks::same;
+use crate::checks::{holds, same};
 use crate::tables::{cell, ids, numbers, rows};
-use dimacs_arrays::{GraphArrays, certify_paths_arrays, judge_paths_arrays};
+use dimacs_arrays::{
+    GraphArrays, PathsSolved, certify_paths_arrays, judge_paths_arrays, solve_paths_arrays,
+};
 use std::test::Fail;
 
 /// Arrays in each line: what it shows, the number of nodes, the tails, the heads, the weights, the source, the distances,
@@ -91,4 +93,28 @@ fn arrays_are_certified(rt: HostRuntime) -> Result<(), Fail> {
         "Err(Length(Distances))",
     );
     Ok(())
+}
+
+#[test]
+fn arrays_are_solved(rt: HostRuntime) {
+    let alloc = rt.alloc();
+    let arrays = GraphArrays {
+        nodes: 4,
+        tails: &[1, 1, 3],
+        heads: &[2, 3, 2],
+        weights: &[4, 1, 2],
+    };
+    let answer = solve_paths_arrays(alloc, &arrays, 1);
+    if let Ok(
+        PathsSolved::Distances {
+            distances,
+            predecessors,
+        },
+    ) = &answer
+    {
+        same(&rt, "distances", distances.as_slice(), &[0, 3, 1, i64::MAX]);
+        same(&rt, "predecessors", predecessors.as_slice(), &[0, 3, 1, 0]);
+    } else {
+        holds(&rt, "solved", false);
+    }
 }

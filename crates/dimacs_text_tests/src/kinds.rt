@@ -2,7 +2,7 @@
 
 use crate::checks::{holds, same};
 use crate::texts::{MaxFlow, MinFlow, Weights, spelled};
-use dimacs_claims::{Cut, Labels, Potentials, Solution};
+use dimacs_claims::{Cut, Distances, Labels, Potentials, Solution};
 use dimacs_instance::Queries;
 use dimacs_lines::FlakySink;
 use dimacs_records::{Text, TextKind};
@@ -56,5 +56,12 @@ fn queries_and_claims_are_shown(rt: HostRuntime) -> Result<(), Fail> {
         "p pot 3 1\ny 2 0\n",
         "i pot 3 0\n",
     )?;
-    is_shown::<Labels>(&rt, alloc, TextKind::Labels, labels, "i dist 3 1\n")
+    is_shown::<Labels>(&rt, alloc, TextKind::Labels, labels, "i dist 3 1\n")?;
+    is_shown::<Distances>(
+        &rt,
+        alloc,
+        TextKind::Distances,
+        "p distances 3 1\nt 1 1\nd 2 5\n",
+        "i distances 3 1\n",
+    )
 }

@@ -9,6 +9,8 @@ mod checks;
 #[cfg(test)]
 mod cuts;
 #[cfg(test)]
+mod distances;
+#[cfg(test)]
 mod graphs;
 #[cfg(test)]
 mod kinds;

@@ -6,7 +6,8 @@ ghost use Rattle.std.specs.Prelude.{◌≡◌, None};
 use crate::checks::{holds, same, same_at};
 use crate::texts::take_line;
 use dimacs_claims::{
-    CutReading, Entry, LabelsReading, Placed, PotentialsReading, Solution, SolutionReading,
+    CutReading, DistancesReading, Entry, LabelsReading, Placed, PotentialsReading, Solution,
+    SolutionReading,
 };
 use dimacs_instance::{GraphReading, LawfulQueries, MaxReading, MinReading, QueriesReading};
 use dimacs_lines::{DeviceFault, Sink};
@@ -217,6 +218,22 @@ d 1500 1 2
 d 70000 1 2
 ";
 
+static DISTANCES: &str = "\
+p distances 70000 3
+t 70000 2
+d 1 5
+d 700 6
+t 1 0
+t 2 7
+d 3 1
+d 300 2147483648
+d 600 1
+d 900 9223372036854775808
+d 1200 1
+d 1500 1
+d 70000 1
+";
+
 /// A solution whose entries were put in a list.
 fn solution(placed: Placed<Vec<Entry>>) -> Solution {
     Solution {
@@ -238,5 +255,8 @@ fn claims_and_certificates_come_whole_after_a_refused_growth(rt: HostRuntime) ->
     let potentials = read_lines(&rt, reading, TextKind::Potentials, POTENTIALS);
     is_whole(&rt, potentials, POTENTIALS)?;
     let labels = read_lines(&rt, LabelsReading::new(alloc), TextKind::Labels, LABELS);
-    is_whole(&rt, labels, LABELS)
+    is_whole(&rt, labels, LABELS)?;
+    let reading = DistancesReading::new(alloc);
+    let distances = read_lines(&rt, reading, TextKind::Distances, DISTANCES);
+    is_whole(&rt, distances, DISTANCES)
 }

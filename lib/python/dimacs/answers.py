@@ -65,6 +65,44 @@ class Certified(NamedTuple):
         return self.certificate
 
 
+class Solved(NamedTuple):
+    """What was made, which was judged before it was handed out.
+
+    value is that of the flow, or its cost. The solution is the text of a solution, of arrays the amount of each arc, or the
+    distance of each node, and of a graph a dict of those; of paths asked for in texts, the answers to queries for pairs. The
+    certificate is what shows it, as in Certified; of paths asked for in texts, labels.
+    """
+
+    value: int | None
+    solution: Any
+    certificate: Any
+
+    @property
+    def flows(self) -> Any:
+        """The solution of solve_max_arrays, solve_min_arrays, solve_networkx_max and solve_networkx_min."""
+        return self.solution
+
+    @property
+    def distances(self) -> Any:
+        """That of solve_paths_arrays and solve_networkx_paths."""
+        return self.solution
+
+    @property
+    def inside(self) -> Any:
+        """The certificate of solve_max_arrays and solve_networkx_max."""
+        return self.certificate
+
+    @property
+    def potentials(self) -> Any:
+        """That of solve_min_arrays and solve_networkx_min."""
+        return self.certificate
+
+    @property
+    def predecessors(self) -> Any:
+        """That of solve_paths_arrays and solve_networkx_paths."""
+        return self.certificate
+
+
 def _at(arc: Any, node: Any, reason: str) -> str:
     return f"arc {arc} {reason}" if arc is not None else f"node {node} {reason}"
 
@@ -126,3 +164,24 @@ class NotOptimal(Refused):
     def __init__(self, reason: str, better: Any = None, **place: Any) -> None:
         super().__init__(reason, **place)
         self.better = better
+
+
+class Infeasible(Refused):
+    """No flow is feasible, as the certificate shows: the text of a set, of arrays whether each node is inside of it, or a set
+    of nodes."""
+
+    def __init__(self, certificate: Any) -> None:
+        super().__init__("Infeasible")
+        self.certificate = certificate
+
+    @property
+    def inside(self) -> Any:
+        """The certificate of solve_min_arrays and solve_networkx_min."""
+        return self.certificate
+
+    def __str__(self) -> str:
+        return "no flow is feasible"
+
+
+class GaveUp(OverflowError):
+    """A limit was reached before the best was found, or what was found is out of the range of numbers that can say it."""

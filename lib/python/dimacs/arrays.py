@@ -3,7 +3,8 @@
 Nodes and arcs count from 1. The first items of tails, heads, caps, .. are of arc 1, the first items of supplies, inside,
 distances, .. of node 1. An array is a list, array.array, numpy array, or whatever else has a buffer or can be gone
 through. One whose items have the width that the library takes isn't copied: uint32 for tails, heads and predecessors,
-uint8 or bool for inside, int64 for all others; no other thread may write to it meanwhile. Else each number is converted.
+uint8 or bool for inside, int64 for all others, one after another and at multiples of the width; no other thread may write
+to it meanwhile. Else each number is copied or converted. Of a Series of pandas the places count, and not its labels.
 
 ValueError is raised where a number doesn't fit or isn't whole, or where an array is longer or shorter than the others
 want it; and PastLimit, which is a ValueError, where a number is past a limit of instances. TypeError is raised for items
@@ -16,8 +17,8 @@ import ctypes
 from typing import Any, Callable, NamedTuple
 
 from . import library
-from .answers import Certified, Verdict
-from .buffers import DISTANCES, IDS, MARKS, NUMBERS, Buffer, Items, Room, array_of, number_of
+from .answers import Certified, Infeasible, Solved, Verdict
+from .buffers import DISTANCES, IDS, LIMIT, LIMITS, MARKS, NUMBERS, Buffer, Items, Room, array_of, number_of
 
 #: There may be no more nodes than these.
 MOST_NODES = 2**27
@@ -74,8 +75,8 @@ class _Given:
         self._arrays.append((form, buffer))
         return buffer.address, buffer.length
 
-    def add_number(self, name: str, number: Any) -> None:
-        self.words.append(number_of(number, IDS, name))
+    def add_number(self, name: str, number: Any, items: Items = IDS) -> None:
+        self.words.append(number_of(number, items, name))
 
     def add(self, form: _Array, numbers: Any) -> None:
         self.words += self._keep(form, numbers)
@@ -83,6 +84,10 @@ class _Given:
     def length(self, form: _Array) -> int:
         """How many items an array has to have."""
         return self._count[form.each]
+
+    def room(self, form: _Array) -> Room:
+        """Memory for an array that is handed out. Of more nodes than there may be the library hands out nothing."""
+        return Room(form.items, min(self.length(form), MOST_NODES) if form.each == "nodes" else self.length(form))
 
     def test_lengths(self) -> None:
         """The library tests the lengths too, but doesn't tell which one is wrong."""
@@ -102,8 +107,7 @@ def _judge(function: Callable[..., int], given: _Given) -> Verdict:
 def _certify(function: Callable[..., int], given: _Given, came: Any, *handed: _Array) -> Certified:
     """Certifies what came. The first array that is handed out is the certificate, the second one a better flow."""
     given.test_lengths()
-    # Of more nodes than there may be the library says so, and hands out nothing.
-    rooms = [Room(form.items, min(given.length(form), MOST_NODES)) for form in handed]
+    rooms = [given.room(form) for form in handed]
     status, said = library.call_with_rooms(function, given.words, rooms)
     if status == library.DONE:
         return Certified(library.verdict(said).value, rooms[0].in_form_of(came))
@@ -201,3 +205,55 @@ def certify_paths_arrays(
     given.add(_DISTANCES, distances)
     certified = _certify(library.certify_paths_arrays, given, distances, _PREDECESSORS)
     return certified._replace(value=None)
+
+
+def _solve(function: Callable[..., int], given: _Given, *handed: _Array) -> tuple[Verdict, list[Room]]:
+    given.test_lengths()
+    rooms = [given.room(form) for form in handed]
+    status, said = library.call_with_rooms(function, given.words, rooms)
+    if status == library.REFUSED:
+        raise library.refusal(said)
+    return library.verdict(said), rooms
+
+
+def solve_max_arrays(
+    nodes: int, source: int, sink: int, tails: Any, heads: Any, caps: Any, limit: int = LIMIT
+) -> Solved:
+    """Makes a maximum flow; its value, the amount of each arc, and for each node whether it is inside a cut that shows it.
+
+    Raises GaveUp after so many flows that aren't maximum. What is handed out has the form of caps, as in
+    certify_max_arrays.
+    """
+    given = _Given(_MAX, nodes, source, sink, tails, heads, caps)
+    given.add_number("limit", limit, LIMITS)
+    found, (flows, inside) = _solve(library.solve_max_arrays, given, _FLOWS, _INSIDE)
+    return Solved(found.value, flows.in_form_of(caps), inside.in_form_of(caps))
+
+
+def solve_min_arrays(
+    nodes: int, tails: Any, heads: Any, lows: Any, caps: Any, costs: Any, supplies: Any, limit: int = LIMIT
+) -> Solved:
+    """Makes a flow of least cost; its cost, the amount of each arc, and for each node a potential, which show it.
+
+    Raises Infeasible where no flow is feasible, which has for each node whether it is inside a set that shows it; GaveUp
+    after so many steps to better flows, where the least cost is out of range, or where two of the potentials that were found
+    are 2^64 or more apart. What is handed out has the form of caps.
+    """
+    given = _Given(_MIN, nodes, tails, heads, lows, caps, costs, supplies)
+    given.add_number("limit", limit, LIMITS)
+    found, (flows, potentials, inside) = _solve(library.solve_min_arrays, given, _FLOWS, _POTENTIALS, _INSIDE)
+    if found.kind == "infeasible":
+        raise Infeasible(inside.in_form_of(caps))
+    return Solved(found.value, flows.in_form_of(caps), potentials.in_form_of(caps))
+
+
+def solve_paths_arrays(nodes: int, tails: Any, heads: Any, weights: Any, source: int) -> Solved:
+    """Makes the distances from the source; no value, and for each node a distance and a predecessor, which show them.
+
+    A node that isn't reached has the distance UNREACHED and the predecessor 0, as the source has. Raises Refused where a
+    weight is negative, and GaveUp where a distance is as great as UNREACHED. What is handed out has the form of weights.
+    """
+    given = _Given(_GRAPH, nodes, tails, heads, weights)
+    given.add_number("source", source)
+    _, (distances, predecessors) = _solve(library.solve_paths_arrays, given, _DISTANCES, _PREDECESSORS)
+    return Solved(None, distances.in_form_of(weights), predecessors.in_form_of(weights))

@@ -80,6 +80,10 @@ IDS = Items("I", 4, 0, 2**32 - 1)
 NUMBERS = Items("q", 8, -(2**63), 2**63 - 1)
 MARKS = Items("B", 1, 0, 2**8 - 1)
 DISTANCES = NUMBERS._replace(infinity=UNREACHED)
+LIMITS = Items("Q", 8, 0, 2**64 - 1)
+
+#: The limit where none is given.
+LIMIT = 1_000_000
 
 #: The codes of buffers that have such items already, by their code here.
 _SAME = {"I": ("I", "L", "=I", "@I", "<I"), "q": ("q", "l", "=q", "@q", "<q"), "B": ("B", "?", "<B", "<?")}
@@ -123,8 +127,16 @@ def converted(numbers: Sequence[Any], items: Items, name: str) -> array.array:
 
 def _from_numbers(numbers: Sequence[Any], items: Items, name: str) -> Buffer:
     kept = converted(numbers, items, name)
-    address, length = kept.buffer_info()
-    return Buffer(kept, address, length)
+    return Buffer(kept, *kept.buffer_info())
+
+
+def _from_view(view: memoryview, items: Items) -> Buffer:
+    """Takes a view of such items as it is, or copies it where it doesn't lie at a multiple of their width."""
+    address = _address_of(view) if len(view) else 0
+    if address % items.width == 0:
+        return Buffer(view, address, len(view))
+    kept = array.array(items.code, view.tobytes())
+    return Buffer(kept, *kept.buffer_info())
 
 
 def _from_numpy(numpy: Any, numbers: Any, items: Items, name: str) -> Buffer:
@@ -150,7 +162,7 @@ def _from_numpy(numpy: Any, numbers: Any, items: Items, name: str) -> Buffer:
             raise _refuse(name, least if least < items.least else int(numbers.max()))
         fits = numbers.dtype.itemsize == items.width and numbers.dtype.isnative
         numbers = numbers.view(wanted) if fits else numbers.astype(wanted)
-    numbers = numpy.ascontiguousarray(numbers)
+    numbers = numpy.require(numbers, requirements=["C_CONTIGUOUS", "ALIGNED"])
     return Buffer(numbers, numbers.ctypes.data if len(numbers) else 0, len(numbers))
 
 
@@ -189,6 +201,11 @@ def _items_of(numbers: Any, view: memoryview, name: str) -> list[Any]:
         raise TypeError(f"{name} has items of the format {view.format}, which Python doesn't read") from None
 
 
+def unlabelled(given: Any) -> Any:
+    """The items by their places of what may have labels too, as in pandas, where a DataFrame is gone through by these."""
+    return given.to_numpy() if hasattr(given, "to_numpy") else given
+
+
 def array_of(numbers: Any, items: Items, name: str) -> Buffer:
     """The items of an array: as they lie in memory, where a buffer has them so, and else converted.
 
@@ -196,6 +213,7 @@ def array_of(numbers: Any, items: Items, name: str) -> Buffer:
     """
     if type(numbers) in (list, tuple):
         return _from_numbers(numbers, items, name)
+    numbers = unlabelled(numbers)
     numpy = sys.modules.get("numpy")
     if numpy is not None and isinstance(numbers, numpy.ndarray):
         return _from_numpy(numpy, numbers, items, name)
@@ -209,7 +227,7 @@ def array_of(numbers: Any, items: Items, name: str) -> Buffer:
         return _from_numbers(_items_of(numbers, view, name), items, name)
     if isinstance(numbers, array.array):
         return Buffer(view, *numbers.buffer_info())
-    return Buffer(view, _address_of(view) if len(view) else 0, len(view))
+    return _from_view(view, items)
 
 
 def number_of(number: Any, items: Items, name: str) -> int:
@@ -238,6 +256,8 @@ class Room:
     def in_form_of(self, came: Any) -> Any:
         """All items: a numpy array where what came is one, array.array where it is that, else a list. Marks are bools, and
         in array.array bytes that aren't 0 where they are true."""
+        if self._told.value != len(self._kept):
+            raise RuntimeError(f"the library handed out {self._told.value} items, and there is room for {len(self._kept)}")
         numpy = sys.modules.get("numpy")
         if numpy is not None and isinstance(came, numpy.ndarray):
             found = numpy.frombuffer(self._kept, self._items.code)

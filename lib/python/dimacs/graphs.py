@@ -18,8 +18,8 @@ from contextlib import contextmanager
 from typing import Any, Iterator
 
 from . import arrays
-from .answers import UNREACHED, Certified, NotOptimal, PastLimit, Refused, Verdict
-from .buffers import NUMBERS, converted, is_bool, number_of
+from .answers import UNREACHED, Certified, GaveUp, Infeasible, NotOptimal, PastLimit, Refused, Solved, Verdict
+from .buffers import LIMIT, NUMBERS, converted, is_bool, number_of, unlabelled
 
 #: The capacity of an edge without one. A flow has to stay below it there: then the same edges have room left as if
 #: there were no limit, and so it is as good as it would be then.
@@ -93,7 +93,7 @@ class _Graph:
     def inside(self, side: Any) -> list[bool]:
         """Whether each node is on this side: one of these nodes, or one that a dict maps to True."""
         is_dict = isinstance(side, Mapping) and not isinstance(side, Set)  # a NodeView of networkx is both
-        marks = side if is_dict else dict.fromkeys(side, True)
+        marks = side if is_dict else dict.fromkeys(unlabelled(side), True)
         if not all(is_bool(it) for it in marks.values()):
             raise TypeError(f"side is a {type(side).__name__} that doesn't map nodes to bools, and has to be a set of nodes")
         # True is 1 to a dict: where nodes are numbers, a bool for each node would name the nodes 0 and 1.
@@ -111,6 +111,22 @@ class _Graph:
             if capacity == math.inf and amount >= _UNLIMITED:
                 raise ValueError(f"the flow of {edge} is out of its range")
         return flows
+
+    def nodes_inside(self, inside: Any) -> set[Any]:
+        """The nodes that are marked."""
+        return {node for node, is_inside in zip(self.nodes, inside) if is_inside}
+
+    def predecessors(self, source: Any, by_node: Any) -> dict[Any, Any]:
+        """The predecessor of each node that is reached; None of the source."""
+        found = {node: self.nodes[it - 1] for node, it in zip(self.nodes, by_node) if it != 0}
+        return {source: None, **found}
+
+    def found_flow(self, flows: Any) -> dict[Any, Any]:
+        """A flow that was found. An edge without a capacity has to have room left: then no greater one would be better."""
+        for edge, amount, capacity in zip(self.edges, flows, self._capacities()):
+            if capacity == math.inf and amount >= _UNLIMITED:
+                raise GaveUp(f"the flow of {edge} is out of its range")
+        return self.flow_dict(flows)
 
     def flow_dict(self, flows: array[int]) -> dict[Any, Any]:
         """The flow as networkx has it."""
@@ -130,6 +146,8 @@ class _Graph:
         except NotOptimal as it:
             better = self.flow_dict(it.better)
             raise NotOptimal(it.reason, better, text=it.text, line=it.line, field=it.field) from None
+        except Infeasible as it:
+            raise Infeasible(self.nodes_inside(it.inside)) from None
         except (Refused, PastLimit) as it:
             raise type(it)(it.reason, **self._place(it)) from None
 
@@ -139,17 +157,16 @@ class _Graph:
         return {"node": self.nodes[it.node - 1]}
 
 
-def _max_words(graph: _Graph, source: Any, sink: Any, flow: Any) -> tuple[Any, ...]:
+def _max_words(graph: _Graph, source: Any, sink: Any) -> tuple[Any, ...]:
     """The words of a call about a maximum flow."""
     ends = graph.number(source), graph.number(sink)
-    return len(graph.nodes), *ends, graph.tails, graph.heads, graph.capacities(), graph.flows(flow)
+    return len(graph.nodes), *ends, graph.tails, graph.heads, graph.capacities()
 
 
-def _min_words(graph: _Graph, flow: Any) -> tuple[Any, ...]:
+def _min_words(graph: _Graph) -> tuple[Any, ...]:
     """The words of a call about a flow of least cost."""
     lows, costs = [0] * len(graph.edges), graph.weights(0)
-    words = graph.tails, graph.heads, lows, graph.capacities(), costs, graph.supplies()
-    return len(graph.nodes), *words, graph.flows(flow)
+    return len(graph.nodes), graph.tails, graph.heads, lows, graph.capacities(), costs, graph.supplies()
 
 
 def judge_networkx_max(graph: Any, source: Any, sink: Any, flow: Any, side: Any) -> Verdict:
@@ -161,7 +178,7 @@ def judge_networkx_max(graph: Any, source: Any, sink: Any, flow: Any, side: Any)
     given = _Graph(graph)
     inside = given.inside(side)
     with given.names():
-        return arrays.judge_max_arrays(*_max_words(given, source, sink, flow), inside)
+        return arrays.judge_max_arrays(*_max_words(given, source, sink), given.flows(flow), inside)
 
 
 def judge_networkx_min(graph: Any, flow: Any, potentials: Any = None) -> Verdict:
@@ -176,7 +193,7 @@ def judge_networkx_min(graph: Any, flow: Any, potentials: Any = None) -> Verdict
     given = _Graph(graph)
     prices = given.by_node(potentials, 0, "potentials")
     with given.names():
-        return arrays.judge_min_arrays(*_min_words(given, flow), prices)
+        return arrays.judge_min_arrays(*_min_words(given), given.flows(flow), prices)
 
 
 def certify_networkx_max(graph: Any, source: Any, sink: Any, flow: Any) -> Certified:
@@ -187,8 +204,8 @@ def certify_networkx_max(graph: Any, source: Any, sink: Any, flow: Any) -> Certi
     """
     given = _Graph(graph)
     with given.names():
-        value, inside = arrays.certify_max_arrays(*_max_words(given, source, sink, flow))
-    return Certified(value, {node for node, is_inside in zip(given.nodes, inside) if is_inside})
+        value, inside = arrays.certify_max_arrays(*_max_words(given, source, sink), given.flows(flow))
+    return Certified(value, given.nodes_inside(inside))
 
 
 def certify_networkx_min(graph: Any, flow: Any) -> Certified:
@@ -200,7 +217,7 @@ def certify_networkx_min(graph: Any, flow: Any) -> Certified:
     """
     given = _Graph(graph)
     with given.names():
-        cost, potentials = arrays.certify_min_arrays(*_min_words(given, flow))
+        cost, potentials = arrays.certify_min_arrays(*_min_words(given), given.flows(flow))
     return Certified(cost, dict(zip(given.nodes, potentials)))
 
 
@@ -216,5 +233,39 @@ def certify_networkx_paths(graph: Any, source: Any, distances: Any) -> Certified
     with given.names():
         words = len(given.nodes), given.tails, given.heads, weights, given.number(source), by_node
         predecessors = arrays.certify_paths_arrays(*words).predecessors
-    found = {given.nodes[k]: given.nodes[it - 1] for k, it in enumerate(predecessors) if it != 0}
-    return Certified(None, {source: None, **found})
+    return Certified(None, given.predecessors(source, predecessors))
+
+
+def solve_networkx_max(graph: Any, source: Any, sink: Any, limit: int = LIMIT) -> Solved:
+    """Makes a maximum flow; its value, the flow, and the set of the nodes on the source's side of a cut that shows it.
+
+    Raises GaveUp after so many flows that aren't maximum, or where an edge without a capacity carries 2^63 - 1 or more.
+    """
+    given = _Graph(graph)
+    with given.names():
+        value, flows, inside = arrays.solve_max_arrays(*_max_words(given, source, sink), limit)
+    return Solved(value, given.found_flow(flows), given.nodes_inside(inside))
+
+
+def solve_networkx_min(graph: Any, limit: int = LIMIT) -> Solved:
+    """Makes a flow of least cost; its cost, the flow, and a dict of potentials by node, which show it.
+
+    Raises Infeasible where no flow is feasible, which has the set of nodes that shows it; GaveUp as solve_min_arrays, or
+    where an edge without a capacity carries 2^63 - 1 or more.
+    """
+    given = _Graph(graph)
+    with given.names():
+        cost, flows, potentials = arrays.solve_min_arrays(*_min_words(given), limit)
+    return Solved(cost, given.found_flow(flows), dict(zip(given.nodes, potentials)))
+
+
+def solve_networkx_paths(graph: Any, source: Any) -> Solved:
+    """Makes the distances from a source; no value, a dict by node, which has the nodes that are reached alone, and a dict of
+    predecessors, as certify_networkx_paths. Raises Refused where a weight is negative."""
+    given = _Graph(graph)
+    weights = given.weights(1)
+    with given.names():
+        words = len(given.nodes), given.tails, given.heads, weights, given.number(source)
+        _, distances, predecessors = arrays.solve_paths_arrays(*words)
+    reached = {node: it for node, it in zip(given.nodes, distances) if it != UNREACHED}
+    return Solved(None, reached, given.predecessors(source, predecessors))

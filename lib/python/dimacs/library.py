@@ -5,9 +5,9 @@ from __future__ import annotations
 import ctypes
 import os
 from pathlib import Path
-from typing import Any, Callable
+from typing import Any, Callable, Sequence
 
-from .answers import Beyond, NotOptimal, Pair, PastLimit, Refused, Verdict
+from .answers import Beyond, GaveUp, NotOptimal, Pair, PastLimit, Refused, Verdict
 from .buffers import Room
 
 DONE, REFUSED, MISUSED, NO_MEMORY, GAVE_UP = 0, 1, 2, 4, 5
@@ -22,31 +22,33 @@ _HERE = Path(__file__).resolve().parent
 
 
 def _find() -> Path:
-    """The library that DIMACS_LIBRARY names, else the one of this package, else the one that `make -C lib` built."""
+    """The library that DIMACS_LIBRARY names, else the one of this package, else the proved one that `make` built."""
     named = os.environ.get("DIMACS_LIBRARY")
-    places = [Path(named)] if named else [_HERE / "libdimacs.so", _HERE.parents[1] / "out" / "libdimacs.so"]
+    places = [Path(named)] if named else [_HERE / "libdimacs.so", _HERE.parents[2] / "build" / "libdimacs.so"]
     for place in places:
         if place.is_file():
             return place
-    raise ImportError(f"{places[-1]} isn't there: build it by `make -C lib`")
+    raise ImportError(f"{places[-1]} isn't there: build it by `make`")
 
 
-_address, _number, _size = ctypes.c_void_p, ctypes.c_uint32, ctypes.c_size_t
+_address, _number, _limit, _size = ctypes.c_void_p, ctypes.c_uint32, ctypes.c_uint64, ctypes.c_size_t
 _room = [_address, _size, ctypes.POINTER(_size)]
 
 _library = ctypes.CDLL(str(_find()))
 
 
-def _export(name: str, *words: Any, texts: int = 0, rooms: int = 1) -> Callable[..., int]:
-    """The function of the library that takes these words, so many texts or arrays, and rooms for what it hands out."""
+def _export(name: str, *words: Any, texts: int = 0, more: Sequence[Any] = (), rooms: int = 1) -> Callable[..., int]:
+    """The function of the library that takes these words, so many texts or arrays, more words, and rooms for what it hands
+    out."""
     function = getattr(_library, name)
-    function.argtypes = [*words, *[_address, _size] * texts, *_room * rooms]
+    function.argtypes = [*words, *[_address, _size] * texts, *more, *_room * rooms]
     function.restype = _number
     return function
 
 
 judge = _export("dimacs_judge", _number, texts=3)
 certify = _export("dimacs_certify", _number, texts=2, rooms=2)
+solve = _export("dimacs_solve", _number, texts=2, more=[_limit], rooms=3)
 convert = _export("dimacs_convert", _number, texts=1)
 show = _export("dimacs_show", _number, texts=1)
 
@@ -57,6 +59,9 @@ judge_paths_arrays = _export("dimacs_judge_paths_arrays", _address, _number, tex
 certify_max_arrays = _export("dimacs_certify_max_arrays", _address, texts=1, rooms=3)
 certify_min_arrays = _export("dimacs_certify_min_arrays", _address, texts=1, rooms=3)
 certify_paths_arrays = _export("dimacs_certify_paths_arrays", _address, _number, texts=1, rooms=2)
+solve_max_arrays = _export("dimacs_solve_max_arrays", _address, _limit, rooms=3)
+solve_min_arrays = _export("dimacs_solve_min_arrays", _address, _limit, rooms=4)
+solve_paths_arrays = _export("dimacs_solve_paths_arrays", _address, _number, rooms=3)
 
 _Line = ctypes.c_char * LINE
 
@@ -71,7 +76,7 @@ def _raise_for(status: int, said: bytes) -> None:
     if status == MISUSED:
         raise ValueError("the library doesn't take these words")
     if status == GAVE_UP:
-        raise OverflowError("the flow costs least, but two of the potentials that were found are 2^64 or more apart")
+        raise GaveUp("a limit was reached, or numbers that were found are out of the range that can say them")
 
 
 def call(function: Callable[..., int], *words: Any) -> tuple[int, bytes]:
@@ -90,19 +95,20 @@ def call(function: Callable[..., int], *words: Any) -> tuple[int, bytes]:
     return status, said
 
 
-def call_for_text(function: Callable[..., int], *words: Any, room: int, has_line: bool) -> tuple[int, bytes, bytes]:
-    """Makes a call that hands out a long text, and where it has one a line before it, twice where the room is too small;
-    its status, the line and the text."""
+def call_for_texts(function: Callable[..., int], *words: Any, rooms: Sequence[int]) -> tuple[int, list[bytes]]:
+    """Makes a call that hands out texts, again where one of them is longer than its room; its status, and the texts."""
     while True:
-        line, line_told = _Line(), _size()
-        text, told = ctypes.create_string_buffer(room), _size()
-        before = (line, LINE, ctypes.byref(line_told)) if has_line else ()
-        status = function(*words, *before, text, room, ctypes.byref(told))
-        said = line[: line_told.value]
-        _raise_for(status, said)
-        if told.value <= room:
-            return status, said, ctypes.string_at(text, told.value)
-        room = told.value
+        told = [_size() for _ in rooms]
+        texts = [ctypes.create_string_buffer(room) for room in rooms]
+        handed = [word for it in zip(texts, rooms, map(ctypes.byref, told)) for word in it]
+        status = function(*words, *handed)
+        lengths = [it.value for it in told]
+        if all(length <= room for length, room in zip(lengths, rooms)):
+            break
+        rooms = [max(it) for it in zip(lengths, rooms)]
+    said = [ctypes.string_at(*it) for it in zip(texts, lengths)]
+    _raise_for(status, said[0])
+    return status, said
 
 
 def call_with_rooms(function: Callable[..., int], words: list[Any], rooms: list[Room]) -> tuple[int, bytes]:

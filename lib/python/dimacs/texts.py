@@ -5,19 +5,19 @@ from __future__ import annotations
 from typing import Any, Union
 
 from . import library
-from .answers import Certified, Verdict
-from .buffers import bytes_of
+from .answers import Certified, Infeasible, Solved, Verdict
+from .buffers import LIMIT, LIMITS, bytes_of, number_of
 
 Text = Union[bytes, str, bytearray, memoryview]
 
-_JUDGES = {"max": 0, "min": 1, "infeasible": 2, "paths": 3}
+_KINDS = {"max": 0, "min": 1, "infeasible": 2, "paths": 3}
 _TEXTS = {"max": 0, "min": 1, "gr": 2, "query": 3, "solution": 4, "cut": 5, "pot": 6, "dist": 7}
 
 
 def _judge(kind: str, instance: Text, claim: Text, certificate: Text) -> Verdict:
     texts = bytes_of(instance), bytes_of(claim), bytes_of(certificate)
     words = texts[0].words() + texts[1].words() + texts[2].words()
-    status, said = library.call(library.judge, _JUDGES[kind], *words)
+    status, said = library.call(library.judge, _KINDS[kind], *words)
     if status == library.REFUSED:
         raise library.refusal(said)
     return library.verdict(said)
@@ -50,9 +50,8 @@ def _in_form_of(came: Text, text: bytes) -> Any:
 def _certify(kind: str, instance: Text, solution: Text) -> Certified:
     texts = bytes_of(instance), bytes_of(solution)
     words = texts[0].words() + texts[1].words()
-    room = library.LINE + texts[0].length + texts[1].length
-    call = library.call_for_text(library.certify, _JUDGES[kind], *words, room=room, has_line=True)
-    status, said, shown = call
+    rooms = [library.LINE, library.LINE + texts[0].length + texts[1].length]
+    status, (said, shown) = library.call_for_texts(library.certify, _KINDS[kind], *words, rooms=rooms)
     if status == library.REFUSED and said.rstrip().endswith(library.BETTER):
         raise library.refusal(said, better=_in_form_of(solution, shown) if shown else None)
     if status == library.REFUSED:
@@ -78,12 +77,54 @@ def certify_min(instance: Text, solution: Text) -> Certified:
     return _certify("min", instance, solution)
 
 
+def _solve(kind: str, instance: Text, queries: Text, limit: int) -> Solved:
+    texts = bytes_of(instance), bytes_of(queries)
+    words = [*texts[0].words(), *texts[1].words(), number_of(limit, LIMITS, "limit")]
+    # An answer to a query is a longer line than the query, and a potential or label may be one than an arc.
+    rooms = [library.LINE + 4 * texts[1].length, library.LINE + texts[0].length, library.LINE + 2 * texts[0].length]
+    status, (said, solution, certificate) = library.call_for_texts(library.solve, _KINDS[kind], *words, rooms=rooms)
+    if status == library.REFUSED:
+        raise library.refusal(said)
+    shown = _in_form_of(instance, certificate)
+    found = library.verdict(said)
+    if found.kind == "infeasible":
+        raise Infeasible(shown)
+    if kind == "paths":
+        return Solved(None, found.pairs, shown)
+    return Solved(found.value, _in_form_of(instance, solution), shown)
+
+
+def solve_max(instance: Text, limit: int = LIMIT) -> Solved:
+    """Makes a maximum flow; its value, and the texts of a solution and of a cut that shows it, str where the instance is.
+
+    Raises GaveUp after so many flows that aren't maximum, and Refused where the text has a fault.
+    """
+    return _solve("max", instance, b"", limit)
+
+
+def solve_min(instance: Text, limit: int = LIMIT) -> Solved:
+    """Makes a flow of least cost; its cost, and the texts of a solution and of potentials that show it.
+
+    Raises Infeasible, which has the text of a set, where no flow is feasible; GaveUp after so many steps to better flows, or
+    where the least cost is out of range; and Refused, as solve_max.
+    """
+    return _solve("min", instance, b"", limit)
+
+
+def solve_paths(graph: Text, queries: Text) -> Solved:
+    """Makes labels that answer the queries: no value, the answers to queries for pairs, and the text of the labels.
+
+    Raises Refused where a text has a fault, a query names no node, or a weight is negative.
+    """
+    return _solve("paths", graph, queries, LIMIT)
+
+
 def _told(function: Any, kind: str, text: Text) -> Any:
     if kind not in _TEXTS:
         raise ValueError(f"{kind!r} is no kind of text: these are {', '.join(_TEXTS)}")
     given = bytes_of(text)
-    room = library.LINE + given.length
-    status, _, said = library.call_for_text(function, _TEXTS[kind], *given.words(), room=room, has_line=False)
+    rooms = [library.LINE + given.length]
+    status, (said,) = library.call_for_texts(function, _TEXTS[kind], *given.words(), rooms=rooms)
     if status == library.REFUSED:
         raise library.refusal(said)
     return _in_form_of(text, said)

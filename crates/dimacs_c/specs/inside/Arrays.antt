@@ -4,5 +4,5 @@ use Rattle.dimacs_c.specs.Arrays.{Said}
 use Rattle.dimacs_c.specs.Calls.{Handed, HandsNothing, HandsOut}
 
 -- the line is handed out, with its status; or there was no memory
-abbrev pub EndsLine : Said ℕ → ℕ → Handed ℕ → Type 0
+abbrev pub EndsLine : Said → ℕ → Handed ℕ → Type 0
 EndsLine s answer h = ((answer ≡ s.status) × HandsOut s.line h) ⊎ ((answer ≡ 4) × HandsNothing h)

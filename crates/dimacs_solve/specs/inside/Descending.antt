@@ -1,25 +1,17 @@
 -- Inside: one better flow after another.
-use Rattle.std.specs.Prelude.{ℕ, ◌≡◌, List, ℤ}
+use Rattle.std.specs.Prelude.{◌≡◌, List, ℤ}
 use Rattle.dimacs_claims.specs.Potentials.{potential_of}
 use Rattle.dimacs_instance.specs.MinFlows.{MinValue}
 use Rattle.dimacs_judge.specs.InfeasibleJudge.{ShowsNoFlow}
 use Rattle.dimacs_judge.specs.Optimum.{Least}
 use Rattle.dimacs_judge.specs.Potentials.{Slack}
 use Rattle.dimacs_decide.specs.Bounds.{KeepsBounds}
-use Rattle.dimacs_solve.specs.declared.descend.Descent.{Descent}
-use Rattle.dimacs_solve.specs.declared.descend.Descent.TheVariants as ends
 use Rattle.dimacs_solve.specs.declared.question.Reply.{Reply}
 use Rattle.dimacs_solve.specs.declared.question.Reply.TheVariants as replies
-use Rattle.dimacs_solve.specs.Descending.{IsBetter, TakesMoreSteps, start_flow}
+use Rattle.dimacs_solve.specs.Descending.{IsBetter}
 
 -- what is replied about a flow
 abbrev pub IsReply : MinValue → List ℤ → Reply → Type 0
 IsReply i x (replies.Least p) = Least i x × Slack i.arcs x (potential_of p) × (p.nodes ≡ i.nodes)
 IsReply i x (replies.Infeasible set) = ShowsNoFlow i set
 IsReply i x (replies.Better y) = (¬ Least i x) × KeepsBounds i.arcs y × IsBetter i x y
-
--- where a descent of so many steps ends; without a step where it starts
-abbrev pub Descends : MinValue → ℕ → Descent → Type 0
-Descends i limit (ends.Bottom x p) = Least i x × Slack i.arcs x (potential_of p) × (p.nodes ≡ i.nodes) × (limit ≡ 0 → x ≡ start_flow i.arcs)
-Descends i limit (ends.Nowhere set) = ShowsNoFlow i set
-Descends i limit ends.GaveUp = TakesMoreSteps i limit

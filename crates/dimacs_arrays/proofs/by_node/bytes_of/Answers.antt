@@ -2,7 +2,7 @@ use Rattle.std.proofs.Common.{◌≡◌, ◌+◌, ◌∙◌, sym, arith}
 use Rattle.std.specs.List.{range_with_len}
 use Rattle.std.proofs.lemmas.List.FromFn.{length-map-range_with_len, map-range_with_len_more}
 use Rattle.dimacs_judge.specs.Cuts.{members}
-use Rattle.dimacs_arrays.proofs.ByNodeLemmas.{bits, byte_in, marked-bytes}
+use Rattle.dimacs_arrays.proofs.ByNodeLemmas.{bits, byte_in, marked_set}
 use Rattle.dimacs_arrays.proofs.by_node.bytes_of.Goals as goal
 
 pub loop-i-preserved : goal.loop-i-preserved
@@ -11,13 +11,13 @@ loop-i-preserved c =
 
 pub returns-clause-one_each : goal.returns-clause-one_each
 returns-clause-one_each c =
-    let all : c.loop-i.i ≡ c.args.nodes = omega (arith, c.loop-i-test.false, c.loop-i.auto.i-end) in
-    rw (c.loop-i.invariant, all) (length-map-range_with_len (byte_in (members c.args.cut.now)) 1 c.args.nodes)
+    let all : c.loop-i.i ≡ c.args.cut.now.nodes = omega (arith, c.loop-i-test.false, c.loop-i.auto.i-end, c.nodes-i-end.ensures) in
+    rw (c.loop-i.invariant, all) (length-map-range_with_len (byte_in (members c.args.cut.now)) 1 c.args.cut.now.nodes)
 
 pub returns-clause-marked : goal.returns-clause-marked
 returns-clause-marked c =
-    let all : c.loop-i.i ≡ c.args.nodes = omega (arith, c.loop-i-test.false, c.loop-i.auto.i-end) in
-    rw (c.loop-i.invariant, all) (marked-bytes (members c.args.cut.now) c.args.nodes)
+    let all : c.loop-i.i ≡ c.args.cut.now.nodes = omega (arith, c.loop-i-test.false, c.loop-i.auto.i-end, c.nodes-i-end.ensures) in
+    rw (c.loop-i.invariant, all) (marked_set c.args.cut.now c.requires)
 
 pub returns-clause-bits : goal.returns-clause-bits
 returns-clause-bits c = rw c.loop-i.invariant (bits (members c.args.cut.now) (range_with_len 1 c.loop-i.i))

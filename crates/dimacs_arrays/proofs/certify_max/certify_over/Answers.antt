@@ -1,7 +1,7 @@
 use Rattle.std.proofs.Common.{◌∙◌, ap, List, ℤ, subst, rules, SFits}
 use Rattle.std.specs.Int.{w128}
 use Rattle.std.proofs.lemmas.Int.{to_z-of_z}
-use Rattle.dimacs_judge.specs.Cuts.{members}
+use Rattle.dimacs_claims.specs.Cuts.{CutValue, IsCut}
 use Rattle.dimacs_judge.specs.Feasible.{FeasibleMax, value}
 use Rattle.dimacs_judge.specs.FlowTests.{feasible_max_rows}
 use Rattle.dimacs_judge.specs.Tests.{Refutes}
@@ -9,9 +9,8 @@ use Rattle.dimacs_judge.proofs.Settling.{refuted_settles}
 use Rattle.dimacs_decide.specs.declared.maximum.MaxDecision.{MaxDecision}
 use Rattle.dimacs_decide.specs.declared.maximum.MaxDecision.TheVariants.{Optimal}
 use Rattle.dimacs_decide.specs.MaxDecision.{DecidesMax}
-use Rattle.dimacs_arrays.specs.ByNode.{marked}
 use Rattle.dimacs_arrays.specs.MaxArrays.{CertifiesMaxFlow}
-use Rattle.dimacs_arrays.proofs.CertifyLemmas.{max_feasible, same_cut}
+use Rattle.dimacs_arrays.proofs.CertifyLemmas.{max_by, max_feasible}
 use Rattle.dimacs_arrays.proofs.certify_max.certify_over.Goals as goal
 
 pub returns-in_err-feasible_max : goal.returns-in_err-feasible_max
@@ -21,17 +20,16 @@ returns-in_err-feasible_max g c =
     let told = subst (λ (y : List ℤ). Refutes (λ (done : Unit {0}). FeasibleMax i y) (feasible_max_rows i y) c.in_err-feasible_max.field-0.0) c.in_ok-flow.ensures c.in_err-feasible_max.ensures in
     refuted_settles (λ (done : Unit {0}). FeasibleMax i x) (CertifiesMaxFlow i x) (feasible_max_rows i x) (max_feasible i x) _ told _ c.from_residual-in_err-feasible_max.ensures.1
 
+pub bytes_of-requires : goal.bytes_of-requires
+bytes_of-requires g c = subst (λ (k : CutValue). IsCut k) c.cut.view_is c.cut.invariant.0
+
 pub returns : goal.returns
 returns g c =
     let i = c.args.instance.now in
     let x = c.args.flows.now in
-    let law = c.network.ensures.lawful in
-    let set = members c.in-Optimal.cut in
     let told = subst (λ (d : MaxDecision). DecidesMax i c.in_ok-flow.flow d) c.in-Optimal.is c.in_ok-better.ensures in
     let decided = subst (λ (y : List ℤ). DecidesMax i y (Optimal c.in-Optimal.cut)) c.in_ok-flow.ensures told in
-    let feasible = subst (λ (y : List ℤ). FeasibleMax i y) c.in_ok-flow.ensures c.in_ok-feasible_max.ensures in
-    let nodes = c.nodes.ensures ∙ c.network.ensures.nodes in
     let bytes = c.in_ok-bytes_of-in-Optimal in
-    let same = rw nodes at bytes.ensures.marked in
     let fits : SFits w128 c.value_of.result = search rules in
-    ((record { feasible = feasible; tight = same_cut i law x set (marked bytes.field-0.items) same decided.1 }, decided.0), to_z-of_z w128 c.value_of.result fits ∙ c.value_of.ensures ∙ ap (value i) c.in_ok-flow.ensures, bytes.ensures.one_each ∙ nodes, bytes.ensures.bits)
+    let total = to_z-of_z w128 c.value_of.result fits ∙ c.value_of.ensures ∙ ap (value i) c.in_ok-flow.ensures in
+    max_by i x c.in-Optimal.cut _ bytes.field-0.items decided.0 decided.1 decided.2 total bytes.ensures.one_each bytes.ensures.marked bytes.ensures.bits

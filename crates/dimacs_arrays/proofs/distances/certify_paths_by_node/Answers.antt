@@ -2,10 +2,9 @@ use Rattle.std.proofs.Common.{◌≡◌, ◌∷◌, []}
 use Rattle.std.proofs.lemmas.List.Elements.{All-head}
 use Rattle.dimacs_claims.specs.Labels.{IsBlock}
 use Rattle.dimacs_decide.specs.Claims.{claimed_by_node}
-use Rattle.dimacs_arrays.specs.Paths.{pred_by_node}
 use Rattle.dimacs_arrays.specs.inside.LabelTrees.{ArePredsOf}
-use Rattle.dimacs_arrays.proofs.CertifyPathsLemmas.{labels_by, one_block}
-use Rattle.dimacs_arrays.proofs.OrderLemmas.{both_pass}
+use Rattle.dimacs_arrays.proofs.CertifyPathsLemmas.{one_block}
+use Rattle.dimacs_arrays.proofs.OrderLemmas.{predecessors_by}
 use Rattle.dimacs_arrays.proofs.RisingLemmas.{rising_certified}
 use Rattle.dimacs_arrays.proofs.distances.certify_paths_by_node.Goals as goal
 
@@ -34,11 +33,4 @@ returns g c =
     let alone : labels.blocks ≡ b ∷ [] = one_block labels.blocks b are.1.alone (rw c.blocks-2.ensures.blocks at c.index-blocks-0.is) in
     let lawful : IsBlock value.nodes b = rw (← are.1.passes.nodes) (All-head (IsBlock labels.nodes) b [] (rw alone at c.blocks-2.ensures.lawful.blocks)) in
     let named : ArePredsOf value.nodes b.labels preds = rw (c.nodes-nodes.ensures, c.network-2.ensures.nodes) at c.in_ok-predecessors_of.ensures in
-    let by = labels_by value c.args.source claim labels b preds are.1 alone lawful named in (
-      are.0,
-      record {
-        each = named.each;
-        some = (labels, by);
-        pass = λ other says. both_pass value c.args.source claim (pred_by_node preds) c.network-2.ensures.lawful.joined labels other by says are.1.passes;
-      },
-    )
+    (are.0, predecessors_by value c.args.source claim labels b preds are.1 alone lawful named c.network-2.ensures.lawful.joined)

@@ -1,19 +1,14 @@
-use Rattle.std.proofs.Common.{ap}
+use Rattle.std.proofs.Common.{None, Some, ap}
 use Rattle.dimacs_lines.specs.Devices.{InMemory}
 use Rattle.dimacs_arrays.specs.MaxArrays.{CertifiesMaxArrays}
-use Rattle.dimacs_c.specs.Arrays.{max_arrays, max_said, rooms}
+use Rattle.dimacs_c.specs.Arrays.{max_said, rooms}
 use Rattle.dimacs_c.specs.Calls.{handed}
-use Rattle.dimacs_c.proofs.ArrayLemmas.{all_answered, none_answered}
+use Rattle.dimacs_c.proofs.ArrayLemmas.{items_answered}
 use Rattle.dimacs_c.proofs.max.dimacs_certify_max_arrays.Goals as goal
 
-pub returns-in-Ok : goal.returns-in-Ok
-returns-in-Ok c =
-    let certified = rw c.arrays.ensures at c.certify_max_arrays-answer.ensures in
-    all_answered max_said (CertifiesMaxArrays (max_arrays c.args.instance.now) c.args.flows.now) c.certify_max_arrays-answer.result certified c.in-Ok.status
-    (rooms (handed c.args.out.now c.hand_out.new.room c.hand_out.new.told) (handed c.args.inside.now c.hand_out-in-Ok.new.room c.hand_out-in-Ok.new.told) (handed c.args.better.now c.hand_out-in-Ok-2.new.room c.hand_out-in-Ok-2.new.told))
-    c.new-line.result.bytes c.put_certified.new.sink.bytes c.inside_of.result.now c.better_of.result.now
-    c.in-Ok.ensures.status (ap (λ (m : InMemory). m.bytes) c.new-line.ensures) c.in-Ok.ensures.line.accepted c.inside_of.ensures c.better_of.ensures
-    (rw c.bytes.ensures at c.hand_out.ensures) c.hand_out-in-Ok.ensures c.hand_out-in-Ok-2.ensures
-
 pub returns : goal.returns
-returns c = none_answered max_said (CertifiesMaxArrays (max_arrays c.args.instance.now) c.args.flows.now) tt c.args.out.now c.args.inside.now c.args.better.now
+returns c =
+    items_answered max_said (CertifiesMaxArrays c.args.instance.now c.args.flows.now) tt c.certify_max_arrays-answer.result c.certify_max_arrays-answer.ensures
+    c.put_certified-put.result c.put_certified-put.ensures.status c.new-line.result.bytes c.put_certified-put.new.sink.bytes (ap (λ (m : InMemory). m.bytes) c.new-line.ensures) c.put_certified-put.ensures.line.accepted
+    (rooms (handed c.args.out.now c.hand_said-3.new.room c.hand_said-3.new.told) (Some (handed c.args.inside.now c.hand_said.new.room c.hand_said.new.told)) None (Some (handed c.args.better.now c.hand_said-2.new.room c.hand_said-2.new.told))) c.hand_said-3.result (rw c.bytes.ensures at c.hand_said-3.ensures)
+    (c.hand_said.result, rw c.inside_of.ensures at c.hand_said.ensures) tt (c.hand_said-2.result, rw c.better_of.ensures at c.hand_said-2.ensures)

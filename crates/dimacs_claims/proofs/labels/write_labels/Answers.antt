@@ -1,52 +1,27 @@
-use Rattle.std.proofs.Common.{◌≡◌, ℕ, ◌<◌, ◌∷◌, [], List, ◌++◌, ◌+◌, ap, sym, subst, ◌∙◌, take, length, get_or}
-use Rattle.std.specs.List.{All, flat_map}
-use Rattle.std.proofs.lemmas.List.{append-nil, take_more}
-use Rattle.std.proofs.lemmas.List.Concat.{flat_map-append}
+use Rattle.std.proofs.Common.{◌≡◌, ◌∷◌, [], List, ap, refl, map, subst}
 use Rattle.dimacs_lines.specs.Lines.{lines}
+use Rattle.dimacs_lines.specs.Puts.{Puts}
 use Rattle.dimacs_records.specs.declared.kinds.TextKind.TheVariants.{Labels}
 use Rattle.dimacs_records.specs.declared.records.Record.{Record}
-use Rattle.dimacs_records.specs.declared.records.Record.TheVariants.{LabelsProblem}
 use Rattle.dimacs_records.proofs.ReadLaws.{spells_one_value}
 use Rattle.dimacs_records.specs.Canonical.{canonical_text}
-use Rattle.dimacs_claims.specs.Labels.{BlockValue, IsBlock}
-use Rattle.dimacs_claims.specs.LabelTexts.{GivesLabels, block_lines, canonical_labels}
+use Rattle.dimacs_claims.specs.inside.Lines.{in_kind}
+use Rattle.dimacs_claims.specs.LabelTexts.{GivesLabels, canonical_labels, label_records}
 use Rattle.dimacs_claims.proofs.LabelLaws.{labels_round_trip, one_labels}
-use Rattle.dimacs_records.proofs.WrittenLemmas.{line_after, lines_after}
 use Rattle.dimacs_claims.proofs.labels.write_labels.Goals as goal
 
--- one block more
-next_block : (first : Record) (bs : List BlockValue) (i : ℕ) (d : BlockValue) → i < length bs → first ∷ flat_map block_lines (take (i + 1) bs) ≡ (first ∷ flat_map block_lines (take i bs)) ++ block_lines (get_or bs i d)
-next_block first bs i d below =
-    ap (λ t. first ∷ flat_map block_lines t) (take_more bs i d below) ∙ ap (λ t. first ∷ t) (flat_map-append block_lines (take i bs) (get_or bs i d ∷ []) ∙ ap (λ t. flat_map block_lines (take i bs) ++ t) (append-nil (block_lines (get_or bs i d))))
+same_lines : (rs : List Record) → map (in_kind Labels) rs ≡ rs
+same_lines [] = refl
+same_lines (r ∷ rs) = ap (λ more. r ∷ more) (same_lines rs)
 
-pub loop-block-init : goal.loop-block-init
-loop-block-init g c =
-    let start = g.S.Sink.seen c.args.sink.now in
-    line_after start _ _ [] (LabelsProblem c.nodes-nodes.result (length c.blocks-blocks.result.now)) (c.write_record.ensures start [] (c.new-page.ensures.written start))
-
-pub loop-block-preserved : goal.loop-block-preserved
-loop-block-preserved g c =
-    let start = g.S.Sink.seen c.args.sink.now in
-    let blocks = c.blocks-blocks.result.now in
-    let i = c.loop-block.block-index in
-    let b = c.block-item.result in
-    let first = LabelsProblem c.nodes-nodes.result (length blocks) in
-    let before = first ∷ flat_map block_lines (take i blocks) in
-    let all = first ∷ flat_map block_lines (take (i + 1) blocks) in
-    let next : all ≡ before ++ block_lines b = next_block first blocks i b c.loop-block-test.true ∙ ap (λ x. before ++ block_lines x) (sym c.block-item.is) in
-    lines_after start _ _ [] before (block_lines b) all next (c.write_block.ensures start (canonical_text before) c.loop-block.invariant)
-
-pub write_block-requires : goal.write_block-requires
-write_block-requires g c =
-    let nodes = c.args.labels.now.nodes in
-    let lawful = subst (All (IsBlock nodes)) (sym c.blocks-blocks.ensures.blocks) c.blocks-blocks.ensures.lawful.blocks in
-    let is : IsBlock nodes c.block-item.result = subst (IsBlock nodes) (sym c.block-item.is) (lawful c.loop-block.block-index c.block-item.result c.loop-block-test.true) in
-    is.few
+pub returns-clause-puts : goal.returns-clause-puts
+returns-clause-puts g c =
+    subst (λ rs. Puts c.write_in_kind.result (g.S.Sink.seen c.args.sink.now) (canonical_text rs) (g.S.Sink.seen c.write_in_kind.new.sink)) (same_lines (label_records c.args.labels.now)) c.write_in_kind.ensures.puts
 
 pub returns-clause-round_trip : goal.returns-clause-round_trip
-returns-clause-round_trip g c = labels_round_trip c.args.labels.now c.blocks-blocks.ensures.lawful
+returns-clause-round_trip g c = labels_round_trip c.args.labels.now c.write_in_kind.ensures.lawful
 
 pub returns-clause-same_text : goal.returns-clause-same_text
 returns-clause-same_text g c = λ few read spelled.
     let labels = c.args.labels.now in
-    ap canonical_labels (spells_one_value Labels GivesLabels (lines (canonical_labels labels)) read labels one_labels spelled (labels_round_trip labels c.blocks-blocks.ensures.lawful few))
+    ap canonical_labels (spells_one_value Labels GivesLabels (lines (canonical_labels labels)) read labels one_labels spelled (labels_round_trip labels c.write_in_kind.ensures.lawful few))

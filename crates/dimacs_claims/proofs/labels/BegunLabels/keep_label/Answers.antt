@@ -34,3 +34,6 @@ returns-clause-kept c =
     let begun : LabelsBegun = record { nodes = inside.nodes; declared = inside.declared; missing = inside.missing; blocks = inside.blocks.items } in
     let fit = fits begun c.args.label (passes_of begun _ (label_line c.args.label) c.self.view_is c.requires.passes) in
     rw (c.in_ok-add_to_last.ensures.added fit.front fit.b fit.is) (pushed_label begun c.args.label fit ∙ ap (λ t. labels_begun_records t ++ label_line c.args.label ∷ []) c.self.view_is)
+
+pub returns-clause-last : goal.returns-clause-last
+returns-clause-last c = λ front b is. c.in_ok-add_to_last.ensures.added front b (ap (λ (t : LabelsBegun). t.blocks) c.self.view_is ∙ is)

@@ -1,4 +1,4 @@
-use Rattle.std.proofs.Common.{ap, ◌∙◌, ◌++◌, ◌∷◌, []}
+use Rattle.std.proofs.Common.{ap, refl, ◌∙◌, ◌++◌, ◌∷◌, []}
 use Rattle.dimacs_records.specs.declared.records.Record.TheVariants.{LabelsBlock}
 use Rattle.dimacs_claims.specs.LabelsReading.{LabelsBegun, labels_begun_records}
 use Rattle.dimacs_claims.proofs.LabelRecords.{are_sources_more}
@@ -23,3 +23,6 @@ returns-clause-opened c =
     let line = LabelsBlock c.args.source c.args.count c.args.radius in
     let passes = passes_of begun _ line c.self.view_is c.requires.passes in
     rw (c.in_ok-push.ensures.items, c.within-block.ensures) (pushed_block begun c.self.invariant.0 c.args.source c.args.count c.args.radius passes ∙ ap (λ t. labels_begun_records t ++ line ∷ []) c.self.view_is)
+
+pub returns-clause-block : goal.returns-clause-block
+returns-clause-block c = rw (c.in_ok-push.ensures.items, c.within-block.ensures, ← c.self.view_is) refl

@@ -1,18 +1,13 @@
-use Rattle.std.proofs.Common.{ap, refl, sym, ◌∙◌, SFits, rules}
+use Rattle.std.proofs.Common.{refl, SFits, rules}
 use Rattle.std.specs.Int.{w128}
-use Rattle.std.specs.List.{list_any}
 use Rattle.std.proofs.lemmas.Int.{to_z-of_z}
 use Rattle.dimacs_records.specs.declared.records.Record.TheVariants.{LabelsNode, LabelsProblem}
-use Rattle.dimacs_claims.specs.Labels.{has_source}
-use Rattle.dimacs_claims.specs.LabelsReading.{LabelsBegun}
-use Rattle.dimacs_claims.proofs.BegunLemmas.{source_told, tells}
+use Rattle.dimacs_claims.proofs.BegunLemmas.{tells}
 use Rattle.dimacs_claims.proofs.labels.BegunLabelsBegun.before.Goals as goal
 
 pub returns-in-LabelsBlock-clause-told : goal.returns-in-LabelsBlock-clause-told
 returns-in-LabelsBlock-clause-told c =
-    let source = c.in-LabelsBlock.source in
-    let blocks = ap (λ (t : LabelsBegun). list_any (has_source source) t.blocks) c.self.view_is in
-    rw (c.before_end.ensures.told, c.in-LabelsBlock.is, c.contains.ensures ∙ (c.self.invariant.1 source ∙ (blocks ∙ sym (source_told c.args.self.now source)))) refl
+    rw c.in-LabelsBlock.is (c.before_block.ensures c.in-LabelsBlock.count c.in-LabelsBlock.radius)
 
 pub returns-in-LabelsBlock-clause-so : goal.returns-in-LabelsBlock-clause-so
 returns-in-LabelsBlock-clause-so c = λ rs h. rw (h, returns-in-LabelsBlock-clause-told c) (tells c.args.self.now c.args.said c.requires.spelled.for_kind)

@@ -1,0 +1,201 @@
+"""what calls of the library over arrays take, next to those over texts in memory, to plain Rust, and small from Python
+
+The two calls of a pair are made in this process, in turn, by the package for Python, which takes arrays as they lie in
+memory. All of them have to say yes, and to the same value.
+"""
+
+import ctypes
+import os
+import statistics
+import sys
+import time
+from array import array
+
+from measure import Rounds, Taken, head, row, spread, wants
+from texts import SEED, declared, generate
+
+SIZES, ROUNDS, PROGRAMS = "20", 11, ["plain"]
+
+# The arcs of an instance by its size in MB, which is about that of a maximum flow instance.
+ARCS = {1: 60_000, 20: 1_000_000}
+
+# The generator of a kind, its arcs for each node, and its texts.
+KINDS = {
+    "max": ("max", 6, ["flow.max", "flow.solution", "flow.cut"]),
+    "min": ("min", 8, ["flow.min", "flow.solution", "flow.pot"]),
+    "paths": ("road", 2.44, ["road.gr", "road.query", "road.dist"]),
+}
+
+
+def texts(binary, kind, megabytes):
+    """The texts of an instance, its claim and its certificate."""
+    generator, arcs_per_node, files = KINDS[kind]
+    folder, nodes = f"library-{kind}-{megabytes}", int(ARCS[megabytes] / arcs_per_node)
+    made = [["gen", generator, nodes, ARCS[megabytes], SEED, "flow"]]
+    if kind == "paths":
+        made = [
+            ["gen", generator, nodes, arcs_per_node, SEED, files[0]],
+            ["gen", "sources", nodes, 1, SEED, files[1]],
+            [binary, "solve-paths", *files],
+        ]
+    generate(folder, *made)
+    return [f"{folder}/{file}" for file in files]
+
+
+# ---- texts to arrays
+
+
+def lines(file, letter):
+    """Yields the fields of the lines with a letter."""
+    with open(file) as text:
+        yield from (line.split()[1:] for line in text if line[0] == letter)
+
+
+def columns(file, codes):
+    """The numbers of the arc lines, in an array for each field."""
+    found = [array(code) for code in codes]
+    for fields in lines(file, "a"):
+        for column, field in zip(found, fields):
+            column.append(int(field))
+    return found
+
+
+def by_node(code, nodes, named, missing=0):
+    """An array by node, of pairs of a node and its number."""
+    made = array(code, [missing]) * nodes
+    for node, number in named:
+        made[int(node) - 1] = int(number)
+    return made
+
+
+def flow_of(file, tails, heads):
+    """The flow by arc. Entries come in the order of the arcs; an arc without one carries nothing."""
+    flow, arc = array("q", [0]) * len(tails), 0
+    for tail, end, amount in lines(file, "f"):
+        while tails[arc] != int(tail) or heads[arc] != int(end):
+            arc += 1
+        flow[arc] = int(amount)
+        arc += 1
+    return flow
+
+
+# ---- pairs of calls, by their names
+
+
+def max_pairs(dimacs, texts, file, solution, cut):
+    nodes, _ = declared(file)
+    ends = [int(fields[0]) for fields in lines(file, "n")]  # the source's is the lesser ID in what is generated
+    instance = nodes, *ends, *columns(file, "IIq")
+    flow = flow_of(solution, *instance[3:5])
+    inside = by_node("B", nodes, ((fields[0], 1) for fields in lines(cut, "u")))
+    return {
+        "judge-max": (lambda: dimacs.judge_max(*texts), lambda: dimacs.judge_max_arrays(*instance, flow, inside)),
+        "certify-max": (lambda: dimacs.certify_max(*texts[:2]), lambda: dimacs.certify_max_arrays(*instance, flow)),
+    }
+
+
+def min_pairs(dimacs, texts, file, solution, potentials):
+    nodes, _ = declared(file)
+    instance = nodes, *columns(file, "IIqqq"), by_node("q", nodes, lines(file, "n"))
+    flow = flow_of(solution, *instance[1:3])
+    prices = by_node("q", nodes, lines(potentials, "y"))
+    return {
+        "judge-min": (lambda: dimacs.judge_min(*texts), lambda: dimacs.judge_min_arrays(*instance, flow, prices)),
+        "certify-min": (lambda: dimacs.certify_min(*texts[:2]), lambda: dimacs.certify_min_arrays(*instance, flow)),
+    }
+
+
+def paths_pairs(dimacs, texts, file, _, labels):
+    nodes, arcs = declared(file)
+    arrays = columns(file, "IIq")
+    source = int(next(lines(labels, "t"))[0])
+    labelled = [*lines(labels, "d"), [source, 0, 0]]
+    distances = by_node("q", nodes, (it[:2] for it in labelled), dimacs.UNREACHED)
+    predecessors = by_node("I", nodes, (it[::2] for it in labelled))
+    claim = nodes, *arrays, source, distances
+    found = array("I", [0]) * nodes
+    plain = ctypes.CDLL("./plain").plain_certify_paths
+    places = [(ctypes.c_char * 1).from_buffer(it) for it in (*arrays, distances, found)]  # by their addresses, and kept
+    words = [ctypes.c_size_t(nodes), ctypes.c_size_t(arcs), ctypes.c_size_t(source), *places]
+    return {
+        "judge-paths": (lambda: dimacs.judge_paths(*texts), lambda: dimacs.judge_paths_arrays(*claim, predecessors)),
+        "certify-paths": (lambda: plain(*words) or sys.exit("no"), lambda: dimacs.certify_paths_arrays(*claim)),
+    }
+
+
+PAIRS = {"max": max_pairs, "min": min_pairs, "paths": paths_pairs}
+
+
+# ---- tables
+
+
+def seconds(call):
+    begun = time.process_time()
+    call()
+    return time.process_time() - begun
+
+
+def measure_pair(name, pair, rounds):
+    """What the first and the second call took."""
+    values = {getattr(call(), "value", None) for call in pair}
+    if len(values) > 1:
+        sys.exit(f"{name}: different values: {values}")
+    taken = Rounds(), Rounds()
+    for turn in range(rounds):
+        for it, call in list(zip(taken, pair))[:: -1 if turn % 2 else 1]:
+            it.runs.append(Taken(0, seconds(call)))
+    return taken
+
+
+def measure_size(asked, dimacs, megabytes):
+    columns = "Call; Arcs; Next to; its ns an arc; Arrays, ns an arc; Ratio; Its middle half"
+    head(f"{megabytes} MB", *columns.split("; "))
+    for kind, pairs_of in PAIRS.items():
+        files = texts(asked.binary, kind, megabytes)
+        _, arcs = declared(files[0])
+        for name, pair in pairs_of(dimacs, [open(file, "rb").read() for file in files], *files).items():
+            if wants(name):
+                first, second = measure_pair(name, pair, asked.rounds)
+                times = (f"{1e9 * it.cpu() / arcs:.1f}" for it in (first, second))
+                beside = "plain Rust" if name == "certify-paths" else "texts"
+                row(name, f"{arcs:,}", beside, *times, *spread(second.ratio(first)))
+
+
+# Small calls from Python, over an instance of four nodes and five arcs, given as lists, and how many are in a round.
+ENDS = [1, 1, 2, 2, 3], [2, 3, 3, 4, 4]
+MAX = 4, 1, 4, *ENDS, [4, 2, 2, 3, 5], [4, 2, 1, 3, 3]
+MIN = 4, *ENDS, [0] * 5, [4, 2, 2, 3, 5], [2, 2, 1, 3, 1], [4, 0, 0, -4], [2, 2, 2, 0, 4]
+GRAPH = 4, *ENDS, [5, 1, 0, 2, 3], 1, [0, 5, 1, 4]
+SMALL = {
+    "judge_max_arrays": (*MAX, [1, 0, 0, 0]),
+    "judge_min_arrays": (*MIN, [4, 2, 1, 0]),
+    "judge_paths_arrays": (*GRAPH, [0, 1, 1, 3]),
+    "certify_max_arrays": MAX,
+    "certify_min_arrays": MIN,
+    "certify_paths_arrays": GRAPH,
+}
+CALLS = 1000
+
+
+def measure_small(asked, dimacs):
+    head("Small calls from Python", "Call", "Microseconds", "The middle half of the rounds")
+    taken = {name: [] for name in SMALL if wants(name)}
+    for turn in range(5 * asked.rounds):
+        for name in list(taken)[:: -1 if turn % 2 else 1]:
+            call = getattr(dimacs, name)
+            took = seconds(lambda: [call(*SMALL[name]) for _ in range(CALLS)])
+            taken[name].append(took / CALLS * 1e6)
+    for name, times in taken.items():
+        times.sort()
+        quarter = len(times) // 4
+        row(name, f"{statistics.median(times):.1f}", f"{times[quarter]:.1f} to {times[-1 - quarter]:.1f}")
+
+
+def measure(asked):
+    os.environ["DIMACS_LIBRARY"] = f"{asked.library}/libdimacs.so"
+    sys.path.insert(0, asked.package)
+    import dimacs
+
+    for megabytes in asked.sizes:
+        measure_size(asked, dimacs, megabytes)
+    measure_small(asked, dimacs)

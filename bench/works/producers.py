@@ -1,0 +1,163 @@
+"""what makes claims and what certifies them takes, next to other programs that solve the same instances
+
+All programs have to come to the same value, or to the same number and sum of distances. A program that takes long is
+run once on an instance; one that takes over a minute is ended, and isn't run on it again while that is kept.
+certify-paths, which certifies distances over arrays, needs the library.
+"""
+
+import os
+import subprocess
+import sys
+
+from measure import HERE, NO_SUCH_PROGRAM, OVER_LIMIT, PYTHON, Rounds, head, mean, measure_in_turn, row, wants
+from measure import measure as run
+from texts import FAMILIES, claimed, declared_arcs, infeasible, instance, labelled, queries, sources
+
+SIZES, ROUNDS, PROGRAMS = "1,20", 3, ["lemon", "boost", "igraph", "certify_paths"]
+
+# in seconds of processor time: what a run may take, and what it may take to be run again
+MOST, LONG = 60, 15
+
+# the name of a peer, its command, and what it calls the kinds that it solves
+ALL = {"max": "max", "min": "min", "gr": "gr"}
+PEERS = [
+    ("LEMON", ["./lemon", "solve"], ALL),
+    ("LEMON's scaling", ["./lemon", "solve"], {"min": "scaling"}),
+    ("Boost", ["./boost", "solve"], ALL),
+    ("igraph", ["./igraph", "solve"], {"max": "max", "gr": "gr"}),
+    ("SciPy", [PYTHON, f"{HERE}/peers/with_scipy.py"], ALL),
+    ("networkx", [PYTHON, f"{HERE}/peers/with_networkx.py", "solve"], ALL),
+]
+
+KINDS = {"max": "Maximum flow", "min": "Least cost", "gr": "Distances"}
+OURS = {kind: [f"solve-{word}", f"certify-{word}"] for kind, word in (("max", "max"), ("min", "min"), ("gr", "paths"))}
+
+# the families that are measured where not all are asked for
+SHOWN = {
+    "max": ["frames", "grid", "image", "layers", "matching"],
+    "min": ["assign", "goto", "netgen", "road", "square grid"],
+    "gr": ["long grid", "netgen", "road", "square grid", "torus"],
+}
+
+
+def instances(kind, megabytes):
+    """The wanted instances of a kind and size by their names."""
+    everything = os.environ.get("ALL")
+    for family in FAMILIES[kind] if everything else SHOWN[kind]:
+        if wants(f"{kind}, {family}"):
+            yield family, instance(kind, family, megabytes)
+        if everything and kind == "min" and megabytes == 1 and wants(f"{kind}, {family}, infeasible"):
+            yield f"{family}, infeasible", infeasible(instance(kind, family, megabytes))
+
+
+def commands(binary, kind, megabytes, file):
+    """The commands of all programs for an instance, by their names; those of dimacs come first."""
+    starts = []
+    solving, certifying = OURS[kind]
+    if kind == "gr":
+        query = queries(file, megabytes)
+        starts = sources(query)
+        found = {solving: [binary, solving, file, query, "labels"]}
+        found[certifying] = ["./certify_paths", file, labelled(binary, file, megabytes)]
+    else:
+        found = {solving: [binary, solving, file, "solution", "certificate"]}
+        claim = claimed(binary, file)
+        if os.path.getsize(claim):  # else no flow is feasible
+            found[certifying] = [binary, certifying, file, claim]
+    found.update({name: [*words, called[kind], file, *starts] for name, words, called in PEERS if kind in called})
+    return found
+
+
+def distances(labels):
+    """What the peers print of the distances in a text of labels: how many there are, and their sum."""
+    with open(labels) as text:
+        found = [int(line.split()[2]) if line[0] == "d" else 0 for line in text if line[0] in "td"]
+    return f"v sp {len(found)} {sum(found)}\n"
+
+
+def first_runs(kind, file, commands):
+    """What the first runs took, of the programs that end well, and the names of those that don't end in time. The first
+    have to come to the same answer."""
+    runs = {name: run(command, MOST, subprocess.PIPE) for name, command in commands.items()}
+    ended = {name: it for name, it in runs.items() if it.status == 0}
+    late = [name for name, it in runs.items() if it.status == OVER_LIMIT]
+    for name, it in runs.items():
+        if it.status not in (0, OVER_LIMIT, NO_SUCH_PROGRAM):
+            print(f"{name} fails on {file}, with status {it.status}", file=sys.stderr)
+    solving = OURS[kind][0]
+    if solving not in ended and solving not in late:
+        sys.exit(f"no answer to {file}")
+    said = {name: it.printed for name, it in ended.items()}
+    if kind == "gr" and solving in ended:
+        said[solving] = distances("labels")
+    if len(set(said.values())) > 1:
+        sys.exit(f"different answers to {file}: {said}")
+    return ended, late
+
+
+def measure_instance(kind, file, commands, rounds):
+    """What each program took. Has no runs of one that doesn't end in time, which is noted beside the instance, and
+    nothing of one that fails."""
+    notes = f"{os.path.dirname(file)}/late"
+    noted = open(notes).read().splitlines() if os.path.exists(notes) else []
+    ended, late = first_runs(kind, file, {name: words for name, words in commands.items() if name not in noted})
+    with open(notes, "a") as it:
+        it.writelines(f"{name}\n" for name in late if name not in OURS[kind])
+    taken = measure_in_turn({name: commands[name] for name, it in ended.items() if it.cpu < LONG}, rounds)
+    taken = {name: taken.get(name) or Rounds(it) for name, it in ended.items()}
+    return {**taken, **{name: Rounds() for name in noted + late}}
+
+
+def digits(number):
+    return f"{number:.0f}" if number >= 100 else f"{number:.1f}" if number >= 10 else f"{number:.2f}"
+
+
+def cell(taken, name, solving):
+    """The seconds that a program took, and of a peer the quotient by what dimacs took; bold where it was faster."""
+    if name not in taken:
+        return ""
+    if not taken[name].runs:
+        return f"> {MOST}"
+    seconds = f"{taken[name].cpu():.3f}" if taken[name].cpu() < 1 else digits(taken[name].cpu())
+    if name.startswith(("solve", "certify")) or not taken[solving].runs:
+        return seconds
+    ratio = taken[name].ratio(taken[solving])[0]
+    return f"**{seconds} ({digits(ratio)})**" if ratio < 1 else f"{seconds} ({digits(ratio)})"
+
+
+def fastest(taken, ours):
+    """The ratio of the fastest peer to a program of dimacs, with its middle half, where both end in time."""
+    peers = [taken[name] for name, _, _ in PEERS if name in taken and taken[name].runs]
+    if not peers or ours not in taken or not taken[ours].runs:
+        return None
+    return min(peers, key=Rounds.cpu).ratio(taken[ours])
+
+
+def measure_kind(asked, kind, megabytes):
+    """Prints a table."""
+    wanted = list(instances(kind, megabytes))
+    if not wanted:
+        return
+    ours = OURS[kind]
+    peers = [name for name, _, called in PEERS if kind in called]
+    quotients = [f"Fastest peer / {name}" for name in ours]
+    head(f"{KINDS[kind]}, {megabytes} MB", "Family", "Arcs", *ours, *peers, *quotients, "Bytes an arc")
+    ratios = {name: [] for name in ours}
+    for family, file in wanted:
+        taken = measure_instance(kind, file, commands(asked.binary, kind, megabytes, file), asked.rounds)
+        arcs = declared_arcs(file)
+        quotients = {name: fastest(taken, name) for name in ours}
+        spreads = ["{:.2f} ({:.2f} to {:.2f})".format(*it) if it else "" for it in quotients.values()]
+        bytes_an_arc = f"{taken[ours[0]].peak_bytes() / arcs:.0f}" if taken[ours[0]].runs else ""
+        row(family, f"{arcs:,}", *(cell(taken, name, ours[0]) for name in ours + peers), *spreads, bytes_an_arc)
+        for name, ratio in quotients.items():
+            ratios[name] += [ratio[0]] if ratio else []
+    for name, of_name in ratios.items():
+        if of_name:
+            print(f"\nThe fastest peer takes {mean(of_name):.2f} times as long as {name}, in the geometric mean.")
+
+
+def measure(asked):
+    for megabytes in asked.sizes:
+        for kind in KINDS:
+            measure_kind(asked, kind, megabytes)

@@ -1,0 +1,44 @@
+# Completes the words of dimacs and dimacs-batch in fish.
+
+# Whether so many words stand after the command, which is one of these: __dimacs_at PLACE COMMAND..
+function __dimacs_at
+    set -l words (commandline -opc)
+    test (count $words) -eq (math $argv[1] + 1); and contains -- $words[2] $argv[2..]
+end
+
+complete -c dimacs -f
+
+complete -c dimacs -n '__fish_is_first_token' -a convert -d 'Print the canonical form of a text'
+complete -c dimacs -n '__fish_is_first_token' -a show -d 'Print a line about a text'
+complete -c dimacs -n '__fish_is_first_token' -a certify-max -d 'Is the flow maximum?'
+complete -c dimacs -n '__fish_is_first_token' -a certify-min -d 'Does the flow cost least?'
+complete -c dimacs -n '__fish_is_first_token' -a judge-max -d 'Is the flow maximum, by a cut?'
+complete -c dimacs -n '__fish_is_first_token' -a judge-min -d 'Does the flow cost least, by potentials?'
+complete -c dimacs -n '__fish_is_first_token' -a judge-infeasible -d 'Is no flow feasible, by a set of nodes?'
+complete -c dimacs -n '__fish_is_first_token' -a judge-paths -d 'Are these distances?'
+complete -c dimacs -n '__fish_is_first_token' -a solve-max -d 'Write a maximum flow'
+complete -c dimacs -n '__fish_is_first_token' -a solve-min -d 'Write a cheapest flow'
+complete -c dimacs -n '__fish_is_first_token' -a solve-paths -d 'Write distances'
+
+set -l texts convert show
+complete -c dimacs -n "__dimacs_at 1 $texts" -a max -d 'An instance of maximum flow'
+complete -c dimacs -n "__dimacs_at 1 $texts" -a min -d 'An instance of minimum cost flow'
+complete -c dimacs -n "__dimacs_at 1 $texts" -a gr -d 'A graph for shortest paths'
+complete -c dimacs -n "__dimacs_at 1 $texts" -a query -d 'Queries for shortest paths'
+complete -c dimacs -n "__dimacs_at 1 $texts" -a solution -d 'A claimed flow'
+complete -c dimacs -n "__dimacs_at 1 $texts" -a cut -d 'A set of nodes'
+complete -c dimacs -n "__dimacs_at 1 $texts" -a pot -d 'Potentials of nodes'
+complete -c dimacs -n "__dimacs_at 1 $texts" -a dist -d 'Distance labels'
+complete -c dimacs -n "__dimacs_at 2 $texts" -F
+
+set -l of_three judge-max judge-min judge-paths certify-max certify-min solve-max solve-min solve-paths
+complete -c dimacs -n "__dimacs_at 1 judge-infeasible $of_three" -F
+complete -c dimacs -n "__dimacs_at 2 judge-infeasible $of_three" -F
+complete -c dimacs -n "__dimacs_at 3 $of_three" -F
+complete -c dimacs -n '__dimacs_at 4 solve-max solve-min' -a --limit -d 'How many flows or steps are tried'
+
+complete -c dimacs-batch -s o -l output -r -F -d 'The table'
+complete -c dimacs-batch -s j -l jobs -x -d 'Runs at a time'
+complete -c dimacs-batch -l run -x -a 'max= min= gr=' -d 'The command for a kind'
+complete -c dimacs-batch -l seconds -x -d 'End a run after so many seconds'
+complete -c dimacs-batch -l program -r -F -d 'The program'

@@ -1,0 +1,48 @@
+//! The distances of labels by node.
+
+ghost use Rattle.std.specs.Prelude.{◌≡◌, IfNone, IfOk, IfSome};
+ghost use Rattle.dimacs_claims.specs.Labels.{IsBlock};
+ghost use Rattle.dimacs_records.specs.Ranges.{IsWide};
+ghost use Rattle.dimacs_arrays.specs.Paths.{HasFar, IsSayable};
+ghost use Rattle.dimacs_arrays.specs.inside.Reached.{AreDistancesOf};
+
+use dimacs_claims::Block;
+use dimacs_lines::Memory;
+use std::alloc::Global;
+
+/// The distance of each node that has a label, in the order of IDs from 1, 0 at the source and `i64::MAX` at the others.
+/// None where an array can't say one.
+pub(crate) fn distances_of(
+    alloc: Global,
+    nodes: u32,
+    block: &Block,
+) -> Result<Option<Vec<i64>>, Memory>
+    requires { IsBlock nodes block.now }
+    ensures distances { IfOk result (λ told. IfSome told (λ distances. AreDistancesOf nodes block.now distances.items)) }
+    ensures far { IfOk result (λ told. IfNone told (HasFar block.now)) }
+{
+    let mut distances = vec![in alloc; i64::MAX; nodes as usize]?;
+    distances[block.source() as usize - 1] = 0;
+    let labels = block.labels();
+    for i in 0..labels.len() {
+        let label = labels.at(i);
+        let Some(distance) = near(label.dist) else {
+            return Ok(None);
+        };
+        distances[label.id as usize - 1] = distance;
+    }
+    Ok(Some(distances))
+}
+
+/// A distance that an array can say.
+#[inline(always)]
+fn near(dist: i128) -> Option<i64>
+    requires { IsWide dist }
+    ensures some { IfSome result (λ near. (near ≡ dist) × IsSayable dist) }
+    ensures none { IfNone result (¬ IsSayable dist) }
+{
+    match i64::try_from(dist) {
+        Ok(near) if near < i64::MAX => Some(near),
+        _ => None,
+    }
+}

@@ -1,0 +1,89 @@
+//! Solving texts in memory.
+
+ghost use Rattle.std.specs.Prelude.{◌∷◌, []};
+ghost use Rattle.dimacs_c.specs.Calls.{AnswersTexts, AnswersTextsKind, handed};
+ghost use Rattle.dimacs_c.specs.Kinds.{solve_job};
+ghost use Rattle.dimacs_runs.specs.Outputs.{MayTell};
+ghost use Rattle.dimacs_runs.specs.Solved.{Solved};
+
+use crate::answer::{end, misuse};
+use crate::kinds::solve_of;
+use dimacs_lines::{MemorySink, MemorySource};
+use dimacs_runs::{SolveJob, run_solve};
+use std::alloc::Global;
+
+/// Solves an instance, as `solve-max` and so on. The second room is for the text of the solution, and the third for that
+/// of its certificate. Queries are read for paths alone, whose labels are the certificate.
+#[unsafe(no_mangle)]
+pub extern "C" fn dimacs_solve(
+    alloc: Global,
+    kind: u32,
+    instance: &[u8],
+    queries: &[u8],
+    limit: u64,
+    out: &mut [u8],
+    told: &mut usize,
+    solution: &mut [u8],
+    solution_told: &mut usize,
+    certificate: &mut [u8],
+    certificate_told: &mut usize,
+) -> u32
+    ensures { AnswersTextsKind (solve_job kind limit) (λ job. MayTell (Solved job instance.now queries.now)) result
+        (handed solution.old solution.new solution_told.new ∷ handed certificate.old certificate.new certificate_told.new
+        ∷ handed out.old out.new told.new ∷ []) }
+{
+    match solve_of(kind, limit) {
+        Some(job) => solve(
+            alloc,
+            job,
+            instance,
+            queries,
+            out,
+            told,
+            solution,
+            solution_told,
+            certificate,
+            certificate_told,
+        ),
+        None => {
+            misuse(solution_told);
+            misuse(certificate_told);
+            misuse(told)
+        }
+    }
+}
+
+fn solve(
+    alloc: Global,
+    job: SolveJob,
+    instance: &[u8],
+    queries: &[u8],
+    out: &mut [u8],
+    told: &mut usize,
+    solution: &mut [u8],
+    solution_told: &mut usize,
+    certificate: &mut [u8],
+    certificate_told: &mut usize,
+) -> u32
+    ensures { AnswersTexts (MayTell (Solved job instance.now queries.now)) result
+        (handed solution.old solution.new solution_told.new ∷ handed certificate.old certificate.new certificate_told.new
+        ∷ handed out.old out.new told.new ∷ []) }
+{
+    let mut claim = MemorySink::new(alloc);
+    let mut shown = MemorySink::new(alloc);
+    let mut report = MemorySink::new(alloc);
+    let mut first = MemorySource::new(instance);
+    let mut second = MemorySource::new(queries);
+    let ended = run_solve(
+        alloc,
+        job,
+        &mut first,
+        &mut second,
+        &mut claim,
+        &mut shown,
+        &mut report,
+    );
+    end(ended, claim.bytes(), solution, solution_told);
+    end(ended, shown.bytes(), certificate, certificate_told);
+    end(ended, report.bytes(), out, told)
+}

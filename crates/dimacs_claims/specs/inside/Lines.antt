@@ -1,0 +1,15 @@
+-- Inside: the lines of labels in a text of either kind.
+use Rattle.dimacs_records.specs.declared.kinds.TextKind.{TextKind}
+use Rattle.dimacs_records.specs.declared.kinds.TextKind.TheVariants.{Distances}
+use Rattle.dimacs_records.specs.declared.records.Record.{Record}
+use Rattle.dimacs_claims.specs.declared.block.Label.{Label}
+use Rattle.dimacs_claims.specs.DistanceTexts.{bare}
+use Rattle.dimacs_claims.specs.LabelTexts.{label_line}
+
+-- what a text of the kind has of a line of labels
+abbrev pub in_kind : TextKind → Record → Record
+in_kind Distances r = bare r
+in_kind kind r = r
+
+abbrev pub line_in_kind : TextKind → Label → Record
+line_in_kind kind l = in_kind kind (label_line l)

@@ -1,0 +1,208 @@
+//! Distances: what a shortest path solver claims, without predecessors.
+
+ghost use Rattle.std.specs.Prelude.{◌≡◌, ◌<◌, ◌≤◌, ◌∷◌, [], ℕ, List, Some, OnOk, OnErr, IfOk, IfSome, length, map, refl};
+ghost use Rattle.std.specs.List.{All};
+ghost use Rattle.dimacs_lines.specs.Limits.{most_count, most_nodes};
+ghost use Rattle.dimacs_lines.specs.Lines.{lines};
+ghost use Rattle.dimacs_lines.specs.Puts.{Puts};
+ghost use Rattle.dimacs_records.specs.declared.kinds.TextKind.TheVariants as kinds;
+ghost use Rattle.dimacs_records.specs.Faults.{Fault};
+ghost use Rattle.dimacs_records.specs.Ranges.{IsWide};
+ghost use Rattle.dimacs_records.specs.Readings.{CountsRead};
+ghost use Rattle.dimacs_records.specs.Texts.{Reads};
+ghost use Rattle.dimacs_claims.specs.DistanceTexts.{AreBare, GivesDistances, IsBare, SpellsDistances, bare, canonical_distances};
+ghost use Rattle.dimacs_claims.specs.Labels.{AreLabels, IsBlock, IsNewSource, LabelsValue, label_at, with_block};
+ghost use Rattle.dimacs_claims.specs.LabelTexts.{FitText};
+ghost use Rattle.dimacs_claims.specs.LabelsReading.{before_bare, before_end, labels_begun_records};
+
+use crate::block::{Block, Label};
+use crate::labels::{BegunLabels, Labels, write_in_kind};
+use dimacs_lines::{DeviceFault, Memory, Sink, Source};
+use dimacs_records::{Begun, CountedReading, Earlier, ReadError, Record, TextKind, read_counted};
+use std::alloc::Global;
+use std::marker::Model;
+
+/// Claimed distances from sources, in blocks: labels each of whose predecessors is the source, since none is claimed.
+#[derive(Drop)]
+pub struct Distances {
+    labels: Labels,
+}
+
+impl Model for Distances {
+    ghost use Rattle.dimacs_claims.specs.DistanceTexts.{AreBare};
+    ghost use Rattle.dimacs_claims.specs.Labels.{LabelsValue};
+
+    ghost Value = { LabelsValue };
+
+    ghost view = { λ d. d.labels };
+
+    ghost invariant = { λ d. AreBare d.labels };
+}
+
+impl Distances {
+    /// Distances of so many nodes, without blocks. Takes no memory.
+    pub fn new(alloc: Global, nodes: u32) -> Distances
+        requires { nodes ≤ most_nodes }
+        ensures { result ≡ record { nodes = nodes; blocks = [] } }
+    {
+        Distances {
+            labels: Labels::new(alloc, nodes),
+        }
+    }
+
+    /// Adds a block of a source that none of the others has. It has no radius, and the source is its one predecessor.
+    pub fn push(&mut self, block: Block) -> Result<(), Memory>
+        requires lawful { IsBlock self.old.nodes block }
+        requires bare { IsBare block }
+        requires source { IsNewSource self.old.blocks block }
+        requires few { length self.old.blocks < most_count }
+        ensures pushed { OnOk result (self.new ≡ with_block self.old block) }
+        ensures unchanged { OnErr result (self.new ≡ self.old) }
+    {
+        self.labels.push(block)
+    }
+
+    /// Puts the distances of each block in the order of IDs, as [`Labels::index`] does with labels.
+    pub fn index(&mut self) -> Result<(), Memory>
+        ensures { self.new ≡ self.old }
+    {
+        self.labels.index()
+    }
+
+    pub fn nodes(&self) -> u32
+        ensures { result ≡ self.now.nodes }
+    {
+        self.labels.nodes()
+    }
+
+    /// In the order of the text.
+    pub fn blocks(&self) -> &[Block]
+        ensures blocks { result.now ≡ self.now.blocks }
+        ensures lawful { AreLabels self.now × AreBare self.now }
+    {
+        self.labels.blocks()
+    }
+
+    /// The distance that a block claims of a node: 0 at its source, none where the node is claimed to be unreachable, as
+    /// [`Labels::label`] gives it.
+    #[inline]
+    pub fn distance(&self, block: usize, id: u32) -> Option<i128>
+        ensures distance { result ≡ label_at self.now.blocks block id }
+        ensures wide { IfSome result IsWide }
+    {
+        self.labels.label(block, id)
+    }
+
+    /// The same claim as labels.
+    pub fn labels(&self) -> &Labels
+        ensures labels { result.now ≡ self.now }
+        ensures bare { AreBare self.now }
+    {
+        &self.labels
+    }
+}
+
+/// Makes distances of the records of a text.
+pub type DistancesReading = CountedReading<BegunDistances>;
+
+/// The blocks that came after the problem line.
+#[derive(Drop)]
+pub struct BegunDistances {
+    labels: BegunLabels,
+}
+
+impl Model for BegunDistances {
+    ghost use Rattle.std.specs.List.{All};
+    ghost use Rattle.dimacs_claims.specs.DistanceTexts.{IsBare};
+    ghost use Rattle.dimacs_claims.specs.LabelsReading.{LabelsBegun};
+
+    ghost Value = { LabelsBegun };
+
+    ghost view = { λ b. b.labels };
+
+    ghost invariant = { λ b. All IsBare b.labels.blocks };
+}
+
+impl Begun for BegunDistances {
+    type Value = Distances;
+
+    ghost kind = { kinds.Distances };
+
+    ghost begun_by = { λ begun rs. rs ≡ map bare (labels_begun_records begun) };
+
+    ghost told = { λ begun r. before_bare begun r };
+
+    ghost told_end = { λ begun. before_end begun };
+
+    ghost gives = { λ rs distances. GivesDistances rs distances };
+
+    fn kind() -> TextKind {
+        TextKind::Distances
+    }
+
+    fn begin(alloc: Global, problem: Record) -> BegunDistances {
+        let Record::DistancesProblem { nodes, blocks } = problem else {
+            unreachable!()
+        };
+        BegunDistances {
+            labels: BegunLabels::new(alloc, nodes, blocks),
+        }
+    }
+
+    #[inline(always)]
+    fn before(&self, said: Record) -> Earlier {
+        match said {
+            Record::DistancesNode { id, dist } => Earlier {
+                pred_unknown: false,
+                past_radius: false,
+                ..self.labels.before_label(Label { dist, id, pred: id })
+            },
+            Record::DistancesBlock { source, .. } => self.labels.before_block(source),
+            Record::DistancesProblem { .. } => self.labels.lines(),
+            _ => unreachable!(),
+        }
+    }
+
+    #[inline(always)]
+    fn keep(&mut self, said: Record) -> Result<(), Memory> {
+        match said {
+            Record::DistancesNode { id, dist } => {
+                let pred = self.labels.last_source();
+                self.labels.keep_label(Label { dist, id, pred })
+            }
+            Record::DistancesBlock { source, count } => self.labels.open(source, count, None),
+            _ => unreachable!(),
+        }
+    }
+
+    #[inline(always)]
+    fn before_end(&self) -> Earlier {
+        self.labels.before_end()
+    }
+
+    fn value(self, alloc: Global) -> Result<Distances, Memory> {
+        let labels = self.labels.labels(alloc);
+        Ok(Distances { labels })
+    }
+
+    ghost has_problem = { refl };
+}
+
+/// Reads a text of distances, and builds no index of them.
+pub fn read_distances<S: Source>(alloc: Global, source: &mut S) -> Result<Distances, ReadError>
+    ensures reads { (text : List ℕ) → S.coming source.old ≡ Some text → Reads (SpellsDistances text) (Fault kinds.Distances (lines text)) result }
+    ensures fits { (text : List ℕ) → S.coming source.old ≡ Some text → IfOk result (λ distances. FitText distances) }
+    ensures device { CountsRead result (S.faults source.old) (S.faults source.new) }
+{
+    read_counted::<BegunDistances, S>(alloc, source)
+}
+
+/// Writes the canonical text of distances.
+pub fn write_distances<S: Sink>(distances: &Distances, sink: &mut S) -> Result<(), DeviceFault>
+    ensures puts { Puts result (S.seen sink.old) (canonical_distances distances.now) (S.seen sink.new) }
+    ensures round_trip { FitText distances.now → SpellsDistances (canonical_distances distances.now) distances.now }
+    ensures same_text { FitText distances.now → (read : LabelsValue) → SpellsDistances (canonical_distances distances.now) read
+        → canonical_distances read ≡ canonical_distances distances.now }
+{
+    write_in_kind(TextKind::Distances, distances.labels(), sink)
+}

@@ -1,0 +1,21 @@
+use Rattle.std.proofs.Common.{◌≡◌, ◌<ℤ◌, map}
+use Rattle.dimacs_network.specs.declared.network.ArcView.{ArcView}
+use Rattle.dimacs_judge.specs.Feasible.{FeasibleMin}
+use Rattle.dimacs_decide.specs.Bounds.{KeepsBounds}
+use Rattle.dimacs_decide.specs.FeasibilityDecision.{total_excess}
+use Rattle.dimacs_decide.proofs.InfeasibleLemmas.{falls, lowest_keeps}
+use Rattle.dimacs_decide.proofs.infeasible.decide_infeasible.Goals as goal
+
+pub sent_on-requires : goal.sent_on-requires
+sent_on-requires g c =
+    let i = c.args.instance.now in
+    let is : c.in_ok-lowest.lowest ≡ map (λ (a : ArcView). a.low) i.arcs = rw c.network.ensures.arcs at c.in_ok-lowest.ensures in
+    rw is (lowest_keeps i.arcs c.network.ensures.lawful.bounds)
+
+pub asking-smaller : goal.asking-smaller
+asking-smaller g c =
+    let i = c.args.instance.now in
+    let x = c.asking.flow in
+    let y = c.in-Nearer.nearer in
+    let told : (¬ FeasibleMin i x) × KeepsBounds i.arcs y × (total_excess i y <ℤ total_excess i x) = rw c.in-Nearer.is at c.in_ok-decide_feasible.ensures in
+    falls i x y c.in_ok-flow-in-Nearer.flow told.2 c.in_ok-flow-in-Nearer.ensures.excess

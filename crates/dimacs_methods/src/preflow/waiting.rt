@@ -1,0 +1,57 @@
+//! Nodes that wait, the highest first.
+
+use crate::tables::{member, set_member};
+use dimacs_lines::Memory;
+use std::alloc::Global;
+
+/// The nodes that wait at each height; 0 stands for none.
+#[derive(Drop)]
+pub(crate) struct Waiting {
+    first: Vec<u32>,
+    after: Vec<u32>,
+    highest: u32,
+}
+
+impl Waiting {
+    /// Takes 8 bytes for each node.
+    pub(crate) fn new(alloc: Global, nodes: u32) -> Result<Waiting, Memory> {
+        let size = nodes as usize + 1;
+        Ok(Waiting {
+            first: vec![in alloc; 0u32; size]?,
+            after: vec![in alloc; 0u32; size]?,
+            highest: 0,
+        })
+    }
+
+    pub(crate) fn clear(&mut self) {
+        self.first.fill(0);
+        self.highest = 0;
+    }
+
+    pub(crate) fn push(&mut self, node: u32, height: u32) {
+        set_member(&mut self.after, node, member(&self.first, height, 0));
+        set_member(&mut self.first, height, node);
+        self.highest = self.highest.max(height);
+    }
+
+    /// Takes out a node of the greatest height.
+    pub(crate) fn pop(&mut self) -> Option<u32> {
+        self.descend();
+        let node = member(&self.first, self.highest, 0);
+        if node == 0 {
+            return None;
+        }
+        set_member(&mut self.first, self.highest, member(&self.after, node, 0));
+        Some(node)
+    }
+
+    /// Goes down to the greatest height at which a node waits.
+    fn descend(&mut self) {
+        for _ in 0..self.highest {
+            if member(&self.first, self.highest, 0) > 0 {
+                return;
+            }
+            self.highest = self.highest.wrapping_sub(1);
+        }
+    }
+}

@@ -1,0 +1,115 @@
+#!/usr/bin/env python3
+"""Tests completion/ in the shells that are there: tests/completion.py
+
+After each command of the usage text, at each of its places, the words, kinds and files that can stand there are
+offered, and after the last place nothing. In zsh the functions that it brings for completion are stood in for.
+"""
+import os
+import re
+import shutil
+import subprocess
+import sys
+import tempfile
+
+TOP = os.path.realpath(os.path.join(os.path.dirname(os.path.abspath(__file__)), ".."))
+
+BASH = """
+source {top}/completion/dimacs.bash
+COMP_WORDS=({words} '') COMP_CWORD={count}
+_dimacs
+printf '%s\\n' "${{COMPREPLY[@]}}"
+"""
+
+ZSH = """
+_describe() {{ for it in ${{(P)@[-1]}}; do print -r -- ${{it%%:*}}; done }}
+_files() {{ print -rl -- ${{~2}} }}
+_message() {{ }}
+compadd() {{ print -r -- $2 }}
+words=({words} '') CURRENT={count}+1 service=dimacs
+source {top}/completion/_dimacs
+"""
+
+FISH = """
+source {top}/completion/dimacs.fish
+complete -C '{words} ' | string replace -r '\\t.*' ''
+"""
+
+SHELLS = {
+    "bash": (["bash", "-c"], BASH),
+    "zsh": (["zsh", "-f", "-c"], ZSH),
+    "fish": (["fish", "--no-config", "-c"], FISH),
+}
+CHECKS = {"bash": "dimacs.bash", "zsh": "_dimacs", "fish": "dimacs.fish"}
+
+
+def usage():
+    """The places of each command in the usage text, by its word, and the kinds."""
+    with open(os.path.join(TOP, "crates/dimacs/src/usage.rt"), encoding="utf-8") as it:
+        source = it.read()
+    commands = {}
+    for words in re.findall(r'\(\s*"([a-z][^"]*)",\s*"[^"]*",?\s*\)', source):
+        word, *places = words.replace("[--limit N]", "--limit N").replace("[", "").replace("]", "").split()
+        commands[word] = places
+    table = re.search(r"^KIND:\n(.*?)\n\n", source, re.MULTILINE | re.DOTALL)[1]
+    return commands, re.findall(r"(?:^|  )(\w+)  ", table, re.MULTILINE)
+
+
+def offered(shell, words, folder):
+    """What a shell offers after these words."""
+    command, script = SHELLS[shell]
+    script = script.format(top=TOP, words=" ".join(words), count=len(words))
+    ran = subprocess.run([*command, script], capture_output=True, text=True, check=False, cwd=folder)
+    return ran.stdout.split(), ran.stderr
+
+
+def is_right(found, place, kinds, files):
+    """Whether what is offered can stand at a place, and all of it is offered where it isn't a file."""
+    if place in ("N", None):
+        return not found
+    if place == "KIND":
+        return sorted(found) == sorted(kinds)
+    if place == "--limit":
+        return found == ["--limit"]
+    return bool(found) and set(found) <= set(files)
+
+
+def checks(shell, folder):
+    """Yields what was looked at in a shell, and whether it is right."""
+    commands, kinds = usage()
+    files = sorted(os.listdir(folder))
+    command, _ = SHELLS[shell]
+    ran = subprocess.run([command[0], "-n", f"{TOP}/completion/{CHECKS[shell]}"], capture_output=True, check=False)
+    yield "syntax", ran.returncode == 0 and not ran.stderr
+    found, said = offered(shell, ["dimacs"], folder)
+    yield f"commands: {found}{said}", sorted(found) == sorted(commands) and not said
+    for word, places in commands.items():
+        typed = ["dimacs", word]
+        for place in [*places, None]:
+            found, said = offered(shell, typed, folder)
+            yield f"{' '.join(typed)}: {found}{said}", is_right(found, place, kinds, files) and not said
+            typed.append({"KIND": "max", "--limit": "--limit", "N": "5"}.get(place, "a"))
+    found, said = offered(shell, ["dimacs", "judge-max"], folder)
+    yield f"files of the kind: {found}{said}", "a.max" in found
+
+
+def main():
+    failed = passed = 0
+    _, kinds = usage()
+    with tempfile.TemporaryDirectory() as folder:
+        for kind in kinds:
+            open(os.path.join(folder, f"a.{kind}"), "w", encoding="ascii").close()
+        for shell in SHELLS:
+            if not shutil.which(shell):
+                print(f"left out: {shell}")
+                continue
+            for what, right in checks(shell, folder):
+                passed += right
+                failed += not right
+                if not right:
+                    print(f"{shell}: {what}")
+    print(f"{passed} passed, {failed} failed")
+    return 1 if failed or not passed else 0
+
+
+if __name__ == "__main__":
+    sys.exit(main())

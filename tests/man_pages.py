@@ -1,0 +1,91 @@
+#!/usr/bin/env python3
+"""Tests the man pages that tools/man_pages.py writes: tests/man_pages.py
+
+dimacs(1) has each command of the usage text and each exit status, dimacs(5) each kind and each reason of TEXTS.md and
+each of its headings, dimacs-batch(1) each option and column. Neither man nor mandoc warns of a page, where they are
+there.
+"""
+import os
+import re
+import shutil
+import subprocess
+import sys
+import tempfile
+
+TOP = os.path.join(os.path.dirname(os.path.abspath(__file__)), "..")
+PAGES = ["dimacs.1", "dimacs.5", "dimacs-batch.1"]
+
+
+def read(name):
+    with open(os.path.join(TOP, name), encoding="utf-8") as it:
+        return it.read()
+
+
+def shown(text):
+    """A page of troff as words with one blank between them."""
+    text = re.sub(r"\\f[BIR]|^\.\w+ ?|T[{}]|\\&", "", text, flags=re.MULTILINE)
+    for name, char in ((r"\-", "-"), (r"\(aq", "'"), (r"\(ha", "^"), ("@", " ")):
+        text = text.replace(name, char)
+    return " ".join(text.split())
+
+
+def wanted():
+    """Yields what a page has to have: the page, what it is, and the words."""
+    for words in re.findall(r'\(\s*"([a-z][^"]*)",\s*"[^"]*",?\s*\)', read("crates/dimacs/src/usage.rt")):
+        yield "dimacs.1", "command", f"dimacs {words}"
+    for status in re.findall(r"^  (\d)  ", read("crates/dimacs/src/usage.rt"), re.MULTILINE):
+        yield "dimacs.1", "status", f" {status} "
+    for reason in re.findall(r"`x \S+ \S+ (?:\S+ )?(\w+)`", read("docs/JUDGING.md")):
+        if reason not in ("NodeRange", "PredUnknown"):  # of arrays alone
+            yield "dimacs.1", "reason", reason
+    texts = read("docs/TEXTS.md")
+    for kind, word in re.findall(r"^\| (\w+) \| `(\w+)` \| `\w+` \| `", texts, re.MULTILINE):
+        yield "dimacs.5", "kind", f"{kind} {word} "
+    for reason in re.findall(r"^\| \d+ \| (\w+) \|", texts, re.MULTILINE):
+        yield "dimacs.5", "reason", reason
+    for heading in re.findall(r"^### (.*)$", texts, re.MULTILINE):
+        yield "dimacs.5", "heading", heading
+    batch = read("tools/dimacs-batch")
+    for option in re.findall(r'"(--?[a-z]+)"', batch):
+        yield "dimacs-batch.1", "option", option
+    for column in re.findall(r'"(\w+)"', re.search(r"^COLUMNS = \[(.*)\]$", batch, re.MULTILINE)[1]):
+        yield "dimacs-batch.1", "column", f" {column} "
+
+
+def warnings(file):
+    """What man and mandoc say of a page."""
+    commands = {
+        "man": ["man", "--warnings", "-E", "UTF-8", "-l", "-Tutf8", "-Z", file],
+        "mandoc": ["mandoc", "-T", "lint", "-W", "warning", file],
+    }
+    width = {**os.environ, "LC_ALL": "C.UTF-8", "MANROFFSEQ": "", "MANWIDTH": "80"}
+    for name, command in commands.items():
+        if shutil.which(name):
+            ran = subprocess.run(command, capture_output=True, text=True, check=False, env=width)
+            yield name, ran.stderr + (ran.stdout if name == "mandoc" else "")
+
+
+def main():
+    failed = passed = 0
+    with tempfile.TemporaryDirectory() as out:
+        subprocess.run([sys.executable, "-B", f"{TOP}/tools/man_pages.py", out], check=True)
+        pages = {}
+        for page in PAGES:
+            with open(os.path.join(out, page), encoding="utf-8") as it:
+                pages[page] = shown(it.read())
+        checks = [(f"{page}: no {what} {words}", words in pages[page]) for page, what, words in wanted()]
+        checks += [(f"{page}: a link or a definition is left", ".antt" not in pages[page] and "](" not in pages[page])
+                   for page in PAGES]
+        for page in PAGES:
+            checks += [(f"{page}: {name}: {said}", not said) for name, said in warnings(os.path.join(out, page))]
+    for complaint, is_right in checks:
+        passed += is_right
+        failed += not is_right
+        if not is_right:
+            print(complaint)
+    print(f"{passed} passed, {failed} failed")
+    return 1 if failed or not passed else 0
+
+
+if __name__ == "__main__":
+    sys.exit(main())

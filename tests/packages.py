@@ -1,0 +1,281 @@
+#!/usr/bin/env python3
+"""Tests the packages without the kit on the path: tests/packages.py DIST [--root]
+
+DIST is the folder that `make dist` makes. With --root they are installed in an empty Debian, made for it, which takes some
+minutes: by `dpkg -i`, and by pip in a new environment beside numpy. Without it, or where debootstrap isn't there or root
+doesn't run this, they are unpacked into an empty folder. Then the program is asked for a verdict, and so is the library: by a program in C that
+is built by pkg-config, by one that is built by CMake, and from Python. The man pages are shown and words are completed.
+
+What needs a tool that isn't there is left out, and named. The last line counts what passed and what failed.
+"""
+import argparse
+import glob
+import hashlib
+import os
+import re
+import shutil
+import subprocess
+import sys
+import tempfile
+
+TOP = os.path.dirname(os.path.dirname(os.path.abspath(__file__)))
+
+# What the empty Debian has beside its base.
+TOOLS = "python3,python3-venv,python3-numpy,gcc,libc6-dev,cmake,make,pkg-config,man-db,bash-completion"
+
+MAX = "p max 3 3\nn 1 s\nn 3 t\na 1 2 4\na 2 3 2\na 1 3 1\n"
+FLOW = "s 3\nf 1 2 2\nf 1 3 1\nf 2 3 2\n"
+
+IN_C = """#include <dimacs.h>
+#include <stdio.h>
+#include <string.h>
+
+int main(void) {
+    const char *text = "p cut 4 1\\nu 1\\n";
+    uint8_t line[256];
+    size_t told;
+    uint32_t status = dimacs_show(DIMACS_TEXT_CUT, (const uint8_t *)text, strlen(text), line, sizeof line, &told);
+    printf("%.*s%s %s\\n", (int)told, (char *)line, DIMACS_VERSION, dimacs_version() == DIMACS_VERSION_NUMBER ? "both" : "one");
+    return (int)status;
+}
+"""
+
+BY_CMAKE = """cmake_minimum_required(VERSION 3.13)
+project(shown C)
+find_package(dimacs {series} REQUIRED)
+add_executable(shown shown.c)
+target_link_libraries(shown dimacs::dimacs)
+add_executable(alone shown.c)
+target_link_libraries(alone dimacs::static)
+"""
+
+# A verdict of arrays, which are lists, or those of numpy.
+IN_PYTHON = """
+import dimacs
+{imports}
+tails, heads, caps, flows = [{array}(it) for it in ([1, 2, 1], [2, 3, 3], [4, 2, 1], [2, 2, 1])]
+print(dimacs.__version__, dimacs.certify_max_arrays(3, 1, 3, tails, heads, caps, flows).value)
+"""
+
+# What bash offers after words.
+OFFERED = """
+. "$1"
+shift
+COMP_WORDS=("$@") COMP_CWORD=$(($# - 1)) COMP_LINE="$*" COMP_POINT=${#COMP_LINE}
+name=$(complete -p dimacs | sed 's/.*-F \\([^ ]*\\).*/\\1/')
+$name dimacs "${@: -1}" "${@: -2:1}"
+printf '%s\\n' "${COMPREPLY[@]}"
+"""
+
+
+class Packages:
+    """What is tested, where it was unpacked, and what came of it."""
+
+    def __init__(self, dist, place):
+        self.dist, self.place = dist, place
+        self.passed = self.failed = 0
+        self.usr = f"{place}/root/usr"
+        self.version = open(f"{TOP}/VERSION", encoding="ascii").read().strip()
+        paths = {"PKG_CONFIG_PATH": f"{self.usr}/lib/pkgconfig", "CMAKE_PREFIX_PATH": self.usr}
+        paths |= {"LD_LIBRARY_PATH": f"{self.usr}/lib", "PATH": f"{self.usr}/bin:/usr/bin:/bin"}
+        self.environment = {"HOME": place, "LANG": "C.UTF-8", "MANPATH": f"{self.usr}/share/man"} | paths
+
+    def run(self, *words, **more):
+        """Runs a command where nothing is set but what finds the packages."""
+        ran = subprocess.run(
+            words, cwd=self.place, env=self.environment, capture_output=True, text=True, check=False, **more
+        )
+        self.said = f"$ {' '.join(words)}: status {ran.returncode}\n{ran.stdout}{ran.stderr}"
+        return ran.stdout + ran.stderr
+
+    def expect(self, name, is_so):
+        """Counts a test."""
+        self.passed += is_so
+        self.failed += not is_so
+        if not is_so:
+            print(f"{name} failed\n{self.said}", flush=True)
+
+    def has(self, name, *tools):
+        """Whether these tools are there. What needs them is left out else."""
+        lacking = [it for it in tools if not shutil.which(it, path=self.environment["PATH"])]
+        if lacking:
+            print(f"left out: {name}: no {', '.join(lacking)}", flush=True)
+        return not lacking
+
+    def only(self, pattern):
+        """The one package whose name has this pattern."""
+        found = glob.glob(f"{self.dist}/{pattern}")
+        self.said = f"{pattern}: {found}"
+        return found[0] if len(found) == 1 else None
+
+
+def put(path, text):
+    with open(path, "w", encoding="utf-8") as it:
+        it.write(text)
+
+
+def test_sums(its):
+    """Each package is in SHA256SUMS with its sum."""
+    with open(f"{its.dist}/SHA256SUMS", encoding="ascii") as it:
+        sums = dict(reversed(line.split()) for line in it)
+    for name in sorted(os.listdir(its.dist)):
+        if name != "SHA256SUMS":
+            with open(f"{its.dist}/{name}", "rb") as it:
+                its.said = f"{name} has another sum than {sums.get(name)}"
+                its.expect(name, sums.get(name) == hashlib.sha256(it.read()).hexdigest())
+
+
+def test_debian(its, is_root):
+    """Installs or unpacks the package for Debian."""
+    package = its.only("*.deb")
+    its.expect("one package for Debian", package is not None)
+    if not package or not its.has("the package for Debian", "dpkg"):
+        return
+    its.run("dpkg", "-i", package) if is_root else its.run("dpkg-deb", "-x", package, f"{its.place}/root")
+    its.expect("installing the package", os.path.exists(f"{its.usr}/bin/dimacs"))
+
+
+def test_program(its, program):
+    """A verdict, and the version."""
+    said = its.run(program, "certify-max", f"{its.place}/instance", f"{its.place}/flow")
+    its.expect("a verdict", said == "v max 3\n")
+    said = its.run(program)
+    its.expect("the version of the program", f"dimacs {its.version}\n" in said)
+
+
+def test_batch(its):
+    """A row with the verdict of one answer."""
+    if not os.path.exists(f"{its.usr}/bin/dimacs-batch"):
+        print("left out: dimacs-batch")
+        return
+    os.mkdir(f"{its.place}/answers")
+    for name, text in (("one.max", MAX), ("one.solution", FLOW)):
+        put(f"{its.place}/answers/{name}", text)
+    its.expect("dimacs-batch", ",v max 3,3," in its.run(f"{its.usr}/bin/dimacs-batch", "answers"))
+
+
+def test_tarball(its):
+    """The program where the tarball is unpacked."""
+    name = f"dimacs-{its.version}-x86_64-linux"
+    its.run("tar", "-xzf", f"{its.dist}/{name}.tar.gz")
+    test_program(its, f"{its.place}/{name}/bin/dimacs")
+
+
+def test_pkg_config(its):
+    """A program in C that is built by what pkg-config says."""
+    if not its.has("C by pkg-config", "cc", "pkg-config"):
+        return
+    its.run("sh", "-c", "cc -o shown shown.c $(pkg-config --cflags --libs dimacs)")
+    its.expect("C by pkg-config", its.run("./shown") == f"i cut 4 1\n{its.version} both\n")
+    its.expect("the version of dimacs.pc", its.run("pkg-config", "--modversion", "dimacs") == f"{its.version}\n")
+
+
+def test_cmake(its):
+    """The same by find_package, with the shared library and with the other one."""
+    if not its.has("C by CMake", "cc", "cmake"):
+        return
+    put(f"{its.place}/CMakeLists.txt", BY_CMAKE.format(series=re.match(r"\d+\.\d+", its.version)[0]))
+    its.run("sh", "-c", "cmake -S . -B made && cmake --build made")
+    told = its.said
+    for made in ("shown", "alone"):
+        is_built = os.path.exists(f"{its.place}/made/{made}")
+        is_so = is_built and its.run(f"made/{made}") == f"i cut 4 1\n{its.version} both\n"
+        its.said = its.said if is_built else told
+        its.expect(f"C by CMake, {made}", is_so)
+
+
+def test_wheel(its):
+    """A verdict of lists, and one of arrays of numpy, after pip installed the wheel in a new environment."""
+    wheel = its.only("*.whl")
+    its.expect("one wheel", wheel is not None)
+    made = its.run("python3", "-m", "venv", "--system-site-packages", "venv")
+    if not wheel or "ensurepip is not available" in made:
+        print("left out: the wheel: no python3-venv")
+        return
+    its.run("venv/bin/pip", "install", "--no-index", "--quiet", "--disable-pip-version-check", wheel)
+    answer = f"{its.version} 3\n"
+    its.expect("lists in Python", its.run("venv/bin/python", "-c", IN_PYTHON.format(imports="", array="list")) == answer)
+    if "ok" not in its.run("venv/bin/python", "-c", "import numpy; print('ok')"):
+        print("left out: arrays in Python: no numpy")
+        return
+    over = IN_PYTHON.format(imports="import numpy", array="numpy.array")
+    its.expect("arrays of numpy", its.run("venv/bin/python", "-c", over) == answer)
+
+
+def test_man(its):
+    """The pages, where there are some."""
+    if not os.path.isdir(f"{its.usr}/share/man") or not its.has("man pages", "man"):
+        print("left out: man pages")
+        return
+    for name, section in (("dimacs", "1"), ("dimacs", "5"), ("dimacs-batch", "1")):
+        said = its.run("man", "-P", "cat", section, name)
+        its.expect(f"man {section} {name}", "NAME" in said and name in said)
+
+
+def test_completion(its):
+    """Words and kinds that bash offers, where there is completion."""
+    script = f"{its.usr}/share/bash-completion/completions/dimacs"
+    if not os.path.exists(script) or not its.has("completion", "bash"):
+        print("left out: completion")
+        return
+    offered = its.run("bash", "-c", OFFERED, "offered", script, "dimacs", "judge-").split()
+    its.expect("completion of words", {"judge-max", "judge-paths"} <= set(offered))
+    offered = its.run("bash", "-c", OFFERED, "offered", script, "dimacs", "convert", "").split()
+    its.expect("completion of kinds", {"max", "gr", "solution"} <= set(offered))
+
+
+def test_all(dist, is_root):
+    """Tests the packages here; what passed and what failed."""
+    with tempfile.TemporaryDirectory() as place:
+        its = Packages(dist, place)
+        if is_root:
+            its.usr, its.environment = "/usr", {"HOME": place, "LANG": "C.UTF-8", "PATH": "/usr/sbin:/usr/bin:/sbin:/bin"}
+        for name, text in (("instance", MAX), ("flow", FLOW), ("shown.c", IN_C)):
+            put(f"{place}/{name}", text)
+        test_sums(its)
+        test_debian(its, is_root)
+        test_program(its, f"{its.usr}/bin/dimacs")
+        test_batch(its)
+        test_tarball(its)
+        test_pkg_config(its)
+        test_cmake(its)
+        test_wheel(its)
+        test_man(its)
+        test_completion(its)
+    print(f"{its.passed} passed, {its.failed} failed")
+    return 1 if its.failed or not its.passed else 0
+
+
+def test_in_root(dist):
+    """Makes an empty Debian, and tests the packages in it."""
+    with tempfile.TemporaryDirectory() as root:
+        words = ["debootstrap", "--variant=minbase", f"--include={TOOLS}", "stable", root]
+        made = subprocess.run(words, stdout=subprocess.PIPE, stderr=subprocess.STDOUT, text=True, check=False)
+        if made.returncode:
+            print(f"{made.stdout[-2000:]}\ndebootstrap made no Debian\n0 passed, 1 failed")
+            return 1
+        shutil.copytree(dist, f"{root}/packages/dist")
+        os.mkdir(f"{root}/packages/tests")
+        shutil.copy(__file__, f"{root}/packages/tests")
+        shutil.copy(f"{TOP}/VERSION", f"{root}/packages")
+        words = ["unshare", "--mount", "sh", "-c", 'mount -t proc proc "$0/proc" && exec chroot "$0" "$@"', root]
+        words += ["python3", "/packages/tests/packages.py", "/packages/dist", "--installed"]
+        return subprocess.run(words, check=False, env={"PATH": "/usr/sbin:/usr/bin:/sbin:/bin", "HOME": "/root"}).returncode
+
+
+def main():
+    words = argparse.ArgumentParser(description="Tests the packages without the kit on the path.")
+    words.add_argument("dist")
+    words.add_argument("--root", action="store_true", help="in an empty Debian, made by debootstrap")
+    words.add_argument("--installed", action="store_true", help=argparse.SUPPRESS)  # inside of that Debian
+    asked = words.parse_args()
+    dist = os.path.abspath(asked.dist)
+    if asked.root and shutil.which("debootstrap") and os.geteuid() == 0:
+        return test_in_root(dist)
+    if asked.root:
+        print("left out: an empty Debian: no debootstrap, or not by root")
+    return test_all(dist, asked.installed)
+
+
+if __name__ == "__main__":
+    sys.exit(main())
