@@ -26,17 +26,16 @@ pub enum Feasibility {
     Feasible(Flow),
 }
 
-/// Decides whether an instance has no feasible flow. It never gives up: it asks `decide_feasible`, of the lower bounds
-/// first, until that says either, and each flow that it asks about leaves less excess than the one before. Mostly two or
-/// three questions do. The one error is `Memory`, which says nothing of the instance.
+/// Decides whether an instance has no feasible flow. It never gives up: it asks `decide_feasible` of one flow after another,
+/// each of which leaves less excess than the one before, until that says either. Mostly one question does. The one error
+/// is `Memory`, which says nothing of the instance.
 pub fn decide_infeasible<N: Network>(
     alloc: Global,
     instance: &MinInstance<N>,
 ) -> Result<Feasibility, Memory>
     ensures { IfOk result (DecidesInfeasible instance.now) }
 {
-    let lowest = lower_bounds(alloc, instance.network())?;
-    let mut flow = sent_on(alloc, instance, lowest)?;
+    let mut flow = started(alloc, instance)?;
     'asking: loop {
         match decide_feasible(alloc, instance, &flow)? {
             FeasibilityDecision::Balanced => return Ok(Feasibility::Feasible(flow)),
@@ -44,6 +43,18 @@ pub fn decide_infeasible<N: Network>(
             FeasibilityDecision::Nearer(nearer) => flow = sent_on(alloc, instance, nearer)?,
         }
     }
+}
+
+/// The flow to start from: what the preflows make of the lower bounds, if it keeps the bounds; else the lower bounds.
+fn started<N: Network>(alloc: Global, instance: &MinInstance<N>) -> Result<Flow, Memory>
+    ensures { IfOk result (KeepsBounds instance.now.arcs) }
+{
+    let lowest = lower_bounds(alloc, instance.network())?;
+    let other = Flow::from_vec(send_excess(alloc, instance, lowest.amounts())?);
+    if keeps_bounds(instance.network(), &other) {
+        return Ok(other);
+    }
+    Ok(lowest)
 }
 
 /// The flow that carries the lower bound of each arc.

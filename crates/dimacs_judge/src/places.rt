@@ -89,7 +89,7 @@ impl<'a, N: Network> FlowPlaces<'a, N> {
     }
 
     /// The flow of the entries, or the first that fails.
-    pub(crate) fn flow(&self) -> Result<&Flow, (Where, Reason)>
+    pub fn flow(&self) -> Result<&Flow, (Where, Reason)>
         ensures one_each { IfOk result (λ flow. length flow.now ≡ length self.now.arcs) }
         ensures carried { IfOk result (λ flow. (entries : List Entry) → ArePlaced self.now entries → Carries self.now.arcs entries flow.now) }
         ensures first { IfErr result (λ refusal. (entries : List Entry) → ArePlaced self.now entries

@@ -3,7 +3,7 @@ use Rattle.std.specs.Prelude.{ℕ, ◌≡◌, ◌≤◌, ◌++◌, List, [], ◌
 use Rattle.std.specs.String.{string_bytes}
 use Rattle.dimacs_lines.specs.Number.{Spells}
 use Rattle.dimacs_records.specs.declared.kinds.TextKind.{TextKind}
-use Rattle.dimacs_records.specs.declared.kinds.TextKind.TheVariants.{Max, Min, Graph, Queries, Solution, Cut, Potentials, Labels}
+use Rattle.dimacs_records.specs.declared.kinds.TextKind.TheVariants.{Max, Min, Graph, Queries, Solution, Cut, Potentials, Labels, Distances}
 use Rattle.dimacs_runs.specs.declared.jobs.CertifyKind.{CertifyKind}
 use Rattle.dimacs_runs.specs.declared.jobs.CertifyKind.TheVariants as certifies
 use Rattle.dimacs_runs.specs.declared.jobs.Job.{Job}
@@ -22,6 +22,7 @@ kind_word Solution = codes "solution"
 kind_word Cut = codes "cut"
 kind_word Potentials = codes "pot"
 kind_word Labels = codes "dist"
+kind_word Distances = codes "distances"
 
 abbrev pub judge_word : JudgeKind → List ℕ
 judge_word judges.Max = codes "judge-max"

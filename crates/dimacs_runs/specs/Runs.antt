@@ -4,12 +4,13 @@ use Rattle.dimacs_lines.specs.Devices.{after_piece}
 use Rattle.dimacs_lines.specs.Lines.{lines}
 use Rattle.dimacs_lines.specs.Puts.{AcceptsFront}
 use Rattle.dimacs_records.specs.declared.kinds.TextKind.{TextKind}
-use Rattle.dimacs_records.specs.declared.kinds.TextKind.TheVariants.{Max, Min, Graph, Queries, Solution, Cut, Potentials, Labels}
+use Rattle.dimacs_records.specs.declared.kinds.TextKind.TheVariants.{Max, Min, Graph, Queries, Solution, Cut, Potentials, Labels, Distances}
 use Rattle.dimacs_records.specs.declared.reasons.Reason.{Reason}
 use Rattle.dimacs_records.specs.Faults.{Fault}
 use Rattle.dimacs_records.specs.Readings.{LineRecord}
 use Rattle.dimacs_records.specs.Texts.{SpellsValue}
 use Rattle.dimacs_claims.specs.Cuts.{GivesCut, canonical_cut, shown_cut}
+use Rattle.dimacs_claims.specs.DistanceTexts.{GivesDistances, canonical_distances, shown_distances}
 use Rattle.dimacs_claims.specs.LabelTexts.{GivesLabels, canonical_labels, shown_labels}
 use Rattle.dimacs_claims.specs.Potentials.{GivesPotentials, canonical_potentials, shown_potentials}
 use Rattle.dimacs_claims.specs.SolutionTexts.{GivesSolution, canonical_solution, shown_solution}
@@ -30,6 +31,7 @@ text_word Solution = codes "solution"
 text_word Cut = codes "certificate"
 text_word Potentials = codes "certificate"
 text_word Labels = codes "certificate"
+text_word Distances = codes "distances"
 text_word instance = codes "instance"
 
 -- a text: its name in refusals, which value it spells, and its fault
@@ -63,6 +65,7 @@ Told form Solution bytes = TellsText (says Solution GivesSolution bytes) (in_for
 Told form Cut bytes = TellsText (says Cut GivesCut bytes) (in_form form canonical_cut shown_cut)
 Told form Potentials bytes = TellsText (says Potentials GivesPotentials bytes) (in_form form canonical_potentials shown_potentials)
 Told form Labels bytes = TellsText (says Labels GivesLabels bytes) (in_form form canonical_labels shown_labels)
+Told form Distances bytes = TellsText (says Distances GivesDistances bytes) (in_form form canonical_distances shown_distances)
 
 -- this is told, and nothing else
 abbrev pub TellsAlone : (Status → List ℕ → Type 0) → Status → List ℕ → Type 0

@@ -17,6 +17,7 @@ pub(crate) fn text_name(kind: TextKind) -> &'static str
         TextKind::Queries => "query",
         TextKind::Solution => "solution",
         TextKind::Cut | TextKind::Potentials | TextKind::Labels => "certificate",
+        TextKind::Distances => "distances",
     }
 }
 

@@ -11,7 +11,7 @@ ghost use Rattle.dimacs_runs.specs.inside.Judgings.{text_says};
 use crate::outcome::{RunError, Status};
 use crate::texts_in_turn::read;
 use crate::told::put_told;
-use dimacs_claims::{Cut, Labels, Potentials, Solution};
+use dimacs_claims::{Cut, Distances, Labels, Potentials, Solution};
 use dimacs_instance::{Graph, MaxInstance, MinInstance, Queries};
 use dimacs_lines::{DeviceFault, Sink, Source};
 use dimacs_network::{ArcView, CapacityArc, PlainArcs, WeightArc};
@@ -82,6 +82,7 @@ pub(crate) fn run_text<S: Source, K: Sink>(
         TextKind::Cut => tell::<Cut, S, K>(alloc, form, text, sink),
         TextKind::Potentials => tell::<Potentials, S, K>(alloc, form, text, sink),
         TextKind::Labels => tell::<Labels, S, K>(alloc, form, text, sink),
+        TextKind::Distances => tell::<Distances, S, K>(alloc, form, text, sink),
     }
 }
 

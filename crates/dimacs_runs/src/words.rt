@@ -145,6 +145,7 @@ fn text_kind(word: &str) -> Option<TextKind>
         "cut" => Some(TextKind::Cut),
         "pot" => Some(TextKind::Potentials),
         "dist" => Some(TextKind::Labels),
+        "distances" => Some(TextKind::Distances),
         _ => None,
     }
 }

@@ -35,7 +35,7 @@ pub fn words(alloc: Global, line: &str) -> Result<Vec<String>, Fail> {
 }
 
 /// Words of kinds.
-static KINDS: [(&str, TextKind); 8] = [
+static KINDS: [(&str, TextKind); 9] = [
     ("max", TextKind::Max),
     ("min", TextKind::Min),
     ("gr", TextKind::Graph),
@@ -44,6 +44,7 @@ static KINDS: [(&str, TextKind); 8] = [
     ("cut", TextKind::Cut),
     ("pot", TextKind::Potentials),
     ("dist", TextKind::Labels),
+    ("distances", TextKind::Distances),
 ];
 
 #[test]

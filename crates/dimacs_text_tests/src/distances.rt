@@ -25,11 +25,12 @@ distances about the ends of 64 bits, a short one first | p distances 5 1;t 1 4;d
 fn blocks_are_those_of_the_text(rt: HostRuntime) -> Result<(), Fail> {
     let distances: Distances = spelled(rt.alloc(), TWO_BLOCKS)?;
     same(&rt, "nodes", distances.nodes(), 4);
-    same(&rt, "blocks", distances.blocks().len(), 2);
-    for block in distances.blocks() {
+    let blocks = distances.blocks();
+    assert_eq!(rt; blocks.len(), 2);
+    for block in blocks {
         same(&rt, "radius", block.radius(), None);
     }
-    let labels = distances.labels().blocks()[0].labels();
+    let labels = blocks[0].labels();
     let first = Label {
         dist: 5,
         id: 2,
@@ -38,11 +39,11 @@ fn blocks_are_those_of_the_text(rt: HostRuntime) -> Result<(), Fail> {
     same(&rt, "the first node", labels.first(), Some(first));
     same(&rt, "past the last node", labels.get(2), None);
     same(&rt, "whether there is none", labels.is_empty(), false);
-    let mut sum = 0;
+    let mut last = 0;
     for label in labels {
-        sum += label.dist;
+        last = label.id;
     }
-    same(&rt, "the sum of the distances", sum, -2);
+    same(&rt, "the last node", last, 3);
     same(
         &rt,
         "nodes from 3 on",

@@ -1,16 +1,9 @@
-use Rattle.std.proofs.Common.{◌≡◌, ◌<ℤ◌, map}
-use Rattle.dimacs_network.specs.declared.network.ArcView.{ArcView}
+use Rattle.std.proofs.Common.{◌<ℤ◌}
 use Rattle.dimacs_judge.specs.Feasible.{FeasibleMin}
 use Rattle.dimacs_decide.specs.Bounds.{KeepsBounds}
 use Rattle.dimacs_decide.specs.FeasibilityDecision.{total_excess}
-use Rattle.dimacs_decide.proofs.InfeasibleLemmas.{falls, lowest_keeps}
+use Rattle.dimacs_decide.proofs.InfeasibleLemmas.{falls}
 use Rattle.dimacs_decide.proofs.infeasible.decide_infeasible.Goals as goal
-
-pub sent_on-requires : goal.sent_on-requires
-sent_on-requires g c =
-    let i = c.args.instance.now in
-    let is : c.in_ok-lowest.lowest ≡ map (λ (a : ArcView). a.low) i.arcs = rw c.network.ensures.arcs at c.in_ok-lowest.ensures in
-    rw is (lowest_keeps i.arcs c.network.ensures.lawful.bounds)
 
 pub asking-smaller : goal.asking-smaller
 asking-smaller g c =
