@@ -1,19 +1,18 @@
 #!/usr/bin/env python3
-"""Has wrong bodies refused that keep their contracts: tests/wrong_bodies.py [--apply] [--build COMMAND] [NAME..]
+"""Has wrong bodies refused that keep their contracts: tests/wrong_bodies.py [--apply] [--quick] [NAME..]
 
 Each edit in tests/must_fail makes a function give up above some size, forget a reason, or let what is printed land in a
-file. No clause refuses it, so a run has to: the edit's line `run` names the script, and its line `fails` the run in it that
-has to fail. The program is proved and built with each edit in turn, in a copy of the repository, and the script runs over
-it. An edit that is no longer proved is refused too. With NAME only the edits of these names are tried.
+file. No clause refuses it, so a run has to: the edit's line `run` names the script, or the test in C, and its line
+`fails` what has to fail in it. The program, or the library, is proved and built with each edit in turn, in a copy of
+the repository, and the script runs over it. An edit that is no longer proved is refused too. With NAME only the edits
+of these names are tried.
 
-It isn't part of the gate, since each edit takes minutes. --build COMMAND builds faster, by `COMMAND COPY PROGRAM`, where a
-command is at hand that builds without proofs; calls over arrays, whose edits need the library, are then left out. With
---apply nothing is tried: each old text has to stand once in its file.
+It isn't part of the gate, since each edit takes minutes, and more where it is proved. With --quick nothing is: what
+runs is built as by `make quick`. With --apply nothing is tried: each old text has to stand once in its file.
 """
 import argparse
 import glob
 import os
-import shlex
 import shutil
 import subprocess
 import sys
@@ -60,24 +59,14 @@ class Edit:
 
 def copy(top):
     """Copies the repository without what was built."""
-    shutil.copytree(TOP, top, ignore=shutil.ignore_patterns(".git", "out", "__pycache__"), symlinks=True)
+    shutil.copytree(TOP, top, ignore=shutil.ignore_patterns(".git", "out", "build", "dist", "__pycache__"), symlinks=True)
 
 
-def prove(top, edit):
-    """Proves and builds what the edit's run needs, and answers its path; none where it isn't proved."""
-    if edit.is_of_library():
-        built, made = subprocess.run(["make", "-C", f"{top}/lib"], check=False), f"{top}/lib/out/libdimacs.a"
-    else:
-        words = ["rt", "run", "--", "show", "gr", f"{top}/examples/road.gr"]
-        built, made = subprocess.run(words, cwd=f"{top}/crates/dimacs", check=False), f"{top}/crates/dimacs/out/dimacs"
-    return made if built.returncode == 0 else None
-
-
-def build(command, top):
-    """Builds the program by a command, and answers its path."""
-    made = os.path.join(top, "program")
-    subprocess.run([*shlex.split(command), top, made], check=True)
-    return made
+def build(top, edit, is_quick):
+    """Builds what the edit's run needs, and answers its path; none where it isn't proved."""
+    made = f"build/{'quick/' * is_quick}{'libdimacs.a' if edit.is_of_library() else 'dimacs'}"
+    built = subprocess.run(["make", "-C", top, made], check=is_quick)
+    return os.path.join(top, made) if built.returncode == 0 else None
 
 
 def run(edit, top, made):
@@ -91,7 +80,7 @@ def run(edit, top, made):
     return subprocess.run(words, capture_output=True, text=True, errors="replace", check=False)
 
 
-def fault_of(edit, command):
+def fault_of(edit, is_quick):
     """What is wrong with an edit: it can't be applied, or its run doesn't refuse it."""
     with tempfile.TemporaryDirectory() as folder:
         top = os.path.join(folder, "dimacs")
@@ -99,8 +88,9 @@ def fault_of(edit, command):
         fault = edit.apply(top)
         if fault:
             return fault
-        made = build(command, top) if command else prove(top, edit)
+        made = build(top, edit, is_quick)
         if made is None:
+            print(f"{edit.name}: not proved", flush=True)
             return None
         ran = run(edit, top, made)
     said = [line for line in ran.stdout.splitlines() if edit.fails + ":" in line]
@@ -122,17 +112,14 @@ def unapplied(edit):
 def main():
     words = argparse.ArgumentParser(description="Has wrong bodies refused that keep their contracts.")
     words.add_argument("--apply", action="store_true", help="only apply the edits")
-    words.add_argument("--build", help="builds a program without proofs, given a copy and the program's path")
+    words.add_argument("--quick", action="store_true", help="build without proofs")
     words.add_argument("names", nargs="*", metavar="NAME", help="the edits that are tried")
     asked = words.parse_args()
     edits = [Edit(it) for it in sorted(glob.glob(f"{HERE}/must_fail/*.edit"))]
     edits = [it for it in edits if not asked.names or it.name in asked.names]
     passed = failed = 0
     for edit in edits:
-        if asked.build and edit.is_of_library() and not asked.apply:
-            print(f"left out: {edit.name}")
-            continue
-        fault = unapplied(edit) if asked.apply else fault_of(edit, asked.build)
+        fault = unapplied(edit) if asked.apply else fault_of(edit, asked.quick)
         if fault:
             print(f"{edit.name}: {fault}", flush=True)
         failed += bool(fault)

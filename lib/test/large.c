@@ -58,6 +58,16 @@ int main(void) {
                             max.length, &shown_told);
     check("certified", status, out, told, 0, wanted);
 
+    uint8_t *made = malloc(max.length);
+    size_t made_told;
+    status = dimacs_solve(DIMACS_MAX, max.bytes, max.length, NULL, 0, DIMACS_LIMIT, out, sizeof out, &told, made,
+                          max.length, &made_told, room, max.length, &shown_told);
+    check("solved", status, out, told, 0, wanted);
+    check_that("there was room", made_told <= max.length && shown_told <= max.length);
+    status = dimacs_judge(DIMACS_MAX, max.bytes, max.length, made, made_told, room, shown_told, out, sizeof out, &told);
+    check("judged by what was made", status, out, told, 0, wanted);
+    free(made);
+
     status = dimacs_show(DIMACS_TEXT_SOLUTION, flow.bytes, flow.length, out, sizeof out, &told);
     sprintf(wanted, "i solution %lld %d\n", ARCS / CHAIN * 1000000LL, ARCS);
     check("shown", status, out, told, 0, wanted);

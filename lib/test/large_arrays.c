@@ -17,7 +17,7 @@ static int64_t flows[ARCS], better[ARCS], potentials[MOST_NODES], distances[MOST
 static uint8_t inside[MOST_NODES];
 
 static uint8_t out[100];
-static size_t told, made_told, better_told;
+static size_t told, made_told, better_told, inside_told;
 #define OUT out, sizeof out, &told
 #define ALL(array) {array, ARCS}
 
@@ -64,12 +64,13 @@ static void make_min(void) {
     potentials[1] = 0;
 }
 
-/* Pairs of nodes, the first of which sends 1 to the second; the last pair sends more than its arcs carry. */
+/* Pairs of nodes, the first of which sends 1 to the second by the cheaper of two arcs; the last pair sends more than its arcs carry. */
 static void make_pairs(void) {
     for (int arc = 0; arc < ARCS; arc++) {
         tails[arc] = arc / 2 * 2 + 1;
         heads[arc] = arc / 2 * 2 + 2;
         caps[arc] = 1;
+        costs[arc] = 2 - arc % 2;
         supplies[arc] = arc % 2 ? -1 : 1;
         inside[arc] = arc < ARCS - 1;
     }
@@ -112,6 +113,21 @@ static uint32_t certify_paths(void) {
     return dimacs_certify_paths_arrays(&graph, 1, distances, ARCS, OUT, made, ARCS, &made_told);
 }
 
+static uint32_t solve_max(uint64_t limit) {
+    return dimacs_solve_max_arrays(&maximum, limit, OUT, better, ARCS, &better_told, inside, NODES, &inside_told);
+}
+
+static uint32_t solve_min(uint64_t limit) {
+    return dimacs_solve_min_arrays(&paired, limit, OUT, better, ARCS, &better_told, potentials, ARCS, &made_told, inside,
+                                   ARCS, &inside_told);
+}
+
+static uint32_t solve_paths(void) {
+    return dimacs_solve_paths_arrays(&graph, 1, OUT, distances, ARCS, &better_told, made, ARCS, &made_told);
+}
+
+static uint32_t judge_set(void) { return dimacs_judge_infeasible_arrays(&paired, inside, ARCS, OUT); }
+
 /* A case passes where the call answered this status and handed out this line, whole. */
 static void has(const char *name, uint32_t status, uint32_t wanted, const char *line) {
     check(name, status, out, told, wanted, line);
@@ -124,6 +140,10 @@ static void test_max(void) {
     has("judge max", judge_max(flows, inside), DIMACS_DONE, yes);
     inside[LAST - 1] = 0;
     has("judge max by a narrow cut", judge_max(flows, inside), DIMACS_REFUSED, "x arc 999999 NotSaturated\n");
+    has("solve max up to a limit", solve_max(1), DIMACS_GAVE_UP, "g limit\n");
+    has("solve max", solve_max(DIMACS_LIMIT), DIMACS_DONE, yes);
+    check_that("a flow and a byte for each node are handed out", better_told == ARCS && inside_told == NODES);
+    has("judge max by what was made", judge_max(better, inside), DIMACS_DONE, yes);
     has("certify max", certify_max(), DIMACS_DONE, yes);
     check_that("a byte for each node is handed out", made_told == NODES && better_told == 0);
     has("judge max by what was handed out", judge_max(flows, inside), DIMACS_DONE, yes);
@@ -141,6 +161,7 @@ static void test_max(void) {
     heads[ARCS - 1] = 0;
     has("judge max of no node", judge_max(flows, inside), DIMACS_MISUSED, "x arc 1000000 NodeRange\n");
     has("certify max of no node", certify_max(), DIMACS_MISUSED, "x arc 1000000 NodeRange\n");
+    has("solve max of no node", solve_max(DIMACS_LIMIT), DIMACS_MISUSED, "x arc 1000000 NodeRange\n");
 }
 
 static void test_min(void) {
@@ -170,15 +191,23 @@ static void test_min(void) {
     lows[ARCS - 1] = 0;
 }
 
-static void test_infeasible(void) {
+static void test_pairs(void) {
     make_pairs();
-    has("judge a set", dimacs_judge_infeasible_arrays(&paired, inside, ARCS, OUT), DIMACS_DONE, "v infeasible\n");
-    caps[ARCS - 1] = 2;
-    has("judge a set that is met", dimacs_judge_infeasible_arrays(&paired, inside, ARCS, OUT), DIMACS_REFUSED,
-        "x certificate 0 0 NotViolated\n");
-    tails[0] = 0;
-    has("judge a set over no node", dimacs_judge_infeasible_arrays(&paired, inside, ARCS, OUT), DIMACS_MISUSED,
-        "x arc 1 NodeRange\n");
+    has("judge a set", judge_set(), DIMACS_DONE, "v infeasible\n");
+    has("solve min where no flow is feasible", solve_min(DIMACS_LIMIT), DIMACS_DONE, "v infeasible\n");
+    check_that("a set alone is handed out", better_told == 0 && made_told == 0 && inside_told == ARCS);
+    has("judge a set that was handed out", judge_set(), DIMACS_DONE, "v infeasible\n");
+    supplies[ARCS - 2] = 1;
+    supplies[ARCS - 1] = -1;
+    has("judge a set that is met", judge_set(), DIMACS_REFUSED, "x certificate 0 0 NotViolated\n");
+    has("solve min up to a limit", solve_min(0), DIMACS_GAVE_UP, "g limit\n");
+    has("solve min", solve_min(DIMACS_LIMIT), DIMACS_DONE, "v min 500000\n");
+    check_that("a flow and potentials are handed out", better_told == ARCS && made_told == ARCS && inside_told == 0);
+    uint32_t status = dimacs_judge_min_arrays(&paired, better, ARCS, potentials, ARCS, OUT);
+    has("judge min by what was made", status, DIMACS_DONE, "v min 500000\n");
+    tails[ARCS - 1] = 0;
+    has("judge a set over no node", judge_set(), DIMACS_MISUSED, "x arc 1000000 NodeRange\n");
+    has("solve min of no node", solve_min(DIMACS_LIMIT), DIMACS_MISUSED, "x arc 1000000 NodeRange\n");
 }
 
 /* Distances along a cycle. Where its arcs weigh nothing, labels are made of them. */
@@ -188,6 +217,9 @@ static void test_paths(int weight) {
     has("certify paths", certify_paths(), DIMACS_DONE, "v sp ss 1\n");
     check_that("a predecessor for each node is handed out", made_told == ARCS);
     has("judge paths by what was handed out", judge_paths(made), DIMACS_DONE, "v sp ss 1\n");
+    has("solve paths", solve_paths(), DIMACS_DONE, "v sp ss 1\n");
+    check_that("a distance and a predecessor for each node are handed out", better_told == ARCS && made_told == ARCS);
+    has("judge paths by what was made", judge_paths(made), DIMACS_DONE, "v sp ss 1\n");
     distances[ARCS - 1]++;
     has("judge paths of a long one", judge_paths(predecessors), DIMACS_REFUSED, "x node 1000000 NoTightArc\n");
     has("certify paths of a long one", certify_paths(), DIMACS_REFUSED, "x arc 999999 NotShortest\n");
@@ -196,6 +228,7 @@ static void test_paths(int weight) {
     heads[ARCS - 1] = ARCS;
     has("judge paths with a negative loop", judge_paths(predecessors), DIMACS_REFUSED, "x arc 1000000 NotShortest\n");
     has("certify paths with a negative loop", certify_paths(), DIMACS_REFUSED, "x arc 1000000 NotShortest\n");
+    has("solve paths with a negative loop", solve_paths(), DIMACS_REFUSED, "x arc 1000000 NegativeWeight\n");
     distances[0] = 1;
     has("judge paths from afar", judge_paths(predecessors), DIMACS_REFUSED, "x node 1 NotShortest\n");
     has("certify paths from afar", certify_paths(), DIMACS_REFUSED, "x node 1 NotShortest\n");
@@ -204,7 +237,7 @@ static void test_paths(int weight) {
 int main(void) {
     test_max();
     test_min();
-    test_infeasible();
+    test_pairs();
     test_paths(1);
     test_paths(0);
     return count();
