@@ -36,21 +36,25 @@ _dimacs_places() {
 }
 
 _dimacs() {
-    local word=${COMP_WORDS[COMP_CWORD]} places
+    local word=${COMP_WORDS[COMP_CWORD]} places at=1
     local commands='convert show certify-max certify-min judge-max judge-min judge-infeasible judge-paths solve-max
         solve-min solve-paths'
-    local kinds='max min gr query solution cut pot dist'
+    local kinds='max min gr query solution distances cut pot dist'
     COMPREPLY=()
-    if ((COMP_CWORD == 1)); then
+    if ((COMP_CWORD > 1)) && [[ ${COMP_WORDS[1]} == explain ]]; then
+        at=2
+    fi
+    if ((COMP_CWORD == at)); then
+        ((at > 1)) || commands+=' explain'
         mapfile -t COMPREPLY < <(compgen -W "$commands" -- "$word")
         return
     fi
-    read -ra places < <(_dimacs_places "${COMP_WORDS[1]}" "${COMP_WORDS[2]}")
-    case ${places[COMP_CWORD - 2]:-} in
+    read -ra places < <(_dimacs_places "${COMP_WORDS[at]}" "${COMP_WORDS[at + 1]}")
+    case ${places[COMP_CWORD - at - 1]:-} in
         '') ;;
         KIND) mapfile -t COMPREPLY < <(compgen -W "$kinds" -- "$word") ;;
         --limit) mapfile -t COMPREPLY < <(compgen -W --limit -- "$word") ;;
-        *) _dimacs_files "${places[COMP_CWORD - 2]}" "$word" ;;
+        *) _dimacs_files "${places[COMP_CWORD - at - 1]}" "$word" ;;
     esac
 }
 

@@ -1,24 +1,39 @@
 # Completes the words of dimacs and dimacs-batch in fish.
 
+# The words that were typed, without one that has a refusal explained.
+function __dimacs_words
+    set -l words (commandline -opc)
+    if test "$words[2]" = explain
+        set -e words[2]
+    end
+    printf '%s\n' $words
+end
+
 # Whether so many words stand after the command, which is one of these: __dimacs_at PLACE COMMAND..
 function __dimacs_at
-    set -l words (commandline -opc)
+    set -l words (__dimacs_words)
     test (count $words) -eq (math $argv[1] + 1); and contains -- $words[2] $argv[2..]
+end
+
+# Whether the command comes next.
+function __dimacs_begins
+    test (count (__dimacs_words)) -eq 1
 end
 
 complete -c dimacs -f
 
-complete -c dimacs -n '__fish_is_first_token' -a convert -d 'Print the canonical form of a text'
-complete -c dimacs -n '__fish_is_first_token' -a show -d 'Print a line about a text'
-complete -c dimacs -n '__fish_is_first_token' -a certify-max -d 'Is the flow maximum?'
-complete -c dimacs -n '__fish_is_first_token' -a certify-min -d 'Does the flow cost least?'
-complete -c dimacs -n '__fish_is_first_token' -a judge-max -d 'Is the flow maximum, by a cut?'
-complete -c dimacs -n '__fish_is_first_token' -a judge-min -d 'Does the flow cost least, by potentials?'
-complete -c dimacs -n '__fish_is_first_token' -a judge-infeasible -d 'Is no flow feasible, by a set of nodes?'
-complete -c dimacs -n '__fish_is_first_token' -a judge-paths -d 'Are these distances?'
-complete -c dimacs -n '__fish_is_first_token' -a solve-max -d 'Write a maximum flow'
-complete -c dimacs -n '__fish_is_first_token' -a solve-min -d 'Write a cheapest flow'
-complete -c dimacs -n '__fish_is_first_token' -a solve-paths -d 'Write distances'
+complete -c dimacs -n '__dimacs_begins' -a convert -d 'Print the canonical form of a text'
+complete -c dimacs -n '__dimacs_begins' -a show -d 'Print a line about a text'
+complete -c dimacs -n '__dimacs_begins' -a certify-max -d 'Is the flow maximum?'
+complete -c dimacs -n '__dimacs_begins' -a certify-min -d 'Does the flow cost least?'
+complete -c dimacs -n '__dimacs_begins' -a judge-max -d 'Is the flow maximum, by a cut?'
+complete -c dimacs -n '__dimacs_begins' -a judge-min -d 'Does the flow cost least, by potentials?'
+complete -c dimacs -n '__dimacs_begins' -a judge-infeasible -d 'Is no flow feasible, by a set of nodes?'
+complete -c dimacs -n '__dimacs_begins' -a judge-paths -d 'Are these distances?'
+complete -c dimacs -n '__dimacs_begins' -a solve-max -d 'Write a maximum flow'
+complete -c dimacs -n '__dimacs_begins' -a solve-min -d 'Write a cheapest flow'
+complete -c dimacs -n '__dimacs_begins' -a solve-paths -d 'Write distances'
+complete -c dimacs -n '__fish_is_first_token' -a explain -d 'Do it, and explain a refusal'
 
 set -l texts convert show
 complete -c dimacs -n "__dimacs_at 1 $texts" -a max -d 'An instance of maximum flow'
@@ -29,6 +44,7 @@ complete -c dimacs -n "__dimacs_at 1 $texts" -a solution -d 'A claimed flow'
 complete -c dimacs -n "__dimacs_at 1 $texts" -a cut -d 'A set of nodes'
 complete -c dimacs -n "__dimacs_at 1 $texts" -a pot -d 'Potentials of nodes'
 complete -c dimacs -n "__dimacs_at 1 $texts" -a dist -d 'Distance labels'
+complete -c dimacs -n "__dimacs_at 1 $texts" -a distances -d 'Claimed distances'
 complete -c dimacs -n "__dimacs_at 2 $texts" -F
 
 set -l of_three judge-max judge-min judge-paths certify-max certify-min solve-max solve-min solve-paths

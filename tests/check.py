@@ -29,6 +29,7 @@ SCRIPTS = {
     "refusals": ["{build}/dimacs"],
     "large_runs": ["{build}/dimacs"],
     "batch": ["{build}/dimacs"],
+    "explain": ["{build}/dimacs"],
     "shown_runs": ["{build}/dimacs"],
     "version": ["{build}"],
     "promises": [],

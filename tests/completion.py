@@ -82,14 +82,20 @@ def checks(shell, folder):
     yield "syntax", ran.returncode == 0 and not ran.stderr
     found, said = offered(shell, ["dimacs"], folder)
     yield f"commands: {found}{said}", sorted(found) == sorted(commands) and not said
+    explained = sorted(set(commands) - {"explain"})
+    found, said = offered(shell, ["dimacs", "explain"], folder)
+    yield f"explain: {found}{said}", sorted(found) == explained and not said
     for word, places in commands.items():
+        if word == "explain":
+            continue
         typed = ["dimacs", word]
         for place in [*places, None]:
             found, said = offered(shell, typed, folder)
             yield f"{' '.join(typed)}: {found}{said}", is_right(found, place, kinds, files) and not said
             typed.append({"KIND": "max", "--limit": "--limit", "N": "5"}.get(place, "a"))
-    found, said = offered(shell, ["dimacs", "judge-max"], folder)
-    yield f"files of the kind: {found}{said}", "a.max" in found
+    for typed in ["dimacs", "judge-max"], ["dimacs", "explain", "judge-max"]:
+        found, said = offered(shell, typed, folder)
+        yield f"files of the kind: {found}{said}", "a.max" in found and not said
 
 
 def main():

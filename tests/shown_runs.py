@@ -14,7 +14,7 @@ import subprocess
 import sys
 import tempfile
 
-PAGES = ["README.md", "examples/README.md", "man/dimacs.1.md"]
+PAGES = ["README.md", "examples/README.md", "docs/JUDGING.md", "man/dimacs.1.md"]
 
 
 def shown(page):

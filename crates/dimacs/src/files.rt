@@ -49,7 +49,7 @@ impl<'a> SystemFiles<'a> {
     }
 
     /// Counts a file that the system didn't open, unless it had no memory.
-    fn refuse(&mut self, error: io::Error) -> RunError
+    pub fn refuse(&mut self, error: io::Error) -> RunError
         ensures fault { CountsDevices {X = Unit {0}} (Err result) (self.old.faults ∷ []) (self.new.faults ∷ []) }
         ensures memory { result ≡ RunError.Memory ↔ error_kind error ≡ ErrorKind.OutOfMemory }
         ensures reason { result ≡ RunError.Device → self.new.reason ≡ Some error }

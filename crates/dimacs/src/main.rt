@@ -1,10 +1,13 @@
 //! The command `dimacs`: runs what its words ask for over the system's files, and ends with the status of the run.
 #![tactic(auto)]
 
+mod again;
 mod files;
 mod usage;
 
+use crate::again::FilesAgain;
 use crate::files::SystemFiles;
+use dimacs_explain::{FirstLine, explain_command};
 use dimacs_lines::FileSink;
 use dimacs_runs::{Failure, NO_RUN, RunError, complaint, exit_status, job, run_command};
 use std::fs::File;
@@ -12,6 +15,9 @@ use std::io::ErrorKind;
 use std::os::fd::{AsRawFd, RawFd};
 use std::process::ExitCode;
 use std::{env, io};
+
+/// The word before those of a command whose refusal is to be explained.
+const EXPLAIN: &str = "explain";
 
 /// The last descriptor of a standard stream.
 const STANDARD_ERROR: RawFd = 2;
@@ -37,13 +43,25 @@ fn stand_in(rt: &HostRuntime) -> Option<File> {
 /// Runs what the words after the program's name ask for, and answers the exit status.
 fn run(rt: &HostRuntime, words: &[String]) -> u8 {
     let mut files = SystemFiles::new(rt);
-    let mut output = FileSink::new(io::writer(rt));
-    let ending = run_command(rt.alloc(), words, &mut files, &mut output);
+    let mut output = FirstLine::new(FileSink::new(io::writer(rt)));
+    let (words, ending) = match words {
+        [first, asked @ ..] if first.as_str() == EXPLAIN => {
+            let mut again = FilesAgain::new(rt);
+            (
+                asked,
+                explain_command(rt.alloc(), asked, &mut files, &mut again, &mut output),
+            )
+        }
+        _ => (
+            words,
+            run_command(rt.alloc(), words, &mut files, &mut output),
+        ),
+    };
     complain(rt, ending.status);
     if let Some(failure) = ending.failure {
         let reason = match failure {
             Failure::File(..) => files.reason(),
-            Failure::Output => output.reason(),
+            Failure::Output => output.sink().reason(),
         };
         tell_failure(rt, failure, reason);
     }

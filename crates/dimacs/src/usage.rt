@@ -4,7 +4,7 @@ use clap::Command;
 use std::alloc::{AllocError, Global};
 
 /// The words of each run, and what it does. With two blanks between them they fit 80 columns.
-static RUNS: [(&str, &str); 11] = [
+static RUNS: [(&str, &str); 12] = [
     ("convert KIND FILE", "Prints its canonical form"),
     ("show KIND FILE", "Prints a line about it"),
     ("judge-max INSTANCE SOLUTION CUT", "Is the flow maximum?"),
@@ -31,6 +31,7 @@ static RUNS: [(&str, &str); 11] = [
         "Writes a cheapest flow",
     ),
     ("solve-paths GRAPH QUERY LABELS", "Writes distances"),
+    ("explain COMMAND FILE...", "Does it, and explains a refusal"),
 ];
 
 /// What stands after the words of the runs.
@@ -43,10 +44,11 @@ no other word may name it. N is how many flows or steps are tried, a number from
 0 to 1000000000, and 1000000 if it isn't given.
 
 KIND:
-  max    an instance of maximum flow       solution  a claimed flow
-  min    an instance of minimum cost flow  cut       a set of nodes
-  gr     a graph for shortest paths        pot       potentials of nodes
-  query  queries for shortest paths        dist      distance labels
+  max    an instance of maximum flow       solution   a claimed flow
+  min    an instance of minimum cost flow  distances  claimed distances
+  gr     a graph for shortest paths        cut        a set of nodes
+  query  queries for shortest paths        pot        potentials of nodes
+                                           dist       distance labels
 
 Exit status:
   0  done; a judge said yes                3  a file failed, or isn't there

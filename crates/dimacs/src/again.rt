@@ -1,0 +1,58 @@
+//! Files that are read once more.
+
+ghost use Rattle.std.specs.Prelude.{None};
+
+use crate::files::SystemFiles;
+use dimacs_lines::{FileSink, FileSource};
+use dimacs_runs::{Counted, Files, RunError};
+use std::fs::File;
+use std::io::ErrorKind;
+use std::{fs, io};
+
+/// The system's files, but for what can't be read twice: a pipe was emptied, and opening one may wait for ever.
+#[derive(Drop)]
+pub struct FilesAgain<'a> {
+    rt: &'a HostRuntime,
+    files: SystemFiles<'a>,
+}
+
+impl<'a> FilesAgain<'a> {
+    pub fn new(rt: &'a HostRuntime) -> FilesAgain<'a> {
+        FilesAgain {
+            rt,
+            files: SystemFiles::new(rt),
+        }
+    }
+}
+
+impl<'a> Files for FilesAgain<'a> {
+    type Input = Counted<FileSource<File>>;
+
+    type Output = Counted<FileSink<File>>;
+
+    ghost holds = { λ s name. None };
+
+    ghost empty = { None };
+
+    ghost seen = { λ s. record { done = None; faults = s.files.faults } };
+
+    fn open(&mut self, name: &str) -> Result<Counted<FileSource<File>>, RunError> {
+        match fs::metadata(self.rt, name) {
+            Ok(found) if found.is_file() => self.files.open(name),
+            Ok(_) => Err(self.files.refuse(io::Error::from(ErrorKind::Unsupported))),
+            Err(error) => Err(self.files.refuse(error)),
+        }
+    }
+
+    fn create(&mut self, name: &str) -> Result<Counted<FileSink<File>>, RunError> {
+        self.files.create(name)
+    }
+
+    fn close_input(&mut self, name: &str, file: Counted<FileSource<File>>) -> bool {
+        self.files.close_input(name, file)
+    }
+
+    fn close_output(&mut self, name: &str, file: Counted<FileSink<File>>) -> bool {
+        self.files.close_output(name, file)
+    }
+}

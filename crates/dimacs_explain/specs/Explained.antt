@@ -1,0 +1,11 @@
+-- What a command does whose refusal is explained.
+use Rattle.std.specs.Prelude.{ℕ, ◌≡◌, List, Option}
+use Rattle.dimacs_lines.specs.Devices.{Written, after_piece}
+use Rattle.dimacs_runs.specs.declared.command.Ending.{Ending}
+use Rattle.dimacs_runs.specs.Commands.{Commands, Contents, Seen, seen_by}
+use Rattle.dimacs_runs.specs.Files.{FilesSeen}
+
+-- the command was run and ended so, and then the output accepted more: it begins with what the command put
+abbrev pub Explains : List (List ℕ) → Contents → Option (List ℕ) → Ending → Seen → FilesSeen → Option (List ℕ) → Type 0
+Explains words holds empty ending old files accepted =
+    (output : Written) × Commands words holds empty ending old (seen_by files output) × (more : List ℕ) × (accepted ≡ after_piece output.accepted more)

@@ -1,0 +1,110 @@
+//! A command, and what is to be said of its refusal.
+
+ghost use Rattle.std.specs.Prelude.{map};
+ghost use Rattle.std.specs.String.{string_bytes};
+ghost use Rattle.dimacs_runs.specs.Commands.{seen_by};
+ghost use Rattle.dimacs_explain.specs.Explained.{Explains};
+
+use crate::faults::{Fault, explain_fault};
+use crate::first_line::FirstLine;
+use crate::flow_tests::{explain_arc, explain_balance, explain_solution};
+use crate::path_tests::{explain_label, explain_query};
+use crate::refusal::{Place, Refusal};
+use crate::texts::Texts;
+use crate::whole_tests::{explain_end, explain_whole};
+use dimacs_lines::{Memory, Sink, put_all};
+use dimacs_records::End;
+use dimacs_runs::{Ending, Files, job, run_command};
+use std::alloc::Global;
+
+/// The status of a refusal.
+const REFUSED: u8 = 1;
+
+/// Runs the command of these words, and after a refusal puts lines that explain it. They are put where memory is there
+/// for them, and the output takes them; how the command ended is answered all the same. `again` opens the files that are
+/// looked at once more.
+pub fn explain_command<'a, F: Files, A: Files, K: Sink>(
+    alloc: Global,
+    words: &'a [String],
+    files: &mut F,
+    again: &mut A,
+    output: &mut FirstLine<K>,
+) -> Ending<'a>
+    ensures explains { Explains (map string_bytes words.now) (F.holds files.old) F.empty result
+        (seen_by (F.seen files.old) (K.seen output.old.sink)) (F.seen files.new) (K.seen output.new.sink).accepted }
+{
+    let ending = run_command(alloc, words, files, output);
+    if ending.status == REFUSED
+        && let Ok(text) = explanation(alloc, words, output.line(), again)
+    {
+        let _ = put_all(output, text.as_bytes());
+    }
+    ending
+}
+
+/// What is to be said of the refusal that a command has printed; nothing where it printed none.
+fn explanation<A: Files>(
+    alloc: Global,
+    words: &[String],
+    printed: &[u8],
+    again: &mut A,
+) -> Result<String, Memory> {
+    let mut said = String::new(alloc);
+    let (Some(job), Some(refusal)) = (job(words), Refusal::read(printed)) else {
+        return Ok(said);
+    };
+    let texts = Texts::of(job);
+    let reason = refusal.reason;
+    match refusal.place {
+        Place::Text { name, line, field } => {
+            let fault = Fault {
+                line,
+                field,
+                reason,
+            };
+            explain_text(alloc, again, texts, name, fault, &mut said)?;
+        }
+        Place::Arc(number) => explain_arc(alloc, again, texts, number, reason, &mut said)?,
+        Place::Node(node) => explain_node(alloc, again, texts, node, reason, &mut said)?,
+    }
+    Ok(said)
+}
+
+/// Says what is wrong at a place of a text: a fault of its own, or a test of a claim.
+fn explain_text<A: Files>(
+    alloc: Global,
+    again: &mut A,
+    texts: Texts<'_>,
+    name: &str,
+    fault: Fault<'_>,
+    said: &mut String,
+) -> Result<(), Memory> {
+    match fault.reason {
+        "UnknownArc" | "ArcTwice" | "ValueDiffers" | "NotMaximum" | "NotLeast" => {
+            explain_solution(alloc, again, texts, fault, said)
+        }
+        "NodesDiffer" | "NotViolated" => explain_whole(alloc, again, texts, fault.reason, said),
+        _ => match texts.by_name(name) {
+            Some(text) => explain_fault(alloc, again, text, fault, said),
+            None => Ok(()),
+        },
+    }
+}
+
+/// Says why the test of a node failed.
+fn explain_node<A: Files>(
+    alloc: Global,
+    again: &mut A,
+    texts: Texts<'_>,
+    node: u32,
+    reason: &str,
+    said: &mut String,
+) -> Result<(), Memory> {
+    match reason {
+        "Balance" => explain_balance(alloc, again, texts, node, said),
+        "SourceOutside" => explain_end(alloc, again, texts, node, End::Source, said),
+        "SinkInside" => explain_end(alloc, again, texts, node, End::Sink, said),
+        "NoTightArc" => explain_label(alloc, again, texts, node, said),
+        _ => explain_query(alloc, again, texts, node, reason, said),
+    }
+}

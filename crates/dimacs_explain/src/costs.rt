@@ -1,0 +1,35 @@
+//! The cost of a flow that a solution claims.
+
+use crate::texts::Named;
+use dimacs_claims::read_solution_into;
+use dimacs_instance::read_plain_min;
+use dimacs_judge::{FlowPlaces, cost_within};
+use dimacs_lines::Memory;
+use dimacs_runs::Files;
+use std::alloc::Global;
+
+/// What the flow of a solution costs; none where the texts can't be read again.
+pub(crate) fn cost_of<F: Files>(
+    alloc: Global,
+    files: &mut F,
+    instance: Named<'_>,
+    solution: Named<'_>,
+) -> Result<Option<i128>, Memory> {
+    let Ok(mut source) = files.open(instance.file) else {
+        return Ok(None);
+    };
+    let Ok(min) = read_plain_min(alloc, &mut source) else {
+        return Ok(None);
+    };
+    let places = FlowPlaces::new(alloc, min.network())?;
+    let Ok(mut claim) = files.open(solution.file) else {
+        return Ok(None);
+    };
+    let Ok(placed) = read_solution_into(alloc, places, &mut claim) else {
+        return Ok(None);
+    };
+    match placed.place.flow() {
+        Ok(flow) => Ok(cost_within(min.network(), flow).ok()),
+        Err(_) => Ok(None),
+    }
+}

@@ -1,0 +1,502 @@
+//! The fault of a text, in words.
+
+use crate::before::{Before, NOTHING_BEFORE};
+use crate::forms::{field_name, form_of, forms, kind_words, range_of};
+use crate::numbers::meant_number;
+use crate::oddities::{has_lone_return, oddity, other_kind};
+use crate::quote::{Quote, escape};
+use crate::texts::{ANY_LINES, Named, TextLines};
+use dimacs_lines::{Memory, fields};
+use dimacs_records::{Record, TextKind};
+use dimacs_runs::Files;
+use std::alloc::{AllocError, Global};
+
+/// The longest word that is shown whole.
+const LONG_WORD: usize = 60;
+
+/// A text's fault: where it is, and why.
+#[derive(Clone, Copy)]
+pub(crate) struct Fault<'a> {
+    pub(crate) line: u64,
+    pub(crate) field: u64,
+    pub(crate) reason: &'a str,
+}
+
+/// What was seen of a text up to its fault.
+#[derive(Drop)]
+struct Seen {
+    before: Before,
+    /// The line of the fault; none at the end of the text.
+    quote: Option<Quote>,
+    /// The first field of the line, and the one that counts.
+    letter: String,
+    word: String,
+    /// How many fields the line has.
+    fields: usize,
+    /// What the line says, where its fault is about others too.
+    record: Option<Record>,
+    /// What is odd about the file as a whole.
+    odd: Option<&'static str>,
+    other: Option<&'static str>,
+    lone_return: bool,
+}
+
+/// Says what is wrong with a text.
+pub(crate) fn explain_fault<F: Files>(
+    alloc: Global,
+    files: &mut F,
+    text: Named<'_>,
+    fault: Fault<'_>,
+    said: &mut String,
+) -> Result<(), Memory> {
+    let Some(seen) = look(alloc, files, text, fault)? else {
+        return cannot_read(said, text.file);
+    };
+    match &seen.quote {
+        Some(quote) => quote.show(said, text.file)?,
+        None if is_unread(fault.reason) => write!(said, "{}:{}: ", text.file, fault.line)?,
+        None => writeln!(said, "{}: ends after line {}", text.file, seen.before.lines)?,
+    }
+    if let Some(odd) = seen.odd {
+        writeln!(said, "{odd}")?;
+        return Ok(());
+    }
+    if seen.lone_return {
+        writeln!(
+            said,
+            "lines end by a carriage return alone: end them by a line feed"
+        )?;
+    }
+    if let Some(other) = seen.other
+        && is_of_other_kind(fault.reason)
+    {
+        writeln!(said, "{other}, and {} is wanted", kind_words(text.kind))?;
+    }
+    say_reason(alloc, text.kind, fault, &seen, said)?;
+    if let Some(line) = earlier_line(alloc, files, text, fault, &seen)? {
+        writeln!(said, "line {line} names the node already")?;
+    }
+    Ok(())
+}
+
+/// Whether a line that is refused for this reason isn't looked at.
+fn is_unread(reason: &str) -> bool {
+    matches!(reason, "LineTooLong" | "LineLimit")
+}
+
+/// Says that a file can't be read again.
+pub(crate) fn cannot_read(said: &mut String, file: &str) -> Result<(), Memory> {
+    writeln!(
+        said,
+        "{file}: is no file that can be read again, so its lines are left out"
+    )?;
+    Ok(())
+}
+
+/// Reads a text up to its fault; none where it can't be read.
+fn look<F: Files>(
+    alloc: Global,
+    files: &mut F,
+    text: Named<'_>,
+    fault: Fault<'_>,
+) -> Result<Option<Seen>, Memory> {
+    let Some(mut lines) = TextLines::open(alloc, files, text)? else {
+        return Ok(None);
+    };
+    let mut seen = Seen {
+        before: NOTHING_BEFORE,
+        quote: None,
+        letter: String::new(alloc),
+        word: String::new(alloc),
+        fields: 0,
+        record: None,
+        odd: None,
+        other: None,
+        lone_return: false,
+    };
+    for _ in 0..ANY_LINES {
+        let Some(number) = lines.next() else {
+            break;
+        };
+        let bytes = lines.bytes();
+        if number == 1 {
+            seen.odd = oddity(bytes);
+            seen.lone_return = has_lone_return(bytes);
+        }
+        if number == fault.line {
+            seen.other = other_kind(bytes);
+            seen.fields = fields(bytes).count();
+            seen.quote = Some(Quote::new(alloc, number, bytes, fault.field)?);
+            escape(&mut seen.letter, word_at(bytes, 1))?;
+            escape(&mut seen.word, word_at(bytes, fault.field))?;
+            seen.record = lines.record();
+            break;
+        }
+        seen.before.lines = number;
+        if let Some(record) = lines.record() {
+            seen.before.add(number, record);
+        }
+    }
+    Ok(Some(seen))
+}
+
+/// The first bytes of a field, from 1.
+fn word_at(line: &[u8], field: u64) -> &[u8] {
+    let place = usize::try_from(field.saturating_sub(1)).unwrap_or(usize::MAX);
+    match fields(line).nth(place) {
+        Some(field) => field.text.get(..LONG_WORD).unwrap_or(field.text),
+        None => &[],
+    }
+}
+
+/// Whether a fault of this kind may come from a text of another kind.
+fn is_of_other_kind(reason: &str) -> bool {
+    matches!(
+        reason,
+        "UnknownLine" | "FieldCount" | "BadWord" | "ProblemMissing"
+    )
+}
+
+/// The earlier line that names the same node.
+fn earlier_line<F: Files>(
+    alloc: Global,
+    files: &mut F,
+    text: Named<'_>,
+    fault: Fault<'_>,
+    seen: &Seen,
+) -> Result<Option<u64>, Memory> {
+    if fault.reason != "NodeTwice" {
+        return Ok(None);
+    }
+    let Some(id) = seen.record.and_then(named_node) else {
+        return Ok(None);
+    };
+    let in_block = seen.record.is_some_and(is_in_block);
+    let begin = if in_block {
+        seen.before.block.map_or(0, |block| block.line)
+    } else {
+        0
+    };
+    let Some(mut lines) = TextLines::open(alloc, files, text)? else {
+        return Ok(None);
+    };
+    for _ in 0..ANY_LINES {
+        let Some(number) = lines.next() else {
+            break;
+        };
+        if number >= begin && number < fault.line && names(lines.record(), id, in_block) {
+            return Ok(Some(number));
+        }
+    }
+    Ok(None)
+}
+
+/// The node that a line is about.
+fn named_node(record: Record) -> Option<u32> {
+    match record {
+        Record::MaxNode { id, .. }
+        | Record::MinNode { id, .. }
+        | Record::CutNode { id }
+        | Record::PotentialsNode { id, .. }
+        | Record::LabelsNode { id, .. }
+        | Record::DistancesNode { id, .. } => Some(id),
+        Record::LabelsBlock { source, .. } | Record::DistancesBlock { source, .. } => Some(source),
+        _ => None,
+    }
+}
+
+/// Whether a line belongs to a block of labels or distances.
+fn is_in_block(record: Record) -> bool {
+    matches!(
+        record,
+        Record::LabelsNode { .. } | Record::DistancesNode { .. }
+    )
+}
+
+/// Whether a line names this node, in a block or outside of blocks.
+fn names(record: Option<Record>, id: u32, in_block: bool) -> bool {
+    let Some(record) = record else {
+        return false;
+    };
+    (in_block || !is_in_block(record)) && named_node(record) == Some(id)
+}
+
+/// Says the reason with the numbers that it is about.
+fn say_reason(
+    alloc: Global,
+    kind: TextKind,
+    fault: Fault<'_>,
+    seen: &Seen,
+    said: &mut String,
+) -> Result<(), AllocError> {
+    match fault.reason {
+        "LineTooLong" => writeln!(said, "the line has more than 1048576 bytes"),
+        "LineLimit" => writeln!(said, "a text has at most 1000000000000 lines"),
+        "UnknownLine" | "FieldCount" | "BadWord" => say_shape(kind, fault, seen, said),
+        "BadNumber" | "NumberRange" => say_number(alloc, kind, fault, seen, said),
+        "TooMany" | "TooFew" => say_count(kind, fault, seen, said),
+        _ => say_order(kind, fault, seen, said),
+    }
+}
+
+/// Says what is wrong with the shape of a line.
+fn say_shape(
+    kind: TextKind,
+    fault: Fault<'_>,
+    seen: &Seen,
+    said: &mut String,
+) -> Result<(), AllocError> {
+    let letter = seen.letter.as_str();
+    match (fault.reason, form_of(kind, letter)) {
+        ("FieldCount", Some(form)) => {
+            let wanted = form.split(' ').count();
+            let fields = seen.fields;
+            if kind == TextKind::Labels && letter == "t" {
+                return writeln!(
+                    said,
+                    "the line has {fields} fields, and `{form}` has {wanted}, or one more with a RADIUS"
+                );
+            }
+            writeln!(
+                said,
+                "the line has {fields} fields, and `{form}` has {wanted}"
+            )
+        }
+        ("BadWord", Some(form)) => {
+            let word = seen.word.as_str();
+            let wanted = field_name(form, fault.field);
+            writeln!(
+                said,
+                "`{word}` stands where `{wanted}` is wanted: the line is `{form}`"
+            )
+        }
+        _ => {
+            writeln!(
+                said,
+                "no line of {} begins with `{letter}`",
+                kind_words(kind)
+            )?;
+            say_forms(kind, said)
+        }
+    }
+}
+
+/// Says which lines a text of this kind has.
+fn say_forms(kind: TextKind, said: &mut String) -> Result<(), AllocError> {
+    said.push_str("its lines are")?;
+    for form in forms(kind) {
+        write!(said, " `{form}`,")?;
+    }
+    writeln!(said, " and comments, which begin with c")
+}
+
+/// Says what is wrong with a number.
+fn say_number(
+    alloc: Global,
+    kind: TextKind,
+    fault: Fault<'_>,
+    seen: &Seen,
+    said: &mut String,
+) -> Result<(), AllocError> {
+    let name = match form_of(kind, seen.letter.as_str()) {
+        Some(_) if kind == TextKind::Labels && seen.letter.as_str() == "t" && fault.field == 4 =>
+            "RADIUS",
+        Some(form) => field_name(form, fault.field),
+        None => "the field",
+    };
+    let word = seen.word.as_str();
+    if fault.reason == "NumberRange" {
+        return writeln!(
+            said,
+            "{name} is a number from {}, and not {word}",
+            range_of(name)
+        );
+    }
+    writeln!(
+        said,
+        "{name} is a whole number, digits with a sign or without, and not `{word}`"
+    )?;
+    if let Some(number) = meant_number(alloc, word)? {
+        writeln!(said, "write {}", number.as_str())?;
+    }
+    Ok(())
+}
+
+/// Says how many lines are declared, and how many there are.
+fn say_count(
+    kind: TextKind,
+    fault: Fault<'_>,
+    seen: &Seen,
+    said: &mut String,
+) -> Result<(), AllocError> {
+    if is_of_block(fault, seen) {
+        return say_block_count(seen, said);
+    }
+    let what = counted_lines(kind);
+    let Some(problem) = seen.before.problem else {
+        return Ok(());
+    };
+    let line = problem.line;
+    let declared = problem.count;
+    let counted = seen.before.counted;
+    if fault.reason == "TooFew" {
+        writeln!(
+            said,
+            "{counted} {what} of the {declared} that line {line} declares"
+        )
+    } else {
+        writeln!(
+            said,
+            "line {line} declares {declared} {what}, and this is one more"
+        )
+    }
+}
+
+/// Whether a fault is about the count of a block.
+fn is_of_block(fault: Fault<'_>, seen: &Seen) -> bool {
+    let Some(block) = seen.before.block else {
+        return false;
+    };
+    seen.record.is_some_and(is_in_block)
+        || (fault.reason == "TooFew" && block.counted < u64::from(block.declared))
+}
+
+/// Says the same of the lines of a block.
+fn say_block_count(seen: &Seen, said: &mut String) -> Result<(), AllocError> {
+    let Some(block) = seen.before.block else {
+        return Ok(());
+    };
+    let line = block.line;
+    let declared = block.declared;
+    let counted = block.counted;
+    writeln!(
+        said,
+        "the block of line {line}, from source {}, declares {declared} d lines, and {counted} stand before this place",
+        block.source
+    )
+}
+
+/// The lines that a problem line counts.
+fn counted_lines(kind: TextKind) -> &'static str {
+    match kind {
+        TextKind::Max | TextKind::Min | TextKind::Graph => "arc lines",
+        TextKind::Queries => "query lines",
+        TextKind::Labels | TextKind::Distances => "blocks",
+        _ => "lines",
+    }
+}
+
+/// Says what is wrong with a line after those before it.
+fn say_order(
+    kind: TextKind,
+    fault: Fault<'_>,
+    seen: &Seen,
+    said: &mut String,
+) -> Result<(), AllocError> {
+    let before = &seen.before;
+    match fault.reason {
+        "ProblemMissing" => {
+            let form = form_of(kind, "p").unwrap_or("p");
+            writeln!(said, "a line `{form}` has to stand first, but for comments")
+        }
+        "ProblemTwice" => say_earlier(
+            before.problem.map(|problem| problem.line),
+            "is a p line already",
+            said,
+        ),
+        "SolutionTwice" => say_earlier(before.value_line, "is an s line already", said),
+        "SolutionMissing" => writeln!(
+            said,
+            "a solution has one line `s VALUE`, and this one has none"
+        ),
+        "NodeRange" => {
+            let nodes = before
+                .problem
+                .and_then(|problem| problem.nodes)
+                .unwrap_or(0);
+            let line = before.problem.map_or(0, |problem| problem.line);
+            writeln!(
+                said,
+                "node {} is above the {nodes} nodes that line {line} declares",
+                seen.word.as_str()
+            )
+        }
+        "EndMissing" => say_ends(before, said),
+        "EndTwice" => say_earlier(
+            before.source_line.max(before.sink_line),
+            "has the same letter already",
+            said,
+        ),
+        _ => say_rest(kind, fault, seen, said),
+    }
+}
+
+/// Says that an earlier line is something.
+fn say_earlier(line: Option<u64>, what: &str, said: &mut String) -> Result<(), AllocError> {
+    match line {
+        Some(line) => writeln!(said, "line {line} {what}"),
+        None => Ok(()),
+    }
+}
+
+/// Says which of source and sink isn't named.
+fn say_ends(before: &Before, said: &mut String) -> Result<(), AllocError> {
+    let missing = match (before.source_line, before.sink_line) {
+        (None, None) => "`n ID s` and `n ID t`, the source and the sink,",
+        (None, Some(_)) => "`n ID s`, the source,",
+        _ => "`n ID t`, the sink,",
+    };
+    writeln!(said, "{missing} have to stand before the arcs")
+}
+
+/// Says what is wrong for the other reasons.
+fn say_rest(
+    kind: TextKind,
+    fault: Fault<'_>,
+    seen: &Seen,
+    said: &mut String,
+) -> Result<(), AllocError> {
+    match (fault.reason, seen.record) {
+        ("BoundOrder", Some(Record::MaxArc { cap, .. })) => writeln!(
+            said,
+            "CAP is {cap}, and is 0 or more"
+        ),
+        ("BoundOrder", Some(Record::MinArc { low, cap, .. })) if low < 0 => {
+            writeln!(said, "LOW is {low} (and CAP {cap}), and is 0 or more")
+        }
+        ("BoundOrder", Some(Record::MinArc { low, cap, .. })) => writeln!(
+            said,
+            "CAP is {cap}, less than LOW, {low}"
+        ),
+        ("PredUnknown", Some(Record::LabelsNode { pred, .. })) => writeln!(
+            said,
+            "PRED, {pred}, is neither the source of the block nor the ID of a d line before this one: order the d lines so that each stands after that of its PRED"
+        ),
+        ("PastRadius", Some(Record::LabelsNode { dist, .. })) => {
+            let radius = seen
+                .before
+                .block
+                .and_then(|block| block.radius)
+                .unwrap_or(0);
+            writeln!(
+                said,
+                "DIST is {dist}, above the RADIUS of the block, {radius}"
+            )
+        }
+        ("NodeTwice", _) => Ok(()),
+        ("RecordOrder", _) => say_misplaced(kind, said),
+        _ => Ok(()),
+    }
+}
+
+/// Says where a line should stand.
+fn say_misplaced(kind: TextKind, said: &mut String) -> Result<(), AllocError> {
+    match kind {
+        TextKind::Queries => writeln!(said, "an ss text has s lines alone, and a p2p text q lines"),
+        TextKind::Labels | TextKind::Distances => writeln!(
+            said,
+            "a d line stands after the t line of its block"
+        ),
+        _ => writeln!(said, "node lines stand before all arc lines"),
+    }
+}

@@ -1,0 +1,424 @@
+//! The tests of a flow, in words.
+
+use crate::arcs::{FoundArc, Parallel, find_arc, find_entry, parallel_arcs};
+use crate::costs::cost_of;
+use crate::faults::{Fault, cannot_read};
+use crate::lookups::{FoundLine, Wanted, find_line, line_at};
+use crate::path_tests::explain_weight;
+use crate::texts::{ANY_LINES, Named, TextLines, Texts};
+use dimacs_lines::Memory;
+use dimacs_network::ArcView;
+use dimacs_records::{End, Record, TextKind};
+use dimacs_runs::Files;
+use std::alloc::{AllocError, Global};
+
+/// An arc with its flow, as a test saw it.
+#[derive(Clone, Copy)]
+struct Carried {
+    number: u32,
+    arc: ArcView,
+    flow: i64,
+}
+
+/// Says why the test of an arc failed.
+pub(crate) fn explain_arc<F: Files>(
+    alloc: Global,
+    files: &mut F,
+    texts: Texts<'_>,
+    number: u32,
+    reason: &str,
+    said: &mut String,
+) -> Result<(), Memory> {
+    let Some(instance) = texts.instance else {
+        return Ok(());
+    };
+    let Some(found) = find_arc(alloc, files, instance, number)? else {
+        return cannot_read(said, instance.file);
+    };
+    found.quote.show(said, instance.file)?;
+    if instance.kind == TextKind::Graph {
+        return explain_weight(alloc, files, texts, number, &found, reason, said);
+    }
+    let FoundArc { arc, .. } = found;
+    let same = parallel_arcs(
+        alloc,
+        files,
+        instance,
+        arc.tail,
+        arc.head,
+        u64::from(number),
+    )?;
+    let flow = show_entry(alloc, files, texts, arc, same, said)?;
+    let carried = Carried { number, arc, flow };
+    say_bound(carried, reason, said)?;
+    if let Some(certificate) = texts.certificate {
+        explain_certificate(alloc, files, certificate, carried, reason, said)?;
+    }
+    if same.all > 1 && matches!(reason, "AboveCap" | "BelowLow") {
+        say_parallel(arc, same, said)?;
+    }
+    Ok(())
+}
+
+/// Shows the entry of an arc, and answers its flow.
+fn show_entry<F: Files>(
+    alloc: Global,
+    files: &mut F,
+    texts: Texts<'_>,
+    arc: ArcView,
+    same: Parallel,
+    said: &mut String,
+) -> Result<i64, Memory> {
+    let Some(solution) = texts.claim else {
+        return Ok(0);
+    };
+    match find_entry(alloc, files, solution, arc.tail, arc.head, same.before)? {
+        Some(entry) => {
+            entry.quote.show(said, solution.file)?;
+            Ok(entry.flow)
+        }
+        None => {
+            writeln!(
+                said,
+                "{}: has no entry for the arc, so it carries 0",
+                solution.file
+            )?;
+            Ok(0)
+        }
+    }
+}
+
+/// Says what is compared of an arc and its flow.
+fn say_bound(carried: Carried, reason: &str, said: &mut String) -> Result<(), AllocError> {
+    let Carried { number, arc, flow } = carried;
+    match reason {
+        "AboveCap" => writeln!(
+            said,
+            "arc {number} carries {flow}, more than its CAP, {}",
+            arc.cap
+        ),
+        "BelowLow" => writeln!(
+            said,
+            "arc {number} carries {flow}, less than its LOW, {}",
+            arc.low
+        ),
+        "CostRange" => writeln!(
+            said,
+            "arc {number} carries {flow} at a COST of {}: the costs of the arcs up to this one leave -10^30 to 10^30",
+            arc.cost
+        ),
+        _ => Ok(()),
+    }
+}
+
+/// Says which arcs have the same ends.
+fn say_parallel(arc: ArcView, same: Parallel, said: &mut String) -> Result<(), AllocError> {
+    writeln!(
+        said,
+        "{} arcs lead from {} to {}, and arc {} is the first of them: entries with these ends belong to them in the order of the instance",
+        same.all, arc.tail, arc.head, same.first
+    )
+}
+
+/// Says what is compared of an arc and a certificate.
+fn explain_certificate<F: Files>(
+    alloc: Global,
+    files: &mut F,
+    certificate: Named<'_>,
+    carried: Carried,
+    reason: &str,
+    said: &mut String,
+) -> Result<(), Memory> {
+    let Carried { number, arc, flow } = carried;
+    match reason {
+        "NotSaturated" => writeln!(
+            said,
+            "arc {number} leaves the set, from {} inside to {} outside, and carries {flow} of its CAP, {}",
+            arc.tail, arc.head, arc.cap
+        )?,
+        "BackFlow" => writeln!(
+            said,
+            "arc {number} enters the set, from {} outside to {} inside, and carries {flow}, not 0",
+            arc.tail, arc.head
+        )?,
+        "NotTight" => {
+            let tail = potential(alloc, files, certificate, arc.tail, said)?;
+            let head = potential(alloc, files, certificate, arc.head, said)?;
+            say_reduced(carried, tail, head, said)?;
+        }
+        _ => (),
+    }
+    Ok(())
+}
+
+/// Shows the potential of a node, and answers it.
+fn potential<F: Files>(
+    alloc: Global,
+    files: &mut F,
+    certificate: Named<'_>,
+    node: u32,
+    said: &mut String,
+) -> Result<i128, Memory> {
+    let Some(FoundLine { record, quote }) = find_line(
+        alloc,
+        files,
+        certificate,
+        Wanted::Node(node),
+    )?
+    else {
+        return Ok(0);
+    };
+    quote.show(said, certificate.file)?;
+    match record {
+        Record::PotentialsNode { value, .. } => Ok(value),
+        _ => Ok(0),
+    }
+}
+
+/// Says the reduced cost of an arc, and what its flow should be.
+fn say_reduced(
+    carried: Carried,
+    tail: i128,
+    head: i128,
+    said: &mut String,
+) -> Result<(), AllocError> {
+    let Carried { number, arc, flow } = carried;
+    let reduced = i128::from(arc.cost)
+        .saturating_sub(tail)
+        .saturating_add(head);
+    let (sign, bound, wanted) = if reduced > 0 {
+        ("above", "LOW", arc.low)
+    } else {
+        ("below", "CAP", arc.cap)
+    };
+    writeln!(
+        said,
+        "the reduced cost of arc {number} is COST - y({}) + y({}) = {} - {tail} + {head} = {reduced}, {sign} 0, so it has to carry its {bound}, {wanted}, and carries {flow}",
+        arc.tail, arc.head, arc.cost
+    )
+}
+
+/// What flows out of a node and into it, by the entries of a solution.
+#[derive(Clone, Copy)]
+struct Through {
+    out: i128,
+    into: i128,
+}
+
+/// What the entries of a solution take out of a node, and bring into it; a loop is left out.
+fn sums_through<F: Files>(
+    alloc: Global,
+    files: &mut F,
+    solution: Named<'_>,
+    node: u32,
+) -> Result<Option<Through>, Memory> {
+    let Some(mut lines) = TextLines::open(alloc, files, solution)? else {
+        return Ok(None);
+    };
+    let mut sums = Through { out: 0, into: 0 };
+    for _ in 0..ANY_LINES {
+        if lines.next().is_none() {
+            break;
+        }
+        if let Some(Record::SolutionEntry { tail, head, flow }) = lines.record()
+            && tail != head
+        {
+            sums.add(node, tail, head, i128::from(flow));
+        }
+    }
+    Ok(Some(sums))
+}
+
+impl Through {
+    fn add(&mut self, node: u32, tail: u32, head: u32, flow: i128) {
+        if tail == node {
+            self.out = self.out.saturating_add(flow);
+        }
+        if head == node {
+            self.into = self.into.saturating_add(flow);
+        }
+    }
+}
+
+/// Says why the balance of a node is wrong.
+pub(crate) fn explain_balance<F: Files>(
+    alloc: Global,
+    files: &mut F,
+    texts: Texts<'_>,
+    node: u32,
+    said: &mut String,
+) -> Result<(), Memory> {
+    let (Some(instance), Some(solution)) = (texts.instance, texts.claim) else {
+        return Ok(());
+    };
+    let Some(Through { out, into }) = sums_through(alloc, files, solution, node)? else {
+        return cannot_read(said, solution.file);
+    };
+    let net = out.saturating_sub(into);
+    let supply = supply_of(alloc, files, instance, node, said)?;
+    writeln!(
+        said,
+        "{out} leaves node {node} and {into} enters it: {net} more leaves it than enters, and its supply is {supply}"
+    )?;
+    Ok(())
+}
+
+/// Shows the node line of an instance, and answers its supply.
+fn supply_of<F: Files>(
+    alloc: Global,
+    files: &mut F,
+    instance: Named<'_>,
+    node: u32,
+    said: &mut String,
+) -> Result<i64, Memory> {
+    let Some(FoundLine { record, quote }) = find_line(alloc, files, instance, Wanted::Node(node))?
+    else {
+        return Ok(0);
+    };
+    quote.show(said, instance.file)?;
+    match record {
+        Record::MinNode { supply, .. } => Ok(supply),
+        _ => Ok(0),
+    }
+}
+
+/// Says why a solution is refused at this line.
+pub(crate) fn explain_solution<F: Files>(
+    alloc: Global,
+    files: &mut F,
+    texts: Texts<'_>,
+    fault: Fault<'_>,
+    said: &mut String,
+) -> Result<(), Memory> {
+    let (Some(instance), Some(solution)) = (texts.instance, texts.claim) else {
+        return Ok(());
+    };
+    let reason = fault.reason;
+    let found = line_at(alloc, files, solution, fault.line, fault.field)?;
+    let Some(FoundLine { record, quote }) = found else {
+        return cannot_read(said, solution.file);
+    };
+    quote.show(said, solution.file)?;
+    match record {
+        Record::SolutionEntry { tail, head, .. } => {
+            explain_entry(alloc, files, instance, tail, head, reason, said)
+        }
+        Record::SolutionValue { value } if reason == "ValueDiffers" => {
+            explain_value(alloc, files, instance, solution, value, said)
+        }
+        Record::SolutionValue { value } => explain_better(alloc, files, texts, value, said),
+        _ => Ok(()),
+    }
+}
+
+/// Says why an entry belongs to no arc.
+fn explain_entry<F: Files>(
+    alloc: Global,
+    files: &mut F,
+    instance: Named<'_>,
+    tail: u32,
+    head: u32,
+    reason: &str,
+    said: &mut String,
+) -> Result<(), Memory> {
+    let same = parallel_arcs(alloc, files, instance, tail, head, 0)?;
+    if reason == "ArcTwice" {
+        writeln!(
+            said,
+            "{} has {} arcs from {tail} to {head}, and as many earlier entries have these ends",
+            instance.file, same.all
+        )?;
+        return Ok(());
+    }
+    writeln!(said, "{} has no arc from {tail} to {head}", instance.file)?;
+    let back = parallel_arcs(alloc, files, instance, head, tail, 0)?;
+    if back.all > 0 {
+        writeln!(said, "arc {} leads from {head} to {tail}", back.first)?;
+    }
+    Ok(())
+}
+
+/// Says which value a flow has, and which is claimed.
+fn explain_value<F: Files>(
+    alloc: Global,
+    files: &mut F,
+    instance: Named<'_>,
+    solution: Named<'_>,
+    claimed: i128,
+    said: &mut String,
+) -> Result<(), Memory> {
+    if instance.kind == TextKind::Min {
+        if let Some(cost) = cost_of(alloc, files, instance, solution)? {
+            writeln!(said, "{claimed} is claimed, and the flow costs {cost}")?;
+        }
+        return Ok(());
+    }
+    let wanted = Wanted::End(End::Source);
+    let Some(FoundLine { record, .. }) = find_line(alloc, files, instance, wanted)? else {
+        return cannot_read(said, instance.file);
+    };
+    if let Record::MaxNode { id, .. } = record
+        && let Some(Through { out, into }) = sums_through(alloc, files, solution, id)?
+    {
+        let value = out.saturating_sub(into);
+        writeln!(
+            said,
+            "{claimed} is claimed, and the flow has the value {value}: {out} leaves the source, node {id}, and {into} enters it"
+        )?;
+    }
+    Ok(())
+}
+
+/// Says by how much a flow can be better, where a better one was written.
+fn explain_better<F: Files>(
+    alloc: Global,
+    files: &mut F,
+    texts: Texts<'_>,
+    claimed: i128,
+    said: &mut String,
+) -> Result<(), Memory> {
+    let Some(file) = texts.better else {
+        writeln!(
+            said,
+            "the flow is feasible, and there is a better one: name a file after the solution to get it"
+        )?;
+        return Ok(());
+    };
+    let better = Named {
+        kind: TextKind::Solution,
+        file,
+    };
+    match find_line(alloc, files, better, Wanted::Value)? {
+        Some(
+            FoundLine {
+                record: Record::SolutionValue { value },
+                quote,
+            },
+        ) => {
+            quote.show(said, file)?;
+            say_better(value, claimed, said)?;
+        }
+        _ => writeln!(
+            said,
+            "the flow is feasible, and there is a better one, whose cost leaves -10^30 to 10^30"
+        )?,
+    }
+    Ok(())
+}
+
+/// Says how two values differ.
+fn say_better(value: i128, claimed: i128, said: &mut String) -> Result<(), AllocError> {
+    if value > claimed {
+        let more = value.saturating_sub(claimed);
+        writeln!(
+            said,
+            "this flow is feasible, and has {more} more than the {claimed} that is claimed"
+        )
+    } else {
+        let less = claimed.saturating_sub(value);
+        writeln!(
+            said,
+            "this flow is feasible, and costs {less} less than the {claimed} that is claimed"
+        )
+    }
+}

@@ -1,0 +1,41 @@
+//! Words that were meant to be whole numbers.
+
+use std::alloc::{AllocError, Global};
+
+/// More zeros than a number of the texts can have.
+const MOST_ZEROS: u32 = 30;
+
+/// The whole number that a word spells in another way, as `3.0` or `1e6` do.
+pub(crate) fn meant_number(alloc: Global, word: &str) -> Result<Option<String>, AllocError> {
+    if let Some((whole, fraction)) = word.split_once('.')
+        && is_whole(whole)
+        && fraction.bytes().all(|byte| byte == b'0')
+    {
+        return Ok(Some(String::from_str(alloc, whole)?));
+    }
+    match word.split_once('e') {
+        Some((whole, zeros)) if is_whole(whole) => with_zeros(alloc, whole, zeros),
+        _ => Ok(None),
+    }
+}
+
+/// A whole number with so many zeros after it.
+fn with_zeros(alloc: Global, whole: &str, zeros: &str) -> Result<Option<String>, AllocError> {
+    let zeros = zeros.strip_prefix('+').unwrap_or(zeros);
+    match zeros.parse::<u32>() {
+        Ok(count) if count <= MOST_ZEROS => {
+            let mut number = String::from_str(alloc, whole)?;
+            for _ in 0..count {
+                number.push('0')?;
+            }
+            Ok(Some(number))
+        }
+        _ => Ok(None),
+    }
+}
+
+/// Whether a word is an optional sign and digits.
+fn is_whole(word: &str) -> bool {
+    let digits = word.strip_prefix('-').unwrap_or(word);
+    !digits.is_empty() && digits.bytes().all(|byte| byte.is_ascii_digit())
+}

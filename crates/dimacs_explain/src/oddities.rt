@@ -1,0 +1,55 @@
+//! Files that aren't texts, or are of another kind, seen by their first bytes.
+
+use dimacs_lines::fields;
+
+/// What a first line shows of a file that is not what its reader took it for.
+pub(crate) fn oddity(first: &[u8]) -> Option<&'static str> {
+    match first {
+        [0x1f, 0x8b, ..] => Some("the file is compressed by gzip: give <(zcat FILE) in its place"),
+        [0xef, 0xbb, 0xbf, ..] => {
+            Some("the file begins with a byte order mark (EF BB BF): write it without one")
+        }
+        [0xff, 0xfe, ..] | [0xfe, 0xff, ..] => {
+            Some("the file is in UTF-16: write it in ASCII or UTF-8")
+        }
+        [_, 0, _, 0, ..] | [0, _, 0, _, ..] => {
+            Some("the file looks like UTF-16: write it in ASCII or UTF-8")
+        }
+        [b'B', b'Z', b'h', ..] => Some("the file is compressed by bzip2"),
+        [0xfd, b'7', b'z', b'X', b'Z', ..] => Some("the file is compressed by xz"),
+        [0x28, 0xb5, 0x2f, 0xfd, ..] => Some("the file is compressed by zstd"),
+        _ => None,
+    }
+}
+
+/// Whether a line has a carriage return before its last byte: then lines end by it alone, and all are one here.
+pub(crate) fn has_lone_return(line: &[u8]) -> bool {
+    let front = line.split_last().map_or(line, |(_, front)| front);
+    front.contains(&b'\r')
+}
+
+/// What a text is whose problem line has this word.
+pub(crate) fn other_kind(line: &[u8]) -> Option<&'static str> {
+    let mut words = fields(line);
+    if words.next()?.text != b"p".as_slice() {
+        return None;
+    }
+    match words.next()?.text {
+        b"max" => Some("the p line is that of a maximum flow instance (max)"),
+        b"min" => Some("the p line is that of a minimum cost flow instance (min)"),
+        b"sp" => Some("the p line is that of a graph (gr)"),
+        b"aux" => Some("the p line is that of queries (query)"),
+        b"cut" => Some("the p line is that of a set of nodes (cut)"),
+        b"pot" => Some("the p line is that of potentials (pot)"),
+        b"distances" => Some("the p line is that of distances (distances)"),
+        b"dist" => Some("the p line is that of distance labels (dist)"),
+        b"edge" | b"col" => Some(
+            "the p line is that of a graph to be coloured, which is no kind of text here",
+        ),
+        b"cnf" => Some("the p line is that of a formula (cnf), which is no kind of text here"),
+        b"asn" => Some(
+            "the p line is that of an assignment problem, which is no kind of text here",
+        ),
+        _ => None,
+    }
+}

@@ -1,0 +1,386 @@
+//! The tests of labels and queries, in words.
+
+use crate::arcs::{FoundArc, arc_of};
+use crate::faults::cannot_read;
+use crate::lookups::{FoundLine, Wanted, find_line, line_at};
+use crate::texts::{ANY_LINES, Named, TextLines, Texts};
+use dimacs_lines::Memory;
+use dimacs_network::ArcView;
+use dimacs_records::Record;
+use dimacs_runs::Files;
+use std::alloc::{AllocError, Global};
+
+/// Of so many sources one says that there are blocks.
+const SHOWN_SOURCES: u64 = 5;
+
+/// What a block of labels says of the two ends of an arc.
+#[derive(Clone, Copy)]
+struct Ends {
+    source: u32,
+    line: u64,
+    radius: Option<i128>,
+    tail: Option<i128>,
+    head: Option<i128>,
+}
+
+impl Ends {
+    /// The block of this t line, whose source is labelled by it.
+    fn of(line: u64, source: u32, radius: Option<i128>, arc: ArcView) -> Ends {
+        let begin = |node: u32| if node == source { Some(0) } else { None };
+        Ends {
+            source,
+            line,
+            radius,
+            tail: begin(arc.tail),
+            head: begin(arc.head),
+        }
+    }
+
+    /// Adds a label.
+    fn add(&mut self, arc: ArcView, id: u32, dist: i128) {
+        if id == arc.tail {
+            self.tail = Some(dist);
+        }
+        if id == arc.head {
+            self.head = Some(dist);
+        }
+    }
+
+    /// Whether the test of the arc fails in this block.
+    fn fails(&self, arc: ArcView) -> bool {
+        let Some(tail) = self.tail else {
+            return false;
+        };
+        let sum = tail.saturating_add(i128::from(arc.cost));
+        match self.head {
+            Some(head) => head > sum,
+            None => self.radius.is_none_or(|radius| sum <= radius),
+        }
+    }
+}
+
+/// Says why the test of an arc of a graph failed.
+pub(crate) fn explain_weight<F: Files>(
+    alloc: Global,
+    files: &mut F,
+    texts: Texts<'_>,
+    number: u32,
+    found: &FoundArc,
+    reason: &str,
+    said: &mut String,
+) -> Result<(), Memory> {
+    let arc = found.arc;
+    if reason == "NegativeWeight" {
+        writeln!(
+            said,
+            "arc {number} has the WEIGHT {}, which is below 0: no shortest path is found over such arcs here",
+            arc.cost
+        )?;
+        return Ok(());
+    }
+    let Some(labels) = texts.certificate else {
+        return Ok(());
+    };
+    match failing_block(alloc, files, labels, arc)? {
+        Some(ends) => say_ends(number, arc, ends, labels.file, said)?,
+        None => cannot_read(said, labels.file)?,
+    }
+    Ok(())
+}
+
+/// The first block in which the test of an arc fails.
+fn failing_block<F: Files>(
+    alloc: Global,
+    files: &mut F,
+    labels: Named<'_>,
+    arc: ArcView,
+) -> Result<Option<Ends>, Memory> {
+    let Some(mut lines) = TextLines::open(alloc, files, labels)? else {
+        return Ok(None);
+    };
+    let mut block: Option<Ends> = None;
+    for _ in 0..ANY_LINES {
+        let Some(line) = lines.next() else {
+            break;
+        };
+        match lines.record() {
+            Some(Record::LabelsBlock { source, radius, .. }) => {
+                if block.is_some_and(|ends| ends.fails(arc)) {
+                    return Ok(block);
+                }
+                block = Some(Ends::of(line, source, radius, arc));
+            }
+            Some(Record::LabelsNode { id, dist, .. }) => {
+                if let Some(ends) = &mut block {
+                    ends.add(arc, id, dist);
+                }
+            }
+            _ => (),
+        }
+    }
+    Ok(block.filter(|ends| ends.fails(arc)))
+}
+
+/// Says what is compared of the ends of an arc.
+fn say_ends(
+    number: u32,
+    arc: ArcView,
+    ends: Ends,
+    file: &str,
+    said: &mut String,
+) -> Result<(), AllocError> {
+    let tail = ends.tail.unwrap_or(0);
+    let sum = tail.saturating_add(i128::from(arc.cost));
+    writeln!(
+        said,
+        "{file}:{}: the block from source {}",
+        ends.line, ends.source
+    )?;
+    write!(
+        said,
+        "arc {number} leads from {}, at {tail}, with the WEIGHT {}, to {}, which is then no farther than {sum}",
+        arc.tail, arc.cost, arc.head
+    )?;
+    match ends.head {
+        Some(head) => writeln!(said, "; its label is {head}"),
+        None => writeln!(said, "; it has no label"),
+    }
+}
+
+/// The label of a node in a block.
+#[derive(Clone, Copy)]
+struct Labelled {
+    source: u32,
+    /// The line of the block, and that of the label.
+    block_line: u64,
+    line: u64,
+    dist: i128,
+    pred: u32,
+    /// The label of PRED.
+    before: i128,
+}
+
+impl Labelled {
+    /// The weight that leads from the label of PRED to this one.
+    fn weight(&self) -> i128 {
+        self.dist.saturating_sub(self.before)
+    }
+}
+
+/// Says why no arc leads to a label.
+pub(crate) fn explain_label<F: Files>(
+    alloc: Global,
+    files: &mut F,
+    texts: Texts<'_>,
+    node: u32,
+    said: &mut String,
+) -> Result<(), Memory> {
+    let (Some(graph), Some(labels)) = (texts.instance, texts.certificate) else {
+        return Ok(());
+    };
+    let arcs = arcs_into(alloc, files, graph, node)?;
+    let mut found = labels_of(alloc, files, labels, node)?;
+    add_preds(alloc, files, labels, &mut found)?;
+    let Some(label) = found.iter().copied().find(|label| !leads(&arcs, *label)) else {
+        return cannot_read(said, labels.file);
+    };
+    if let Some(FoundLine { quote, .. }) = line_at(alloc, files, labels, label.line, 0)? {
+        quote.show(said, labels.file)?;
+    }
+    say_label(&arcs, label, node, said)?;
+    Ok(())
+}
+
+/// Says what is compared of a label and that of its PRED.
+fn say_label(
+    arcs: &[(u32, i64)],
+    label: Labelled,
+    node: u32,
+    said: &mut String,
+) -> Result<(), AllocError> {
+    let Labelled {
+        source,
+        block_line,
+        dist,
+        pred,
+        before,
+        ..
+    } = label;
+    writeln!(
+        said,
+        "in the block from source {source} (line {block_line}) node {node} is at {dist}, and its PRED, {pred}, at {before}: no arc from {pred} to {node} has the WEIGHT {}",
+        label.weight()
+    )?;
+    match arcs.iter().find(|arc| arc.0 == pred) {
+        Some(&(_, weight)) => writeln!(
+            said,
+            "the lightest arc from {pred} to {node} has the WEIGHT {weight}"
+        ),
+        None => writeln!(said, "no arc leads from {pred} to {node}"),
+    }
+}
+
+/// Whether an arc leads from PRED to a label.
+fn leads(arcs: &[(u32, i64)], label: Labelled) -> bool {
+    match i64::try_from(label.weight()) {
+        Ok(weight) => arcs.binary_search(&(label.pred, weight)).is_ok(),
+        Err(_) => false,
+    }
+}
+
+/// The labels of a node, block by block; the labels of their PREDs are not known yet.
+fn labels_of<F: Files>(
+    alloc: Global,
+    files: &mut F,
+    labels: Named<'_>,
+    node: u32,
+) -> Result<Vec<Labelled>, Memory> {
+    let mut found = Vec::new(alloc);
+    let Some(mut lines) = TextLines::open(alloc, files, labels)? else {
+        return Ok(found);
+    };
+    let mut block = (0, 0);
+    for _ in 0..ANY_LINES {
+        let Some(line) = lines.next() else {
+            break;
+        };
+        match lines.record() {
+            Some(Record::LabelsBlock { source, .. }) => block = (source, line),
+            Some(Record::LabelsNode { id, dist, pred }) if id == node => found.push(Labelled {
+                source: block.0,
+                block_line: block.1,
+                line,
+                dist,
+                pred,
+                before: 0,
+            })?,
+            _ => (),
+        }
+    }
+    Ok(found)
+}
+
+/// Looks the labels of the PREDs up: that of a source is 0.
+fn add_preds<F: Files>(
+    alloc: Global,
+    files: &mut F,
+    labels: Named<'_>,
+    found: &mut Vec<Labelled>,
+) -> Result<(), Memory> {
+    let Some(mut lines) = TextLines::open(alloc, files, labels)? else {
+        return Ok(());
+    };
+    let mut next = 0;
+    for _ in 0..ANY_LINES {
+        let Some(line) = lines.next() else {
+            break;
+        };
+        let Some(label) = found.get_mut(next) else {
+            break;
+        };
+        if line == label.line {
+            next = next.saturating_add(1);
+        } else if let Some(Record::LabelsNode { id, dist, .. }) = lines.record()
+            && line > label.block_line
+            && id == label.pred
+        {
+            label.before = dist;
+        }
+    }
+    Ok(())
+}
+
+/// The tails and weights of the arcs into a node, sorted.
+fn arcs_into<F: Files>(
+    alloc: Global,
+    files: &mut F,
+    graph: Named<'_>,
+    node: u32,
+) -> Result<Vec<(u32, i64)>, Memory> {
+    let mut arcs = Vec::new(alloc);
+    let Some(mut lines) = TextLines::open(alloc, files, graph)? else {
+        return Ok(arcs);
+    };
+    for _ in 0..ANY_LINES {
+        if lines.next().is_none() {
+            break;
+        }
+        if let Some(arc) = lines.record().and_then(arc_of)
+            && arc.head == node
+        {
+            arcs.push((arc.tail, arc.cost))?;
+        }
+    }
+    arcs.sort()?;
+    Ok(arcs)
+}
+
+/// Says why a query isn't served.
+pub(crate) fn explain_query<F: Files>(
+    alloc: Global,
+    files: &mut F,
+    texts: Texts<'_>,
+    node: u32,
+    reason: &str,
+    said: &mut String,
+) -> Result<(), Memory> {
+    let (Some(graph), Some(queries)) = (texts.instance, texts.claim) else {
+        return Ok(());
+    };
+    let wanted = if reason == "QueryNode" {
+        Wanted::QueryNaming(node)
+    } else {
+        Wanted::Query(node)
+    };
+    let Some(FoundLine { quote, .. }) = find_line(alloc, files, queries, wanted)? else {
+        return cannot_read(said, queries.file);
+    };
+    quote.show(said, queries.file)?;
+    if reason == "QueryNode" {
+        if let Some(FoundLine { quote, .. }) = find_line(alloc, files, graph, Wanted::Problem)? {
+            quote.show(said, graph.file)?;
+        }
+        writeln!(said, "node {node} is above the NODES of the graph")?;
+        return Ok(());
+    }
+    match texts.certificate {
+        Some(labels) => say_sources(alloc, files, labels, node, said),
+        None => Ok(()),
+    }
+}
+
+/// Says from which sources there are blocks.
+fn say_sources<F: Files>(
+    alloc: Global,
+    files: &mut F,
+    labels: Named<'_>,
+    node: u32,
+    said: &mut String,
+) -> Result<(), Memory> {
+    let Some(mut lines) = TextLines::open(alloc, files, labels)? else {
+        return cannot_read(said, labels.file);
+    };
+    write!(
+        said,
+        "{} has no block from source {node} that serves the query; its blocks are from",
+        labels.file
+    )?;
+    let mut blocks = 0_u64;
+    for _ in 0..ANY_LINES {
+        if lines.next().is_none() {
+            break;
+        }
+        let Some(Record::LabelsBlock { source, radius, .. }) = lines.record() else {
+            continue;
+        };
+        blocks = blocks.saturating_add(1);
+        if blocks <= SHOWN_SOURCES {
+            write!(said, " {source}")?;
+            if radius.is_some() {
+                write!(said, " (up to a RADIUS, which serves no ss query)")?;
+            }
+        }
+    }
+    writeln!(said, "; {blocks} in all")?;
+    Ok(())
+}

@@ -1,0 +1,81 @@
+//! Lines of a text, shown with their places.
+
+use dimacs_lines::{Memory, fields};
+use std::alloc::{AllocError, Global};
+
+/// Of a long line so many bytes are shown, those round the field that counts.
+const SHOWN: usize = 100;
+
+/// How many of them stand before the field.
+const BEFORE: usize = 40;
+
+/// A line of a text that was kept to be shown.
+#[derive(Drop)]
+pub(crate) struct Quote {
+    pub(crate) line: u64,
+    text: String,
+    /// Where the mark stands below the text; none without a field.
+    mark: Option<(usize, usize)>,
+}
+
+impl Quote {
+    /// Keeps a line and which of its fields counts, from 1; 0 where it is the whole line.
+    pub(crate) fn new(alloc: Global, line: u64, bytes: &[u8], field: u64) -> Result<Quote, Memory> {
+        let found = if field == 0 {
+            None
+        } else {
+            fields(bytes).nth(usize::try_from(field - 1).unwrap_or(usize::MAX))
+        };
+        let start = found.map_or(0, |field| field.start);
+        let from = start.saturating_sub(BEFORE);
+        let mut text = String::new(alloc);
+        if from > 0 {
+            text.push_str("..")?;
+        }
+        escape(&mut text, bytes.get(from..start).unwrap_or(&[]))?;
+        let begin = text.len();
+        let end = bytes.len().min(from.saturating_add(SHOWN));
+        let length = found.map_or(0, |field| field.text.len());
+        let stop = end.min(start.saturating_add(length));
+        escape(&mut text, bytes.get(start..stop).unwrap_or(&[]))?;
+        let mark = found.map(|_| (begin, text.len().saturating_sub(begin).max(1)));
+        escape(&mut text, bytes.get(stop..end).unwrap_or(&[]))?;
+        if end < bytes.len() {
+            text.push_str("..")?;
+        }
+        Ok(Quote { line, text, mark })
+    }
+
+    /// Adds the line to what is said, with the name of its file.
+    pub(crate) fn show(&self, said: &mut String, file: &str) -> Result<(), AllocError> {
+        let before = said.len();
+        write!(said, "{file}:{}: ", self.line)?;
+        let indent = said.len().saturating_sub(before);
+        writeln!(said, "{}", self.text.as_str())?;
+        if let Some((begin, length)) = self.mark {
+            repeat(said, ' ', indent.saturating_add(begin))?;
+            repeat(said, '^', length)?;
+            said.push('\n')?;
+        }
+        Ok(())
+    }
+}
+
+fn repeat(said: &mut String, what: char, times: usize) -> Result<(), AllocError> {
+    for _ in 0..times {
+        said.push(what)?;
+    }
+    Ok(())
+}
+
+/// Adds bytes: those that print as they are, a tab as a blank, and any other by its number.
+pub(crate) fn escape(said: &mut String, bytes: &[u8]) -> Result<(), AllocError> {
+    for &byte in bytes {
+        match byte {
+            b'\t' | b'\r' => said.push(' ')?,
+            b' '..=b'~' => said.push(char::from(byte))?,
+            _ => write!(said, "\\x{byte:02x}")?,
+        }
+    }
+    Ok(())
+}

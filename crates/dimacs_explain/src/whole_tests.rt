@@ -1,0 +1,155 @@
+//! The tests of a certificate as a whole, and of the ends of a cut, in words.
+
+use crate::arcs::arc_of;
+use crate::faults::cannot_read;
+use crate::lookups::{FoundLine, Wanted, find_line};
+use crate::texts::{ANY_LINES, Named, TextLines, Texts};
+use dimacs_claims::{Cut, read_cut};
+use dimacs_lines::Memory;
+use dimacs_network::ArcView;
+use dimacs_records::{End, Record};
+use dimacs_runs::Files;
+use std::alloc::Global;
+
+/// Says why the source or the sink stands on the wrong side of a cut.
+pub(crate) fn explain_end<F: Files>(
+    alloc: Global,
+    files: &mut F,
+    texts: Texts<'_>,
+    node: u32,
+    end: End,
+    said: &mut String,
+) -> Result<(), Memory> {
+    let (Some(instance), Some(cut)) = (texts.instance, texts.certificate) else {
+        return Ok(());
+    };
+    if let Some(FoundLine { quote, .. }) = find_line(alloc, files, instance, Wanted::End(end))? {
+        quote.show(said, instance.file)?;
+    }
+    match find_line(alloc, files, cut, Wanted::Node(node))? {
+        Some(FoundLine { quote, .. }) => {
+            quote.show(said, cut.file)?;
+            writeln!(said, "node {node} is the sink, and the cut holds it")?;
+        }
+        None => writeln!(
+            said,
+            "node {node} is the source, and the cut in {} doesn't hold it",
+            cut.file
+        )?,
+    }
+    Ok(())
+}
+
+/// Says why a certificate is refused as a whole.
+pub(crate) fn explain_whole<F: Files>(
+    alloc: Global,
+    files: &mut F,
+    texts: Texts<'_>,
+    reason: &str,
+    said: &mut String,
+) -> Result<(), Memory> {
+    let (Some(instance), Some(certificate)) = (texts.instance, texts.certificate) else {
+        return Ok(());
+    };
+    if reason == "NotViolated" {
+        return explain_violation(alloc, files, instance, certificate, said);
+    }
+    for text in [instance, certificate] {
+        match find_line(alloc, files, text, Wanted::Problem)? {
+            Some(FoundLine { quote, .. }) => quote.show(said, text.file)?,
+            None => cannot_read(said, text.file)?,
+        }
+    }
+    writeln!(
+        said,
+        "NODES of the two differ: they are not of one instance"
+    )?;
+    Ok(())
+}
+
+/// What a set supplies, and the bounds on what can leave it.
+#[derive(Clone, Copy)]
+struct Across {
+    supply: i128,
+    high: i128,
+    low: i128,
+}
+
+impl Across {
+    fn add_supply(&mut self, supply: i64) {
+        self.supply = self.supply.saturating_add(i128::from(supply));
+    }
+
+    /// Adds an arc that leaves the set, or enters it.
+    fn add_arc(&mut self, set: &Cut, arc: ArcView) {
+        let (low, cap) = (i128::from(arc.low), i128::from(arc.cap));
+        match (set.contains(arc.tail), set.contains(arc.head)) {
+            (true, false) => {
+                self.high = self.high.saturating_add(cap);
+                self.low = self.low.saturating_add(low);
+            }
+            (false, true) => {
+                self.high = self.high.saturating_sub(low);
+                self.low = self.low.saturating_sub(cap);
+            }
+            _ => (),
+        }
+    }
+}
+
+/// Says why a set shows nothing.
+fn explain_violation<F: Files>(
+    alloc: Global,
+    files: &mut F,
+    instance: Named<'_>,
+    certificate: Named<'_>,
+    said: &mut String,
+) -> Result<(), Memory> {
+    let Ok(mut source) = files.open(certificate.file) else {
+        return cannot_read(said, certificate.file);
+    };
+    let Ok(set) = read_cut(alloc, &mut source) else {
+        return cannot_read(said, certificate.file);
+    };
+    let Some(Across { supply, high, low }) = sums_across(alloc, files, instance, &set)? else {
+        return cannot_read(said, instance.file);
+    };
+    writeln!(
+        said,
+        "the set in {} supplies {supply}, and its arcs can carry {low} to {high} out of it: a set shows that no flow is feasible where its supply lies outside",
+        certificate.file
+    )?;
+    Ok(())
+}
+
+/// What a set supplies, and what can leave it; none where the instance can't be read.
+fn sums_across<F: Files>(
+    alloc: Global,
+    files: &mut F,
+    instance: Named<'_>,
+    set: &Cut,
+) -> Result<Option<Across>, Memory> {
+    let Some(mut lines) = TextLines::open(alloc, files, instance)? else {
+        return Ok(None);
+    };
+    let mut sums = Across {
+        supply: 0,
+        high: 0,
+        low: 0,
+    };
+    for _ in 0..ANY_LINES {
+        if lines.next().is_none() {
+            break;
+        }
+        match lines.record() {
+            Some(Record::MinNode { id, supply }) if set.contains(id) => sums.add_supply(supply),
+            Some(record) => {
+                if let Some(arc) = arc_of(record) {
+                    sums.add_arc(set, arc);
+                }
+            }
+            None => (),
+        }
+    }
+    Ok(Some(sums))
+}

@@ -1,0 +1,151 @@
+#!/usr/bin/env python3
+"""Has refusals explained, one for each reason: tests/explain.py [BINARY]
+
+`dimacs explain WORDS ..` has to print first what `dimacs WORDS ..` prints, and to end with its status. After a refusal
+lines follow, of which the case names parts. No clause says what these lines say. BINARY is the built program;
+crates/dimacs/out/dimacs where none is given.
+"""
+import os
+import re
+import subprocess
+import sys
+import tempfile
+
+from instances import BINARY
+
+MAX = "p max 4 5\nn 1 s\nn 4 t\na 1 2 4\na 1 3 2\na 2 3 2\na 2 4 3\na 3 4 5\n"
+FLOW = "s 6\nf 1 2 4\nf 1 3 2\nf 2 3 1\nf 2 4 3\nf 3 4 3\n"
+CUT = "p cut 4 1\nu 1\n"
+MIN = "p min 4 5\nn 1 4\nn 4 -4\na 1 2 0 4 2\na 1 3 0 2 2\na 2 3 0 2 1\na 2 4 0 3 3\na 3 4 0 5 1\n"
+LEAST = "s 14\nf 1 2 2\nf 1 3 2\nf 2 3 2\nf 3 4 4\n"
+POT = "p pot 4 3\ny 1 4\ny 2 2\ny 3 1\n"
+CYCLE = "p sp 4 3\na 1 2 5\na 3 4 0\na 4 3 0\n"
+NEAR = "p sp 4 3\na 1 2 5\na 2 3 4\na 3 4 0\n"
+ASKED = "p aux sp ss 1\ns 1\n"
+PAIRS = "p aux sp p2p 2\nq 1 2\nq 1 4\n"
+HUGE = 9 * 10**18
+
+# The texts that commands name; a case gives others in their place.
+TEXTS = {"I": MAX, "S": FLOW, "C": CUT, "MI": MIN, "MS": LEAST, "P": POT, "G": CYCLE, "Q": ASKED}
+
+# Reason, words, texts of this case, and parts of the lines that explain, in their order.
+CASES = [
+    ("LineTooLong", "convert gr T", {"T": " " * 1_048_577}, ["T:1: ", "more than 1048576 bytes"]),
+    ("UnknownLine", "convert gr T", {"T": "p sp 1 1\ne 1 1 0\n"}, ["T:2: e 1 1 0", "     ^", "begins with `e`"]),
+    ("FieldCount", "convert gr T", {"T": "p sp 1 1\na 1 1\n"}, ["T:2: a 1 1", "3 fields, and `a TAIL HEAD WEIGHT` has 4"]),
+    ("BadNumber", "convert gr T", {"T": "p sp 1 1\na 1 1 1.0\n"}, ["T:2: a 1 1 1.0", "           ^^^", "`1.0`", "write 1"]),
+    ("BadNumber", "convert gr T", {"T": "p sp 1 1\na 1 1 1e6\n"}, ["`1e6`", "write 1000000"]),
+    ("NumberRange", "convert gr T", {"T": "p sp 1 1\na 0 1 0\n"}, ["TAIL is a number from 1 to 134217728", "not 0"]),
+    ("BadWord", "convert gr T", {"T": "p max 1 1\n"}, ["`max` stands where `sp` is wanted"]),
+    ("ProblemMissing", "convert gr T", {"T": ""}, ["T: ends after line 0", "`p sp NODES ARCS`"]),
+    ("ProblemTwice", "convert gr T", {"T": "p sp 1 0\np sp 1 0\n"}, ["T:2: p sp 1 0", "line 1 is a p line already"]),
+    ("RecordOrder", "convert min T", {"T": "p min 2 1\na 1 2 0 1 0\nn 1 1\n"}, ["T:3: n 1 1", "before all arc lines"]),
+    ("NodeRange", "convert gr T", {"T": "p sp 1 1\na 1 2 0\n"}, ["node 2 is above the 1 nodes that line 1 declares"]),
+    ("NodeTwice", "convert cut T", {"T": "p cut 4 2\nu 3\nu 3\n"}, ["T:3: u 3", "line 2 names the node already"]),
+    ("EndTwice", "convert max T", {"T": "p max 2 1\nn 1 s\nn 2 s\n"}, ["T:3: n 2 s", "line 2 has the same letter already"]),
+    ("EndMissing", "convert max T", {"T": "p max 2 1\nn 1 s\na 1 2 1\n"}, ["`n ID t`, the sink,"]),
+    ("BoundOrder", "convert min T", {"T": "p min 2 1\na 1 2 3 2 0\n"}, ["CAP is 2, less than LOW, 3"]),
+    ("TooMany", "convert gr T", {"T": "p sp 1 1\na 1 1 0\na 1 1 0\n"}, ["line 1 declares 1 arc lines, and this is one more"]),
+    ("TooFew", "convert gr T", {"T": "p sp 1 7\na 1 1 0\n"}, ["T: ends after line 2", "1 arc lines of the 7 that line 1 declares"]),
+    ("SolutionMissing", "convert solution T", {"T": "f 1 2 3\n"}, ["one line `s VALUE`"]),
+    ("SolutionTwice", "convert solution T", {"T": "s 1\ns 1\n"}, ["line 1 is an s line already"]),
+    ("PredUnknown", "convert dist T", {"T": "p dist 3 1\nt 1 1\nd 2 5 3\n"}, ["PRED, 3, is neither the source"]),
+    ("PastRadius", "convert dist T", {"T": "p dist 3 1\nt 1 1 4\nd 2 5 1\n"}, ["DIST is 5, above the RADIUS of the block, 4"]),
+    ("UnknownArc", "judge-max I S C", {"S": "s 6\nf 1 2 4\nf 4 3 2\n"}, ["S:3: f 4 3 2", "no arc from 4 to 3", "arc 5 leads from 3 to 4"]),
+    ("ArcTwice", "judge-max I S C", {"S": FLOW + "f 3 4 3\n"}, ["S:7: f 3 4 3", "I has 1 arcs from 3 to 4"]),
+    ("BelowLow", "judge-min I S P", {"I": "p min 2 1\na 1 2 1 3 0\n", "S": "s 0\n", "P": "p pot 2 0\n"}, ["I:2: a 1 2 1 3 0", "no entry", "carries 0, less than its LOW, 1"]),
+    ("AboveCap", "judge-max I S C", {"S": "s 6\nf 1 2 9\n"}, ["I:4: a 1 2 4", "S:2: f 1 2 9", "arc 1 carries 9, more than its CAP, 4"]),
+    ("AboveCap", "judge-max I S C", {"I": "p max 2 2\nn 1 s\nn 2 t\na 1 2 1\na 1 2 3\n", "S": "s 3\nf 1 2 3\n", "C": "p cut 2 1\nu 1\n"}, ["2 arcs lead from 1 to 2", "arc 1 is the first of them"]),
+    ("Balance", "judge-max I S C", {"S": "s 4\nf 1 2 4\n"}, ["0 leaves node 2 and 4 enters it", "its supply is 0"]),
+    ("Balance", "judge-min MI S P", {"S": "s 0\n"}, ["MI:2: n 1 4", "0 leaves node 1 and 0 enters it", "its supply is 4"]),
+    ("CostRange", "judge-min I S P", {"I": f"p min 1 1\na 1 1 0 {HUGE} {HUGE}\n", "S": f"s 0\nf 1 1 {HUGE}\n", "P": "p pot 1 0\n"}, [f"at a COST of {HUGE}"]),
+    ("ValueDiffers", "judge-max I S C", {"S": FLOW.replace("s 6", "s 7")}, ["S:1: s 7", "7 is claimed, and the flow has the value 6"]),
+    ("ValueDiffers", "judge-min MI S P", {"S": LEAST.replace("s 14", "s 13")}, ["S:1: s 13", "13 is claimed, and the flow costs 14"]),
+    ("NodesDiffer", "judge-max I S C", {"C": "p cut 5 1\nu 1\n"}, ["I:1: p max 4 5", "C:1: p cut 5 1"]),
+    ("SourceOutside", "judge-max I S C", {"C": "p cut 4 0\n"}, ["I:2: n 1 s", "doesn't hold it"]),
+    ("SinkInside", "judge-max I S C", {"C": "p cut 4 2\nu 1\nu 4\n"}, ["I:3: n 4 t", "C:3: u 4", "holds it"]),
+    ("NotSaturated", "judge-max I S C", {"C": "p cut 4 2\nu 1\nu 2\n"}, ["I:6: a 2 3 2", "S:4: f 2 3 1", "carries 1 of its CAP, 2"]),
+    ("BackFlow", "judge-max I S C", {"I": "p max 4 5\nn 1 s\nn 4 t\na 1 2 1\na 1 3 1\na 2 3 1\na 2 4 1\na 3 4 1\n", "S": "s 1\nf 1 2 1\nf 2 3 1\nf 3 4 1\n", "C": "p cut 4 2\nu 1\nu 3\n"}, ["arc 3 enters the set", "carries 1, not 0"]),
+    ("NotTight", "judge-min MI S P", {"S": LEAST, "P": POT.replace("y 1 4", "y 1 3")}, ["P:2: y 1 3", "P:3: y 2 2", "= 2 - 3 + 2 = 1, above 0", "its LOW, 0, and carries 2"]),
+    ("NotViolated", "judge-infeasible MI C", {}, ["supplies 4, and its arcs can carry 0 to 6"]),
+    ("QueryNode", "judge-paths G Q L", {"Q": "p aux sp ss 1\ns 5\n", "L": "p dist 4 1\nt 1 0\n"}, ["Q:2: s 5", "G:1: p sp 4 3"]),
+    ("BlockMissing", "judge-paths G Q L", {"Q": "p aux sp ss 1\ns 2\n", "L": "p dist 4 1\nt 1 0\n"}, ["Q:2: s 2", "no block from source 2", "are from 1; 1 in all"]),
+    ("NoTightArc", "judge-paths G Q L", {"L": "p dist 4 1\nt 1 1\nd 2 4 1\n"}, ["L:3: d 2 4 1", "node 2 is at 4, and its PRED, 1, at 0", "has the WEIGHT 5"]),
+    ("Escapes", "judge-paths G Q L", {"L": "p dist 4 1\nt 1 0\n"}, ["G:2: a 1 2 5", "L:2: the block from source 1", "no farther than 5; it has no label"]),
+    ("NotShortest", "judge-paths G Q L", {"G": "p sp 2 2\na 1 2 3\na 1 2 1\n", "L": "p dist 2 1\nt 1 1\nd 2 3 1\n"}, ["G:3: a 1 2 1", "no farther than 1; its label is 3"]),
+    ("NegativeWeight", "solve-paths G Q L", {"G": "p sp 2 1\na 1 2 -4\n"}, ["G:2: a 1 2 -4", "the WEIGHT -4"]),
+    ("NotMaximum", "certify-max I S", {"S": "s 0\n"}, ["S:1: s 0", "name a file after the solution"]),
+    ("NotMaximum", "certify-max I S B", {"S": "s 0\n"}, ["S:1: s 0", "B:1: s 6", "has 6 more than the 0"]),
+    ("NotLeast", "certify-min MI S B", {"S": "s 15\nf 1 2 2\nf 1 3 2\nf 2 3 1\nf 2 4 1\nf 3 4 3\n"}, ["B:1: s 14", "costs 1 less than the 15"]),
+    # Files that are no such texts.
+    ("UnknownLine", "convert gr T", {"T": b"\x1f\x8b\x08\x00\n"}, ["compressed by gzip"]),
+    ("UnknownLine", "convert gr T", {"T": b"\xef\xbb\xbfp sp 1 0\n"}, ["T:1: \\xef\\xbb\\xbfp sp 1 0", "byte order mark"]),
+    ("UnknownLine", "convert gr T", {"T": "p sp 1 0\n".encode("utf-16")}, ["UTF-16"]),
+    ("FieldCount", "convert gr T", {"T": "p sp 1 1\ra 1 1 0\r"}, ["lines end by a carriage return alone"]),
+    ("BadWord", "convert gr T", {"T": MAX}, ["that of a maximum flow instance (max), and a graph (gr) is wanted"]),
+    ("UnknownLine", "convert gr T", {"T": "p sp 1 1\nx" + "y" * 1000 + "\n"}, ["T:2: xyy", ".."]),
+]
+
+# Reasons that no case gives: one that no text is refused for, and one of 10^12 lines.
+LEFT_OUT = {"ParallelArc", "LineLimit"}
+
+
+def run(binary, words, folder):
+    return subprocess.run([binary, *words.split()], capture_output=True, cwd=folder, check=False)
+
+
+def written(folder, texts):
+    """Writes the texts of a case."""
+    for name, text in {**TEXTS, **texts}.items():
+        with open(os.path.join(folder, name), "wb") as it:
+            it.write(text if isinstance(text, bytes) else text.encode())
+
+
+def fault_of(binary, case):
+    """What is wrong with the explanation of a case; none if nothing is."""
+    reason, words, texts, parts = case
+    with tempfile.TemporaryDirectory() as folder:
+        written(folder, texts)
+        plain = run(binary, words, folder)
+        written(folder, texts)
+        explained = run(binary, f"explain {words}", folder)
+    if not plain.stdout.decode().rstrip("\n").endswith(" " + reason):
+        return f"prints {plain.stdout} without explain"
+    if explained.returncode != plain.returncode or not explained.stdout.startswith(plain.stdout):
+        return f"status {explained.returncode}, prints {explained.stdout}"
+    said = explained.stdout[len(plain.stdout) :].decode()
+    place = 0
+    for part in parts:
+        found = said.find(part, place)
+        if found < 0:
+            return f"lacks {part!r}:\n{said}"
+        place = found + len(part)
+    return None
+
+
+def reasons():
+    """The names of all reasons."""
+    source = os.path.join(os.path.dirname(os.path.abspath(__file__)), "../crates/dimacs_records/src/reasons.rt")
+    with open(source, encoding="utf-8") as it:
+        return set(re.findall(r'Reason::\w+ => "(\w+)"', it.read()))
+
+
+def main():
+    binary = os.path.abspath(sys.argv[1] if len(sys.argv) > 1 else BINARY)
+    passed = failed = 0
+    for case in CASES:
+        fault = fault_of(binary, case)
+        passed += fault is None
+        failed += fault is not None
+        if fault:
+            print(f"{case[0]}: explain {case[1]}: {fault}")
+    missing = reasons() - {case[0] for case in CASES} - LEFT_OUT
+    if missing:
+        failed += 1
+        print(f"no case for {sorted(missing)}")
+    print(f"{passed} passed, {failed} failed")
+    return 1 if failed or not passed else 0
+
+
+if __name__ == "__main__":
+    sys.exit(main())
