@@ -70,7 +70,8 @@ enum {
     DIMACS_TEXT_SOLUTION = 4,
     DIMACS_TEXT_CUT = 5,
     DIMACS_TEXT_POT = 6,
-    DIMACS_TEXT_DIST = 7
+    DIMACS_TEXT_DIST = 7,
+    DIMACS_TEXT_DISTANCES = 8
 };
 
 /* ---- Texts in memory ---- */

@@ -133,6 +133,7 @@ class Texts(unittest.TestCase):
             ("cut", CUT, "i cut 4 1\n"),
             ("pot", POT, "i pot 4 3\n"),
             ("dist", DIST, "i dist 4 1\n"),
+            ("distances", "p distances 4 1\nt 1 1\nd 2 5\n", "i distances 4 1\n"),
         ]:
             loose = "c loose\n" + text.replace(" ", " \t").replace("\n", " \r\n")
             self.assertEqual(dimacs.convert(kind, loose), text)

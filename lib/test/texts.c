@@ -168,8 +168,10 @@ static const struct {
     {"cut", DIMACS_TEXT_CUT, "p cut 4 2\nu 3\nu 1", 0, "p cut 4 2\nu 1\nu 3\n", "i cut 4 2\n"},
     {"pot", DIMACS_TEXT_POT, pot, 0, pot, "i pot 4 3\n"},
     {"dist", DIMACS_TEXT_DIST, dist, 0, dist, "i dist 4 1\n"},
+    {"distances", DIMACS_TEXT_DISTANCES, "p distances 4 1\nt 1 1\nd 2 5", 0, "p distances 4 1\nt 1 1\nd 2 5\n",
+     "i distances 4 1\n"},
     {"a fault", DIMACS_TEXT_GR, "p sp 2 1\na 1 3 0\n", 1, "x instance 2 3 NodeRange\n", "x instance 2 3 NodeRange\n"},
-    {"no kind of text", 8, max, 2, "", ""},
+    {"no kind of text", 9, max, 2, "", ""},
 };
 
 static void converts_and_shows(void) {

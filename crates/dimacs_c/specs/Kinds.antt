@@ -41,4 +41,5 @@ text_kind number =
     else if number == 5 then Some texts.Cut
     else if number == 6 then Some texts.Potentials
     else if number == 7 then Some texts.Labels
+    else if number == 8 then Some texts.Distances
     else None

@@ -51,6 +51,7 @@ pub(crate) fn text_of(number: u32) -> Option<TextKind>
         5 => Some(TextKind::Cut),
         6 => Some(TextKind::Potentials),
         7 => Some(TextKind::Labels),
+        8 => Some(TextKind::Distances),
         _ => None,
     }
 }

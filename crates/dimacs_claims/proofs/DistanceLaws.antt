@@ -1,6 +1,6 @@
 -- The records of distances have no fault, are those of no others, and can be spelled: all this as those of labels.
-use Rattle.std.proofs.Common.{◌≡◌, ℕ, ◌==◌, suc, ◌+◌, ◌∷◌, ◌++◌, [], List, Bool, true, false, Option, Some, None, length, map, refl, ap, ap₂, sym, ◌∙◌, subst, arith}
-use Rattle.std.specs.Prelude.{ℤ, IsTrue, ◌||◌, codes, if◌then◌else◌, is_none, pos}
+use Rattle.std.proofs.Common.{◌≡◌, ℕ, ◌==◌, suc, ◌∷◌, ◌++◌, [], List, Bool, true, false, Option, Some, None, length, map, refl, ap, ap₂, sym, ◌∙◌, subst, arith}
+use Rattle.std.specs.Prelude.{IsTrue, ◌||◌, codes, if◌then◌else◌, is_none}
 use Rattle.std.specs.List.{All, flat_map, fold, filter, list_any}
 use Rattle.std.proofs.lemmas.List.{length-map, map-append}
 use Rattle.std.proofs.lemmas.List.Elements.{All-head, All-map, All-tail, All-weaker}
@@ -9,16 +9,14 @@ use Rattle.dimacs_records.specs.declared.order.Declared.{Declared}
 use Rattle.dimacs_records.specs.declared.reasons.Reason.{Reason}
 use Rattle.dimacs_records.specs.declared.reasons.Reason.TheVariants.{NodeRange, NodeTwice, ProblemMissing, ProblemTwice, RecordOrder, TooFew, TooMany}
 use Rattle.dimacs_records.specs.declared.records.Record.{Record}
-use Rattle.dimacs_records.specs.declared.records.Record.TheVariants.{MaxProblem, MaxNode, MaxArc, MinProblem, MinNode, MinArc, GraphProblem, GraphArc, QueriesProblem, SourceQuery, PairQuery, SolutionValue, SolutionEntry, CutProblem, CutNode, PotentialsProblem, PotentialsNode, LabelsProblem, LabelsBlock, LabelsNode, DistancesProblem, DistancesBlock, DistancesNode}
+use Rattle.dimacs_records.specs.declared.records.Record.TheVariants.{LabelsProblem, LabelsBlock, LabelsNode, DistancesProblem, DistancesBlock, DistancesNode}
 use Rattle.dimacs_records.specs.Blocks.{Block, block_after, block_in, is_full_block, is_labelled, is_short_block}
-use Rattle.dimacs_records.specs.Canonical.{CanBeSpelled, FitAll}
+use Rattle.dimacs_records.specs.Canonical.{CanBeSpelled}
 use Rattle.dimacs_records.specs.Conditions.{condition, end_condition}
 use Rattle.dimacs_records.specs.Earlier.{counted_in, is_above, is_counted, names, or_else, problem_in, problem_of}
-use Rattle.dimacs_records.specs.Forms.{FieldType, Count, Form, Id, Nodes, Radius, Wide, Word, form, forms}
-use Rattle.dimacs_records.specs.Order.{Place}
-use Rattle.dimacs_records.specs.Readings.{IsAllowed, IsComplete, LineRecord, records_of}
-use Rattle.dimacs_records.specs.Shapes.{types_in}
-use Rattle.dimacs_records.specs.Spelling.{Part, kind_of, letter_of, parts_of}
+use Rattle.dimacs_records.specs.Forms.{Count, Id, Nodes, Radius, Wide, Word, form}
+use Rattle.dimacs_records.specs.Readings.{IsAllowed, LineRecord, records_of}
+use Rattle.dimacs_records.specs.Spelling.{kind_of}
 use Rattle.dimacs_records.specs.Texts.{AreFaultless}
 use Rattle.dimacs_records.proofs.CanonicalLaws.{canonical_spelled, numbered_all}
 use Rattle.dimacs_records.proofs.FitLaws.{fits_spelled}

@@ -1,5 +1,5 @@
 -- Records after those of distances that were begun.
-use Rattle.std.proofs.Common.{◌≡◌, ℕ, ◌==◌, ◌≤◌, ◌∷◌, ◌++◌, [], List, Bool, true, false, inl, inr, Option, Some, None, map, refl, ap, sym, ◌∙◌, subst, arith}
+use Rattle.std.proofs.Common.{◌≡◌, ℕ, ◌==◌, ◌≤◌, ◌∷◌, ◌++◌, [], List, Bool, true, false, inl, inr, Some, None, map, refl, ap, sym, ◌∙◌, subst, arith}
 use Rattle.std.specs.Prelude.{ℤ, ◌||◌, is_none, not, Result, Ok, Err, OnOk, OnErr}
 use Rattle.std.specs.List.{All}
 use Rattle.std.proofs.lemmas.Bool.{eq-eqb, le-ltb}
@@ -8,7 +8,7 @@ use Rattle.dimacs_records.specs.declared.kinds.TextKind.TheVariants.{Labels, Dis
 use Rattle.dimacs_records.specs.declared.order.Earlier.{Earlier}
 use Rattle.dimacs_records.specs.declared.records.Record.{Record}
 use Rattle.dimacs_records.specs.declared.records.Record.TheVariants.{LabelsBlock, LabelsNode, DistancesProblem, DistancesBlock, DistancesNode}
-use Rattle.dimacs_records.specs.Blocks.{Block, block_in, is_labelled, is_past, is_past_block}
+use Rattle.dimacs_records.specs.Blocks.{block_in, is_labelled, is_past, is_past_block}
 use Rattle.dimacs_records.specs.Readings.{LineRecord, numbered, records_of}
 use Rattle.dimacs_records.specs.Spelling.{kind_of}
 use Rattle.dimacs_records.specs.Tests.{Passes, PassesEnd, told_at_end, told_of}
@@ -16,12 +16,11 @@ use Rattle.dimacs_records.proofs.CanonicalLaws.{numbered_all}
 use Rattle.dimacs_claims.specs.declared.block.Label.{Label}
 use Rattle.dimacs_claims.specs.DistanceTexts.{AreBare, GivesDistances, IsBare, bare}
 use Rattle.dimacs_claims.specs.Labels.{BlockValue, IsBlock, LabelsValue, with_block, with_label}
-use Rattle.dimacs_claims.specs.LabelTexts.{GivesLabels, label_records}
+use Rattle.dimacs_claims.specs.LabelTexts.{GivesLabels}
 use Rattle.dimacs_claims.specs.LabelsReading.{AreLabelsBegun, LabelsBegun, before, before_bare, before_end, labels_begun_records}
 use Rattle.dimacs_claims.proofs.BegunLemmas.{end_tells, in_last, lines_told, tells}
 use Rattle.dimacs_claims.proofs.DistanceLaws.{bare_counted_in, bare_full, bare_labelled, bare_misplaced, bare_named, bare_problem_in, bare_short}
-use Rattle.dimacs_claims.proofs.LabelRecords.{HasLast, last_after, last_cases, opened_with, say_taken}
-use Rattle.dimacs_claims.proofs.LabelStates.{Say}
+use Rattle.dimacs_claims.proofs.LabelRecords.{HasLast, last_after, last_cases, say_taken}
 
 -- what is told of the records is so
 pub tells_bare : (b : LabelsBegun) (r : Record) → kind_of r ≡ Distances → before_bare b r ≡ told_of (map bare (labels_begun_records b)) r

@@ -1,6 +1,8 @@
 //! What the command can be asked for.
 
-ghost use Rattle.std.specs.Prelude.{IfNone, IfSome, List, ℕ};
+ghost use Rattle.std.specs.Prelude.{◌≡◌, IfNone, IfSome, List, map, slice_get, ℕ};
+ghost use Rattle.std.specs.Option.{option_map};
+ghost use Rattle.std.specs.String.{string_bytes};
 ghost use Rattle.dimacs_runs.specs.Commands.{WritesTwice};
 
 use dimacs_records::TextKind;
@@ -57,15 +59,29 @@ pub enum Job<'a> {
 }
 
 impl<'a> Job<'a> {
-    /// The name of a file that the run writes twice, one text over the other; none where it writes each once.
+    /// The name of a file to which the run writes a claim and its certificate, one over the other; none where it writes
+    /// no file twice.
     pub fn written_twice(&self) -> Option<&'a str>
         ensures twice { IfSome result (λ name. WritesTwice self.now name.now) }
         ensures once { IfNone result ((name : List ℕ) → ¬ WritesTwice self.now name) }
     {
-        match self {
-            Job::Solve(SolveJob::Max(_) | SolveJob::Min(_), [_, claim, certificate, ..])
-                if claim.as_str() == certificate.as_str() => { Some(claim.as_str()) }
+        let files = match *self {
+            Job::Solve(SolveJob::Max(_) | SolveJob::Min(_), files) => files,
+            _ => return None,
+        };
+        match (word(files, 1), word(files, 2)) {
+            (Some(claim), Some(certificate)) if claim == certificate => Some(claim),
             _ => None,
         }
+    }
+}
+
+/// The word at this place, from 0.
+fn word(words: &[String], place: usize) -> Option<&str>
+    ensures { option_map (λ word. word.now) result ≡ slice_get (map string_bytes words.now) place }
+{
+    match words.get(place) {
+        Some(word) => Some(word.as_str()),
+        None => None,
     }
 }

@@ -49,8 +49,9 @@ fn descend_by_steps<N: Network>(
 ) -> Result<Descent, Memory>
     ensures { IfOk result (Descends instance.now limit) }
 {
-    let incidence = Incidence::new(alloc, instance.network())?;
-    let mut flow = started(alloc, instance.network())?;
+    let network = instance.network();
+    let incidence = Incidence::new(alloc, network)?;
+    let mut flow = started(alloc, network)?;
     for _step in 0..limit {
         match ask_over(alloc, instance, &incidence, &flow)? {
             Reply::Least(slack) => return Ok(Descent::Bottom(flow, slack)),

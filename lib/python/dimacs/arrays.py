@@ -185,7 +185,7 @@ def certify_min_arrays(
     """Decides whether a flow costs least; its cost, and for each node a potential, which show it.
 
     Raises NotOptimal where the flow is feasible, but another costs less, which it has, and Refused, as
-    certify_max_arrays; OverflowError where the flow costs least, and two of the potentials that were found are 2^64
+    certify_max_arrays; GaveUp where the flow costs least, and two of the potentials that were found are 2^64
     or more apart; others may fit.
     """
     given = _Given(_MIN, nodes, tails, heads, lows, caps, costs, supplies)

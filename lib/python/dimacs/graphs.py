@@ -212,7 +212,7 @@ def certify_networkx_min(graph: Any, flow: Any) -> Certified:
     """Decides whether a flow costs least; its cost, and a dict of potentials by node, which show it.
 
     Raises NotOptimal where the flow is feasible, but another costs less, which it has as a dict, and Refused, as
-    certify_networkx_max; OverflowError where the flow costs least, and two of the potentials that were found are
+    certify_networkx_max; GaveUp where the flow costs least, and two of the potentials that were found are
     2^64 or more apart; others may fit.
     """
     given = _Graph(graph)

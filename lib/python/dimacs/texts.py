@@ -11,7 +11,7 @@ from .buffers import LIMIT, LIMITS, bytes_of, number_of
 Text = Union[bytes, str, bytearray, memoryview]
 
 _KINDS = {"max": 0, "min": 1, "infeasible": 2, "paths": 3}
-_TEXTS = {"max": 0, "min": 1, "gr": 2, "query": 3, "solution": 4, "cut": 5, "pot": 6, "dist": 7}
+_TEXTS = {"max": 0, "min": 1, "gr": 2, "query": 3, "solution": 4, "cut": 5, "pot": 6, "dist": 7, "distances": 8}
 
 
 def _judge(kind: str, instance: Text, claim: Text, certificate: Text) -> Verdict:
@@ -133,7 +133,7 @@ def _told(function: Any, kind: str, text: Text) -> Any:
 def convert(kind: str, text: Text) -> Any:
     """The canonical form of a text: str where the text is str, else bytes. Raises Refused where it has a fault.
 
-    kind is "max", "min", "gr", "query", "solution", "cut", "pot" or "dist".
+    kind is "max", "min", "gr", "query", "solution", "cut", "pot", "dist" or "distances".
     """
     return _told(library.convert, kind, text)
 

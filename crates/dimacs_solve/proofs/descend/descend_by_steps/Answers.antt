@@ -6,7 +6,7 @@ use Rattle.dimacs_solve.proofs.Falling.{first_step, next_step, out_of_steps}
 use Rattle.dimacs_solve.proofs.descend.descend_by_steps.Goals as goal
 
 pub loop-step-init : goal.loop-step-init
-loop-step-init g c = first_step c.args.instance.now c.in_ok-flow.flow c.network.ensures.lawful (rw c.network.ensures.arcs at c.in_ok-flow.ensures)
+loop-step-init g c = first_step c.args.instance.now c.in_ok-flow.flow c.network-network.ensures.lawful (rw c.network-network.ensures.arcs at c.in_ok-flow.ensures)
 
 pub loop-step-preserved : goal.loop-step-preserved
 loop-step-preserved g c =
@@ -15,8 +15,8 @@ loop-step-preserved g c =
     let told : (¬ Least i x) × KeepsBounds i.arcs c.in-Better.better × IsBetter i x c.in-Better.better = rw c.in-Better.is at c.in_ok-slack.ensures in
     next_step i c.loop-step._step x c.in-Better.better c.loop-step.invariant told.0 told.1 told.2
 
-pub returns-in-Better-2 : goal.returns-in-Better-2
-returns-in-Better-2 g c =
+pub returns : goal.returns
+returns g c =
     let i = c.args.instance.now in
     let x = c.loop-step.flow in
     let told : (¬ Least i x) × KeepsBounds i.arcs c.in-Better-2._better × IsBetter i x c.in-Better-2._better = rw c.in-Better-2.is at c.in_ok-slack-2.ensures in

@@ -1,6 +1,6 @@
 use Rattle.std.proofs.Common.{◌≡◌, None, ap, ap₂, false, refl, subst, sym, ◌∙◌}
 use Rattle.dimacs_records.specs.declared.order.Earlier.{Earlier}
-use Rattle.dimacs_records.specs.declared.records.Record.TheVariants.{DistancesBlock, DistancesNode, DistancesProblem, LabelsBlock}
+use Rattle.dimacs_records.specs.declared.records.Record.TheVariants.{DistancesNode, DistancesProblem, LabelsBlock}
 use Rattle.dimacs_records.specs.Tests.{told_of}
 use Rattle.dimacs_claims.specs.LabelsReading.{LabelsBegun, before, before_bare}
 use Rattle.dimacs_claims.proofs.DistanceStates.{tells_bare}

@@ -4,7 +4,6 @@ use Rattle.std.proofs.lemmas.Int.{to_z-of_z}
 use Rattle.dimacs_records.specs.declared.records.Record.{Record}
 use Rattle.dimacs_records.specs.declared.records.Record.TheVariants.{DistancesNode}
 use Rattle.dimacs_records.specs.Tests.{Passes}
-use Rattle.dimacs_claims.specs.declared.block.Label.{Label}
 use Rattle.dimacs_claims.specs.LabelsReading.{LabelsBegun, before_bare}
 use Rattle.dimacs_claims.proofs.DistanceStates.{bare_kept, bare_opened, has_last, label_passes, source_least}
 use Rattle.dimacs_claims.proofs.distances.BegunDistancesBegun.keep.Goals as goal

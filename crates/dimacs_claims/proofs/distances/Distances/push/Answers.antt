@@ -1,4 +1,3 @@
-use Rattle.dimacs_claims.specs.Labels.{IsNewSource}
 use Rattle.dimacs_claims.proofs.DistanceStates.{bare_pushed}
 use Rattle.dimacs_claims.proofs.distances.Distances.push.Goals as goal
 
