@@ -136,6 +136,8 @@ def path_texts():
     labels = [f"d {head} {tail} {tail}" for tail, head in around if head != 1]
     block = [f"p dist {ITEMS} 1", f"t 1 {ITEMS - 1}"]
     yield "dist", lines([*block, *labels])
+    claimed = [f"d {head} {tail}" for tail, head in around if head != 1]
+    yield "distances", lines([f"p distances {ITEMS} 1", f"t 1 {ITEMS - 1}", *claimed])
     near = [f"p dist {ITEMS} 1", f"t 1 {PAIRS - 1} {PAIRS - 1}", *labels[: PAIRS - 1]]
     yield "near", lines(near)
     yield "near.answers", lines(
@@ -150,6 +152,7 @@ def source_texts():
     yield "loops", lines([f"p sp {ITEMS} {ITEMS}", *(f"a {node} {node} 1" for node in nodes)])
     yield "sources", lines([f"p aux sp ss {ITEMS}", *(f"s {node}" for node in nodes)])
     yield "blocks", lines([f"p dist {ITEMS} {ITEMS}", *(f"t {node} 0" for node in nodes)])
+    yield "apart", lines([f"p distances {ITEMS} {ITEMS}", *(f"t {node} 0" for node in nodes)])
 
 
 # Each text that is converted: its kind, its name, the letter of its items, and what is shown of it.
@@ -168,10 +171,13 @@ KINDS = [
     ("dist", "long.dist", "d", f"i dist {ITEMS} 1\n"),
     ("dist", "wide.dist", "d", f"i dist {ITEMS} 1\n"),
     ("dist", "blocks", "t", f"i dist {ITEMS} {ITEMS}\n"),
+    ("distances", "distances", "d", f"i distances {ITEMS} 1\n"),
+    ("distances", "apart", "t", f"i distances {ITEMS} {ITEMS}\n"),
 ]
 
 # What the text of a kind is called in a refusal.
-CALLED = {"solution": "solution", "query": "query", "cut": "certificate", "pot": "certificate", "dist": "certificate"}
+CALLED = {"solution": "solution", "query": "query", "distances": "distances"}
+CALLED.update(dict.fromkeys(("cut", "pot", "dist"), "certificate"))
 
 
 def spoiled(text, letter):
