@@ -32,7 +32,7 @@ struct Seen {
     letter: String,
     word: String,
     /// How many fields the line has.
-    fields: usize,
+    fields: u64,
     /// What the line says, where its fault is about others too.
     record: Option<Record>,
     /// What is odd about the file as a whole.
@@ -125,7 +125,7 @@ fn look<F: Files>(
         }
         if number == fault.line {
             seen.other = other_kind(bytes);
-            seen.fields = fields(bytes).count();
+            seen.fields = count_fields(bytes);
             seen.quote = Some(Quote::new(alloc, number, bytes, fault.field)?);
             escape(&mut seen.letter, word_at(bytes, 1))?;
             escape(&mut seen.word, word_at(bytes, fault.field))?;
@@ -138,6 +138,15 @@ fn look<F: Files>(
         }
     }
     Ok(Some(seen))
+}
+
+/// How many fields a line has.
+fn count_fields(line: &[u8]) -> u64 {
+    let mut count = 0_u64;
+    for _ in fields(line) {
+        count = count.saturating_add(1);
+    }
+    count
 }
 
 /// The first bytes of a field, from 1.

@@ -1,5 +1,7 @@
 //! A sink that keeps the beginning of what it passes on.
 
+ghost use Rattle.std.specs.Prelude.{◌≡◌};
+
 use dimacs_lines::{DeviceFault, Sink};
 
 /// No line of a refusal is longer.
@@ -14,7 +16,9 @@ pub struct FirstLine<K> {
 }
 
 impl<K> FirstLine<K> {
-    pub fn new(sink: K) -> FirstLine<K> {
+    pub fn new(sink: K) -> FirstLine<K>
+        ensures { result.sink ≡ sink }
+    {
         FirstLine {
             sink,
             first: [0; ROOM],
@@ -23,7 +27,9 @@ impl<K> FirstLine<K> {
     }
 
     /// The sink as it is now.
-    pub fn sink(&self) -> &K {
+    pub fn sink(&self) -> &K
+        ensures { result.now ≡ self.now.sink }
+    {
         &self.sink
     }
 
@@ -35,17 +41,6 @@ impl<K> FirstLine<K> {
             None => kept,
         }
     }
-
-    /// Keeps these bytes, as far as there is room.
-    fn keep(&mut self, bytes: &[u8]) {
-        for &byte in bytes {
-            let Some(slot) = self.first.get_mut(self.kept) else {
-                return;
-            };
-            *slot = byte;
-            self.kept += 1;
-        }
-    }
 }
 
 impl<K: Sink> Sink for FirstLine<K> {
@@ -53,7 +48,21 @@ impl<K: Sink> Sink for FirstLine<K> {
 
     fn put(&mut self, bytes: &[u8]) -> Result<usize, DeviceFault> {
         let count = self.sink.put(bytes)?;
-        self.keep(bytes.get(..count).unwrap_or(bytes));
+        let accepted = bytes.get(..count).unwrap_or(bytes);
+        self.kept = keep(&mut self.first, self.kept, accepted);
         Ok(count)
     }
+}
+
+/// Keeps bytes after so many that were kept, as far as there is room, and answers how many are kept then.
+fn keep(first: &mut [u8; ROOM], kept: usize, bytes: &[u8]) -> usize {
+    let mut end = kept;
+    for &byte in bytes {
+        let Some(slot) = first.get_mut(end) else {
+            return end;
+        };
+        *slot = byte;
+        end += 1;
+    }
+    end
 }
