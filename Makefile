@@ -88,7 +88,7 @@ install: $(if $(UNPROVED),quick,all) $(MAN)
 	[ ! -e completion ] || install -D -m 644 -t $(IN)/share/zsh/site-functions completion/_dimacs
 	[ ! -e completion ] || install -D -m 644 -t $(IN)/share/fish/vendor_completions.d completion/dimacs.fish
 
-build/man: tools/man_pages.py VERSION crates/dimacs/src/usage.rt $(wildcard man/*.md docs/*.md CHANGELOG.md)
+build/man: tools/man_pages.py VERSION crates/dimacs/src/usage.rt $(wildcard man/*.md docs/*.md *.md recipes/README.md)
 	rm -rf $@ $@.new
 	mkdir -p $@.new
 	tools/man_pages.py $@.new
