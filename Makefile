@@ -87,8 +87,11 @@ install: $(if $(UNPROVED),quick,all) $(MAN)
 	[ ! -e completion ] || install -D -m 644 completion/dimacs.bash $(IN)/share/bash-completion/completions/dimacs
 	[ ! -e completion ] || install -D -m 644 -t $(IN)/share/zsh/site-functions completion/_dimacs
 	[ ! -e completion ] || install -D -m 644 -t $(IN)/share/fish/vendor_completions.d completion/dimacs.fish
+# bash and fish load a completion by the name of its command.
+	[ ! -e completion ] || ln -sf dimacs $(IN)/share/bash-completion/completions/dimacs-batch
+	[ ! -e completion ] || ln -sf dimacs.fish $(IN)/share/fish/vendor_completions.d/dimacs-batch.fish
 
-build/man: tools/man_pages.py VERSION crates/dimacs/src/usage.rt $(wildcard man/*.md docs/*.md CHANGELOG.md)
+build/man: tools/man_pages.py VERSION crates/dimacs/src/usage.rt $(wildcard man/*.md docs/*.md *.md recipes/README.md)
 	rm -rf $@ $@.new
 	mkdir -p $@.new
 	tools/man_pages.py $@.new

@@ -27,7 +27,7 @@ echo "$*" >>"$RAN"
 [ "$1" = show ] && shift
 read -r seconds status line <"$2"
 [ "$seconds" = 0 ] || sleep "$seconds" >/dev/null 2>&1
-case $status in [0-15]) echo "$line" ;; *) echo "$line" >&2 ;; esac
+case $status in [0-15]) printf '%b\\n' "$line" ;; *) printf '%b\\n' "$line" >&2 ;; esac
 exit "$status"
 """
 
@@ -218,11 +218,28 @@ def late(place):
     assert status == 3 and table[0]["status"] == "124" and table[0]["verdict"] == "ended after 0.3 s", table
 
 
+def odd(place):
+    """A name that isn't UTF-8, words that ask for no run, and a refusal with lines after it."""
+    name = os.fsdecode(b"\xff.max")
+    place.write(name, "0 2 dimacs: usage\\nUsage: ..\n")
+    place.write("1.max", "0 1 x solution 2 2 NotMaximum\\n..\n")
+    place.write("list", "1.max\n")
+    with open(os.path.join(place.folder, "list"), "ab") as it:
+        it.write(b"\xff.max\n")
+    status, _, _ = place.run("list", "-o", "table")
+    with open(os.path.join(place.folder, "table"), newline="", encoding="utf-8", errors="surrogateescape") as it:
+        table = rows(it.read())
+    assert status == 3 and column(table, "instance") == ["1.max", name], table
+    assert column(table, "verdict") == ["x solution 2 2 NotMaximum; 1 more", "dimacs: usage"], table
+    assert column(table, "class") == ["claim", ""], table
+
+
 def misused(place):
     """Words that ask for nothing, and a program that isn't there."""
     place.write("1.max", "0 0 v max 1\n")
     place.write("list", "1.max\n")
     assert place.run()[0] == 2 and place.run("list", "--run", "max")[0] == 2 and place.run("missing")[0] == 2
+    assert place.run("list", "--run", "max='")[0] == 2
     status, _, err = place.run("list", program="/nowhere/dimacs")
     assert status == 2 and "/nowhere/dimacs" in err, err
 
@@ -250,7 +267,7 @@ def examples(place, binary):
 
 
 def main():
-    tests = [order_and_columns, commands, folders, taken_up, killed, late, misused, classes]
+    tests = [order_and_columns, commands, folders, taken_up, killed, late, odd, misused, classes]
     binary = os.path.abspath(sys.argv[1]) if len(sys.argv) > 1 else BUILT
     if len(sys.argv) > 1 or os.path.exists(BUILT):
         tests.append(functools.partial(examples, binary=binary))

@@ -32,7 +32,7 @@ Recommends: python3
 Installed-Size: {size}
 Description: reads, writes and judges DIMACS texts of flows and shortest paths
  The command dimacs says whether a claimed maximum flow, flow of least cost or
- table of distances is right, and names the first fault. The library does the
+ tree of shortest paths is right, and names the first fault. The library does the
  same for C and C++. Every function of both is proved to meet its contract.
 """
 
