@@ -43,6 +43,7 @@ CASES = [
     ("NodeRange", "convert gr T", {"T": "p sp 1 1\na 1 2 0\n"}, ["node 2 is above the 1 nodes that line 1 declares"]),
     ("NodeTwice", "convert cut T", {"T": "p cut 4 2\nu 3\nu 3\n"}, ["T:3: u 3", "line 2 names the node already"]),
     ("EndTwice", "convert max T", {"T": "p max 2 1\nn 1 s\nn 2 s\n"}, ["T:3: n 2 s", "line 2 has the same letter already"]),
+    ("EndTwice", "convert max T", {"T": "p max 3 1\nn 1 s\nn 2 t\nn 3 s\n"}, ["T:4: n 3 s", "line 2 has the same letter already"]),
     ("EndMissing", "convert max T", {"T": "p max 2 1\nn 1 s\na 1 2 1\n"}, ["`n ID t`, the sink,"]),
     ("BoundOrder", "convert min T", {"T": "p min 2 1\na 1 2 3 2 0\n"}, ["CAP is 2, less than LOW, 3"]),
     ("TooMany", "convert gr T", {"T": "p sp 1 1\na 1 1 0\na 1 1 0\n"}, ["line 1 declares 1 arc lines, and this is one more"]),
@@ -77,7 +78,11 @@ CASES = [
     ("NotMaximum", "certify-max I S", {"S": "s 0\n"}, ["S:1: s 0", "name a file after the solution"]),
     ("NotMaximum", "certify-max I S B", {"S": "s 0\n"}, ["S:1: s 0", "B:1: s 6", "has 6 more than the 0"]),
     ("NotLeast", "certify-min MI S B", {"S": "s 15\nf 1 2 2\nf 1 3 2\nf 2 3 1\nf 2 4 1\nf 3 4 3\n"}, ["B:1: s 14", "costs 1 less than the 15"]),
-    # Files that are no such texts.
+    # Words that are almost numbers, or too long.
+    ("BadNumber", "convert gr T", {"T": "p sp 1 1\na 1 1 1e++6\n"}, ["and not `1e++6`\n"]),
+    ("BadNumber", "convert gr T", {"T": "p sp 1 1\na 1 1 0." + "0" * 70 + "5\n"}, ["0..`\n"]),
+    # Texts of this kind, and files that are no such texts.
+    ("FieldCount", "convert max T", {"T": "p max 4\n"}, ["the line has 3 fields"]),
     ("UnknownLine", "convert gr T", {"T": b"\x1f\x8b\x08\x00\n"}, ["compressed by gzip"]),
     ("UnknownLine", "convert gr T", {"T": b"\xef\xbb\xbfp sp 1 0\n"}, ["T:1: \\xef\\xbb\\xbfp sp 1 0", "byte order mark"]),
     ("UnknownLine", "convert gr T", {"T": "p sp 1 0\n".encode("utf-16")}, ["UTF-16"]),

@@ -5,12 +5,12 @@ ghost use Rattle.std.specs.String.{string_bytes};
 ghost use Rattle.dimacs_runs.specs.Commands.{seen_by};
 ghost use Rattle.dimacs_explain.specs.Explained.{Explains};
 
-use crate::faults::{Fault, explain_fault};
+use crate::faults::{Fault, cannot_read, explain_fault};
 use crate::first_line::FirstLine;
 use crate::flow_tests::{explain_arc, explain_balance, explain_solution};
 use crate::path_tests::{explain_label, explain_query};
 use crate::refusal::{Place, Refusal};
-use crate::texts::Texts;
+use crate::texts::{Named, Texts};
 use crate::whole_tests::{explain_end, explain_whole};
 use dimacs_lines::{Memory, Sink, put_all};
 use dimacs_records::End;
@@ -64,10 +64,36 @@ fn explanation<A: Files>(
             };
             explain_text(alloc, again, texts, name, fault, &mut said)?;
         }
-        Place::Arc(number) => explain_arc(alloc, again, texts, number, reason, &mut said)?,
-        Place::Node(node) => explain_node(alloc, again, texts, node, reason, &mut said)?,
+        Place::Arc(number) => {
+            if are_readable(again, texts, &mut said)? {
+                explain_arc(alloc, again, texts, number, reason, &mut said)?;
+            }
+        }
+        Place::Node(node) => {
+            if are_readable(again, texts, &mut said)? {
+                explain_node(alloc, again, texts, node, reason, &mut said)?;
+            }
+        }
     }
     Ok(said)
+}
+
+/// Whether all texts of a run can be read again; those that can't be are named.
+fn are_readable<A: Files>(
+    again: &mut A,
+    texts: Texts<'_>,
+    said: &mut String,
+) -> Result<bool, Memory> {
+    let mut all = true;
+    for text in [texts.instance, texts.claim, texts.certificate] {
+        if let Some(Named { file, .. }) = text
+            && again.open(file).is_err()
+        {
+            cannot_read(said, file)?;
+            all = false;
+        }
+    }
+    Ok(all)
 }
 
 /// Says what is wrong at a place of a text: a fault of its own, or a test of a claim.
@@ -81,9 +107,17 @@ fn explain_text<A: Files>(
 ) -> Result<(), Memory> {
     match fault.reason {
         "UnknownArc" | "ArcTwice" | "ValueDiffers" | "NotMaximum" | "NotLeast" => {
-            explain_solution(alloc, again, texts, fault, said)
+            if are_readable(again, texts, said)? {
+                explain_solution(alloc, again, texts, fault, said)?;
+            }
+            Ok(())
         }
-        "NodesDiffer" | "NotViolated" => explain_whole(alloc, again, texts, fault.reason, said),
+        "NodesDiffer" | "NotViolated" => {
+            if are_readable(again, texts, said)? {
+                explain_whole(alloc, again, texts, fault.reason, said)?;
+            }
+            Ok(())
+        }
         _ => match texts.by_name(name) {
             Some(text) => explain_fault(alloc, again, text, fault, said),
             None => Ok(()),

@@ -7,7 +7,7 @@ use crate::oddities::{has_lone_return, oddity, other_kind};
 use crate::quote::{Quote, escape};
 use crate::texts::{ANY_LINES, Named, TextLines};
 use dimacs_lines::{Memory, fields};
-use dimacs_records::{Record, TextKind};
+use dimacs_records::{End, Record, TextKind};
 use dimacs_runs::Files;
 use std::alloc::{AllocError, Global};
 
@@ -124,12 +124,13 @@ fn look<F: Files>(
             seen.lone_return = has_lone_return(bytes);
         }
         if number == fault.line {
-            seen.other = other_kind(bytes);
+            seen.other = other_kind(text.kind, bytes);
             seen.fields = count_fields(bytes);
             seen.quote = Some(Quote::new(alloc, number, bytes, fault.field)?);
-            escape(&mut seen.letter, word_at(bytes, 1))?;
-            escape(&mut seen.word, word_at(bytes, fault.field))?;
+            add_word(&mut seen.letter, bytes, 1)?;
+            add_word(&mut seen.word, bytes, fault.field)?;
             seen.record = lines.record();
+            seen.lone_return = seen.lone_return && number == 1 && lines.next().is_none();
             break;
         }
         seen.before.lines = number;
@@ -138,6 +139,17 @@ fn look<F: Files>(
         }
     }
     Ok(Some(seen))
+}
+
+/// Adds a field, from 1; of a long one the beginning.
+fn add_word(word: &mut String, line: &[u8], field: u64) -> Result<(), AllocError> {
+    let whole = word_at(line, field);
+    let shown = whole.get(..LONG_WORD).unwrap_or(whole);
+    escape(word, shown)?;
+    if shown.len() < whole.len() {
+        word.push_str("..")?;
+    }
+    Ok(())
 }
 
 /// How many fields a line has.
@@ -149,11 +161,11 @@ fn count_fields(line: &[u8]) -> u64 {
     count
 }
 
-/// The first bytes of a field, from 1.
+/// The bytes of a field, from 1.
 fn word_at(line: &[u8], field: u64) -> &[u8] {
     let place = usize::try_from(field.saturating_sub(1)).unwrap_or(usize::MAX);
     match fields(line).nth(place) {
-        Some(field) => field.text.get(..LONG_WORD).unwrap_or(field.text),
+        Some(field) => field.text,
         None => &[],
     }
 }
@@ -431,12 +443,21 @@ fn say_order(
             )
         }
         "EndMissing" => say_ends(before, said),
-        "EndTwice" => say_earlier(
-            before.source_line.max(before.sink_line),
-            "has the same letter already",
-            said,
-        ),
+        "EndTwice" => say_earlier(end_line(seen), "has the same letter already", said),
         _ => say_rest(kind, fault, seen, said),
+    }
+}
+
+/// The earlier line of the end that a line names.
+fn end_line(seen: &Seen) -> Option<u64> {
+    match seen.record {
+        Some(
+            Record::MaxNode {
+                end: End::Source,
+                ..
+            },
+        ) => seen.before.source_line,
+        _ => seen.before.sink_line,
     }
 }
 
@@ -451,11 +472,11 @@ fn say_earlier(line: Option<u64>, what: &str, said: &mut String) -> Result<(), A
 /// Says which of source and sink isn't named.
 fn say_ends(before: &Before, said: &mut String) -> Result<(), AllocError> {
     let missing = match (before.source_line, before.sink_line) {
-        (None, None) => "`n ID s` and `n ID t`, the source and the sink,",
-        (None, Some(_)) => "`n ID s`, the source,",
-        _ => "`n ID t`, the sink,",
+        (None, None) => "`n ID s` and `n ID t`, the source and the sink, have",
+        (None, Some(_)) => "`n ID s`, the source, has",
+        _ => "`n ID t`, the sink, has",
     };
-    writeln!(said, "{missing} have to stand before the arcs")
+    writeln!(said, "{missing} to stand before the arcs")
 }
 
 /// Says what is wrong for the other reasons.

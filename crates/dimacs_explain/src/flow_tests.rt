@@ -388,6 +388,13 @@ fn explain_better<F: Files>(
         kind: TextKind::Solution,
         file,
     };
+    if files.open(file).is_err() {
+        writeln!(
+            said,
+            "the flow is feasible, and there is a better one, which was written to {file}"
+        )?;
+        return Ok(());
+    }
     match find_line(alloc, files, better, Wanted::Value)? {
         Some(
             FoundLine {

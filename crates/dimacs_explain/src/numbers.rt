@@ -2,8 +2,8 @@
 
 use std::alloc::{AllocError, Global};
 
-/// More zeros than a number of the texts can have.
-const MOST_ZEROS: u32 = 30;
+/// Numbers of so many digits fit all fields but those of IDs and counts.
+const MOST_DIGITS: usize = 18;
 
 /// The whole number that a word spells in another way, as `3.0` or `1e6` do.
 pub(crate) fn meant_number(alloc: Global, word: &str) -> Result<Option<String>, AllocError> {
@@ -22,8 +22,11 @@ pub(crate) fn meant_number(alloc: Global, word: &str) -> Result<Option<String>, 
 /// A whole number with so many zeros after it.
 fn with_zeros(alloc: Global, whole: &str, zeros: &str) -> Result<Option<String>, AllocError> {
     let zeros = zeros.strip_prefix('+').unwrap_or(zeros);
-    match zeros.parse::<u32>() {
-        Ok(count) if count <= MOST_ZEROS => {
+    if !zeros.bytes().all(|byte| byte.is_ascii_digit()) {
+        return Ok(None);
+    }
+    match zeros.parse::<usize>() {
+        Ok(count) if count.saturating_add(whole.len()) <= MOST_DIGITS => {
             let mut number = String::from_str(alloc, whole)?;
             for _ in 0..count {
                 number.push('0')?;

@@ -1,6 +1,8 @@
 //! Files that aren't texts, or are of another kind, seen by their first bytes.
 
+use crate::forms::form_of;
 use dimacs_lines::fields;
+use dimacs_records::TextKind;
 
 /// What a first line shows of a file that is not what its reader took it for.
 pub(crate) fn oddity(first: &[u8]) -> Option<&'static str> {
@@ -12,7 +14,7 @@ pub(crate) fn oddity(first: &[u8]) -> Option<&'static str> {
         [0xff, 0xfe, ..] | [0xfe, 0xff, ..] => {
             Some("the file is in UTF-16: write it in ASCII or UTF-8")
         }
-        [_, 0, _, 0, ..] | [0, _, 0, _, ..] => {
+        [a, 0, b, 0, ..] | [0, a, 0, b, ..] if *a > 0 && *b > 0 => {
             Some("the file looks like UTF-16: write it in ASCII or UTF-8")
         }
         [b'B', b'Z', b'h', ..] => Some("the file is compressed by bzip2"),
@@ -29,16 +31,20 @@ pub(crate) fn has_lone_return(line: &[u8]) -> bool {
 }
 
 /// What a text is whose problem line has this word.
-pub(crate) fn other_kind(line: &[u8]) -> Option<&'static str> {
+pub(crate) fn other_kind(kind: TextKind, line: &[u8]) -> Option<&'static str> {
     let mut words = fields(line);
     if words.next()?.text != b"p".as_slice() {
         return None;
     }
-    match words.next()?.text {
+    let word = words.next()?.text;
+    if is_word_of(kind, word) {
+        return None;
+    }
+    match word {
         b"max" => Some("the p line is that of a maximum flow instance (max)"),
         b"min" => Some("the p line is that of a minimum cost flow instance (min)"),
         b"sp" => Some("the p line is that of a graph (gr)"),
-        b"aux" => Some("the p line is that of queries (query)"),
+        b"aux" if is_of_queries(line) => Some("the p line is that of queries (query)"),
         b"cut" => Some("the p line is that of a set of nodes (cut)"),
         b"pot" => Some("the p line is that of potentials (pot)"),
         b"distances" => Some("the p line is that of distances (distances)"),
@@ -51,5 +57,21 @@ pub(crate) fn other_kind(line: &[u8]) -> Option<&'static str> {
             "the p line is that of an assignment problem, which is no kind of text here",
         ),
         _ => None,
+    }
+}
+
+/// Whether the problem lines of a kind have this word.
+fn is_word_of(kind: TextKind, word: &[u8]) -> bool {
+    match form_of(kind, "p").and_then(|form| form.split(' ').nth(1)) {
+        Some(own) => own.as_bytes() == word,
+        None => false,
+    }
+}
+
+/// Whether a problem line asks for sources or pairs.
+fn is_of_queries(line: &[u8]) -> bool {
+    match fields(line).nth(3) {
+        Some(field) => matches!(field.text, b"ss" | b"p2p"),
+        None => false,
     }
 }

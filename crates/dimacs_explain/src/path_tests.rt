@@ -73,7 +73,7 @@ pub(crate) fn explain_weight<F: Files>(
     if reason == "NegativeWeight" {
         writeln!(
             said,
-            "arc {number} has the WEIGHT {}, which is below 0: no shortest path is found over such arcs here",
+            "arc {number} has the WEIGHT {}, below 0: solve-paths takes no such graph, and a block with a RADIUS has none",
             arc.cost
         )?;
         return Ok(());
