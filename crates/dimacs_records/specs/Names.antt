@@ -1,7 +1,7 @@
 -- The names of the reasons.
 use Rattle.std.specs.Prelude.{ℕ, List, codes}
 use Rattle.dimacs_records.specs.declared.reasons.Reason.{Reason}
-use Rattle.dimacs_records.specs.declared.reasons.Reason.TheVariants.{LineTooLong, UnknownLine, FieldCount, BadNumber, NumberRange, BadWord, ProblemMissing, ProblemTwice, RecordOrder, NodeRange, NodeTwice, EndTwice, EndMissing, BoundOrder, ParallelArc, TooMany, TooFew, SolutionMissing, SolutionTwice, PredUnknown, LineLimit, PastRadius, UnknownArc, ArcTwice, BelowLow, AboveCap, Balance, CostRange, ValueDiffers, NodesDiffer, SourceOutside, SinkInside, NotSaturated, BackFlow, NotTight, NotViolated, QueryNode, BlockMissing, NoTightArc, Escapes, NotShortest, NegativeWeight, NotMaximum, NotLeast}
+use Rattle.dimacs_records.specs.declared.reasons.Reason.TheVariants.{LineTooLong, UnknownLine, FieldCount, BadNumber, NumberRange, BadWord, ProblemMissing, ProblemTwice, RecordOrder, NodeRange, NodeTwice, EndTwice, EndMissing, BoundOrder, ParallelArc, TooMany, TooFew, SolutionMissing, SolutionTwice, PredUnknown, LineLimit, PastRadius, UnknownArc, ArcTwice, BelowLow, AboveCap, Balance, CostRange, ValueDiffers, NodesDiffer, SourceOutside, SinkInside, NotSaturated, BackFlow, NotTight, NotViolated, QueryNode, BlockMissing, NoTightArc, Escapes, NotShortest, NegativeWeight, NotMaximum, NotLeast, Feasible}
 
 abbrev pub name_of : Reason → List ℕ
 name_of LineTooLong = codes "LineTooLong"
@@ -48,3 +48,4 @@ name_of NotShortest = codes "NotShortest"
 name_of NegativeWeight = codes "NegativeWeight"
 name_of NotMaximum = codes "NotMaximum"
 name_of NotLeast = codes "NotLeast"
+name_of Feasible = codes "Feasible"

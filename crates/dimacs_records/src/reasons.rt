@@ -50,6 +50,7 @@ pub enum Reason {
     NegativeWeight,
     NotMaximum,
     NotLeast,
+    Feasible,
 }
 
 impl Reason {
@@ -102,6 +103,7 @@ impl Reason {
             Reason::NegativeWeight => "NegativeWeight",
             Reason::NotMaximum => "NotMaximum",
             Reason::NotLeast => "NotLeast",
+            Reason::Feasible => "Feasible",
         }
     }
 }
