@@ -84,12 +84,14 @@ uint32_t dimacs_judge(uint32_t kind, const uint8_t *instance, size_t instance_le
                       size_t claim_length, const uint8_t *certificate, size_t certificate_length, uint8_t *out,
                       size_t room, size_t *told);
 
-/* Certifies a solution that has no certificate: DIMACS_MAX or DIMACS_MIN. Hands out the line of the verdict or of the
- * refusal to `out`, and a text to `shown`: with a yes the cut or the potentials that show it; where the solution is
- * what it claims and there is a better one, a better one (`x solution LINE 2 NotMaximum` or `NotLeast`; none where its
- * cost is out of range); else nothing. The time that it takes isn't bounded by the length of the texts. */
-uint32_t dimacs_certify(uint32_t kind, const uint8_t *instance, size_t instance_length, const uint8_t *solution,
-                        size_t solution_length, uint8_t *out, size_t room, size_t *told, uint8_t *shown,
+/* Certifies a claim that has no certificate: a solution (DIMACS_MAX or DIMACS_MIN), distances (DIMACS_PATHS), or that no
+ * flow is feasible (DIMACS_INFEASIBLE, whose claim isn't read). Hands out the line of the verdict or of the refusal to
+ * `out` (of distances `v sp distances COUNT`), and a text to `shown`: with a yes the cut, potentials, labels or set that
+ * show it; if the solution is what it claims and there is a better one, a better one (`x solution LINE 2 NotMaximum` or
+ * `NotLeast`); if a flow is feasible, a solution with such a flow (`x instance 0 0 Feasible`); of either none if its cost
+ * is out of range; else nothing. The time that it takes isn't bounded by the length of the texts, but for paths. */
+uint32_t dimacs_certify(uint32_t kind, const uint8_t *instance, size_t instance_length, const uint8_t *claim,
+                        size_t claim_length, uint8_t *out, size_t room, size_t *told, uint8_t *shown,
                         size_t shown_room, size_t *shown_told);
 
 /* Solves an instance: DIMACS_MAX, DIMACS_MIN or DIMACS_PATHS. Hands out the line of the verdict to `out`, and texts with

@@ -42,7 +42,8 @@ class Verdict:
 class Certified(NamedTuple):
     """A yes, with what shows it, by which the judge says yes too.
 
-    The certificate is the text of a cut or of potentials; of arrays it is what the names below say, for each node: true
+    value is that of the flow, or its cost; None where nothing of that kind is claimed. The certificate is the text of a
+    cut, of potentials, of a set or of labels; of arrays it is what the names below say, for each node: true
     on the source's side of a cut, a potential, or a predecessor; of a graph a set of nodes, or a dict by node.
     """
 
@@ -51,7 +52,7 @@ class Certified(NamedTuple):
 
     @property
     def inside(self) -> Any:
-        """The certificate of certify_max_arrays and certify_networkx_max."""
+        """The certificate of certify_max_arrays, certify_infeasible_arrays and the two of the same names over graphs."""
         return self.certificate
 
     @property
@@ -110,7 +111,7 @@ def _at(arc: Any, node: Any, reason: str) -> str:
 class Refused(Exception):
     """A no: the fault of a text, or the first test that fails.
 
-    Of a text's fault text is "instance", "query", "solution" or "certificate", and line and field say where, from 1;
+    Of a text's fault text is "instance", "query", "solution", "distances" or "certificate", and line and field say where, from 1;
     field 0 is the whole line. Of a test arc is the number of an arc or node the ID of a node, from 1, and in the calls
     over graphs the edge or the node itself. What doesn't apply is None. reason is the word of the command.
     """
@@ -181,6 +182,21 @@ class Infeasible(Refused):
 
     def __str__(self) -> str:
         return "no flow is feasible"
+
+
+class Feasible(Refused):
+    """The instance that was claimed to have no feasible flow has one.
+
+    flow is such a flow: the text of a solution, of arrays the amount of each arc, or of a graph a dict of those; None where
+    its cost is out of the range of solutions.
+    """
+
+    def __init__(self, flow: Any = None) -> None:
+        super().__init__("Feasible", text="instance", line=0, field=0)
+        self.flow = flow
+
+    def __str__(self) -> str:
+        return "a flow is feasible"
 
 
 class GaveUp(OverflowError):

@@ -15,6 +15,9 @@ DONE, REFUSED, MISUSED, NO_MEMORY, GAVE_UP = 0, 1, 2, 4, 5
 #: The reasons with which a better flow is handed out.
 BETTER = (b"NotMaximum", b"NotLeast")
 
+#: That with which a feasible flow is handed out.
+FEASIBLE = b"Feasible"
+
 #: As much as any line has that isn't one of many.
 LINE = 256
 

@@ -5,7 +5,7 @@ from __future__ import annotations
 from typing import Any, Union
 
 from . import library
-from .answers import Certified, Infeasible, Solved, Verdict
+from .answers import Certified, Feasible, Infeasible, Solved, Verdict
 from .buffers import LIMIT, LIMITS, bytes_of, number_of
 
 Text = Union[bytes, str, bytearray, memoryview]
@@ -47,11 +47,17 @@ def _in_form_of(came: Text, text: bytes) -> Any:
     return text.decode("ascii") if isinstance(came, str) else text
 
 
-def _certify(kind: str, instance: Text, solution: Text) -> Certified:
-    texts = bytes_of(instance), bytes_of(solution)
+def _certify(kind: str, instance: Text, claim: Text) -> tuple[int, bytes, bytes]:
+    """The status of a call that certifies, its line, and the text that shows it."""
+    texts = bytes_of(instance), bytes_of(claim)
     words = texts[0].words() + texts[1].words()
     rooms = [library.LINE, library.LINE + texts[0].length + texts[1].length]
     status, (said, shown) = library.call_for_texts(library.certify, _KINDS[kind], *words, rooms=rooms)
+    return status, said, shown
+
+
+def _certify_flow(kind: str, instance: Text, solution: Text) -> Certified:
+    status, said, shown = _certify(kind, instance, solution)
     if status == library.REFUSED and said.rstrip().endswith(library.BETTER):
         raise library.refusal(said, better=_in_form_of(solution, shown) if shown else None)
     if status == library.REFUSED:
@@ -65,7 +71,7 @@ def certify_max(instance: Text, solution: Text) -> Certified:
     Raises NotOptimal where the flow is feasible and has the claimed value, but there is a better one, whose text it
     has; Refused where a text has a fault or the flow isn't what it claims. The certificate is str where the instance is.
     """
-    return _certify("max", instance, solution)
+    return _certify_flow("max", instance, solution)
 
 
 def certify_min(instance: Text, solution: Text) -> Certified:
@@ -74,7 +80,33 @@ def certify_min(instance: Text, solution: Text) -> Certified:
     Raises NotOptimal where the flow is feasible and has the claimed cost, but another costs less, whose text it has,
     and Refused, as certify_max.
     """
-    return _certify("min", instance, solution)
+    return _certify_flow("min", instance, solution)
+
+
+def certify_infeasible(instance: Text) -> Certified:
+    """Decides whether an instance has no feasible flow; no value, and the text of a set that shows it.
+
+    Raises Feasible, which has the text of a feasible flow, where there is one; Refused where the text has a fault. The
+    certificate and the flow are str where the instance is.
+    """
+    status, said, shown = _certify("infeasible", instance, b"")
+    if status == library.REFUSED and said.rstrip().endswith(library.FEASIBLE):
+        raise Feasible(_in_form_of(instance, shown) if shown else None)
+    if status == library.REFUSED:
+        raise library.refusal(said)
+    return Certified(None, _in_form_of(instance, shown))
+
+
+def certify_paths(graph: Text, distances: Text) -> Certified:
+    """Decides whether claimed distances, the text of a solver without predecessors, are the distances of their nodes, and
+    the nodes without one unreachable; no value, and the text of labels that show it.
+
+    Raises Refused where a text has a fault, or for the first test that fails. The certificate is str where the graph is.
+    """
+    status, said, shown = _certify("paths", graph, distances)
+    if status == library.REFUSED:
+        raise library.refusal(said)
+    return Certified(None, _in_form_of(graph, shown))
 
 
 def _solve(kind: str, instance: Text, queries: Text, limit: int) -> Solved:
