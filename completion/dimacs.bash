@@ -29,6 +29,8 @@ _dimacs_places() {
         judge-max | certify-max) echo max solution cut ;;
         judge-min | certify-min) echo min solution pot ;;
         judge-infeasible) echo min cut ;;
+        certify-infeasible) echo min certificate ;;
+        certify-paths) echo gr distances dist ;;
         judge-paths | solve-paths) echo gr query dist ;;
         solve-max) echo max solution cut --limit ;;
         solve-min) echo min solution certificate --limit ;;
@@ -37,8 +39,8 @@ _dimacs_places() {
 
 _dimacs() {
     local word=${COMP_WORDS[COMP_CWORD]} places at=1
-    local commands='convert show certify-max certify-min judge-max judge-min judge-infeasible judge-paths solve-max
-        solve-min solve-paths'
+    local commands='convert show certify-max certify-min certify-infeasible certify-paths judge-max judge-min
+        judge-infeasible judge-paths solve-max solve-min solve-paths'
     local kinds='max min gr query solution distances cut pot dist'
     COMPREPLY=()
     if ((COMP_CWORD > 1)) && [[ ${COMP_WORDS[1]} == explain ]]; then

@@ -26,10 +26,12 @@ complete -c dimacs -n '__dimacs_begins' -a convert -d 'Print the canonical form 
 complete -c dimacs -n '__dimacs_begins' -a show -d 'Print a line about a text'
 complete -c dimacs -n '__dimacs_begins' -a certify-max -d 'Is the flow maximum?'
 complete -c dimacs -n '__dimacs_begins' -a certify-min -d 'Does the flow cost least?'
+complete -c dimacs -n '__dimacs_begins' -a certify-infeasible -d 'Is no flow feasible?'
+complete -c dimacs -n '__dimacs_begins' -a certify-paths -d 'Are these distances?'
 complete -c dimacs -n '__dimacs_begins' -a judge-max -d 'Is the flow maximum, by a cut?'
 complete -c dimacs -n '__dimacs_begins' -a judge-min -d 'Does the flow cost least, by potentials?'
 complete -c dimacs -n '__dimacs_begins' -a judge-infeasible -d 'Is no flow feasible, by a set of nodes?'
-complete -c dimacs -n '__dimacs_begins' -a judge-paths -d 'Are these distances?'
+complete -c dimacs -n '__dimacs_begins' -a judge-paths -d 'Are these distances, by labels?'
 complete -c dimacs -n '__dimacs_begins' -a solve-max -d 'Write a maximum flow'
 complete -c dimacs -n '__dimacs_begins' -a solve-min -d 'Write a cheapest flow'
 complete -c dimacs -n '__dimacs_begins' -a solve-paths -d 'Write distances'
@@ -47,9 +49,10 @@ complete -c dimacs -n "__dimacs_at 1 $texts" -a dist -d 'Distance labels'
 complete -c dimacs -n "__dimacs_at 1 $texts" -a distances -d 'Claimed distances'
 complete -c dimacs -n "__dimacs_at 2 $texts" -F
 
-set -l of_three judge-max judge-min judge-paths certify-max certify-min solve-max solve-min solve-paths
-complete -c dimacs -n "__dimacs_at 1 judge-infeasible $of_three" -F
-complete -c dimacs -n "__dimacs_at 2 judge-infeasible $of_three" -F
+set -l of_two judge-infeasible certify-infeasible
+set -l of_three judge-max judge-min judge-paths certify-max certify-min certify-paths solve-max solve-min solve-paths
+complete -c dimacs -n "__dimacs_at 1 $of_two $of_three" -F
+complete -c dimacs -n "__dimacs_at 2 $of_two $of_three" -F
 complete -c dimacs -n "__dimacs_at 3 $of_three" -F
 complete -c dimacs -n '__dimacs_at 4 solve-max solve-min' -a --limit -d 'How many flows or steps are tried'
 

@@ -247,7 +247,7 @@ def misused(place):
 def classes(_):
     """Each reason at a place of a text that the pages name is of the class that its page says."""
     source = open(BATCH, encoding="utf-8").read()
-    of_the_claim = set(re.findall(r'"(\w+)"', re.search(r"OF_THE_CLAIM = \{(.*)\}", source)[1]))
+    of_the_claim = set(re.findall(r'"(\w+)"', re.search(r"OF_THE_CLAIM = \{(.*?)\}", source, re.DOTALL)[1]))
     texts, judging = (open(f"{TOP}/docs/{name}.md", encoding="utf-8").read() for name in ("TEXTS", "JUDGING"))
     judged = set(re.findall(r"`x (?:solution|certificate) \S+ \S+ (\w+)`", judging))
     of_texts = set(re.findall(r"^\| \d+ \| (\w+) \|", texts, re.MULTILINE))

@@ -1,17 +1,19 @@
 #!/usr/bin/env python3
-"""Tries certify-max and certify-min on small instances: tests/certify_trials.py [COUNT] [SEED] [BINARY]
+"""Tries the commands that certify on small instances: tests/certify_trials.py [COUNT] [SEED] [BINARY]
 
 Makes COUNT instances of each kind at random (1000 where it isn't given), with loops, arcs with the same ends, lower bounds
 and costs of both signs, and finds all feasible flows of each. Some of these are claimed, with entries in any order. The
 program has to say yes where no feasible flow is better, and then its judge has to say yes by the certificate that was
-written; else it has to refuse the value, and what was written is claimed in its turn, until that is the best. BINARY is
-the built program; crates/dimacs/out/dimacs where none is given.
+written; else it has to refuse the value, and what was written is claimed in its turn, until that is the best. Of instances
+with any supplies it has to say that no flow is feasible where none is, and else to write one that is. Of graphs distances
+are claimed, some of them wrong, and what is said is what Bellman and Ford's algorithm says. BINARY is the built program;
+crates/dimacs/out/dimacs where none is given.
 """
 import random
 import sys
 import tempfile
 
-from instances import Program, asked, cost, flows, max_text, min_text, nets, network, text
+from instances import Program, asked, cost, flows, graph_text, max_text, min_text, nets, network, text
 
 # How many flows of an instance are claimed.
 CLAIMS = 4
@@ -103,6 +105,7 @@ class Trials(Program):
 
     def wrong_value(self, instance, value):
         """What is wrong with what is said of the claim with another value."""
+        self.write("written", "")
         said = self.run(f"certify-{instance.kind}", "instance", "claim", "written")
         written = self.read("written")
         if said != "x solution 1 2 ValueDiffers" or written:
@@ -124,6 +127,94 @@ class Trials(Program):
             yield from self.faults(instance, value, best)
 
 
+    def try_supplies(self, rng):
+        """What is wrong with what is said of an instance that may have no feasible flow."""
+        nodes, arcs = network(rng, 1, 4)
+        supplies = nets(nodes, arcs, [rng.randint(arc[2] - 1, arc[3] + 1) for arc in arcs])
+        supplies[rng.randint(1, nodes)] += rng.choice([0, 0, 0, 0, 1])
+        self.claims += 1
+        self.write("instance", min_text(nodes, supplies, arcs))
+        said = self.run("certify-infeasible", "instance", "written")
+        if said != self.run("certify-infeasible", "instance"):
+            yield "it says something else without a certificate"
+        feasible = [flow for flow in flows(arcs) if nets(nodes, arcs, flow) == supplies]
+        if not feasible:
+            judged = self.run("judge-infeasible", "instance", "written")
+            if (said, judged) != ("v infeasible",) * 2:
+                yield f"no flow is feasible, it prints {said!r}, and the judge {judged!r}"
+            return
+        words = [line.split() for line in self.read("written").splitlines()]
+        carried = [(int(word[1]), int(word[2])) for word in words[1:]]
+        flow = tuple(int(word[3]) for word in words[1:])
+        ends = [arc[:2] for arc in arcs]
+        if said != "x instance 0 0 Feasible" or carried != ends or flow not in feasible or int(words[0][1]) != cost(arcs, flow):
+            yield f"a flow is feasible, it prints {said!r} and writes {words}"
+
+    def try_distances(self, rng):
+        """What is wrong with what is said of claimed distances."""
+        nodes = rng.randint(1, 5)
+        arcs = [(rng.randint(1, nodes), rng.randint(1, nodes), rng.randint(-2, 5)) for _ in range(rng.randint(0, 8))]
+        sources = rng.sample(range(1, nodes + 1), rng.randint(0, min(3, nodes)))
+        blocks = [(source, claimed(rng, nodes, arcs, source)) for source in sources]
+        self.claims += 1
+        self.write("instance", graph_text(nodes, arcs))
+        self.write("claim", distances_text(rng, nodes, blocks))
+        self.write("written", "untouched\n")
+        wanted = next(filter(None, (first_fault(nodes, arcs, *block) for block in blocks)), f"v sp distances {len(blocks)}")
+        said = self.run("certify-paths", "instance", "claim", "written")
+        if said != wanted or said != self.run("certify-paths", "instance", "claim"):
+            yield f"of {blocks} it prints {said!r}, not {wanted!r}"
+        elif said.startswith("x"):
+            if self.read("written") != "untouched\n":
+                yield f"of {blocks} it writes {self.read('written')!r}"
+        else:
+            self.write("asked", text(f"p aux sp ss {len(sources)}", *(f"s {source}" for source in sources)))
+            judged = self.run("judge-paths", "instance", "asked", "written")
+            if judged != f"v sp ss {len(sources)}":
+                yield f"of {blocks} the judge prints {judged!r}"
+
+
+def claimed(rng, nodes, arcs, source):
+    """Distances from a source, those of Bellman and Ford's algorithm; some of them are changed."""
+    dist = {source: 0}
+    for _ in range(nodes):
+        for tail, head, weight in arcs:
+            if tail in dist and dist[tail] + weight < dist.get(head, 10**9):
+                dist[head] = dist[tail] + weight
+    dist[source] = 0
+    if rng.random() < 0.4:
+        node = rng.randint(1, nodes)
+        if node != source:
+            dist[node] = dist.get(node, 0) + rng.randint(-2, 2)
+    if rng.random() < 0.1 and len(dist) > 1:
+        del dist[rng.choice([node for node in dist if node != source])]
+    return dist
+
+
+def distances_text(rng, nodes, blocks):
+    """The text of such claims, with the nodes of each in any order."""
+    lines = []
+    for source, dist in blocks:
+        said = [f"d {node} {at}" for node, at in dist.items() if node != source]
+        rng.shuffle(said)
+        lines += [f"t {source} {len(said)}", *said]
+    return text(f"p distances {nodes} {len(blocks)}", *lines)
+
+
+def first_fault(nodes, arcs, source, dist):
+    """The refusal of a block; none if it is right."""
+    for number, (tail, head, weight) in enumerate(arcs, 1):
+        if tail in dist and head not in dist:
+            return f"x arc {number} Escapes"
+        if tail in dist and dist[head] > dist[tail] + weight:
+            return f"x arc {number} NotShortest"
+    reached = {source}
+    for _ in range(nodes):
+        reached |= {head for tail, head, weight in arcs if tail in reached and dist[head] == dist[tail] + weight}
+    unreached = [node for node in sorted(dist) if node not in reached]
+    return f"x node {unreached[0]} NoTightArc" if unreached else None
+
+
 def main():
     count, seed, binary = asked()
     rng = random.Random(seed)
@@ -135,7 +226,11 @@ def main():
                 for fault in program.try_instance(rng, instance):
                     failed += 1
                     print(f"{instance.text}{fault}\n")
-    print(f"{2 * count} instances, {program.claims} claims, {failed} failed")
+            for tried in program.try_supplies, program.try_distances:
+                for fault in tried(rng):
+                    failed += 1
+                    print(f"{program.read('instance')}{fault}\n")
+    print(f"{4 * count} instances, {program.claims} claims, {failed} failed")
     return 1 if failed or not count else 0
 
 

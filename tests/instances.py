@@ -33,6 +33,11 @@ def min_text(nodes, supplies, arcs):
     return text(f"p min {nodes} {len(arcs)}", *named, *("a " + " ".join(map(str, arc)) for arc in arcs))
 
 
+def graph_text(nodes, arcs):
+    """The text of a graph, whose arcs are their tails, heads and weights."""
+    return text(f"p sp {nodes} {len(arcs)}", *("a " + " ".join(map(str, arc)) for arc in arcs))
+
+
 def network(rng, least_nodes, most_nodes):
     """A number of nodes, and arcs between them, with small numbers, loops and arcs with the same ends."""
     nodes = rng.randint(least_nodes, most_nodes)

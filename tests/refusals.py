@@ -56,6 +56,8 @@ TEXTS = {
     "pairs": "p aux sp p2p 2\nq 1 2\nq 1 4\n",
     "orphan": "p dist 4 1\nt 1 2\nd 2 5 1\nd 3 0 4\n",
     "dist": "p dist 4 1\nt 1 1\nd 2 5 1\n",
+    "near": "p distances 4 1\nt 1 1\nd 2 5\n",
+    "circled": "p distances 4 1\nt 1 3\nd 2 5\nd 3 0\nd 4 0\n",
     "negative": "p sp 2 2\na 1 2 -4\na 2 1 3\n",
     "surplus": "p min 2 1\nn 1 1\na 1 2 0 5 1\n",
     "deficit": "p min 2 1\nn 1 -1\na 1 2 0 5 1\n",
@@ -90,7 +92,14 @@ RUNS = [
     ("certify-max max flow SHOWN", 0, "v max 6\n"),
     ("certify-max max slow SHOWN", 1, "x solution 1 2 NotMaximum\n"),
     ("certify-min min least SHOWN", 0, "v min 14\n"),
+    ("certify-max max least SHOWN", 1, "x solution 1 2 ValueDiffers\n"),
     ("certify-min min dear SHOWN", 1, "x solution 1 2 NotLeast\n"),
+    ("certify-infeasible surplus", 0, "v infeasible\n"),
+    ("certify-infeasible surplus SHOWN", 0, "v infeasible\n"),
+    ("certify-infeasible min SHOWN", 1, "x instance 0 0 Feasible\n"),
+    ("certify-paths cycle near", 0, "v sp distances 1\n"),
+    ("certify-paths cycle near SHOWN", 0, "v sp distances 1\n"),
+    ("certify-paths cycle circled SHOWN", 1, "x node 3 NoTightArc\n"),
     ("solve-max max CLAIM SHOWN --limit 10", 0, "v max 6\n"),
     ("solve-max max CLAIM SHOWN --limit 1", 5, "g limit\n"),
     ("solve-min min CLAIM SHOWN", 0, "v min 14\n"),
@@ -119,6 +128,9 @@ GROWING = [
     ("judge-paths long.gr long.query long.dist", 0, "v sp ss 2\n"),
     ("certify-max long.max long.flow SHOWN", 0, "v max 1\n"),
     ("certify-min long.min long.least SHOWN", 0, "v min 39\n"),
+    ("certify-infeasible long.unmet SHOWN", 0, "v infeasible\n"),
+    ("certify-infeasible long.min SHOWN", 1, "x instance 0 0 Feasible\n"),
+    ("certify-paths long.gr long.near SHOWN", 0, "v sp distances 2\n"),
     ("solve-max long.max CLAIM SHOWN", 0, "v max 1\n"),
     ("solve-min long.min CLAIM SHOWN", 0, "v min 39\n"),
     ("solve-min long.unmet CLAIM SHOWN", 0, "v infeasible\n"),
@@ -129,10 +141,15 @@ GROWING = [
 JUDGES = {
     "certify-max": "judge-max {instance} {query} SHOWN",
     "certify-min": "judge-min {instance} {query} SHOWN",
+    "certify-infeasible": "judge-infeasible {instance} SHOWN",
+    "certify-paths": "judge-paths {instance} {sources} SHOWN",
     "solve-max": "judge-max {instance} CLAIM SHOWN",
     "solve-min": "judge-min {instance} CLAIM SHOWN",
     "solve-paths": "judge-paths {instance} {query} SHOWN",
 }
+
+# The reasons for which a run that certifies writes a solution.
+BETTER = ("NotMaximum", "NotLeast", "Feasible")
 
 # Runs over closed devices: the words, how the shell closes them, the status, and the system's error of the standard output,
 # if there is one.
@@ -197,6 +214,7 @@ DECLARED = [
     ("cut", "p cut 134217728 268435456\n", "p cut 1 1\n"),
     ("pot", "p pot 134217728 268435456\n", "p pot 1 1\n"),
     ("dist", "p dist 134217728 268435456\nt 1 268435456\n", "p dist 1 1\nt 1 1\n"),
+    ("distances", "p distances 134217728 268435456\nt 1 268435456\n", "p distances 1 1\nt 1 1\n"),
 ]
 
 # Tiny texts that declare the greatest number of nodes: the words of a run, its texts, and what it prints.
@@ -258,6 +276,20 @@ FAR = [
         "v min 6\n",
     ),
     (
+        "certify-infeasible I SHOWN",
+        "p min 134217728 1\nn 134217728 1\na 1 134217728 0 5 2\n",
+        "",
+        "",
+        "v infeasible\n",
+    ),
+    (
+        "certify-paths I S SHOWN",
+        "p sp 134217728 1\na 1 134217728 5\n",
+        "p distances 134217728 2\nt 1 1\nd 134217728 5\nt 134217728 0\n",
+        "",
+        "v sp distances 2\n",
+    ),
+    (
         "solve-max I CLAIM SHOWN",
         "p max 134217728 2\nn 1 s\nn 134217728 t\na 1 134217728 5\na 134217728 134217728 1\n",
         "",
@@ -299,6 +331,7 @@ def long_texts():
     ends = [f"n {first} s", f"n {last} t"]
     costly = [f"a {tail} {head} 0 1 1" for tail, head in arcs[::-1]]
     labels = [f"d {head} {i + 1} {tail}" for i, (tail, head) in enumerate(arcs)]
+    distances = [line.rpartition(" ")[0] for line in labels]
     texts = {
         "gr": [f"p sp {last} 39", *(f"a {tail} {head} 1" for tail, head in arcs[::-1])],
         "max": [f"p max {last} 39", *ends, *(f"a {tail} {head} 1" for tail, head in arcs[::-1])],
@@ -310,6 +343,7 @@ def long_texts():
         "unmet": [f"p min {last} 39", f"n {first} 2", f"n {last} -2", *costly],
         "query": ["p aux sp ss 2", f"s {first}", f"s {last}"],
         "dist": [f"p dist {last} 2", f"t {first} 39", *labels, f"t {last} 0"],
+        "near": [f"p distances {last} 2", f"t {first} 39", *distances, f"t {last} 0"],
     }
     return {f"long.{name}": "".join(line + "\n" for line in lines) for name, lines in texts.items()}
 
@@ -443,8 +477,13 @@ def faults_of(ran, words, status, printed):
         yield f"dimacs {words}: status {ran.status}, prints {ran.outputs[-1]!r}"
     if not is_whole_complaint(ran, words):
         yield f"dimacs {words}: complains {ran.complaint!r}"
-    if [output is not None for output in ran.outputs[:-1]] != [name in words for name in MADE]:
+    if [output is not None for output in ran.outputs[:-1]] != [name in words and writes(words, printed) for name in MADE]:
         yield f"dimacs {words}: writes {ran.outputs!r}"
+
+
+def writes(words, printed):
+    """Whether a run creates its files: one that certifies does only if it has a text to write."""
+    return not words.startswith("certify-") or printed.startswith("v") or printed.rstrip().endswith(BETTER)
 
 
 def may_pass_over(kind, words, call):
@@ -468,6 +507,8 @@ def fault_of(kind, words, ran, whole):
         wanted.append(complaint_of(ran.refused))
     if ran.complaint not in wanted:
         return f"complains {ran.complaint!r}"
+    if words.startswith("certify-") and kind.call != "write" and ran.outputs[1] is not None:
+        return f"creates {MADE[1]}"
     allowed = whole.outputs if kind.call == "write" else [""] * len(ran.outputs)
     if not is_beginning(ran.outputs, allowed):
         return f"writes {ran.outputs!r}"
@@ -498,7 +539,9 @@ def wanted_calls(runs, kind, words, whole):
     read = {files[name]: runs.read(name) for name in files if name not in MADE and name != "missing"}
     written = [*(files.get(name, name) for name in MADE), "standard output"]
     if kind.call == "opening":
-        return {Call("created" if name in MADE else "opened", file): 1 for name, file in files.items()}
+        created = MADE if writes(words, whole.outputs[-1]) else []
+        opened = [name for name in files if name not in MADE or name in created]
+        return {Call("created" if name in created else "opened", files[name]): 1 for name in opened}
     if kind.call == "read":
         return {Call("read", file): len(text) if "AT_MOST" in kind.variables else 1 for file, text in read.items()}
     texts = {file: text for file, text in zip(written, whole.outputs) if text}
@@ -543,16 +586,22 @@ def judge_made(runs, words, whole):
     producer, instance, query = words.split()[:3]
     if producer not in JUDGES or not whole.outputs[1]:
         return
-    judge = JUDGES[producer].format(instance=instance, query=query)
+    sources = "long.query" if instance.startswith("long") else "source"
+    judge = JUDGES[producer].format(instance=instance, query=query, sources=sources)
     if whole.outputs[-1] == "v infeasible\n":
         judge = f"judge-infeasible {instance} SHOWN"
     if whole.status == 1:
-        judge = f"{producer} {instance} SHOWN"
+        judge = f"{producer.replace('infeasible', 'min')} {instance} SHOWN"
     for name, text in zip(MADE, whole.outputs):
         runs.write(f"kept.{name}", text or "")
         judge = judge.replace(name, f"kept.{name}")
     judged = runs.run(judge, {})
-    if judged.status != 0 or whole.status == 0 and judged.outputs[-1] != whole.outputs[-1]:
+    wanted = whole.outputs[-1].replace("sp distances", "sp ss")
+    if producer == "certify-infeasible" and whole.status == 1:
+        is_right = judged.status == 0 or judged.outputs[-1] == "x solution 1 2 NotLeast\n"
+    else:
+        is_right = judged.status == 0 and (whole.status == 1 or judged.outputs[-1] == wanted)
+    if not is_right:
         yield f"dimacs {judge}: prints {judged.outputs[-1]!r} of what dimacs {words} made"
 
 

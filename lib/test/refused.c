@@ -46,6 +46,7 @@ static const char graph[] = "p sp 4 3\na 1 2 5\na 3 4 0\na 4 3 0\n";
 static const char pairs[] = "p aux sp p2p 2\nq 1 2\nq 1 4\n";
 static const char surplus[] = "p min 2 1\nn 1 1\na 1 2 0 5 1\n";
 static const char dist[] = "p dist 4 1\nt 1 1\nd 2 5 1\n";
+static const char near[] = "p distances 4 1\nt 1 3\nd 2 5\nd 3 1\nd 4 4\n";
 
 /* The same in arrays. */
 static const uint32_t tails[] = {1, 1, 2, 2, 3}, heads[] = {2, 3, 3, 4, 4};
@@ -79,6 +80,9 @@ static uint32_t judge_paths(void) { return dimacs_judge(DIMACS_PATHS, TEXT(graph
 static uint32_t certify_max(void) { return dimacs_certify(DIMACS_MAX, TEXT(max), TEXT(flow), OUT, SHOWN); }
 static uint32_t certify_slow(void) { return dimacs_certify(DIMACS_MAX, TEXT(max), TEXT(slow), OUT, SHOWN); }
 static uint32_t certify_min(void) { return dimacs_certify(DIMACS_MIN, TEXT(min), TEXT(least), OUT, SHOWN); }
+static uint32_t certify_infeasible(void) { return dimacs_certify(DIMACS_INFEASIBLE, TEXT(surplus), NULL, 0, OUT, SHOWN); }
+static uint32_t certify_feasible(void) { return dimacs_certify(DIMACS_INFEASIBLE, TEXT(min), NULL, 0, OUT, SHOWN); }
+static uint32_t certify_paths(void) { return dimacs_certify(DIMACS_PATHS, TEXT(graph), TEXT(near), OUT, SHOWN); }
 static uint32_t certify_dear(void) { return dimacs_certify(DIMACS_MIN, TEXT(min), TEXT(dear), OUT, SHOWN); }
 static uint32_t solve(uint32_t kind, const char *instance, uint64_t limit) {
     return dimacs_solve(kind, TEXT(instance), TEXT(pairs), limit, OUT, (uint8_t *)to.better, 400, &to.better_told, SHOWN);
@@ -137,6 +141,9 @@ static const struct {
     {"certify a slow flow", certify_slow, 1},
     {"certify min", certify_min, 0},
     {"certify a dear flow", certify_dear, 1},
+    {"certify that no flow is feasible", certify_infeasible, 0},
+    {"certify it of an instance with a flow", certify_feasible, 1},
+    {"certify paths", certify_paths, 0},
     {"solve max", solve_max, 0},
     {"solve min", solve_min, 0},
     {"solve min without a flow", solve_surplus, 0},

@@ -21,6 +21,8 @@ PAIRS = "p aux sp p2p 2\nq 1 2\nq 1 4\n"
 SOURCE = "p aux sp ss 1\ns 1\n"
 DIST = "p dist 4 1\nt 1 1\nd 2 5 1\n"
 NEAR = "p dist 4 1\nt 1 0 3\n"
+CLAIMED = "p distances 4 1\nt 1 1\nd 2 5\n"
+SURPLUS = "p min 2 1\nn 1 1\na 1 2 0 5 1\n"
 
 
 class Judges(unittest.TestCase):
@@ -120,6 +122,36 @@ class Certifies(unittest.TestCase):
             dimacs.certify_min(MIN, "s 0\n")
         self.assertNotIsInstance(caught.exception, dimacs.NotOptimal)
         self.assertEqual(caught.exception.node, 1)
+
+
+    def test_infeasible(self):
+        for instance, form in (SURPLUS, str), (SURPLUS.encode(), bytes):
+            value, shown = dimacs.certify_infeasible(instance)
+            self.assertEqual((value, type(shown)), (None, form))
+            self.assertEqual(dimacs.judge_infeasible(instance, shown), dimacs.Verdict("infeasible"))
+            with self.assertRaises(dimacs.Feasible) as caught:
+                dimacs.certify_infeasible(form(MIN) if form is str else MIN.encode())
+            it = caught.exception
+            self.assertEqual((it.text, it.line, it.field, it.reason), ("instance", 0, 0, "Feasible"))
+            self.assertIsInstance(it.flow, form)
+        with self.assertRaises(dimacs.NotOptimal):
+            dimacs.certify_min(MIN, DEAR)
+        with self.assertRaises(dimacs.Refused) as caught:
+            dimacs.certify_infeasible("p min 1 0\nn 2 1\n")
+        self.assertNotIsInstance(caught.exception, dimacs.Feasible)
+
+    def test_paths(self):
+        self.assertEqual(dimacs.certify_paths(GRAPH, CLAIMED), dimacs.Certified(None, DIST))
+        self.assertEqual(dimacs.certify_paths(GRAPH.encode(), CLAIMED), dimacs.Certified(None, DIST.encode()))
+        for claim, wanted in [
+            (CLAIMED.replace("d 2 5", "d 2 6"), ("arc 1 NotShortest")),
+            (CLAIMED.replace("d 2 5", "d 2 4"), ("node 2 NoTightArc")),
+            ("p distances 5 0\n", "distances 0 0 NodesDiffer"),
+            ("p distances 4 1\nt 1 1\nd 5 5\n", "distances 3 2 NodeRange"),
+        ]:
+            with self.assertRaises(dimacs.Refused) as caught:
+                dimacs.certify_paths(GRAPH, claim)
+            self.assertEqual(str(caught.exception), wanted)
 
 
 class Texts(unittest.TestCase):

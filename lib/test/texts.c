@@ -22,6 +22,9 @@ static const char source[] = "p aux sp ss 1\ns 1\n";
 static const char dist[] = "p dist 4 1\nt 1 1\nd 2 5 1\n";
 static const char mutual[] = "p dist 4 1\nt 1 3\nd 2 5 1\nd 3 0 4\nd 4 0 3\n";
 
+static const char near[] = "p distances 4 1\nt 1 1\nd 2 5\n";
+static const char circled[] = "p distances 4 1\nt 1 3\nd 2 5\nd 3 0\nd 4 0\n";
+
 static const char surplus[] = "p min 2 1\nn 1 1\na 1 2 0 5 1\n";
 static const char both[] = "p cut 2 2\nu 1\nu 2\n";
 
@@ -73,7 +76,13 @@ static const struct {
     {"certified least", DIMACS_MIN, min, least, 0, "v min 14\n", "p pot 4 "},
     {"not least", DIMACS_MIN, min, dear, 1, "x solution 1 2 NotLeast\n", "s 14\n"},
     {"certified, with a fault", DIMACS_MIN, min, "s 14", 1, "x node 1 Balance\n", ""},
-    {"sets aren't certified", DIMACS_INFEASIBLE, surplus, "", 2, "", ""},
+    {"certified infeasible", DIMACS_INFEASIBLE, surplus, "", 0, "v infeasible\n", "p cut 2 2\nu 1\nu 2\n"},
+    {"no claim is read", DIMACS_INFEASIBLE, surplus, "?", 0, "v infeasible\n", "p cut 2 2\nu 1\nu 2\n"},
+    {"feasible", DIMACS_INFEASIBLE, min, "", 1, "x instance 0 0 Feasible\n", "s "},
+    {"certified distances", DIMACS_PATHS, graph, near, 0, "v sp distances 1\n", dist},
+    {"distances that no walk has", DIMACS_PATHS, graph, circled, 1, "x node 3 NoTightArc\n", ""},
+    {"distances of other nodes", DIMACS_PATHS, graph, "p distances 5 0\n", 1, "x distances 0 0 NodesDiffer\n", ""},
+    {"no kind to certify", 4, surplus, "", 2, "", ""},
 };
 
 static void certifies(void) {

@@ -4,7 +4,7 @@ use clap::Command;
 use std::alloc::{AllocError, Global};
 
 /// The words of each run, and what it does. With two blanks between them they fit 80 columns.
-static RUNS: [(&str, &str); 12] = [
+static RUNS: [(&str, &str); 14] = [
     ("convert KIND FILE", "Prints its canonical form"),
     ("show KIND FILE", "Prints a line about it"),
     ("judge-max INSTANCE SOLUTION CUT", "Is the flow maximum?"),
@@ -23,6 +23,14 @@ static RUNS: [(&str, &str); 12] = [
         "Does the flow cost least?",
     ),
     (
+        "certify-infeasible INSTANCE [CERTIFICATE]",
+        "Is no flow feasible?",
+    ),
+    (
+        "certify-paths GRAPH DISTANCES [LABELS]",
+        "Are these distances?",
+    ),
+    (
         "solve-max INSTANCE SOLUTION CUT [--limit N]",
         "Writes a maximum flow",
     ),
@@ -37,11 +45,11 @@ static RUNS: [(&str, &str); 12] = [
 /// What stands after the words of the runs.
 static NOTES: &str = "\
 A judge is given what shows that a claim is true. A certify run needs no such
-file, and writes one to CERTIFICATE, if it is named, or a better solution there.
-A solve run reads INSTANCE, or GRAPH and QUERY, and writes its other files; the
-other runs write no file. What is written is emptied before anything is read, so
-no other word may name it. N is how many flows or steps are tried, a number from
-0 to 1000000000, and 1000000 if it isn't given.
+file: it writes one to CERTIFICATE or LABELS, if it is named, or a better or a
+feasible solution, once the other files are read. A solve run empties the files
+that it writes before it reads INSTANCE, or GRAPH and QUERY, so no other word may
+name them. The other runs write no file. N is how many flows or steps are tried,
+a number from 0 to 1000000000, and 1000000 if it isn't given.
 
 KIND:
   max    an instance of maximum flow       solution   a claimed flow

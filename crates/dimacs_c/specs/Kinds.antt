@@ -21,6 +21,8 @@ abbrev pub certify_kind : ℕ → Option CertifyKind
 certify_kind number =
     if number == 0 then Some claims.Max
     else if number == 1 then Some claims.Min
+    else if number == 2 then Some claims.Infeasible
+    else if number == 3 then Some claims.Paths
     else None
 
 -- a set is made where least cost is asked for and there is no flow

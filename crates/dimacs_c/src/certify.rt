@@ -12,25 +12,25 @@ use dimacs_lines::{MemorySink, MemorySource};
 use dimacs_runs::{CertifyKind, run_certify};
 use std::alloc::Global;
 
-/// Certifies a claimed flow, as `certify-max` and so on. The second room is for the text of the certificate, or of a
-/// better solution.
+/// Certifies a claim, as `certify-max` and so on. The second room is for the text of the certificate, or of a better or a
+/// feasible solution. Nothing is claimed of an instance without a feasible flow: there the claim isn't read.
 #[unsafe(no_mangle)]
 pub extern "C" fn dimacs_certify(
     alloc: Global,
     kind: u32,
     instance: &[u8],
-    solution: &[u8],
+    claim: &[u8],
     out: &mut [u8],
     told: &mut usize,
     shown: &mut [u8],
     shown_told: &mut usize,
 ) -> u32
-    ensures { AnswersTextsKind (certify_kind kind) (λ k. TellsAlike (Certified k instance.now solution.now)) result
+    ensures { AnswersTextsKind (certify_kind kind) (λ k. TellsAlike (Certified k instance.now claim.now)) result
         (handed shown.old shown.new shown_told.new ∷ handed out.old out.new told.new ∷ []) }
 {
     match certify_of(kind) {
         Some(kind) => certify(
-            alloc, kind, instance, solution, out, told, shown, shown_told,
+            alloc, kind, instance, claim, out, told, shown, shown_told,
         ),
         None => {
             misuse(shown_told);
@@ -43,19 +43,19 @@ fn certify(
     alloc: Global,
     kind: CertifyKind,
     instance: &[u8],
-    solution: &[u8],
+    claim: &[u8],
     out: &mut [u8],
     told: &mut usize,
     shown: &mut [u8],
     shown_told: &mut usize,
 ) -> u32
-    ensures { AnswersTexts (TellsAlike (Certified kind instance.now solution.now)) result
+    ensures { AnswersTexts (TellsAlike (Certified kind instance.now claim.now)) result
         (handed shown.old shown.new shown_told.new ∷ handed out.old out.new told.new ∷ []) }
 {
     let mut certificate = MemorySink::new(alloc);
     let mut report = MemorySink::new(alloc);
     let mut first = MemorySource::new(instance);
-    let mut second = MemorySource::new(solution);
+    let mut second = MemorySource::new(claim);
     let ended = run_certify(
         alloc,
         kind,

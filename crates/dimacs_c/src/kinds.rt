@@ -24,6 +24,8 @@ pub(crate) fn certify_of(number: u32) -> Option<CertifyKind>
     match number {
         0 => Some(CertifyKind::Max),
         1 => Some(CertifyKind::Min),
+        2 => Some(CertifyKind::Infeasible),
+        3 => Some(CertifyKind::Paths),
         _ => None,
     }
 }

@@ -14,18 +14,19 @@ use Rattle.dimacs_claims.specs.Labels.{BlockValue, LabelsValue, label, label_in}
 use Rattle.dimacs_judge.specs.declared.verdict.Where.{Where}
 use Rattle.dimacs_judge.specs.declared.verdict.Where.TheVariants.{Arc, Node}
 use Rattle.dimacs_judge.specs.declared.verdict.JudgeError.{JudgeError}
-use Rattle.dimacs_judge.specs.declared.verdict.JudgeError.TheVariants.{Refused}
+use Rattle.dimacs_judge.specs.declared.verdict.JudgeError.TheVariants.{Refused, Memory}
 use Rattle.dimacs_judge.specs.Answers.{block_of}
 use Rattle.dimacs_judge.specs.CertificateTests.{RelaxFails}
 use Rattle.dimacs_judge.specs.Labels.{IsRelaxed, LabelsOk}
 use Rattle.dimacs_judge.specs.QueryTests.{HasFullBlock}
-use Rattle.dimacs_judge.specs.Tests.{Clear, First, FirstOfRow, FirstAlone}
+use Rattle.dimacs_judge.specs.Tests.{AllClear, Clear, First, FirstOfRow, FirstAlone}
 use Rattle.dimacs_judge.specs.Walks.{Dist, IsDistance, IsWalk, weight}
 use Rattle.dimacs_judge.proofs.Distances.{labels_are_distances}
 use Rattle.dimacs_judge.proofs.Firsts.{AllOneWay, arc_one_way, node_one_way, one_first, one_test_one_way}
 use Rattle.dimacs_judge.proofs.LabelsPassing.{stays_near}
 use Rattle.dimacs_judge.proofs.Reasons.{one_relax}
 use Rattle.dimacs_decide.specs.Distances.{AreDistancesFrom, AreLabelsOf, DecidesDistances, IsTight, IsTightlyReached, claim_row, claim_rows, reach_row, source_row}
+use Rattle.dimacs_decide.specs.inside.DistanceBlocks.{DecidesBlock, IsBlockOf}
 use Rattle.dimacs_decide.specs.inside.TightTrees.{IsWholeTightTree}
 
 -- ---- walks one after another
@@ -106,8 +107,17 @@ true_reaches g s claim clear at v some is =
     let dist : Dist g s v e = rw named at is in
     (dist.walk, dist.leads, tight_along g claim (all_relaxed g claim clear) dist.walk s v (pos 0) e dist.leads at named (omega (arith, ints, dist.weighs)))
 
+-- ---- all tests of a true claim pass
+pub true_clear : (g : NetworkValue) (s : ℕ) (claim : ℕ → Option ℤ) → All (JoinsNodes g.nodes) g.arcs → IsNode g.nodes s → AreDistancesFrom g s claim → AllClear (claim_rows g s claim)
+true_clear g s claim joined node are =
+    let at = source_zero g.arcs s (claim s) (are s node) in
+    let arcs : Clear (claim_row g.arcs claim) = λ k place reason f.
+    let ends : JoinsNodes g.nodes (arc_at g.arcs k) = All-get_or (JoinsNodes g.nodes) g.arcs k no_arc f.0 joined in
+    arc_holds g.arcs s (arc_at g.arcs k) _ _ reason (Contains-get_or g.arcs k no_arc f.0) (are _ ends.0) (are _ ends.1) f.2 in
+    (λ k place reason f. f.3 at, (arcs, (λ v place reason f. f.2.2 (true_reaches g.arcs s claim arcs at v f.2.1 (are v f.0)), tt)))
+
 -- ---- what the first test that fails shows
-claim_one_way : (g : NetworkValue) (s : ℕ) (claim : ℕ → Option ℤ) → AllOneWay (claim_rows g s claim)
+pub claim_one_way : (g : NetworkValue) (s : ℕ) (claim : ℕ → Option ℤ) → AllOneWay (claim_rows g s claim)
 claim_one_way g s claim =
     (one_test_one_way (Node s) NotShortest _, (arc_one_way g.arcs _ (λ k q r f h. one_relax None _ _ _ q r f h), (node_one_way g.nodes _ (λ v q r f h. f.0 ∙ sym h.0), tt)))
 
@@ -184,22 +194,37 @@ module _ (g : NetworkValue) (s : ℕ) (claim : ℕ → Option ℤ) (b : BlockVal
   pub true_claim : AreDistancesFrom g s claim
   true_claim v node = carried g.arcs b.source s v (label b v) (claim v) b.radius source (says v node) whole.tree.whole (labels_are_distances g.arcs b whole.tree.lawful.preds (stays_near g.nodes b whole.tree.lawful) passes v)
 
-  found : block_of (b ∷ []) s ≡ Some b
-  found = elim (eqb_tells b.source s) [ inl same ↦ rw same.0 refl | inr apart ↦ absurd (apart.1 source) ]
+  pub made_of : IsBlockOf g s claim b
+  made_of = record { lawful = whole.tree.lawful; source = source; whole = whole.tree.whole; passes = passes; says = says }
 
-  pub labelled : IsNode g.nodes s → AreLabelsOf g s claim (record { nodes = g.nodes; blocks = b ∷ [] })
-  labelled node = record {
-    alone = refl;
-    passes = record {
-      nodes = refl;
-      queries = All-cons (λ id. id ≤ g.nodes) s [] node.1 (All-nil _);
-      blocks = All-cons (HasFullBlock (b ∷ [])) s [] (b, found, whole.tree.whole) (All-nil _);
-      labels = All-cons (LabelsOk g.arcs) b [] passes (All-nil _);
-    };
-    says = λ v inside. ap (λ o. label_in o v) found ∙ says v inside;
-  }
+-- ---- a block alone
+found_alone : (b : BlockValue) (s : ℕ) → b.source ≡ s → block_of (b ∷ []) s ≡ Some b
+found_alone b s source = elim (eqb_tells b.source s) [ inl same ↦ rw same.0 refl | inr apart ↦ absurd (apart.1 source) ]
+
+pub labelled : (g : NetworkValue) (s : ℕ) (claim : ℕ → Option ℤ) (b : BlockValue) → IsNode g.nodes s → IsBlockOf g s claim b → AreLabelsOf g s claim (record { nodes = g.nodes; blocks = b ∷ [] })
+labelled g s claim b node is =
+    let found = found_alone b s is.source in
+    record {
+      alone = refl;
+      passes = record {
+        nodes = refl;
+        queries = All-cons (λ id. id ≤ g.nodes) s [] node.1 (All-nil _);
+        blocks = All-cons (HasFullBlock (b ∷ [])) s [] (b, found, is.whole) (All-nil _);
+        labels = All-cons (LabelsOk g.arcs) b [] is.passes (All-nil _);
+      };
+      says = λ v inside. ap (λ o. label_in o v) found ∙ is.says v inside;
+    }
 
 -- the first test that fails is the error
-pub refused : (g : NetworkValue) (s : ℕ) (claim : ℕ → Option ℤ) (place : Where) (reason : Reason) → IsRefuted g s claim place reason → (result : Result LabelsValue JudgeError) → IsErrAnd result (λ error. error ≡ Refused place reason) → DecidesDistances g s claim result
-refused g s claim place reason refuted (Ok labels) is = absurd is
-refused g s claim place reason refuted (Err error) is = subst (λ (e : JudgeError). DecidesDistances g s claim (Err e)) (sym is) refuted
+pub refused : (g : NetworkValue) (s : ℕ) (claim : ℕ → Option ℤ) (place : Where) (reason : Reason) → IsRefuted g s claim place reason → (result : Result BlockValue JudgeError) → IsErrAnd result (λ error. error ≡ Refused place reason) → DecidesBlock g s claim result
+refused g s claim place reason refuted (Ok b) is = absurd is
+refused g s claim place reason refuted (Err error) is = subst (λ (e : JudgeError). DecidesBlock g s claim (Err e)) (sym is) refuted
+
+decided_alone : (g : NetworkValue) (s : ℕ) (claim : ℕ → Option ℤ) (error : JudgeError) → DecidesBlock g s claim (Err error) → DecidesDistances g s claim (Err error)
+decided_alone g s claim (Refused place reason) told = told
+decided_alone g s claim Memory told = tt
+
+-- and where it is passed up
+pub refused_alone : (g : NetworkValue) (s : ℕ) (claim : ℕ → Option ℤ) (error : JudgeError) → DecidesBlock g s claim (Err error) → (result : Result LabelsValue JudgeError) → IsErrAnd result (λ e. e ≡ error) → DecidesDistances g s claim result
+refused_alone g s claim error told (Ok labels) is = absurd is
+refused_alone g s claim error told (Err e) is = subst (λ (e : JudgeError). DecidesDistances g s claim (Err e)) (sym is) (decided_alone g s claim error told)

@@ -1,5 +1,5 @@
 -- Flows that leave less and less excess.
-use Rattle.std.proofs.Common.{ℕ, ◌<◌, List, [], ◌∷◌, All, map, ℤ, pos, negsuc, ◌≤ℤ◌, ◌<ℤ◌, arith}
+use Rattle.std.proofs.Common.{◌<◌, List, [], ◌∷◌, All, map, ℤ, pos, negsuc, ◌≤ℤ◌, ◌<ℤ◌, arith}
 use Rattle.std.proofs.lemmas.Int.{ints}
 use Rattle.std.proofs.lemmas.List.Elements.{All-head, All-tail}
 use Rattle.dimacs_network.specs.declared.network.ArcView.{ArcView}

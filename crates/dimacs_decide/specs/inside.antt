@@ -1,6 +1,7 @@
 pub mod Cancelling
 pub mod Counting
 pub mod Cycles
+pub mod DistanceBlocks
 pub mod Heights
 pub mod Raising
 pub mod Residual

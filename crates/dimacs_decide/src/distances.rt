@@ -10,11 +10,12 @@ ghost use Rattle.dimacs_judge.specs.inside.Tests.{TellsReason};
 ghost use Rattle.dimacs_judge.specs.CertificateTests.{RelaxFails};
 ghost use Rattle.dimacs_nodes.specs.Tables.{value_of};
 ghost use Rattle.dimacs_decide.specs.Distances.{DecidesDistances, claim_row, reach_row, source_row};
+ghost use Rattle.dimacs_decide.specs.inside.DistanceBlocks.{DecidesBlock};
 ghost use Rattle.dimacs_decide.specs.inside.TightTrees.{IsWholeTightTree};
 
 use crate::claim::DistanceClaim;
 use crate::tight_tree::{TightTree, tight_tree};
-use dimacs_claims::Labels;
+use dimacs_claims::{Block, Labels};
 use dimacs_instance::Graph;
 use dimacs_judge::{JudgeError, Where};
 use dimacs_network::{ArcView, Links, Network, Side};
@@ -54,14 +55,30 @@ pub fn decide_distances_over<N: Network, C: DistanceClaim>(
     requires links { AreLinksOf Tail graph.now.arcs links.now }
     ensures { DecidesDistances graph.now source (C.claimed claim.now) result }
 {
+    let block = decide_block(alloc, graph, links, source, claim)?;
+    let mut labels = Labels::new(alloc, graph.network().nodes());
+    labels.push(block)?;
+    Ok(labels)
+}
+
+/// Decides it, with the labels as a block that others can follow.
+pub(crate) fn decide_block<N: Network, C: DistanceClaim>(
+    alloc: Global,
+    graph: &Graph<N>,
+    links: &Links,
+    source: u32,
+    claim: &C,
+) -> Result<Block, JudgeError>
+    requires source { IsNode graph.now.nodes source }
+    requires links { AreLinksOf Tail graph.now.arcs links.now }
+    ensures { DecidesBlock graph.now source (C.claimed claim.now) result }
+{
     let network = graph.network();
     source_holds(source, claim)?;
     arcs_hold(network, claim)?;
     let tree = tight_tree(alloc, network, links, source, claim)?;
     nodes_hold(network, claim, &tree)?;
-    let mut labels = Labels::new(alloc, network.nodes());
-    labels.push(tree.into_block())?;
-    Ok(labels)
+    Ok(tree.into_block())
 }
 
 /// Whether the claim of the source is 0.

@@ -7,13 +7,15 @@ ghost use Rattle.dimacs_explain.specs.Explained.{Explains};
 
 use crate::faults::{Fault, cannot_read, explain_fault};
 use crate::first_line::FirstLine;
+use crate::better::explain_feasible;
+use crate::distance_tests::explain_distance;
 use crate::flow_tests::{explain_arc, explain_balance, explain_solution};
 use crate::path_tests::{explain_label, explain_query};
 use crate::refusal::{Place, Refusal};
 use crate::texts::{Named, Texts};
 use crate::whole_tests::{explain_end, explain_whole};
 use dimacs_lines::{Memory, Sink, put_all};
-use dimacs_records::End;
+use dimacs_records::{End, TextKind};
 use dimacs_runs::{Ending, Files, job, run_command};
 use std::alloc::Global;
 
@@ -106,6 +108,7 @@ fn explain_text<A: Files>(
     said: &mut String,
 ) -> Result<(), Memory> {
     match fault.reason {
+        "Feasible" => explain_feasible(alloc, again, texts, said),
         "UnknownArc" | "ArcTwice" | "ValueDiffers" | "NotMaximum" | "NotLeast" => {
             if are_readable(again, texts, said)? {
                 explain_solution(alloc, again, texts, fault, said)?;
@@ -138,7 +141,24 @@ fn explain_node<A: Files>(
         "Balance" => explain_balance(alloc, again, texts, node, said),
         "SourceOutside" => explain_end(alloc, again, texts, node, End::Source, said),
         "SinkInside" => explain_end(alloc, again, texts, node, End::Sink, said),
-        "NoTightArc" => explain_label(alloc, again, texts, node, said),
+        "NoTightArc" => explain_unreached(alloc, again, texts, node, said),
         _ => explain_query(alloc, again, texts, node, reason, said),
     }
+}
+
+/// Says why no arc leads to a label, or no walk to a distance.
+fn explain_unreached<A: Files>(
+    alloc: Global,
+    again: &mut A,
+    texts: Texts<'_>,
+    node: u32,
+    said: &mut String,
+) -> Result<(), Memory> {
+    let (Some(graph), Some(tested)) = (texts.instance, texts.tested()) else {
+        return Ok(());
+    };
+    if tested.kind == TextKind::Distances {
+        return explain_distance(alloc, again, graph, tested, node, said);
+    }
+    explain_label(alloc, again, graph, tested, node, said)
 }

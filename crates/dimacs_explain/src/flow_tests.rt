@@ -1,6 +1,7 @@
 //! The tests of a flow, in words.
 
 use crate::arcs::{FoundArc, Parallel, find_arc, find_entry, parallel_arcs};
+use crate::better::{explain_better, say_replaced};
 use crate::costs::cost_of;
 use crate::faults::{Fault, cannot_read};
 use crate::lookups::{FoundLine, Wanted, find_line, line_at};
@@ -294,6 +295,9 @@ pub(crate) fn explain_solution<F: Files>(
         return Ok(());
     };
     let reason = fault.reason;
+    if texts.better == Some(solution.file) && matches!(reason, "NotMaximum" | "NotLeast") {
+        return say_replaced(solution.file, said);
+    }
     let found = line_at(alloc, files, solution, fault.line, fault.field)?;
     let Some(FoundLine { record, quote }) = found else {
         return cannot_read(said, solution.file);
@@ -367,65 +371,4 @@ fn explain_value<F: Files>(
         )?;
     }
     Ok(())
-}
-
-/// Says by how much a flow can be better, where a better one was written.
-fn explain_better<F: Files>(
-    alloc: Global,
-    files: &mut F,
-    texts: Texts<'_>,
-    claimed: i128,
-    said: &mut String,
-) -> Result<(), Memory> {
-    let Some(file) = texts.better else {
-        writeln!(
-            said,
-            "the flow is feasible, and there is a better one: name a file after the solution to get it"
-        )?;
-        return Ok(());
-    };
-    let better = Named {
-        kind: TextKind::Solution,
-        file,
-    };
-    if files.open(file).is_err() {
-        writeln!(
-            said,
-            "the flow is feasible, and there is a better one, which was written to {file}"
-        )?;
-        return Ok(());
-    }
-    match find_line(alloc, files, better, Wanted::Value)? {
-        Some(
-            FoundLine {
-                record: Record::SolutionValue { value },
-                quote,
-            },
-        ) => {
-            quote.show(said, file)?;
-            say_better(value, claimed, said)?;
-        }
-        _ => writeln!(
-            said,
-            "the flow is feasible, and there is a better one, whose cost leaves -10^30 to 10^30"
-        )?,
-    }
-    Ok(())
-}
-
-/// Says how two values differ.
-fn say_better(value: i128, claimed: i128, said: &mut String) -> Result<(), AllocError> {
-    if value > claimed {
-        let more = value.saturating_sub(claimed);
-        writeln!(
-            said,
-            "this flow is feasible, and has {more} more than the {claimed} that is claimed"
-        )
-    } else {
-        let less = claimed.saturating_sub(value);
-        writeln!(
-            said,
-            "this flow is feasible, and costs {less} less than the {claimed} that is claimed"
-        )
-    }
 }

@@ -6,8 +6,10 @@
 
 mod arcs;
 mod before;
+mod better;
 mod command;
 mod costs;
+mod distance_tests;
 mod faults;
 mod first_line;
 mod flow_tests;

@@ -6,7 +6,7 @@ use crate::lookups::{FoundLine, Wanted, find_line, line_at};
 use crate::texts::{ANY_LINES, Named, TextLines, Texts};
 use dimacs_lines::Memory;
 use dimacs_network::ArcView;
-use dimacs_records::Record;
+use dimacs_records::{Record, TextKind};
 use dimacs_runs::Files;
 use std::alloc::{AllocError, Global};
 
@@ -78,14 +78,23 @@ pub(crate) fn explain_weight<F: Files>(
         )?;
         return Ok(());
     }
-    let Some(labels) = texts.certificate else {
+    let Some(labels) = texts.tested() else {
         return Ok(());
     };
     match failing_block(alloc, files, labels, arc)? {
-        Some(ends) => say_ends(number, arc, ends, labels.file, said)?,
+        Some(ends) => say_ends(number, arc, ends, labels, said)?,
         None => cannot_read(said, labels.file)?,
     }
     Ok(())
+}
+
+/// The source of a block, and its RADIUS.
+fn block_of(record: Record) -> Option<(u32, Option<i128>)> {
+    match record {
+        Record::LabelsBlock { source, radius, .. } => Some((source, radius)),
+        Record::DistancesBlock { source, .. } => Some((source, None)),
+        _ => None,
+    }
 }
 
 /// The first block in which the test of an arc fails.
@@ -104,18 +113,22 @@ fn failing_block<F: Files>(
             break;
         };
         match lines.record() {
-            Some(Record::LabelsBlock { source, radius, .. }) => {
-                if block.is_some_and(|ends| ends.fails(arc)) {
-                    return Ok(block);
-                }
-                block = Some(Ends::of(line, source, radius, arc));
-            }
-            Some(Record::LabelsNode { id, dist, .. }) => {
+            Some(
+                Record::LabelsNode { id, dist, .. } | Record::DistancesNode { id, dist },
+            ) => {
                 if let Some(ends) = &mut block {
                     ends.add(arc, id, dist);
                 }
             }
-            _ => (),
+            Some(record) => {
+                if let Some((source, radius)) = block_of(record) {
+                    if block.is_some_and(|ends| ends.fails(arc)) {
+                        return Ok(block);
+                    }
+                    block = Some(Ends::of(line, source, radius, arc));
+                }
+            }
+            None => (),
         }
     }
     Ok(block.filter(|ends| ends.fails(arc)))
@@ -126,15 +139,19 @@ fn say_ends(
     number: u32,
     arc: ArcView,
     ends: Ends,
-    file: &str,
+    labels: Named<'_>,
     said: &mut String,
 ) -> Result<(), AllocError> {
+    let name = match labels.kind {
+        TextKind::Distances => "distance",
+        _ => "label",
+    };
     let tail = ends.tail.unwrap_or(0);
     let sum = tail.saturating_add(i128::from(arc.cost));
     writeln!(
         said,
-        "{file}:{}: the block from source {}",
-        ends.line, ends.source
+        "{}:{}: the block from source {}",
+        labels.file, ends.line, ends.source
     )?;
     write!(
         said,
@@ -142,8 +159,8 @@ fn say_ends(
         arc.tail, arc.cost, arc.head
     )?;
     match ends.head {
-        Some(head) => writeln!(said, "; its label is {head}"),
-        None => writeln!(said, "; it has no label"),
+        Some(head) => writeln!(said, "; its {name} is {head}"),
+        None => writeln!(said, "; it has no {name}"),
     }
 }
 
@@ -171,13 +188,11 @@ impl Labelled {
 pub(crate) fn explain_label<F: Files>(
     alloc: Global,
     files: &mut F,
-    texts: Texts<'_>,
+    graph: Named<'_>,
+    labels: Named<'_>,
     node: u32,
     said: &mut String,
 ) -> Result<(), Memory> {
-    let (Some(graph), Some(labels)) = (texts.instance, texts.certificate) else {
-        return Ok(());
-    };
     let arcs = arcs_into(alloc, files, graph, node)?;
     let mut found = labels_of(alloc, files, labels, node)?;
     add_preds(alloc, files, labels, &mut found)?;
@@ -291,7 +306,7 @@ fn add_preds<F: Files>(
 }
 
 /// The tails and weights of the arcs into a node, sorted.
-fn arcs_into<F: Files>(
+pub(crate) fn arcs_into<F: Files>(
     alloc: Global,
     files: &mut F,
     graph: Named<'_>,

@@ -18,7 +18,7 @@ pub(crate) struct Texts<'a> {
     /// The text of a conversion, whatever its kind is.
     single: Option<Named<'a>>,
     pub(crate) instance: Option<Named<'a>>,
-    /// Queries, or a solution.
+    /// Queries, a solution or distances.
     pub(crate) claim: Option<Named<'a>>,
     pub(crate) certificate: Option<Named<'a>>,
     /// The file of a better solution.
@@ -57,6 +57,14 @@ impl<'a> Texts<'a> {
             _ => self.claim,
         }
     }
+
+    /// The text whose numbers are tested against the instance as a whole: the certificate, or distances.
+    pub(crate) fn tested(&self) -> Option<Named<'a>> {
+        match self.claim {
+            Some(claim) if claim.kind == TextKind::Distances => Some(claim),
+            _ => self.certificate,
+        }
+    }
 }
 
 fn judged(kind: JudgeKind, files: &[String]) -> Texts<'_> {
@@ -83,14 +91,32 @@ fn judged(kind: JudgeKind, files: &[String]) -> Texts<'_> {
 }
 
 fn certified(kind: CertifyKind, files: &[String]) -> Texts<'_> {
-    let instance = match kind {
-        CertifyKind::Max => TextKind::Max,
-        CertifyKind::Min => TextKind::Min,
-    };
+    match kind {
+        CertifyKind::Max => claimed(TextKind::Max, TextKind::Solution, files),
+        CertifyKind::Min => claimed(TextKind::Min, TextKind::Solution, files),
+        CertifyKind::Infeasible => unclaimed(TextKind::Min, files),
+        CertifyKind::Paths => claimed(TextKind::Graph, TextKind::Distances, files),
+    }
+}
+
+/// The texts of an instance and a claim, and the file of what is written about them.
+fn claimed(instance: TextKind, claim: TextKind, files: &[String]) -> Texts<'_> {
     match files {
         [first, second, rest @ ..] => Texts {
             instance: text_in(instance, first),
-            claim: text_in(TextKind::Solution, second),
+            claim: text_in(claim, second),
+            better: rest.first().map(String::as_str),
+            ..NO_TEXTS
+        },
+        _ => NO_TEXTS,
+    }
+}
+
+/// The text of an instance, and the file of what is written about it.
+fn unclaimed(instance: TextKind, files: &[String]) -> Texts<'_> {
+    match files {
+        [first, rest @ ..] => Texts {
+            instance: text_in(instance, first),
             better: rest.first().map(String::as_str),
             ..NO_TEXTS
         },

@@ -40,7 +40,7 @@ pub(crate) fn explain_end<F: Files>(
     Ok(())
 }
 
-/// Says why a certificate is refused as a whole.
+/// Says why a certificate, or distances, are refused as a whole.
 pub(crate) fn explain_whole<F: Files>(
     alloc: Global,
     files: &mut F,
@@ -48,7 +48,7 @@ pub(crate) fn explain_whole<F: Files>(
     reason: &str,
     said: &mut String,
 ) -> Result<(), Memory> {
-    let (Some(instance), Some(certificate)) = (texts.instance, texts.certificate) else {
+    let (Some(instance), Some(certificate)) = (texts.instance, texts.tested()) else {
         return Ok(());
     };
     if reason == "NotViolated" {

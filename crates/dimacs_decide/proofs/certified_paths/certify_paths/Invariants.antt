@@ -1,0 +1,13 @@
+use Rattle.std.proofs.Common.{◌≡◌, take}
+use Rattle.std.specs.List.{AllZip}
+use Rattle.dimacs_decide.specs.CertifiedPaths.{AreAllDistances}
+use Rattle.dimacs_decide.specs.inside.DistanceBlocks.{IsMadeOf}
+use Rattle.dimacs_decide.proofs.certified_paths.certify_paths.Given as goal
+
+-- the claims so far are true, and each has its block
+abbrev pub invariant-loop-i : goal.invariant-loop-i
+invariant-loop-i g l = record {
+  nodes : l.labels.nodes ≡ l.graph.nodes;
+  made : AllZip (IsMadeOf l.graph) (take l.i l.distances.blocks) l.labels.blocks;
+  hold : AreAllDistances l.graph (take l.i l.distances.blocks);
+}

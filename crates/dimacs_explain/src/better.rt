@@ -1,0 +1,108 @@
+//! Flows that were written in answer to a refusal, in words.
+
+use crate::lookups::{FoundLine, Wanted, find_line};
+use crate::texts::{Named, Texts};
+use dimacs_lines::Memory;
+use dimacs_records::{Record, TextKind};
+use dimacs_runs::Files;
+use std::alloc::{AllocError, Global};
+
+/// Says that a better solution took the place of the one that is refused.
+pub(crate) fn say_replaced(file: &str, said: &mut String) -> Result<(), Memory> {
+    writeln!(
+        said,
+        "the flow is feasible, and there is a better one: if its cost can be written, {file} has it now"
+    )?;
+    Ok(())
+}
+
+/// Says which flow is feasible, if one was written.
+pub(crate) fn explain_feasible<F: Files>(
+    alloc: Global,
+    files: &mut F,
+    texts: Texts<'_>,
+    said: &mut String,
+) -> Result<(), Memory> {
+    let Some(file) = texts.better else {
+        writeln!(
+            said,
+            "the instance has a feasible flow: name a file after the instance to get one"
+        )?;
+        return Ok(());
+    };
+    writeln!(
+        said,
+        "the instance has a feasible flow: if its cost can be written, {file} has one"
+    )?;
+    let solution = Named {
+        kind: TextKind::Solution,
+        file,
+    };
+    if files.open(file).is_ok()
+        && let Some(FoundLine { quote, .. }) = find_line(alloc, files, solution, Wanted::Value)?
+    {
+        quote.show(said, file)?;
+    }
+    Ok(())
+}
+
+/// Says by how much a flow can be better, where a better one was written.
+pub(crate) fn explain_better<F: Files>(
+    alloc: Global,
+    files: &mut F,
+    texts: Texts<'_>,
+    claimed: i128,
+    said: &mut String,
+) -> Result<(), Memory> {
+    let Some(file) = texts.better else {
+        writeln!(
+            said,
+            "the flow is feasible, and there is a better one: name a file after the solution to get it"
+        )?;
+        return Ok(());
+    };
+    let better = Named {
+        kind: TextKind::Solution,
+        file,
+    };
+    if files.open(file).is_err() {
+        writeln!(
+            said,
+            "the flow is feasible, and there is a better one, which was written to {file}"
+        )?;
+        return Ok(());
+    }
+    match find_line(alloc, files, better, Wanted::Value)? {
+        Some(
+            FoundLine {
+                record: Record::SolutionValue { value },
+                quote,
+            },
+        ) => {
+            quote.show(said, file)?;
+            say_better(value, claimed, said)?;
+        }
+        _ => writeln!(
+            said,
+            "the flow is feasible, and there is a better one, whose cost leaves -10^30 to 10^30"
+        )?,
+    }
+    Ok(())
+}
+
+/// Says how two values differ.
+fn say_better(value: i128, claimed: i128, said: &mut String) -> Result<(), AllocError> {
+    if value > claimed {
+        let more = value.saturating_sub(claimed);
+        writeln!(
+            said,
+            "this flow is feasible, and has {more} more than the {claimed} that is claimed"
+        )
+    } else {
+        let less = claimed.saturating_sub(value);
+        writeln!(
+            said,
+            "this flow is feasible, and costs {less} less than the {claimed} that is claimed"
+        )
+    }
+}

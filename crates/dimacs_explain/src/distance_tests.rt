@@ -1,0 +1,131 @@
+//! The tests of claimed distances, in words.
+
+use crate::faults::cannot_read;
+use crate::lookups::{FoundLine, line_at};
+use crate::path_tests::arcs_into;
+use crate::texts::{ANY_LINES, Named, TextLines};
+use dimacs_lines::Memory;
+use dimacs_records::Record;
+use dimacs_runs::Files;
+use std::alloc::Global;
+
+/// What a block of distances says of a node.
+#[derive(Clone, Copy)]
+struct Claimed {
+    source: u32,
+    /// The line of the block, and that of the node's distance.
+    block_line: u64,
+    line: u64,
+    dist: Option<i128>,
+    /// The least distance to which an arc into the node leads.
+    least: Option<i128>,
+}
+
+impl Claimed {
+    /// The block of this t line. Its source, at 0, may be the tail of arcs.
+    fn begin(block_line: u64, source: u32, arcs: &[(u32, i64)]) -> Claimed {
+        let mut block = Claimed {
+            source,
+            block_line,
+            line: 0,
+            dist: None,
+            least: None,
+        };
+        block.add_tail(arcs, source, 0);
+        block
+    }
+
+    /// Adds the distance of a node.
+    fn add(&mut self, arcs: &[(u32, i64)], wanted: u32, line: u64, id: u32, dist: i128) {
+        if id == wanted {
+            self.line = line;
+            self.dist = Some(dist);
+        }
+        self.add_tail(arcs, id, dist);
+    }
+
+    /// Adds the lightest arc that leads from a node at this distance.
+    fn add_tail(&mut self, arcs: &[(u32, i64)], tail: u32, dist: i128) {
+        let first = arcs.partition_point(|arc| arc.0 < tail);
+        if let Some(&(from, weight)) = arcs.get(first)
+            && from == tail
+        {
+            let sum = dist.saturating_add(i128::from(weight));
+            self.least = Some(self.least.map_or(sum, |least| least.min(sum)));
+        }
+    }
+
+    /// Whether no arc leads to the distance.
+    fn is_loose(&self) -> bool {
+        self.dist.is_some() && self.least != self.dist
+    }
+}
+
+/// Says why no walk leads to a claimed distance.
+pub(crate) fn explain_distance<F: Files>(
+    alloc: Global,
+    files: &mut F,
+    graph: Named<'_>,
+    distances: Named<'_>,
+    node: u32,
+    said: &mut String,
+) -> Result<(), Memory> {
+    let arcs = arcs_into(alloc, files, graph, node)?;
+    let Some(block) = loose_block(alloc, files, distances, &arcs, node)? else {
+        writeln!(
+            said,
+            "the arcs that lead to the distance of node {node} come from nodes that no walk from the source reaches at theirs"
+        )?;
+        return Ok(());
+    };
+    let Some(FoundLine { quote, .. }) = line_at(alloc, files, distances, block.line, 0)? else {
+        return cannot_read(said, distances.file);
+    };
+    quote.show(said, distances.file)?;
+    write!(
+        said,
+        "in the block from source {} (line {}) no arc leads to node {node} at {}",
+        block.source,
+        block.block_line,
+        block.dist.unwrap_or(0)
+    )?;
+    match block.least {
+        Some(least) => writeln!(said, ": the nearest leads there at {least}")?,
+        None => writeln!(said, ": none comes from a node that has a distance")?,
+    }
+    Ok(())
+}
+
+/// The first block with a distance of a node to which no arc leads.
+fn loose_block<F: Files>(
+    alloc: Global,
+    files: &mut F,
+    distances: Named<'_>,
+    arcs: &[(u32, i64)],
+    node: u32,
+) -> Result<Option<Claimed>, Memory> {
+    let Some(mut lines) = TextLines::open(alloc, files, distances)? else {
+        return Ok(None);
+    };
+    let mut block: Option<Claimed> = None;
+    for _ in 0..ANY_LINES {
+        let Some(line) = lines.next() else {
+            break;
+        };
+        match lines.record() {
+            Some(Record::DistancesBlock { source, .. }) => {
+                if block.is_some_and(|block| block.is_loose()) {
+                    return Ok(block);
+                }
+                block = Some(Claimed::begin(line, source, arcs));
+            }
+            Some(Record::DistancesNode { id, dist }) => {
+                if let Some(block) = &mut block {
+                    block.add(arcs, node, line, id, dist);
+                }
+            }
+            _ => (),
+        }
+    }
+    Ok(block.filter(|block| block.is_loose()))
+}
