@@ -1,12 +1,17 @@
--- What certifying tells of the bytes of an instance and of a solution: the text of a certificate or of a better solution, and a report. A text that isn't put is empty here.
-use Rattle.std.specs.Prelude.{ℕ, ◌≡◌, ◌⊎◌, List, [], ◌∷◌, ℤ}
+-- What certifying tells of the bytes of an instance and of a claim: the text of a certificate or of a better solution, and a report. A text that isn't put is empty here.
+use Rattle.std.specs.Prelude.{ℕ, ◌≡◌, ◌≢◌, ◌⊎◌, List, [], ◌∷◌, Option, None, Some, IsSome, codes, length, ℤ}
 use Rattle.dimacs_records.specs.declared.kinds.TextKind.{TextKind}
 use Rattle.dimacs_records.specs.declared.kinds.TextKind.TheVariants as kinds
 use Rattle.dimacs_records.specs.declared.reasons.Reason.{Reason}
-use Rattle.dimacs_records.specs.declared.reasons.Reason.TheVariants.{NotLeast, NotMaximum}
+use Rattle.dimacs_records.specs.declared.reasons.Reason.TheVariants.{Feasible, NodesDiffer, NotLeast, NotMaximum}
 use Rattle.dimacs_claims.specs.Cuts.{CutValue, canonical_cut}
+use Rattle.dimacs_claims.specs.DistanceTexts.{GivesDistances}
+use Rattle.dimacs_claims.specs.Labels.{BlockValue, LabelsValue}
+use Rattle.dimacs_claims.specs.LabelTexts.{canonical_labels}
 use Rattle.dimacs_claims.specs.Potentials.{PotentialsValue, canonical_potentials}
 use Rattle.dimacs_claims.specs.SolutionTexts.{SolutionValue, GivesSolution, canonical_solution}
+use Rattle.dimacs_network.specs.Arcs.{NetworkValue}
+use Rattle.dimacs_instance.specs.Graph.{GivesGraph}
 use Rattle.dimacs_instance.specs.MaxFlows.{MaxValue}
 use Rattle.dimacs_instance.specs.MaxTexts.{GivesMax}
 use Rattle.dimacs_instance.specs.MinFlows.{MinValue}
@@ -14,19 +19,23 @@ use Rattle.dimacs_instance.specs.MinTexts.{GivesMin}
 use Rattle.dimacs_judge.specs.declared.verdict.Where.{Where}
 use Rattle.dimacs_judge.specs.declared.verdict.Where.TheVariants.{Solution}
 use Rattle.dimacs_judge.specs.Entries.{IsMaxSolutionOf, IsMinSolutionOf}
+use Rattle.dimacs_judge.specs.Feasible.{FeasibleMin}
 use Rattle.dimacs_judge.specs.FlowTests.{LeavesCostRange}
+use Rattle.dimacs_judge.specs.InfeasibleJudge.{ShowsNoFlow}
 use Rattle.dimacs_judge.specs.MaxJudge.{ShowsMaximum, max_claim_rows}
 use Rattle.dimacs_judge.specs.MinJudge.{ShowsLeast, min_claim_rows}
 use Rattle.dimacs_judge.specs.Tests.{First, Row}
 use Rattle.dimacs_decide.specs.CertifiedMax.{IsMaxImproved}
 use Rattle.dimacs_decide.specs.CertifiedMin.{IsMinImproved}
+use Rattle.dimacs_decide.specs.CertifiedPaths.{AreAllDistances, AreLabelsOfAll, distances_rows}
 use Rattle.dimacs_runs.specs.declared.jobs.CertifyKind.{CertifyKind}
-use Rattle.dimacs_runs.specs.declared.jobs.CertifyKind.TheVariants.{Max, Min}
+use Rattle.dimacs_runs.specs.declared.jobs.CertifyKind.TheVariants.{Max, Min, Infeasible, Paths}
 use Rattle.dimacs_runs.specs.declared.outcome.Status.{Status}
 use Rattle.dimacs_runs.specs.declared.outcome.Status.TheVariants.{Done, Refused, GaveUp}
 use Rattle.dimacs_runs.specs.Solved.{FaultAloneOr}
+use Rattle.dimacs_runs.specs.Refusals.{refusal_line}
 use Rattle.dimacs_runs.specs.Runs.{says}
-use Rattle.dimacs_runs.specs.Verdicts.{failure_line, max_line, min_line}
+use Rattle.dimacs_runs.specs.Verdicts.{distances_line, failure_line, infeasible_line, max_line, min_line}
 
 -- a report, without a certificate
 abbrev pub uncertified : List ℕ → List (List ℕ)
@@ -63,23 +72,63 @@ SaysFlow i y text = ((better : SolutionValue) × IsMinSolutionOf i y better × (
 abbrev pub SaysCheaper : MinValue → SolutionValue → List ℕ → Type 0
 SaysCheaper i s text = (x : List ℤ) × (y : List ℤ) × IsMinImproved i s x y × SaysFlow i y text
 
+-- the text of a set that shows that no flow is feasible
+abbrev pub SaysSet : MinValue → List ℕ → Type 0
+SaysSet i text = (c : CutValue) × ShowsNoFlow i c × (text ≡ canonical_cut c)
+
+-- the text of a feasible flow
+abbrev pub SaysFeasible : MinValue → List ℕ → Type 0
+SaysFeasible i text = (x : List ℤ) × FeasibleMin i x × SaysFlow i x text
+
+-- all claimed distances are true, and this is the text of labels that show it
+abbrev pub SaysLabels : NetworkValue → List BlockValue → List ℕ → Type 0
+SaysLabels g blocks text = AreAllDistances g blocks × ((l : LabelsValue) × AreLabelsOfAll g blocks l × (text ≡ canonical_labels l))
+
 abbrev pub CertifiesMaximum : MaxValue → SolutionValue → Status → List (List ℕ) → Type 0
 CertifiesMaximum i s = CertificateOr (SaysCut i s) (max_line s.value) (max_claim_rows i s) (SaysGreater i s) (value_refused s NotMaximum)
 
 abbrev pub CertifiesLeast : MinValue → SolutionValue → Status → List (List ℕ) → Type 0
 CertifiesLeast i s = CertificateOr (SaysPotentials i s) (min_line s.value) (min_claim_rows i s) (SaysCheaper i s) (value_refused s NotLeast)
 
--- what is told of an instance and of a claimed flow
+-- nothing is claimed, so no test of a claim fails
+abbrev pub CertifiesInfeasible : MinValue → Status → List (List ℕ) → Type 0
+CertifiesInfeasible i = CertificateOr (SaysSet i) infeasible_line [] (SaysFeasible i) (refusal_line (codes "instance") 0 0 Feasible)
+
+-- the text of labels, and the verdict; or that the distances are of another number of nodes, or that not all are true, by the first test that fails
+abbrev pub CertifiesDistances : NetworkValue → LabelsValue → Status → List (List ℕ) → Type 0
+CertifiesDistances g d Done out = (d.nodes ≡ g.nodes) × ((text : List ℕ) × SaysLabels g d.blocks text × (out ≡ text ∷ distances_line (length d.blocks) ∷ []))
+CertifiesDistances g d Refused out =
+    ((d.nodes ≢ g.nodes) × (out ≡ uncertified (refusal_line (codes "distances") 0 0 NodesDiffer))) ⊎ ((d.nodes ≡ g.nodes) × (¬ AreAllDistances g d.blocks) × ((place : Where) × (reason : Reason) × First (distances_rows g d.blocks) place reason × (out ≡ uncertified (failure_line place reason))))
+CertifiesDistances g d GaveUp out = ⊥
+
+-- what is told of an instance and of a claim
 abbrev pub Certified : CertifyKind → List ℕ → List ℕ → Status → List (List ℕ) → Type 0
-Certified Max instance solution =
+Certified Max instance claim =
     FaultAloneOr uncertified (says kinds.Max GivesMax instance) (λ i.
-    FaultAloneOr uncertified (says kinds.Solution GivesSolution solution) (λ s.
+    FaultAloneOr uncertified (says kinds.Solution GivesSolution claim) (λ s.
     CertifiesMaximum i s))
-Certified Min instance solution =
+Certified Min instance claim =
     FaultAloneOr uncertified (says kinds.Min GivesMin instance) (λ i.
-    FaultAloneOr uncertified (says kinds.Solution GivesSolution solution) (λ s.
+    FaultAloneOr uncertified (says kinds.Solution GivesSolution claim) (λ s.
     CertifiesLeast i s))
+Certified Infeasible instance claim =
+    FaultAloneOr uncertified (says kinds.Min GivesMin instance) (λ i.
+    CertifiesInfeasible i)
+Certified Paths instance claim =
+    FaultAloneOr uncertified (says kinds.Graph GivesGraph instance) (λ g.
+    FaultAloneOr uncertified (says kinds.Distances GivesDistances claim) (λ d.
+    CertifiesDistances g d))
 
 abbrev pub certified_kind : CertifyKind → TextKind
 certified_kind Max = kinds.Max
-certified_kind Min = kinds.Min
+certified_kind Paths = kinds.Graph
+certified_kind kind = kinds.Min
+
+abbrev pub claimed_kind : CertifyKind → Option TextKind
+claimed_kind Infeasible = None
+claimed_kind Paths = Some kinds.Distances
+claimed_kind kind = Some kinds.Solution
+
+-- the bytes of the claim, where there is one
+abbrev pub IsClaimed : CertifyKind → Option (List ℕ) → List ℕ → Type 0
+IsClaimed kind coming bytes = IsSome (claimed_kind kind) → coming ≡ Some bytes

@@ -21,7 +21,7 @@ use Rattle.dimacs_runs.specs.declared.outcome.RunError.TheVariants as run_errors
 use Rattle.dimacs_runs.specs.declared.outcome.Status.{Status}
 use Rattle.dimacs_runs.specs.Certified.{Certified}
 use Rattle.dimacs_runs.specs.Files.{Created, FileEvent, FilesSeen, NotCreated, NotOpened, Opened, Read, ReadFile, Sees, WrittenFile, Wrote, closed_written, failures}
-use Rattle.dimacs_runs.specs.Jobs.{Asks}
+use Rattle.dimacs_runs.specs.Jobs.{Asks, certify_reads}
 use Rattle.dimacs_runs.specs.Judged.{Judged}
 use Rattle.dimacs_runs.specs.Outcomes.{status_number}
 use Rattle.dimacs_runs.specs.Outputs.{MayTell, ReportsAll, TellsAlike}
@@ -41,7 +41,7 @@ pub record Seen : Type 0 where
 abbrev pub seen_by : FilesSeen → Written → Seen
 seen_by files output = record { files = files; output = output }
 
--- the files that a run opens, and those that it creates, in the order of its words
+-- the files that a run opens, and those that it creates, in the order of its words: before the run, or where a claim is certified after it
 pub record Plan : Type 0 where
   pub opened : List (List ℕ)
   pub created : List (List ℕ)
@@ -62,7 +62,7 @@ abbrev pub plan_of : Job → Plan
 plan_of (Convert kind file) = reads (file.now ∷ [])
 plan_of (Show kind file) = reads (file.now ∷ [])
 plan_of (Judge kind files) = reads (map string_bytes files.now)
-plan_of (Certify kind files) = reads_first 2 (map string_bytes files.now)
+plan_of (Certify kind files) = reads_first (certify_reads kind) (map string_bytes files.now)
 plan_of (Solve job files) = reads_first (read_count job) (map string_bytes files.now)
 
 -- a run writes a claim and its certificate to one file, of this name
@@ -85,14 +85,15 @@ TellsJudged judges.Infeasible (instance ∷ set ∷ []) result (old ∷ []) (new
 TellsJudged kind (instance ∷ claim ∷ certificate ∷ []) result (old ∷ []) (new ∷ []) = Reports (Judged kind instance claim certificate) result old new
 TellsJudged kind other result old new = ⊥
 
--- where no file is created for a certificate, it goes nowhere
-abbrev pub certificate_first : List (Option (List ℕ)) → List (Option (List ℕ))
-certificate_first (output ∷ []) = None ∷ output ∷ []
-certificate_first sinks = sinks
+-- where no file is created for a text, it goes nowhere
+abbrev pub text_first : List (Option (List ℕ)) → List (Option (List ℕ))
+text_first (output ∷ []) = None ∷ output ∷ []
+text_first sinks = sinks
 
-abbrev pub TellsCertified : CertifyKind → Telling
-TellsCertified kind (instance ∷ solution ∷ []) result old new = ReportsAll (TellsAlike (Certified kind instance solution)) result (certificate_first old) (certificate_first new)
-TellsCertified kind other result old new = ⊥
+-- the files that are created for what is told: those of a plan, but where the text for them is empty
+abbrev pub files_for : List (List ℕ) → List (List ℕ) → List (List ℕ)
+files_for names ([] ∷ out) = []
+files_for names out = names
 
 -- nothing is claimed with distances: the claim goes nowhere
 abbrev pub TellsSolved : SolveJob → Telling
@@ -101,12 +102,15 @@ TellsSolved (solves.Min limit) (instance ∷ []) result old new = ReportsAll (Ma
 TellsSolved solves.Paths (graph ∷ queries ∷ []) result old new = ReportsAll (MayTell (Solved solves.Paths graph queries)) result (None ∷ old) (None ∷ new)
 TellsSolved job other result old new = ⊥
 
-abbrev pub tells_of : Job → Telling
-tells_of (Convert kind file) = TellsOne (Told Canonical kind)
-tells_of (Show kind file) = TellsOne (Told Summary kind)
-tells_of (Judge kind files) = TellsJudged kind
-tells_of (Certify kind files) = TellsCertified kind
-tells_of (Solve job files) = TellsSolved job
+-- what is told of the texts of the files that are read, with a status: a text for a file, and a report
+abbrev pub Making : Type 1
+Making = List (List ℕ) → Status → List (List ℕ) → Type 0
+
+-- nothing is claimed where one file is read
+abbrev pub MakesCertificate : CertifyKind → Making
+MakesCertificate kind (instance ∷ []) = TellsAlike (Certified kind instance [])
+MakesCertificate kind (instance ∷ claim ∷ []) = TellsAlike (Certified kind instance claim)
+MakesCertificate kind other = λ status out. ⊥
 
 -- a file could not be opened: those before it were, and nothing else was done
 pub record StopsOpening (plan : Plan) (events : List FileEvent) : Type 0 where
@@ -154,26 +158,78 @@ pub record UsesFiles (plan : Plan) (holds : Contents) (empty : Option (List ℕ)
   pub told : (texts : List (List ℕ)) → map holds plan.opened ≡ map Some texts → tells texts result (at_first plan.created empty old) (at_last written new)
   pub nothing_written : WritesNothing result → at_last written new ≡ at_first plan.created empty old
 
--- the failures of files that the end of a run tells of
-abbrev pub failures_told : Result Status CommandError → List (FileCall × List ℕ)
-failures_told (Err (Device (File call name))) = (call, name.now) ∷ []
-failures_told other = []
+-- a file was created, written and closed
+abbrev pub made_events : WrittenFile → List FileEvent
+made_events file = Created file.name ∷ Wrote file ∷ []
 
--- the faults of the output: one more where the end of a run tells of it
-abbrev pub output_faults : Result Status CommandError → ℕ → ℕ
-output_faults (Err (Device Output)) faults = one_more faults
-output_faults other faults = faults
+-- all files that are read were opened, and closed after they were read; but the file for a text that was made could not be created
+pub record StopsMaking (plan : Plan) (holds : Contents) (makes : Making) (events : List FileEvent) : Type 0 where
+  pub read : List ReadFile
+  pub name : List ℕ
+  pub error : RunError
+  pub all_read : map (λ (file : ReadFile). file.name) read ≡ plan.opened
+  pub whole : plan.created ≡ name ∷ []
+  pub happened : events ≡ (map Opened plan.opened ++ map Read read) ++ NotCreated name error ∷ []
+  pub made : (texts : List (List ℕ)) → map holds plan.opened ≡ map Some texts → (status : Status) × (out : List (List ℕ)) × makes texts status out × (files_for plan.created out ≡ plan.created)
 
--- the files of a plan were used, or one of them could not be opened or created and nothing was put; and the device that is told of is the only one that failed
-pub record RunsFiles (plan : Plan) (holds : Contents) (empty : Option (List ℕ)) (tells : Telling) (result : Result Status CommandError) (old new : Seen) : Type 0 where
+-- all files that are read were opened, and closed after they were read; then a file was created for a text that was made, where one was, and what is told of the texts was put
+pub record MakesFiles (plan : Plan) (holds : Contents) (empty : Option (List ℕ)) (makes : Making) (events : List FileEvent) (result : Result Status CommandError) (old new : Option (List ℕ)) : Type 0 where
+  pub read : List ReadFile
+  pub written : List WrittenFile
+  pub all_read : map (λ (file : ReadFile). file.name) read ≡ plan.opened
+  pub happened : events ≡ (map Opened plan.opened ++ map Read read) ++ flat_map made_events written
+  pub told : (texts : List (List ℕ)) → map holds plan.opened ≡ map Some texts
+      → ReportsAll (λ status out. makes texts status out × (map (λ (file : WrittenFile). file.name) written ≡ files_for plan.created out)) result (text_first (at_first (map (λ (file : WrittenFile). file.name) written) empty old)) (text_first (at_last written new))
+  pub nothing_written : WritesNothing result → (written ≡ []) × (new ≡ old)
+
+-- the failures of files that an error tells of
+abbrev pub file_failures : CommandError → List (FileCall × List ℕ)
+file_failures (Device (File call name)) = (call, name.now) ∷ []
+file_failures other = []
+
+-- those that the end of a run tells of
+abbrev pub failures_told : {X : Type 0} → Result X CommandError → List (FileCall × List ℕ)
+failures_told (Ok x) = []
+failures_told (Err error) = file_failures error
+
+-- the faults of the output: one more where an error tells of it
+abbrev pub faults_by_error : CommandError → ℕ → ℕ
+faults_by_error (Device Output) faults = one_more faults
+faults_by_error other faults = faults
+
+abbrev pub output_faults : {X : Type 0} → Result X CommandError → ℕ → ℕ
+output_faults (Ok x) faults = faults
+output_faults (Err error) faults = faults_by_error error faults
+
+-- a run took place over files, and ended so; and the device that is told of is the only one that failed
+pub record RunsOver (ends : List FileEvent → Type 0) (result : Result Status CommandError) (old new : Seen) : Type 0 where
   pub events : List FileEvent
   pub seen : Sees events old.files new.files
   pub failure : flat_map failures events ≡ failures_told result
   pub faults : new.output.faults ≡ output_faults result old.output.faults
-  pub ends : ((StopsOpening plan events ⊎ StopsCreating plan empty events) × IsErr result × (new.output.accepted ≡ old.output.accepted)) ⊎ UsesFiles plan holds empty tells events result old.output.accepted new.output.accepted
+  pub ends : ends events
 
+-- a file could not be opened or created, and nothing was put
+abbrev pub PutsNothing : Type 0 → Result Status CommandError → Seen → Seen → Type 0
+PutsNothing stops result old new = stops × IsErr result × (new.output.accepted ≡ old.output.accepted)
+
+-- the files of a plan were used, or one of them could not be opened or created
+abbrev pub RunsFiles : Plan → Contents → Option (List ℕ) → Telling → Result Status CommandError → Seen → Seen → Type 0
+RunsFiles plan holds empty tells result old new =
+    RunsOver (λ events. PutsNothing (StopsOpening plan events ⊎ StopsCreating plan empty events) result old new ⊎ UsesFiles plan holds empty tells events result old.output.accepted new.output.accepted) result old new
+
+-- the files of a plan were read, and one was created for a text that was made, or one of them could not be opened or created
+abbrev pub MakesOfFiles : Plan → Contents → Option (List ℕ) → Making → Result Status CommandError → Seen → Seen → Type 0
+MakesOfFiles plan holds empty makes result old new =
+    RunsOver (λ events. PutsNothing (StopsOpening plan events ⊎ StopsMaking plan holds makes events) result old new ⊎ MakesFiles plan holds empty makes events result old.output.accepted new.output.accepted) result old new
+
+-- certifiers create a file where they made a text for it, the others before they run
 abbrev pub RunsJob : Job → Contents → Option (List ℕ) → Result Status CommandError → Seen → Seen → Type 0
-RunsJob job holds empty result old new = RunsFiles (plan_of job) holds empty (tells_of job) result old new
+RunsJob (Convert kind file) holds empty = RunsFiles (plan_of (Convert kind file)) holds empty (TellsOne (Told Canonical kind))
+RunsJob (Show kind file) holds empty = RunsFiles (plan_of (Show kind file)) holds empty (TellsOne (Told Summary kind))
+RunsJob (Judge kind files) holds empty = RunsFiles (plan_of (Judge kind files)) holds empty (TellsJudged kind)
+RunsJob (Certify kind files) holds empty = MakesOfFiles (plan_of (Certify kind files)) holds empty (MakesCertificate kind)
+RunsJob (Solve job files) holds empty = RunsFiles (plan_of (Solve job files)) holds empty (TellsSolved job)
 
 -- how the command ends after a run, with the device that failed
 abbrev pub ending_of : Result Status CommandError → Ending

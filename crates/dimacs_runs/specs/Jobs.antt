@@ -1,5 +1,5 @@
 -- What the words after the program's name ask for.
-use Rattle.std.specs.Prelude.{ℕ, ◌≡◌, ◌≤◌, ◌++◌, List, [], ◌∷◌, codes, map, length, pos}
+use Rattle.std.specs.Prelude.{ℕ, ◌≡◌, ◌≤◌, ◌+◌, ◌++◌, List, [], ◌∷◌, codes, map, length, pos}
 use Rattle.std.specs.String.{string_bytes}
 use Rattle.dimacs_lines.specs.Number.{Spells}
 use Rattle.dimacs_records.specs.declared.kinds.TextKind.{TextKind}
@@ -38,10 +38,17 @@ file_count kind = 3
 abbrev pub certify_word : CertifyKind → List ℕ
 certify_word certifies.Max = codes "certify-max"
 certify_word certifies.Min = codes "certify-min"
+certify_word certifies.Infeasible = codes "certify-infeasible"
+certify_word certifies.Paths = codes "certify-paths"
 
--- an instance and a claim, and a certificate where one is to be written
-abbrev pub TwoOrThree : ℕ → Type 0
-TwoOrThree count = (2 ≤ count) × (count ≤ 3)
+-- an instance and a claim are read; nothing is claimed where no flow is feasible
+abbrev pub certify_reads : CertifyKind → ℕ
+certify_reads certifies.Infeasible = 1
+certify_reads kind = 2
+
+-- the files that are read, and one more where a certificate is to be written
+abbrev pub AreCertifyFiles : CertifyKind → ℕ → Type 0
+AreCertifyFiles kind count = (certify_reads kind ≤ count) × (count ≤ certify_reads kind + 1)
 
 abbrev pub solve_word : SolveJob → List ℕ
 solve_word (solves.Max limit) = codes "solve-max"
@@ -72,5 +79,5 @@ abbrev pub Asks : List (List ℕ) → Job → Type 0
 Asks words (Convert kind file) = words ≡ codes "convert" ∷ kind_word kind ∷ file.now ∷ []
 Asks words (Show kind file) = words ≡ codes "show" ∷ kind_word kind ∷ file.now ∷ []
 Asks words (Judge kind files) = (words ≡ judge_word kind ∷ map string_bytes files.now) × (length files.now ≡ file_count kind)
-Asks words (Certify kind files) = (words ≡ certify_word kind ∷ map string_bytes files.now) × TwoOrThree (length files.now)
+Asks words (Certify kind files) = (words ≡ certify_word kind ∷ map string_bytes files.now) × AreCertifyFiles kind (length files.now)
 Asks words (Solve job files) = AsksProducer words job (map string_bytes files.now)

@@ -28,6 +28,10 @@ infeasible_line = yes_line (codes "infeasible" ∷ [])
 abbrev pub sources_line : ℕ → List ℕ
 sources_line count = yes_line (codes "sp" ∷ codes "ss" ∷ decimal count ∷ [])
 
+-- the distances from so many sources were certified
+abbrev pub distances_line : ℕ → List ℕ
+distances_line count = yes_line (codes "sp" ∷ codes "distances" ∷ decimal count ∷ [])
+
 -- where no distance is told: the target is farther than a radius, or can't be reached
 abbrev pub far_words : Option ℤ → List (List ℕ)
 far_words None = codes "unreachable" ∷ []

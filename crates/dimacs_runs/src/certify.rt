@@ -1,4 +1,4 @@
-//! Certifying a claimed flow, of which no certificate is given.
+//! Certifying a claim of which no certificate is given.
 
 ghost use Rattle.std.specs.Prelude.{◌≡◌, ◌≢◌, ◌⊎◌, ◌∷◌, [], ℕ, ℤ, List, Some, Err};
 ghost use Rattle.dimacs_lines.specs.Lines.{lines};
@@ -14,12 +14,14 @@ ghost use Rattle.dimacs_decide.specs.CertifiedMax.{IsMaxImproved};
 ghost use Rattle.dimacs_decide.specs.CertifiedMin.{IsMinImproved};
 ghost use Rattle.dimacs_runs.specs.declared.outcome.RunError.TheVariants.{Device, Memory};
 ghost use Rattle.dimacs_runs.specs.declared.jobs.CertifyKind.TheVariants as certifies;
-ghost use Rattle.dimacs_runs.specs.Certified.{Certified, CertifiesLeast, CertifiesMaximum, certified_kind};
+ghost use Rattle.dimacs_runs.specs.Certified.{Certified, CertifiesLeast, CertifiesMaximum, IsClaimed, certified_kind};
 ghost use Rattle.dimacs_runs.specs.Judgings.{CountsDevices};
 ghost use Rattle.dimacs_runs.specs.Outputs.{ReportsAll, TellsAlike};
 ghost use Rattle.dimacs_runs.specs.inside.Judgings.{HasFault};
 ghost use Rattle.dimacs_runs.specs.inside.Produced.{MayCertify};
 
+use crate::certify_distances::certify_distances;
+use crate::certify_infeasible::certify_infeasible;
 use crate::discard::Discard;
 use crate::jobs::CertifyKind;
 use crate::outcome::{RunError, Status};
@@ -36,37 +38,56 @@ use dimacs_records::Reason;
 use dimacs_solve::improve_max;
 use std::alloc::Global;
 
-/// Reads an instance and a claimed flow, in this order, and puts a certificate with which the judge says yes to the
-/// claim, and its verdict. Where the claim is what it says and there is a better flow, it puts a solution with an entry
-/// for every arc that claims such a flow, and the line of a refusal at the claimed value. Else it puts the line of the
-/// first test that fails, of those that the judge makes before it looks at a certificate, or of the first text's fault,
-/// and nothing else. The claim isn't pulled after an instance that has a fault.
+/// Reads an instance and a claim about it, in this order, and puts a certificate with which the judge says yes to the
+/// claim, and its verdict. Where a claimed flow is what it says and there is a better one, it puts a solution with an
+/// entry for every arc that claims such a flow, and the line of a refusal at the claimed value; in the same way a feasible
+/// flow, where it is to show that there is none. Else it puts the line of the first test that fails, of those that the
+/// judge makes before it looks at a certificate, or of the first text's fault, and nothing else. The claim isn't pulled
+/// after an instance that has a fault; where no flow is feasible nothing is claimed, and the claim isn't pulled.
 pub fn run_certify<P: Source, Q: Source, C: Sink, K: Sink>(
     alloc: Global,
     kind: CertifyKind,
     instance: &mut P,
-    solution: &mut Q,
+    claim: &mut Q,
     certificate_out: &mut C,
     report: &mut K,
 ) -> Result<Status, RunError>
-    ensures reports { (a b : List ℕ) → P.coming instance.old ≡ Some a → Q.coming solution.old ≡ Some b
+    ensures reports { (a b : List ℕ) → P.coming instance.old ≡ Some a → IsClaimed kind (Q.coming claim.old) b
         → ReportsAll (TellsAlike (Certified kind a b)) result
         ((C.seen certificate_out.old).accepted ∷ (K.seen report.old).accepted ∷ [])
         ((C.seen certificate_out.new).accepted ∷ (K.seen report.new).accepted ∷ []) }
     ensures faults { CountsDevices result
-        (P.faults instance.old ∷ Q.faults solution.old ∷ (C.seen certificate_out.old).faults ∷ (K.seen report.old).faults ∷ [])
-        (P.faults instance.new ∷ Q.faults solution.new ∷ (C.seen certificate_out.new).faults ∷ (K.seen report.new).faults ∷ []) }
-    ensures nothing_written { (P.faults instance.new ≢ P.faults instance.old) ⊎ (Q.faults solution.new ≢ Q.faults solution.old)
+        (P.faults instance.old ∷ Q.faults claim.old ∷ (C.seen certificate_out.old).faults ∷ (K.seen report.old).faults ∷ [])
+        (P.faults instance.new ∷ Q.faults claim.new ∷ (C.seen certificate_out.new).faults ∷ (K.seen report.new).faults ∷ []) }
+    ensures nothing_written { (P.faults instance.new ≢ P.faults instance.old) ⊎ (Q.faults claim.new ≢ Q.faults claim.old)
         → (C.seen certificate_out.new ≡ C.seen certificate_out.old) × (K.seen report.new ≡ K.seen report.old) }
     ensures memory { result ≡ Err Memory → (C.seen certificate_out.new ≡ C.seen certificate_out.old) × (K.seen report.new ≡ K.seen report.old) }
     ensures stops_at_instance { (a : List ℕ) (l f : ℕ) (r : Reason) → P.coming instance.old ≡ Some a → Fault (certified_kind kind) (lines a) l f r
-        → solution.new ≡ solution.old }
+        → claim.new ≡ claim.old }
+    ensures unclaimed { kind ≡ certifies.Infeasible → claim.new ≡ claim.old }
 {
-    let produced = match kind {
-        CertifyKind::Max => certify_maximum(alloc, instance, solution),
-        CertifyKind::Min => certify_least(alloc, instance, solution),
-    };
+    let produced = certify_claim(alloc, kind, instance, claim);
     put_produced(produced, &mut Discard, certificate_out, report)
+}
+
+/// What is told of a claim, and its certificate or what is better.
+pub(crate) fn certify_claim<P: Source, Q: Source>(
+    alloc: Global,
+    kind: CertifyKind,
+    instance: &mut P,
+    claim: &mut Q,
+) -> Result<Produced, RunError>
+    ensures certifies { (a b : List ℕ) → P.coming instance.old ≡ Some a → IsClaimed kind (Q.coming claim.old) b → MayCertify (Certified kind a b) result }
+    ensures faults { CountsDevices result (P.faults instance.old ∷ Q.faults claim.old ∷ []) (P.faults instance.new ∷ Q.faults claim.new ∷ []) }
+    ensures stops_at_instance { HasFault (certified_kind kind) (P.coming instance.old) → claim.new ≡ claim.old }
+    ensures unclaimed { kind ≡ certifies.Infeasible → claim.new ≡ claim.old }
+{
+    match kind {
+        CertifyKind::Max => certify_maximum(alloc, instance, claim),
+        CertifyKind::Min => certify_least(alloc, instance, claim),
+        CertifyKind::Infeasible => certify_infeasible(alloc, instance),
+        CertifyKind::Paths => certify_distances(alloc, instance, claim),
+    }
 }
 
 /// What is told of a flow that is claimed to be maximum, and a cut or a better flow.

@@ -52,7 +52,8 @@ impl<'a> Ending<'a> {
 }
 
 /// Runs what the words after the program's name ask for, and answers how it ended. Files that are read are opened
-/// first, in the order of their words, then those that are written are created; the first that fails ends the run.
+/// first, in the order of their words, then those that are written are created; the first that fails ends the run. A
+/// certifier creates its file later: after those that are read were closed, and only where it made a text for it.
 pub fn run_command<'a, F: Files, K: Sink>(
     alloc: Global,
     words: &'a [String],

@@ -4,7 +4,7 @@ ghost use Rattle.std.specs.Prelude.{◌≡◌};
 ghost use Rattle.dimacs_runs.specs.Outcomes.{failed_call, failed_device};
 ghost use Rattle.dimacs_runs.specs.inside.Commands.{named};
 
-use crate::outcome::{RunError, Status};
+use crate::outcome::RunError;
 
 /// A call on a file.
 #[derive(Clone, Copy, Debug, PartialEq, Eq)]
@@ -71,14 +71,14 @@ impl RunError {
 }
 
 /// The end of a run over files, of which one failed so. Where none did, the device that failed was the output.
-pub(crate) fn name_failure<'a>(
-    ended: Result<Status, RunError>,
+pub(crate) fn name_failure<'a, X>(
+    ended: Result<X, RunError>,
     failure: Option<Failure<'a>>,
-) -> Result<Status, CommandError<'a>>
+) -> Result<X, CommandError<'a>>
     ensures { result ≡ named ended failure.entry }
 {
     match ended {
-        Ok(status) => Ok(status),
+        Ok(value) => Ok(value),
         Err(RunError::Device) => Err(CommandError::Device(failure.unwrap_or(Failure::Output))),
         Err(RunError::Memory) => Err(CommandError::Memory),
     }

@@ -20,13 +20,17 @@ pub enum JudgeKind {
     Paths,
 }
 
-/// What is asked about a claimed flow without a certificate.
+/// What is asked about a claim without a certificate.
 #[derive(Clone, Copy, Debug, PartialEq, Eq)]
 pub enum CertifyKind {
-    /// Whether it is maximum.
+    /// Whether a flow is maximum.
     Max,
-    /// Whether it costs least.
+    /// Whether a flow costs least.
     Min,
+    /// Whether no flow is feasible.
+    Infeasible,
+    /// Whether distances are true.
+    Paths,
 }
 
 /// What a producer is asked for.
@@ -50,8 +54,9 @@ pub enum Job<'a> {
     /// Judges a claim. The files of the instance, the claim and its certificate; nothing is claimed of an instance
     /// without a feasible flow, so there the certificate is the second.
     Judge(JudgeKind, &'a [String]),
-    /// Certifies a claim. The files of the instance and of the claim, which are read, and where there are three that of
-    /// the certificate, or of a better solution, which is written.
+    /// Certifies a claim. The files of the instance and of the claim, which are read, and where there is one more that of
+    /// the certificate, or of a better solution, which is written; nothing is claimed of an instance without a feasible
+    /// flow, so there the certificate is the second.
     Certify(CertifyKind, &'a [String]),
     /// Makes a claim. The file of the instance, which is read, and those of the claim and of its certificate, which are
     /// written; for distances those of the graph and of the queries, which are read, and that of the labels.

@@ -2,6 +2,8 @@
 #![tactic(auto)]
 
 mod certify;
+mod certify_distances;
+mod certify_infeasible;
 mod command;
 mod counted;
 mod discard;
@@ -10,6 +12,7 @@ mod files;
 mod in_use;
 mod jobs;
 mod judge;
+mod made_files;
 mod outcome;
 mod produced;
 mod refusal;
@@ -33,5 +36,5 @@ pub use judge::run_judge;
 pub use outcome::{RunError, Status, complaint, exit_status};
 pub use solve::run_solve;
 pub use text::{run_convert, run_show};
-pub use verdict::{put_failure, put_gave_up, put_verdict};
+pub use verdict::{put_distances, put_failure, put_gave_up, put_verdict};
 pub use words::job;

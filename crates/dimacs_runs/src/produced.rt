@@ -1,6 +1,7 @@
 //! What a run tells that makes a claim or a certificate, and how it is put.
 
-ghost use Rattle.std.specs.Prelude.{◌≡◌, ◌∷◌, [], IfOk};
+ghost use Rattle.std.specs.Prelude.{◌≡◌, ◌≢◌, ◌↔◌, ◌∷◌, [], IfOk, IsTrue};
+ghost use Rattle.dimacs_runs.specs.declared.produced.Made.TheVariants.{Nothing};
 ghost use Rattle.dimacs_runs.specs.inside.Produced.{EndsProducing, IsClaimless, PutTexts, least_produced, made_texts, maximum_produced, reported};
 ghost use Rattle.dimacs_runs.specs.inside.Produced as produced;
 
@@ -26,13 +27,20 @@ pub(crate) enum Made {
     Set(Cut),
     /// Potentials that show that a flow costs least which someone else claimed.
     Slack(Potentials),
-    /// A solution that is better than someone else's, in place of a certificate.
+    /// A solution that is better than someone else's, or one where none was to be, in place of a certificate.
     Better(Solution),
     /// Labels. What they answer is claimed by nothing else.
     Distances(Labels),
 }
 
 impl Made {
+    /// Whether there is a text to be put.
+    pub(crate) fn is_something(&self) -> bool
+        ensures { IsTrue result ↔ (self.now ≢ Nothing) }
+    {
+        !matches!(self, Made::Nothing)
+    }
+
     /// Puts the claim, and then the certificate.
     fn put<C: Sink, D: Sink>(&self, claim: &mut C, certificate: &mut D) -> Result<(), DeviceFault>
         ensures puts { PutTexts result (made_texts self.now) (C.seen claim.old ∷ D.seen certificate.old ∷ []) (C.seen claim.new ∷ D.seen certificate.new ∷ []) }

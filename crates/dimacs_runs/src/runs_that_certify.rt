@@ -2,16 +2,20 @@
 
 ghost use Rattle.std.specs.Prelude.{◌≡◌, ◌∷◌, [], length, map};
 ghost use Rattle.std.specs.String.{string_bytes};
-ghost use Rattle.dimacs_runs.specs.Commands.{RunsFiles, TellsCertified, reads_first, seen_by};
-ghost use Rattle.dimacs_runs.specs.Jobs.{TwoOrThree};
+ghost use Rattle.dimacs_runs.specs.declared.jobs.CertifyKind.TheVariants as certifies;
+ghost use Rattle.dimacs_runs.specs.Commands.{MakesCertificate, MakesOfFiles, reads_first, seen_by};
+ghost use Rattle.dimacs_runs.specs.Jobs.{AreCertifyFiles, certify_reads};
+ghost use Rattle.dimacs_runs.specs.inside.Making.{AnswersFiles, names_of};
 
-use crate::certify::run_certify;
-use crate::discard::Discard;
+use crate::certify::certify_claim;
+use crate::certify_infeasible::certify_infeasible;
 use crate::failure::{CommandError, name_failure};
 use crate::files::Files;
-use crate::in_use::{close_read, close_written, create, open};
+use crate::in_use::{close_read, open};
 use crate::jobs::CertifyKind;
+use crate::made_files::put_made;
 use crate::outcome::Status;
+use crate::produced::Produced;
 use dimacs_lines::Sink;
 use std::alloc::Global;
 
@@ -23,89 +27,104 @@ pub(crate) fn certify_files<'a, F: Files, K: Sink>(
     files: &mut F,
     output: &mut K,
 ) -> Result<Status, CommandError<'a>>
-    requires { TwoOrThree (length names.now) }
-    ensures runs { RunsFiles (reads_first 2 (map string_bytes names.now)) (F.holds files.old) F.empty (TellsCertified kind) result
+    requires { AreCertifyFiles kind (length names.now) }
+    ensures runs { MakesOfFiles (reads_first (certify_reads kind) (map string_bytes names.now)) (F.holds files.old) F.empty (MakesCertificate kind) result
         (seen_by (F.seen files.old) (K.seen output.old))
         (seen_by (F.seen files.new) (K.seen output.new)) }
 {
-    if let [instance, solution] = names {
-        return certify_alone(
+    if kind == CertifyKind::Infeasible {
+        return match names {
+            [instance] => certify_instance(alloc, instance.as_str(), None, files, output),
+            [instance, set] => {
+                certify_instance(alloc, instance.as_str(), Some(set.as_str()), files, output)
+            }
+            _ => unreachable!(),
+        };
+    }
+    match names {
+        [instance, claim] => certify_pair(
             alloc,
             kind,
             instance.as_str(),
-            solution.as_str(),
+            claim.as_str(),
+            None,
             files,
             output,
-        );
+        ),
+        [instance, claim, certificate] => certify_pair(
+            alloc,
+            kind,
+            instance.as_str(),
+            claim.as_str(),
+            Some(certificate.as_str()),
+            files,
+            output,
+        ),
+        _ => unreachable!(),
     }
-    let [instance, solution, certificate] = names else {
-        unreachable!()
-    };
-    certify_into(
-        alloc,
-        kind,
-        instance.as_str(),
-        solution.as_str(),
-        certificate.as_str(),
-        files,
-        output,
-    )
 }
 
-/// Certifies by the files of the instance and the claim. The certificate goes nowhere.
-fn certify_alone<'a, F: Files, K: Sink>(
+/// Certifies by the file of the instance, of which nothing is claimed, and writes that of the set where it is named.
+fn certify_instance<'a, F: Files, K: Sink>(
     alloc: Global,
-    kind: CertifyKind,
     instance: &'a str,
-    solution: &'a str,
+    set: Option<&'a str>,
     files: &mut F,
     output: &mut K,
 ) -> Result<Status, CommandError<'a>>
-    ensures runs { RunsFiles (reads_first 2 (instance.now ∷ solution.now ∷ [])) (F.holds files.old) F.empty (TellsCertified kind) result
+    ensures runs { MakesOfFiles (record { opened = instance.now ∷ []; created = names_of (λ word. word.now) set.entry }) (F.holds files.old) F.empty (MakesCertificate certifies.Infeasible) result
         (seen_by (F.seen files.old) (K.seen output.old))
         (seen_by (F.seen files.new) (K.seen output.new)) }
 {
-    let mut instance = open(files, instance)?;
-    let mut solution = open(files, solution)?;
-    let ended = run_certify(
-        alloc,
-        kind,
-        &mut instance.device,
-        &mut solution.device,
-        &mut Discard,
-        output,
-    );
-    let failure = close_read(files, instance).or(close_read(files, solution));
-    name_failure(ended, failure)
+    let produced = answer_instance(alloc, instance, files)?;
+    put_made(produced, set, files, output)
 }
 
-/// Certifies by the files of the instance and the claim, and writes that of the certificate.
-fn certify_into<'a, F: Files, K: Sink>(
+/// Certifies by the files of the instance and the claim, and writes that of the certificate where it is named.
+fn certify_pair<'a, F: Files, K: Sink>(
     alloc: Global,
     kind: CertifyKind,
     instance: &'a str,
-    solution: &'a str,
-    certificate: &'a str,
+    claim: &'a str,
+    certificate: Option<&'a str>,
     files: &mut F,
     output: &mut K,
 ) -> Result<Status, CommandError<'a>>
-    ensures runs { RunsFiles (reads_first 2 (instance.now ∷ solution.now ∷ certificate.now ∷ [])) (F.holds files.old) F.empty (TellsCertified kind) result
+    ensures runs { MakesOfFiles (record { opened = instance.now ∷ claim.now ∷ []; created = names_of (λ word. word.now) certificate.entry }) (F.holds files.old) F.empty (MakesCertificate kind) result
         (seen_by (F.seen files.old) (K.seen output.old))
         (seen_by (F.seen files.new) (K.seen output.new)) }
 {
+    let produced = answer_pair(alloc, kind, instance, claim, files)?;
+    put_made(produced, certificate, files, output)
+}
+
+/// What is told by the file of the instance, which is closed then.
+fn answer_instance<'a, F: Files>(
+    alloc: Global,
+    instance: &'a str,
+    files: &mut F,
+) -> Result<Produced, CommandError<'a>>
+    ensures answers { AnswersFiles (instance.now ∷ []) (F.holds files.old) (MakesCertificate certifies.Infeasible) result (F.seen files.old) (F.seen files.new) }
+{
     let mut instance = open(files, instance)?;
-    let mut solution = open(files, solution)?;
-    let mut certificate = create(files, certificate)?;
-    let ended = run_certify(
-        alloc,
-        kind,
-        &mut instance.device,
-        &mut solution.device,
-        &mut certificate.device,
-        output,
-    );
-    let failure = close_read(files, instance)
-        .or(close_read(files, solution))
-        .or(close_written(files, certificate));
-    name_failure(ended, failure)
+    let answer = certify_infeasible(alloc, &mut instance.device);
+    let failure = close_read(files, instance);
+    name_failure(answer, failure)
+}
+
+/// What is told by the files of the instance and the claim, which are closed then.
+fn answer_pair<'a, F: Files>(
+    alloc: Global,
+    kind: CertifyKind,
+    instance: &'a str,
+    claim: &'a str,
+    files: &mut F,
+) -> Result<Produced, CommandError<'a>>
+    ensures answers { AnswersFiles (instance.now ∷ claim.now ∷ []) (F.holds files.old) (MakesCertificate kind) result (F.seen files.old) (F.seen files.new) }
+{
+    let mut instance = open(files, instance)?;
+    let mut claim = open(files, claim)?;
+    let answer = certify_claim(alloc, kind, &mut instance.device, &mut claim.device);
+    let failure = close_read(files, instance).or(close_read(files, claim));
+    name_failure(answer, failure)
 }

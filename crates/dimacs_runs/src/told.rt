@@ -7,7 +7,7 @@ ghost use Rattle.dimacs_runs.specs.inside.Told.{EndsAfter, told_lines, told_stat
 
 use crate::outcome::{RunError, Status};
 use crate::refusal::put_refusal;
-use crate::verdict::{put_failure, put_gave_up, put_verdict};
+use crate::verdict::{put_distances, put_failure, put_gave_up, put_verdict};
 use dimacs_judge::{JudgeError, Verdict, Where};
 use dimacs_lines::{DeviceFault, Sink};
 use dimacs_records::{At, Reason};
@@ -17,6 +17,8 @@ use dimacs_records::{At, Reason};
 pub(crate) enum Told {
     /// The judge's yes.
     Yes(Verdict),
+    /// The distances from so many sources are true.
+    Distances(u64),
     /// The first test that fails.
     No(Where, Reason),
     /// The fault of a text.
@@ -30,7 +32,7 @@ impl Told {
         ensures { result ≡ told_status self.now }
     {
         match self {
-            Told::Yes(_) => Status::Done,
+            Told::Yes(_) | Told::Distances(_) => Status::Done,
             Told::No(..) | Told::Fault(..) => Status::Refused,
             Told::GaveUp => Status::GaveUp,
         }
@@ -41,6 +43,7 @@ impl Told {
     {
         match self {
             Told::Yes(verdict) => put_verdict(sink, verdict),
+            Told::Distances(sources) => put_distances(sink, *sources),
             Told::No(place, reason) => put_failure(sink, *place, *reason),
             Told::Fault(text, place, reason) => put_refusal(sink, text, *place, *reason),
             Told::GaveUp => put_gave_up(sink),

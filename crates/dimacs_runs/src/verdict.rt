@@ -4,7 +4,7 @@ ghost use Rattle.std.specs.Prelude.{◌++◌};
 ghost use Rattle.std.specs.List.{flat_map};
 ghost use Rattle.dimacs_lines.specs.Pages.{Appends};
 ghost use Rattle.dimacs_lines.specs.Puts.{Puts};
-ghost use Rattle.dimacs_runs.specs.Verdicts.{failure_line, gave_up_line, numbered_line, answer_line, verdict_lines};
+ghost use Rattle.dimacs_runs.specs.Verdicts.{answer_line, distances_line, failure_line, gave_up_line, numbered_line, verdict_lines};
 
 use crate::refusal::put_refusal;
 use dimacs_judge::{Answer, Verdict, Where};
@@ -59,6 +59,21 @@ fn write_answer<K: Sink>(page: &mut Page, sink: &mut K, answer: &Answer)
             None => write_line(page, sink, b"v", &[from, to, Part::Word(b"unreachable")]),
         },
     }
+}
+
+/// Puts the line that tells that the distances from so many sources are true.
+pub fn put_distances<K: Sink>(sink: &mut K, sources: u64) -> Result<(), DeviceFault>
+    ensures { Puts result (K.seen sink.old) (distances_line sources) (K.seen sink.new) }
+{
+    put_line(
+        sink,
+        b"v",
+        &[
+            Part::Word(b"sp"),
+            Part::Word(b"distances"),
+            Part::Wide(i128::from(sources)),
+        ],
+    )
 }
 
 /// Puts the line that tells that a limit was reached.

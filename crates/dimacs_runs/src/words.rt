@@ -7,7 +7,7 @@ ghost use Rattle.dimacs_runs.specs.declared.jobs.Job.{Job};
 ghost use Rattle.dimacs_runs.specs.declared.jobs.JudgeKind.{JudgeKind};
 ghost use Rattle.dimacs_runs.specs.declared.jobs.SolveJob.{SolveJob};
 ghost use Rattle.std.specs.String.{string_bytes};
-ghost use Rattle.dimacs_runs.specs.Jobs.{AreOptions, Asks, AsksProducer, IsLimit, TellLimit, TwoOrThree, certify_word, file_count, judge_word, kind_word, solve_word};
+ghost use Rattle.dimacs_runs.specs.Jobs.{AreCertifyFiles, AreOptions, Asks, AsksProducer, IsLimit, TellLimit, certify_word, file_count, judge_word, kind_word, solve_word};
 
 use crate::jobs::{CertifyKind, Job, JudgeKind, SolveJob};
 use dimacs_lines::number;
@@ -56,7 +56,7 @@ fn text_words(words: &[String]) -> Option<(TextKind, &str)>
 fn files_job<'a>(verb: &str, words: &'a [String]) -> Option<Job<'a>>
     ensures asked { IfSome result (Asks (verb.now ∷ map string_bytes words.now)) }
     ensures no_judge { IfNone result ((kind : JudgeKind) → verb.now ≡ judge_word kind → length words.now ≢ file_count kind) }
-    ensures no_certifier { IfNone result ((kind : CertifyKind) → verb.now ≡ certify_word kind → ¬ TwoOrThree (length words.now)) }
+    ensures no_certifier { IfNone result ((kind : CertifyKind) → verb.now ≡ certify_word kind → ¬ AreCertifyFiles kind (length words.now)) }
     ensures no_producer { IfNone result ((job : SolveJob) (files : List (List ℕ)) → ¬ AsksProducer (verb.now ∷ map string_bytes words.now) job files) }
 {
     if let Some(kind) = judge_kind(verb, words.len()) {
@@ -85,12 +85,14 @@ fn judge_kind(word: &str, files: usize) -> Option<JudgeKind>
 
 /// What a word asks about a claim without a certificate, with so many files after it.
 fn certify_kind(word: &str, files: usize) -> Option<CertifyKind>
-    ensures named { IfSome result (λ kind. (word.now ≡ certify_word kind) × TwoOrThree files) }
-    ensures not_named { IfNone result ((kind : CertifyKind) → word.now ≡ certify_word kind → ¬ TwoOrThree files) }
+    ensures named { IfSome result (λ kind. (word.now ≡ certify_word kind) × AreCertifyFiles kind files) }
+    ensures not_named { IfNone result ((kind : CertifyKind) → word.now ≡ certify_word kind → ¬ AreCertifyFiles kind files) }
 {
     match (word, files) {
         ("certify-max", 2 | 3) => Some(CertifyKind::Max),
         ("certify-min", 2 | 3) => Some(CertifyKind::Min),
+        ("certify-infeasible", 1 | 2) => Some(CertifyKind::Infeasible),
+        ("certify-paths", 2 | 3) => Some(CertifyKind::Paths),
         _ => None,
     }
 }

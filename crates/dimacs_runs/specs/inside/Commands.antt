@@ -9,21 +9,20 @@ use Rattle.dimacs_runs.specs.declared.jobs.Job.{Job}
 use Rattle.dimacs_runs.specs.declared.jobs.Job.TheVariants.{Judge, Certify, Solve}
 use Rattle.dimacs_runs.specs.declared.outcome.RunError.{RunError}
 use Rattle.dimacs_runs.specs.declared.outcome.RunError.TheVariants as run_errors
-use Rattle.dimacs_runs.specs.declared.outcome.Status.{Status}
-use Rattle.dimacs_runs.specs.Commands.{failures_told, output_faults}
+use Rattle.dimacs_runs.specs.Commands.{faults_by_error, file_failures}
 use Rattle.dimacs_runs.specs.Files.{FileEvent, FilesSeen, Sees, failures}
-use Rattle.dimacs_runs.specs.Jobs.{TwoOrThree, file_count}
+use Rattle.dimacs_runs.specs.Jobs.{AreCertifyFiles, file_count}
 
 -- there are as many files as the run has
 abbrev pub HasFiles : Job → Type 0
 HasFiles (Judge kind files) = length files.now ≡ file_count kind
-HasFiles (Certify kind files) = TwoOrThree (length files.now)
+HasFiles (Certify kind files) = AreCertifyFiles kind (length files.now)
 HasFiles (Solve job files) = length files.now ≡ 3
 HasFiles job = Unit {0}
 
 -- the end of a run over files one of which failed so, or none
-abbrev pub named : Result Status RunError → Option Failure → Result Status CommandError
-named (Ok status) failure = Ok status
+abbrev pub named : {X : Type 0} → Result X RunError → Option Failure → Result X CommandError
+named (Ok x) failure = Ok x
 named (Err run_errors.Device) None = Err (Device Output)
 named (Err run_errors.Device) (Some failure) = Err (Device failure)
 named (Err run_errors.Memory) failure = Err Memory
@@ -38,5 +37,5 @@ IsFirstOf (Some Output) all = ⊥
 pub record FailsWith (event : RunError → FileEvent) (old new : FilesSeen) (error : CommandError) : Type 0 where
   pub cause : RunError
   pub seen : Sees (event cause ∷ []) old new
-  pub failure : failures (event cause) ≡ failures_told (Err error)
-  pub output : (faults : ℕ) → output_faults (Err error) faults ≡ faults
+  pub failure : failures (event cause) ≡ file_failures error
+  pub output : (faults : ℕ) → faults_by_error error faults ≡ faults

@@ -7,19 +7,21 @@ use Rattle.dimacs_runs.specs.declared.outcome.Status.TheVariants as statuses
 use Rattle.dimacs_runs.specs.declared.outcome.RunError.{RunError}
 use Rattle.dimacs_runs.specs.declared.outcome.RunError.TheVariants.{Device}
 use Rattle.dimacs_runs.specs.declared.told.Told.{Told}
-use Rattle.dimacs_runs.specs.declared.told.Told.TheVariants.{Yes, No, Fault, GaveUp}
+use Rattle.dimacs_runs.specs.declared.told.Told.TheVariants.{Yes, Distances, No, Fault, GaveUp}
 use Rattle.dimacs_runs.specs.Refusals.{refusal_line}
 use Rattle.dimacs_runs.specs.Runs.{TellsAlone}
-use Rattle.dimacs_runs.specs.Verdicts.{failure_line, gave_up_line, verdict_lines}
+use Rattle.dimacs_runs.specs.Verdicts.{distances_line, failure_line, gave_up_line, verdict_lines}
 
 abbrev pub told_status : Told → Status
 told_status (Yes verdict) = statuses.Done
+told_status (Distances sources) = statuses.Done
 told_status (No place reason) = statuses.Refused
 told_status (Fault text place reason) = statuses.Refused
 told_status GaveUp = statuses.GaveUp
 
 abbrev pub told_lines : Told → List ℕ
 told_lines (Yes verdict) = verdict_lines verdict
+told_lines (Distances sources) = distances_line sources
 told_lines (No place reason) = failure_line place reason
 told_lines (Fault text place reason) = refusal_line text.now place.line place.field reason
 told_lines GaveUp = gave_up_line
