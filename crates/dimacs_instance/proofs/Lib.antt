@@ -1,8 +1,11 @@
 mod GraphLemmas
+mod MaxCountLemmas
 mod MaxLemmas
 mod MaxTextLemmas
+mod MinCountLemmas
 mod MinLemmas
 mod MinSupplies
 mod MinTextLemmas
 mod QueriesLemmas
+mod SummaryLemmas
 mod SupplyLemmas

@@ -24,7 +24,7 @@ use Rattle.dimacs_instance.specs.declared.max.EndLine.{EndLine}
 use Rattle.dimacs_instance.specs.declared.max.EndLines.{EndLines}
 use Rattle.dimacs_instance.specs.declared.max.EndLines.TheVariants.{Neither, One, Both}
 use Rattle.dimacs_instance.specs.MaxTexts.{max_arc}
-use Rattle.dimacs_instance.specs.MaxReading.{MaxBegun, end_records, max_begun_records, max_node, after_lines, before, before_end}
+use Rattle.dimacs_instance.specs.MaxReading.{MaxBegun, end_records, max_begun_records, max_node, after_lines, before, before_end, count_of}
 
 none_of_arcs : (test : Record → Bool) → ((a : ArcView) → test (max_arc a) ≡ false) → (arcs : List ArcView) → list_any test (map max_arc arcs) ≡ false
 none_of_arcs test none [] = refl
@@ -113,13 +113,13 @@ pub first_problem : (n m : ℕ) → IsAllowed [] (MaxProblem n m)
 first_problem n m = is_allowed [] (MaxProblem n m) refl
 
 -- what is told of the records is so
-lines_told : (b : MaxBegun) → after_lines b ≡ after_records (max_begun_records b)
-lines_told b = ap (earlier_of (after_lines b).problem) (sym (counted b.nodes b.declared b.ends b.arcs))
+lines_told : (b : MaxBegun) → after_lines (count_of b) ≡ after_records (max_begun_records b)
+lines_told b = ap (earlier_of (after_lines (count_of b)).problem) (sym (counted b.nodes b.declared b.ends b.arcs))
 
-pub end_tells : (b : MaxBegun) → before_end b ≡ told_at_end Max (max_begun_records b)
+pub end_tells : (b : MaxBegun) → before_end (count_of b) ≡ told_at_end Max (max_begun_records b)
 end_tells b = ap₂ (λ (e : Earlier) t. record e { lacks_end = t }) (lines_told b) (sym (lacking b.nodes b.declared b.ends b.arcs))
 
-pub tells : (b : MaxBegun) (r : Record) → kind_of r ≡ Max → before b r ≡ told_of (max_begun_records b) r
+pub tells : (b : MaxBegun) (r : Record) → kind_of r ≡ Max → before (count_of b) r ≡ told_of (max_begun_records b) r
 tells b (MaxProblem n m) of_kind = lines_told b
 tells b (MaxNode id end) of_kind =
     rw (any_flow_arc b.nodes b.declared b.ends b.arcs, named b.nodes b.declared b.ends b.arcs id, ended b.nodes b.declared b.ends b.arcs end, counted b.nodes b.declared b.ends b.arcs) refl

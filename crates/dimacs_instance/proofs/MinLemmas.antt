@@ -25,7 +25,7 @@ use Rattle.dimacs_records.specs.Ranges.{IsWhole}
 use Rattle.dimacs_instance.specs.MinFlows.{IsMin, IsSupply, HasBounds}
 use Rattle.dimacs_instance.specs.MinTexts.{GivesMin, min_node, min_arc, min_records}
 use Rattle.dimacs_records.specs.NodeValues.{is_of, without_zeros}
-use Rattle.dimacs_instance.specs.MinReading.{MinBegun, IsMinBegun, IsMinBegunBy, IsNamed, after_lines, before, has_line}
+use Rattle.dimacs_instance.specs.MinReading.{MinBegun, IsMinBegun, IsMinBegunBy, IsNamed, after_lines, before, count_of, has_line}
 use Rattle.dimacs_records.specs.Spelling.{kind_of}
 use Rattle.dimacs_records.proofs.NameLemmas.{get_nonzero, has-from_entries, map_more, named_more, without_zeros-named}
 
@@ -73,21 +73,21 @@ pub allows_problem : (n m : ℕ) → IsAllowed [] (MinProblem n m)
 allows_problem n m = is_allowed [] (MinProblem n m) refl
 
 -- what is told of the records is so
-pub lines_told : (b : MinBegun) (rs : List Record) → IsMinBegunBy b rs → after_lines b ≡ after_records rs
-lines_told b rs h = rw h.records (ap (earlier_of (after_lines b).problem) (sym (counted h.named b.arcs)))
+pub lines_told : (b : MinBegun) (rs : List Record) → IsMinBegunBy b rs → after_lines (count_of b) ≡ after_records rs
+lines_told b rs h = rw h.records (ap (earlier_of (after_lines (count_of b)).problem) (sym (counted h.named b.arcs)))
 
-has_named : (b : MinBegun) (id : ℕ) {rs : List Record} (h : IsMinBegunBy b rs) → has_line b id ≡ list_any (is_of id) h.named
+has_named : (b : MinBegun) (id : ℕ) {rs : List Record} (h : IsMinBegunBy b rs) → has_line (count_of b) id ≡ list_any (is_of id) h.named
 has_named b id h = ap (λ m. is_some (get m id)) h.supplies ∙ has-from_entries h.named id
 
 arcs_told : (b : MinBegun) (rs : List Record) → IsMinBegunBy b rs → list_any is_flow_arc rs ≡ nat_lt 0 (length b.arcs)
 arcs_told b rs h = rw h.records (any_flow_arc h.named b.arcs)
 
-named_told : (b : MinBegun) (rs : List Record) (id : ℕ) → IsMinBegunBy b rs → list_any (names id) rs ≡ has_line b id
+named_told : (b : MinBegun) (rs : List Record) (id : ℕ) → IsMinBegunBy b rs → list_any (names id) rs ≡ has_line (count_of b) id
 named_told b rs id h = rw h.records (any_names id h.named b.arcs ∙ sym (has_named b id h))
 
-pub tells : (b : MinBegun) (r : Record) → kind_of r ≡ Min → (rs : List Record) → IsMinBegunBy b rs → before b r ≡ told_of rs r
+pub tells : (b : MinBegun) (r : Record) → kind_of r ≡ Min → (rs : List Record) → IsMinBegunBy b rs → before (count_of b) r ≡ told_of rs r
 tells b (MinProblem n m) of_kind rs h = lines_told b rs h
-tells b (MinNode id s) of_kind rs h = rw (arcs_told b rs h, named_told b rs id h) (ap (λ (e : Earlier). record (before b (MinNode id s)) { problem = e.problem; counted = e.counted }) (lines_told b rs h))
+tells b (MinNode id s) of_kind rs h = rw (arcs_told b rs h, named_told b rs id h) (ap (λ (e : Earlier). record (before (count_of b) (MinNode id s)) { problem = e.problem; counted = e.counted }) (lines_told b rs h))
 tells b (MinArc tail head low cap cost) of_kind rs h = lines_told b rs h
 tells b r of_kind rs h = absurd (cc)
 
@@ -110,7 +110,7 @@ records_more nodes declared id s rs named arcs is none =
     ∙ ap (λ (arcs : List ArcView). min_records nodes declared (named ++ (id, s) ∷ []) arcs) (sym none)
 
 -- a node that passes the tests is one more
-module _ (b : MinBegun) (id : ℕ) (s : ℤ) (least : 1 ≤ id) (passes : Passes (before b (MinNode id s)) (MinNode id s)) where
+module _ (b : MinBegun) (id : ℕ) (s : ℤ) (least : 1 ≤ id) (passes : Passes (before (count_of b) (MinNode id s)) (MinNode id s)) where
   pub node : IsNode b.nodes id
   node = (least, grind (arith, nat_tests, passes.second_within))
 
@@ -133,7 +133,7 @@ not_below : (x y : ℤ) → int_lt x y ≡ false → y ≤ℤ x
 not_below x y test = grind (arith, ints)
 
 -- an arc that passes the tests joins nodes, has bounds and finds room
-module _ (b : MinBegun) (a : ArcView) (passes : Passes (after_lines b) (min_arc a)) where
+module _ (b : MinBegun) (a : ArcView) (passes : Passes (after_lines (count_of b)) (min_arc a)) where
   pub arc_joins : 1 ≤ a.tail → 1 ≤ a.head → JoinsNodes b.nodes a
   arc_joins tail head = ((tail, grind (arith, nat_tests, passes.second_within)), (head, grind (arith, nat_tests, passes.third_within)))
 
@@ -165,7 +165,7 @@ module _ (b : MinBegun) (law : IsMinBegun b) where
   }
 
 -- what was begun and is whole gives its instance
-pub gives_min : (b : MinBegun) → IsMinBegun b → PassesEnd Min (after_lines b) → (rs : List LineRecord) → IsMinBegunBy b (records_of rs)
+pub gives_min : (b : MinBegun) → IsMinBegun b → PassesEnd Min (after_lines (count_of b)) → (rs : List LineRecord) → IsMinBegunBy b (records_of rs)
     → GivesMin rs (record { nodes = b.nodes; supplies = without_zeros b.supplies; arcs = b.arcs })
 gives_min b law p rs h =
     let full : b.declared ≡ length b.arcs = grind (arith, nat_tests, p.finished, law.no_more) in
@@ -188,7 +188,7 @@ new_law nodes declared nodes_few arcs_few = record {
   bounds = All-nil HasBounds;
 }
 
-law_with_supply : (b : MinBegun) (id : ℕ) (s : ℤ) → IsMinBegun b → IsNode b.nodes id → IsWhole s → IsMinBegun (record b { supplies = insert b.supplies id s })
+pub law_with_supply : (b : MinBegun) (id : ℕ) (s : ℤ) → IsMinBegun b → IsNode b.nodes id → IsWhole s → IsMinBegun (record b { supplies = insert b.supplies id s })
 law_with_supply b id s law is_node whole = record {
   nodes_few = law.nodes_few;
   arcs_few = law.arcs_few;
@@ -198,7 +198,7 @@ law_with_supply b id s law is_node whole = record {
   bounds = law.bounds;
 }
 
-law_with_arc : (b : MinBegun) (a : ArcView) → IsMinBegun b → JoinsNodes b.nodes a → HasBounds a → length b.arcs < b.declared → IsMinBegun (with_arc b a)
+pub law_with_arc : (b : MinBegun) (a : ArcView) → IsMinBegun b → JoinsNodes b.nodes a → HasBounds a → length b.arcs < b.declared → IsMinBegun (with_arc b a)
 law_with_arc b a law joined bounds room = record {
   nodes_few = law.nodes_few;
   arcs_few = law.arcs_few;

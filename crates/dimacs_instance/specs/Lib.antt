@@ -9,3 +9,4 @@ pub mod MinReading
 pub mod MinTexts
 pub mod QueriesReading
 pub mod QueryTexts
+pub mod Summaries

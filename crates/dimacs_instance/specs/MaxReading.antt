@@ -1,7 +1,8 @@
 -- How far a maximum flow instance has been read.
-use Rattle.std.specs.Prelude.{ℕ, ◌≢◌, ◌≤◌, List, [], ◌∷◌, ◌++◌, map, length, Some, nat_lt}
+use Rattle.std.specs.Prelude.{ℕ, ◌≡◌, ◌≢◌, ◌⊎◌, ◌≤◌, List, [], ◌∷◌, ◌++◌, map, length, Some, nat_lt}
 use Rattle.std.specs.List.{All, list_any}
 use Rattle.dimacs_lines.specs.Limits.{most_count, most_nodes, IsNode}
+use Rattle.dimacs_records.specs.declared.records.End.TheVariants.{Source, Sink}
 use Rattle.dimacs_records.specs.declared.records.Record.{Record}
 use Rattle.dimacs_records.specs.declared.records.Record.TheVariants.{MaxProblem, MaxNode, MaxArc}
 use Rattle.dimacs_network.specs.declared.network.ArcView.{ArcView}
@@ -37,6 +38,10 @@ abbrev pub EndsAreApart : EndLines → Type 0
 EndsAreApart (Both first second) = (first.node ≢ second.node) × (first.end ≢ second.end)
 EndsAreApart ends = Unit {0}
 
+-- the node lines of the source and of the sink, in either order
+abbrev pub AreEnds : EndLines → ℕ → ℕ → Type 0
+AreEnds ends source sink = (ends ≡ Both (record { node = source; end = Source }) (record { node = sink; end = Sink })) ⊎ (ends ≡ Both (record { node = sink; end = Sink }) (record { node = source; end = Source }))
+
 -- the node lines name nodes
 abbrev pub AreNodes : ℕ → EndLines → Type 0
 AreNodes nodes Neither = Unit {0}
@@ -56,20 +61,37 @@ pub record IsMaxBegun (begun : MaxBegun) : Type 0 where
 abbrev pub max_begun_records : MaxBegun → List Record
 max_begun_records begun = MaxProblem begun.nodes begun.declared ∷ (end_records begun.ends ++ map max_arc begun.arcs)
 
+-- what the problem line declares, the node lines, and how many arcs came after it
+pub record MaxCount : Type 0 where
+  pub nodes : ℕ
+  pub declared : ℕ
+  pub ends : EndLines
+  pub arcs : ℕ
+
+abbrev pub count_of : MaxBegun → MaxCount
+count_of begun = record { nodes = begun.nodes; declared = begun.declared; ends = begun.ends; arcs = length begun.arcs }
+
+-- so many arcs came, of these records
+pub record IsMaxCountedBy (counted : MaxCount) (rs : List Record) : Type 0 where
+  pub begun : MaxBegun
+  pub is_begun : IsMaxBegun begun
+  pub records : rs ≡ max_begun_records begun
+  pub counts : counted ≡ count_of begun
+
 -- after the problem line, the node lines and the arcs so far, for a record that asks for no end
-abbrev pub after_lines : MaxBegun → Earlier
-after_lines begun = earlier_of (Some (record { nodes = Some begun.nodes; count = begun.declared })) (length begun.arcs)
+abbrev pub after_lines : MaxCount → Earlier
+after_lines counted = earlier_of (Some (record { nodes = Some counted.nodes; count = counted.declared })) counted.arcs
 
 -- what the records taken say of the end
-abbrev pub before_end : MaxBegun → Earlier
-before_end begun = record (after_lines begun) { lacks_end = lacks_end (end_records begun.ends) }
+abbrev pub before_end : MaxCount → Earlier
+before_end counted = record (after_lines counted) { lacks_end = lacks_end (end_records counted.ends) }
 
 -- what they say of one more
-abbrev pub before : MaxBegun → Record → Earlier
-before begun (MaxNode id end) = record (after_lines begun) {
-  misplaced = nat_lt 0 (length begun.arcs);
-  named = list_any (names id) (end_records begun.ends);
-  end_named = list_any (is_end_node end) (end_records begun.ends);
+abbrev pub before : MaxCount → Record → Earlier
+before counted (MaxNode id end) = record (after_lines counted) {
+  misplaced = nat_lt 0 counted.arcs;
+  named = list_any (names id) (end_records counted.ends);
+  end_named = list_any (is_end_node end) (end_records counted.ends);
 }
-before begun (MaxArc tail head cap) = before_end begun
-before begun r = after_lines begun
+before counted (MaxArc tail head cap) = before_end counted
+before counted r = after_lines counted

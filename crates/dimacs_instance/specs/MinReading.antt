@@ -1,5 +1,5 @@
 -- How far a minimum cost flow instance has been read.
-use Rattle.std.specs.Prelude.{ℕ, ℤ, ◌≡◌, ◌≤◌, List, length, Bool, Some, is_some, nat_lt}
+use Rattle.std.specs.Prelude.{ℕ, ℤ, ◌≡◌, ◌≤◌, List, [], length, Bool, Some, is_some, nat_lt}
 use Rattle.std.specs.List.{All}
 use Rattle.std.specs.Ordering.{nat_cmp}
 use Rattle.std.specs.FinMap.{FinMap, from_entries, entries, get}
@@ -42,14 +42,35 @@ pub record IsMinBegunBy (begun : MinBegun) (rs : List Record) : Type 0 where
   pub supplies : begun.supplies ≡ from_entries named
   pub records : rs ≡ min_records begun.nodes begun.declared named begun.arcs
 
-abbrev pub has_line : MinBegun → ℕ → Bool
-has_line begun id = is_some (get begun.supplies id)
+-- what the problem line declares, the supplies of the nodes that were named, and how many arcs came
+pub record MinCount : Type 0 where
+  pub nodes : ℕ
+  pub declared : ℕ
+  pub supplies : FinMap nat_cmp ℤ
+  pub arcs : ℕ
+
+abbrev pub count_of : MinBegun → MinCount
+count_of begun = record { nodes = begun.nodes; declared = begun.declared; supplies = begun.supplies; arcs = length begun.arcs }
+
+-- the same without an arc
+abbrev pub without_arcs : MinCount → MinBegun
+without_arcs counted = record { nodes = counted.nodes; declared = counted.declared; supplies = counted.supplies; arcs = [] }
+
+-- so many arcs came, of these records
+pub record IsMinCountedBy (counted : MinCount) (rs : List Record) : Type 0 where
+  pub begun : MinBegun
+  pub is_begun : IsMinBegun begun
+  pub begun_by : IsMinBegunBy begun rs
+  pub counts : counted ≡ count_of begun
+
+abbrev pub has_line : MinCount → ℕ → Bool
+has_line counted id = is_some (get counted.supplies id)
 
 -- after the problem line, the node lines and the arcs so far
-abbrev pub after_lines : MinBegun → Earlier
-after_lines begun = earlier_of (Some (record { nodes = Some begun.nodes; count = begun.declared })) (length begun.arcs)
+abbrev pub after_lines : MinCount → Earlier
+after_lines counted = earlier_of (Some (record { nodes = Some counted.nodes; count = counted.declared })) counted.arcs
 
 -- what the records taken say of one more
-abbrev pub before : MinBegun → Record → Earlier
-before begun (MinNode id supply) = record (after_lines begun) { misplaced = nat_lt 0 (length begun.arcs); named = has_line begun id }
-before begun r = after_lines begun
+abbrev pub before : MinCount → Record → Earlier
+before counted (MinNode id supply) = record (after_lines counted) { misplaced = nat_lt 0 counted.arcs; named = has_line counted id }
+before counted r = after_lines counted

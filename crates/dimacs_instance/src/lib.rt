@@ -5,6 +5,7 @@ mod graph;
 mod max;
 mod min;
 mod queries;
+mod summaries;
 mod texts;
 
 pub use dimacs_network::{
@@ -19,3 +20,4 @@ pub use min::{
     MinInstance, MinReading, PlainMinReading, SupplySums, read_min, read_plain_min, write_min,
 };
 pub use queries::{LawfulQueries, Queries, QueriesReading, read_queries, write_queries};
+pub use summaries::{GraphSummary, MaxSummary, MinSummary, Summary};

@@ -12,17 +12,17 @@ ghost use Rattle.dimacs_records.specs.Faults.{Fault};
 ghost use Rattle.dimacs_records.specs.Texts.{Reads};
 ghost use Rattle.dimacs_instance.specs.MaxFlows.{MaxValue, IsMax};
 ghost use Rattle.dimacs_instance.specs.MaxTexts.{GivesMax, SpellsMax, canonical_max, max_arc, nodes_by_id};
-ghost use Rattle.dimacs_instance.specs.MaxReading.{EndsAreApart, end_records, max_begun_records, max_node, after_lines, before, before_end};
+ghost use Rattle.dimacs_instance.specs.MaxReading.{AreEnds, EndsAreApart, before, before_end, count_of, end_records, max_begun_records, max_node};
 
 mod build;
 
+use crate::summaries::CountedMax;
 use dimacs_lines::{DeviceFault, Memory, Sink, Source};
 use dimacs_network::{
     ArcView, CapacityArc, ForwardStar, KeptArc, Network, OfCapacityArcs, PlainArcs,
 };
 use dimacs_records::{
-    Begun, CountedReading, Declared, Earlier, End, ReadError, Record, TextKind, put_text,
-    read_counted,
+    Begun, CountedReading, Earlier, End, ReadError, Record, TextKind, put_text, read_counted,
 };
 use std::alloc::Global;
 use std::marker::{Model, PhantomData};
@@ -102,8 +102,8 @@ pub type PlainMaxReading = CountedReading<BegunMax<PlainArcs<CapacityArc>>>;
 /// A node line.
 #[derive(Clone, Copy)]
 pub(crate) struct EndLine {
-    node: u32,
-    end: End,
+    pub(crate) node: u32,
+    pub(crate) end: End,
 }
 
 /// The node lines that came, in their order.
@@ -116,7 +116,7 @@ pub(crate) enum EndLines {
 
 impl EndLines {
     /// Whether a line names this node.
-    fn names(self, node: u32) -> bool
+    pub(crate) fn names(self, node: u32) -> bool
         ensures { result ≡ list_any (names node) (end_records self) }
     {
         match self {
@@ -127,7 +127,7 @@ impl EndLines {
     }
 
     /// Whether a line is that of this end.
-    fn has(self, end: End) -> bool
+    pub(crate) fn has(self, end: End) -> bool
         ensures { result ≡ list_any (is_end_node end) (end_records self) }
     {
         match self {
@@ -139,7 +139,7 @@ impl EndLines {
 
     /// Whether one of the two ends has no line.
     #[inline(always)]
-    fn lack_one(self) -> bool
+    pub(crate) fn lack_one(self) -> bool
         ensures { result ≡ lacks_end (end_records self) }
     {
         match self {
@@ -148,11 +148,28 @@ impl EndLines {
         }
     }
 
-    /// These lines, and one more of another end.
-    fn and(self, line: EndLine) -> EndLines
+    /// The source and the sink.
+    pub(crate) fn in_order(self) -> (u32, u32)
         requires apart { EndsAreApart self }
+        requires both { lacks_end (end_records self) ≡ false }
+        ensures { AreEnds self result.0 result.1 }
+    {
+        let EndLines::Both(first, second) = self else {
+            unreachable!()
+        };
+        match first.end {
+            End::Source => (first.node, second.node),
+            End::Sink => (second.node, first.node),
+        }
+    }
+
+    /// These lines, and one more of another node and another end.
+    pub(crate) fn and(self, line: EndLine) -> EndLines
+        requires apart { EndsAreApart self }
+        requires other_node { list_any (names line.node) (end_records self) ≡ false }
         requires other_end { list_any (is_end_node line.end) (end_records self) ≡ false }
-        ensures { end_records result ≡ end_records self ++ max_node line ∷ [] }
+        ensures lines { end_records result ≡ end_records self ++ max_node line ∷ [] }
+        ensures apart { EndsAreApart result }
     {
         match self {
             EndLines::Neither => EndLines::One(line),
@@ -182,14 +199,17 @@ impl<N: OfCapacityArcs> Model for BegunMax<N> {
 }
 
 impl<N: OfCapacityArcs> BegunMax<N> {
-    /// What is told of a record that asks for no end.
+    /// How many arcs came.
     #[inline(always)]
-    fn lines(&self) -> Earlier
-        ensures { result ≡ after_lines self.now }
+    fn counted(&self) -> CountedMax
+        ensures { result ≡ count_of self.now }
     {
-        let nodes = Some(self.arcs.nodes());
-        let count = self.declared;
-        Earlier::of(Some(Declared { nodes, count }), self.arcs.arcs())
+        CountedMax {
+            nodes: self.arcs.nodes(),
+            declared: self.declared,
+            ends: self.ends,
+            arcs: self.arcs.arcs(),
+        }
     }
 }
 
@@ -200,9 +220,9 @@ impl<N: OfCapacityArcs> Begun for BegunMax<N> {
 
     ghost begun_by = { λ begun rs. rs ≡ max_begun_records begun };
 
-    ghost told = { λ begun r. before begun r };
+    ghost told = { λ begun r. before (count_of begun) r };
 
-    ghost told_end = { λ begun. before_end begun };
+    ghost told_end = { λ begun. before_end (count_of begun) };
 
     ghost gives = { λ rs m. GivesMax rs m };
 
@@ -224,17 +244,7 @@ impl<N: OfCapacityArcs> Begun for BegunMax<N> {
 
     #[inline(always)]
     fn before(&self, said: Record) -> Earlier {
-        match said {
-            Record::MaxArc { .. } => self.before_end(),
-            Record::MaxNode { id, end } => Earlier {
-                misplaced: self.arcs.arcs() > 0,
-                named: self.ends.names(id),
-                end_named: self.ends.has(end),
-                ..self.lines()
-            },
-            Record::MaxProblem { .. } => self.lines(),
-            _ => unreachable!(),
-        }
+        self.counted().before(said)
     }
 
     #[inline(always)]
@@ -254,20 +264,11 @@ impl<N: OfCapacityArcs> Begun for BegunMax<N> {
 
     #[inline(always)]
     fn before_end(&self) -> Earlier {
-        Earlier {
-            lacks_end: self.ends.lack_one(),
-            ..self.lines()
-        }
+        self.counted().before_end()
     }
 
     fn value(self, alloc: Global) -> Result<MaxInstance<N>, Memory> {
-        let EndLines::Both(first, second) = self.ends else {
-            unreachable!()
-        };
-        let (source, sink) = match first.end {
-            End::Source => (first.node, second.node),
-            End::Sink => (second.node, first.node),
-        };
+        let (source, sink) = self.ends.in_order();
         Ok(MaxInstance {
             source,
             sink,

@@ -12,7 +12,7 @@ ghost use Rattle.dimacs_records.specs.Texts.{Reads};
 ghost use Rattle.dimacs_instance.specs.MinFlows.{MinValue, IsMin, supply_of, positive_part, negative_part, supply_sum, demand_sum};
 ghost use Rattle.dimacs_instance.specs.MinTexts.{GivesMin, SpellsMin, canonical_min, min_arc};
 ghost use Rattle.dimacs_records.specs.NodeValues.{is_nonzero};
-ghost use Rattle.dimacs_instance.specs.MinReading.{IsMinBegunBy, after_lines, before};
+ghost use Rattle.dimacs_instance.specs.MinReading.{IsMinBegunBy, after_lines, before, count_of};
 
 mod build;
 
@@ -31,8 +31,8 @@ use std::marker::{Model, PhantomData};
 #[derive(Drop)]
 pub struct MinInstance<N: Network> {
     /// Those of the nodes that were named, also with 0.
-    supplies: NodeMap<i64>,
-    network: N,
+    pub(crate) supplies: NodeMap<i64>,
+    pub(crate) network: N,
 }
 
 impl<N: Network> Model for MinInstance<N> {
@@ -173,9 +173,9 @@ impl<N: OfCostArcs> Begun for BegunMin<N> {
 
     ghost begun_by = { λ begun rs. IsMinBegunBy begun rs };
 
-    ghost told = { λ begun r. before begun r };
+    ghost told = { λ begun r. before (count_of begun) r };
 
-    ghost told_end = { λ begun. after_lines begun };
+    ghost told_end = { λ begun. after_lines (count_of begun) };
 
     ghost gives = { λ rs m. GivesMin rs m };
 

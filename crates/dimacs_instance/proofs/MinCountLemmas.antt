@@ -1,0 +1,111 @@
+-- The records of minimum cost flow instances whose arcs were counted and not kept.
+use Rattle.std.proofs.Common.{◌≡◌, ℕ, ◌+◌, ◌<◌, ◌≤◌, ◌∷◌, ◌++◌, [], List, length, map, refl, ap, sym, ◌∙◌, arith, append_assoc}
+use Rattle.std.specs.Prelude.{ℤ, pos}
+use Rattle.std.specs.FinMap.{empty, insert}
+use Rattle.std.proofs.lemmas.Bool.Decides.{nat_tests}
+use Rattle.std.proofs.lemmas.List.{length-append, map-append}
+use Rattle.dimacs_lines.specs.Limits.{most_count, most_nodes, IsNode}
+use Rattle.dimacs_records.specs.declared.kinds.TextKind.TheVariants.{Min}
+use Rattle.dimacs_records.specs.declared.records.Record.{Record}
+use Rattle.dimacs_records.specs.declared.records.Record.TheVariants.{MinNode, MinProblem}
+use Rattle.dimacs_records.specs.NodeValues.{without_zeros}
+use Rattle.dimacs_records.specs.Ranges.{IsWhole}
+use Rattle.dimacs_records.specs.Readings.{LineRecord, records_of}
+use Rattle.dimacs_records.specs.Spelling.{kind_of}
+use Rattle.dimacs_records.specs.Tests.{Passes, PassesEnd, after_records, told_of}
+use Rattle.dimacs_records.specs.Texts.{AreFaultless}
+use Rattle.dimacs_network.specs.declared.network.ArcView.{ArcView}
+use Rattle.dimacs_instance.specs.MinFlows.{IsMin, MinValue, demand_sum, supply_sum}
+use Rattle.dimacs_instance.specs.MinTexts.{GivesMin, min_arc, min_node, min_records}
+use Rattle.dimacs_instance.specs.MinReading.{IsMinBegun, IsMinBegunBy, IsMinCountedBy, MinBegun, MinCount, after_lines, before, count_of, without_arcs}
+use Rattle.dimacs_instance.specs.Summaries.{GivesMinSummary}
+use Rattle.dimacs_instance.specs.declared.summaries.min.MinSummary.{MinSummary}
+use Rattle.dimacs_instance.proofs.MinLemmas.{arc_bounds, arc_joins, arc_room, begins, gives_min, law_with_arc, law_with_supply, lines_told, min_law, names_one, new_law, node, tells, with_arc}
+use Rattle.dimacs_instance.proofs.MinTextLemmas.{min_faultless, one_min}
+
+pub counted_none : (nodes declared : ℕ) → nodes ≤ most_nodes → declared ≤ most_count → IsMinCountedBy (record { nodes = nodes; declared = declared; supplies = empty; arcs = 0 }) (MinProblem nodes declared ∷ [])
+counted_none nodes declared nodes_few arcs_few = record {
+  begun = record { nodes = nodes; declared = declared; supplies = empty; arcs = [] };
+  is_begun = new_law nodes declared nodes_few arcs_few;
+  begun_by = begins nodes declared;
+  counts = refl;
+}
+
+arc_records : (nodes declared : ℕ) (named : List (ℕ × ℤ)) (arcs : List ArcView) (a : ArcView) → min_records nodes declared named arcs ++ min_arc a ∷ [] ≡ min_records nodes declared named (arcs ++ a ∷ [])
+arc_records nodes declared named arcs a =
+    ap (λ (later : List Record). MinProblem nodes declared ∷ later)
+    (append_assoc (map min_node named) (map min_arc arcs) (min_arc a ∷ []) ∙ ap (λ (later : List Record). map min_node named ++ later) (sym (map-append min_arc arcs (a ∷ []))))
+
+module _ (c : MinCount) (rs : List Record) (counted : IsMinCountedBy c rs) where
+  pub counted_told : (r : Record) → kind_of r ≡ Min → before c r ≡ told_of rs r
+  counted_told r of_kind = rw counted.counts (tells counted.begun r of_kind rs counted.begun_by)
+
+  pub counted_lines_told : after_lines c ≡ after_records rs
+  counted_lines_told = rw counted.counts (lines_told counted.begun rs counted.begun_by)
+
+  pub one_more_arc : (a : ArcView) → Passes (after_lines c) (min_arc a) → 1 ≤ a.tail → 1 ≤ a.head → IsWhole a.cap → IsWhole a.cost
+      → IsMinCountedBy (record { nodes = c.nodes; declared = c.declared; supplies = c.supplies; arcs = c.arcs + 1 }) (rs ++ min_arc a ∷ [])
+  one_more_arc a passes tail head cap cost =
+      let b = counted.begun in
+      let by = counted.begun_by in
+      let its : Passes (after_lines (count_of b)) (min_arc a) = rw counted.counts at passes in
+      record {
+        begun = with_arc b a;
+        is_begun = law_with_arc b a counted.is_begun (arc_joins b a its tail head) (arc_bounds b a its cap cost) (arc_room b a its);
+        begun_by = record {
+          named = by.named;
+          name_nodes = by.name_nodes;
+          supplies = by.supplies;
+          records = ap (λ (earlier : List Record). earlier ++ min_arc a ∷ []) by.records ∙ arc_records b.nodes b.declared by.named b.arcs a;
+        };
+        counts = rw (counted.counts, length-append b.arcs (a ∷ [])) refl;
+      }
+
+  pub one_more_node : (id : ℕ) (s : ℤ) → Passes (before c (MinNode id s)) (MinNode id s) → 1 ≤ id → IsWhole s
+      → IsMinCountedBy (record { nodes = c.nodes; declared = c.declared; supplies = insert c.supplies id s; arcs = c.arcs }) (rs ++ MinNode id s ∷ [])
+  one_more_node id s passes least whole =
+      let b = counted.begun in
+      let its : Passes (before (count_of b) (MinNode id s)) (MinNode id s) = rw counted.counts at passes in
+      record {
+        begun = record b { supplies = insert b.supplies id s };
+        is_begun = law_with_supply b id s counted.is_begun (node b id s least its) whole;
+        begun_by = names_one b id s least its rs counted.begun_by;
+        counts = rw counted.counts refl;
+      }
+
+-- a node that passes the tests is one of the instance
+pub counted_node : (c : MinCount) (id : ℕ) (s : ℤ) → Passes (before c (MinNode id s)) (MinNode id s) → 1 ≤ id → IsNode c.nodes id
+counted_node c id s passes least = (least, grind (arith, nat_tests, passes.second_within))
+
+-- the instance without arcs is one
+pub supplies_law : (c : MinCount) → IsMinBegun (without_arcs c) → IsMin (record { nodes = c.nodes; supplies = without_zeros c.supplies; arcs = [] })
+supplies_law c law = min_law (without_arcs c) law
+
+pub gives_min_summary : (c : MinCount) → PassesEnd Min (after_lines c) → (rs : List LineRecord) → IsMinCountedBy c (records_of rs) → (supplied demanded : ℤ)
+    → supplied ≡ pos (supply_sum (record { nodes = c.nodes; supplies = without_zeros c.supplies; arcs = [] }))
+    → demanded ≡ pos (demand_sum (record { nodes = c.nodes; supplies = without_zeros c.supplies; arcs = [] }))
+    → GivesMinSummary rs (record { nodes = c.nodes; arcs = c.arcs; supplied = supplied; demanded = demanded })
+gives_min_summary c p rs counted supplied demanded supplied_is demanded_is =
+    let b = counted.begun in (
+      record { nodes = b.nodes; supplies = without_zeros b.supplies; arcs = b.arcs },
+      gives_min b counted.is_begun (rw counted.counts at p) rs counted.begun_by,
+      record {
+        nodes = ap (λ (m : MinCount). m.nodes) counted.counts;
+        arcs = ap (λ (m : MinCount). m.arcs) counted.counts;
+        supplied = rw counted.counts at supplied_is;
+        demanded = rw counted.counts at demanded_is;
+      },
+    )
+
+pub summary_faultless : (rs : List LineRecord) (s : MinSummary) → GivesMinSummary rs s → AreFaultless Min (records_of rs)
+summary_faultless rs s gives = min_faultless rs gives.0 gives.1
+
+pub one_summary : (rs : List LineRecord) (s other : MinSummary) → GivesMinSummary rs s → GivesMinSummary rs other → s ≡ other
+one_summary rs s other gives also =
+    let same = one_min rs gives.0 also.0 gives.1 also.1 in
+    let nodes : s.nodes ≡ other.nodes = gives.2.nodes ∙ ap (λ (m : MinValue). m.nodes) same ∙ sym also.2.nodes in
+    let arcs : s.arcs ≡ other.arcs = gives.2.arcs ∙ ap (λ (m : MinValue). length m.arcs) same ∙ sym also.2.arcs in
+    let supplied : s.supplied ≡ other.supplied = gives.2.supplied ∙ ap (λ (m : MinValue). pos (supply_sum m)) same ∙ sym also.2.supplied in
+    let demanded : s.demanded ≡ other.demanded = gives.2.demanded ∙ ap (λ (m : MinValue). pos (demand_sum m)) same ∙ sym also.2.demanded in
+    let whole : s ≡ record { nodes = other.nodes; arcs = other.arcs; supplied = other.supplied; demanded = other.demanded } = rw (sym nodes, sym arcs, sym supplied, sym demanded) refl in
+    whole

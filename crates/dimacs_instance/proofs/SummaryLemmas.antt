@@ -1,0 +1,109 @@
+-- The records of instances whose arcs were counted and not kept.
+use Rattle.std.proofs.Common.{◌≡◌, ℕ, ◌+◌, ◌<◌, ◌≤◌, ◌∷◌, ◌++◌, [], List, false, Some, length, map, refl, ap, ap₂, sym, ◌∙◌, subst, arith}
+use Rattle.std.specs.Prelude.{ℤ, Result, Ok, Err}
+use Rattle.std.specs.List.{All}
+use Rattle.std.proofs.lemmas.Bool.Decides.{nat_tests}
+use Rattle.std.proofs.lemmas.Int.{ints}
+use Rattle.std.proofs.lemmas.List.{length-append, map-append}
+use Rattle.std.proofs.lemmas.List.Elements.{All-nil, All-push}
+use Rattle.dimacs_lines.specs.Limits.{most_count, most_nodes}
+use Rattle.dimacs_records.specs.declared.faults.ReadError.{ReadError}
+use Rattle.dimacs_records.specs.declared.faults.ReadError.TheVariants as read_errors
+use Rattle.dimacs_records.specs.declared.kinds.TextKind.TheVariants.{Graph}
+use Rattle.dimacs_records.specs.declared.reasons.Reason.{Reason}
+use Rattle.dimacs_records.specs.declared.records.Record.{Record}
+use Rattle.dimacs_records.specs.declared.records.Record.TheVariants.{GraphArc, GraphProblem}
+use Rattle.dimacs_records.specs.Ranges.{IsWhole}
+use Rattle.dimacs_records.specs.Readings.{LineRecord, records_of}
+use Rattle.dimacs_records.specs.Tests.{Passes, PassesEnd, after_records}
+use Rattle.dimacs_records.specs.Texts.{AreFaultless, Reads, SpellsValue}
+use Rattle.dimacs_records.proofs.ReadLaws.{spells_one_value}
+use Rattle.dimacs_records.specs.declared.kinds.TextKind.{TextKind}
+use Rattle.dimacs_network.specs.declared.network.ArcView.{ArcView}
+use Rattle.dimacs_network.specs.Arcs.{JoinsNodes, NetworkValue}
+use Rattle.dimacs_network.specs.KeptArcs.{weight_arc}
+use Rattle.dimacs_instance.specs.Graph.{GivesGraph, HasWeightAlone, IsGraph, graph_arc}
+use Rattle.dimacs_instance.specs.GraphReading.{GraphBegun, IsGraphBegun, graph_begun_records, after_lines}
+use Rattle.dimacs_instance.specs.Summaries.{GivesGraphSummary, IsGraphCountedBy, ReadsSummary, SumsUpGraph, counted_lines}
+use Rattle.dimacs_instance.specs.declared.summaries.graph.CountedGraph.{CountedGraph}
+use Rattle.dimacs_instance.specs.declared.summaries.graph.GraphSummary.{GraphSummary}
+use Rattle.dimacs_instance.proofs.GraphLemmas.{graph_faultless, lines_told, one_graph}
+
+-- ---- a graph
+pub counted_none : (nodes declared : ℕ) → nodes ≤ most_nodes → declared ≤ most_count → IsGraphCountedBy (record { nodes = nodes; declared = declared; arcs = 0 }) (GraphProblem nodes declared ∷ [])
+counted_none nodes declared nodes_few arcs_few = record {
+  begun = record { nodes = nodes; declared = declared; arcs = [] };
+  is_begun = record { nodes_few = nodes_few; arcs_few = arcs_few; no_more = omega arith; joined = All-nil (JoinsNodes nodes); weights = All-nil HasWeightAlone };
+  records = refl;
+  nodes = refl;
+  declared = refl;
+  arcs = refl;
+}
+
+module _ (c : CountedGraph) (tail head : ℕ) (weight : ℤ) (passes : Passes (counted_lines c) (GraphArc tail head weight)) where
+  arc_room : c.arcs < c.declared
+  arc_room = grind (arith, nat_tests, passes.room)
+
+  abbrev arc : ArcView
+  arc = weight_arc tail head weight
+
+  pub counted_more : 1 ≤ tail → 1 ≤ head → IsWhole weight → (rs : List Record) → IsGraphCountedBy c rs
+      → IsGraphCountedBy (record { nodes = c.nodes; declared = c.declared; arcs = c.arcs + 1 }) (rs ++ GraphArc tail head weight ∷ [])
+  counted_more from to whole rs counted =
+      let b = counted.begun in
+      let joins : JoinsNodes c.nodes arc = ((from, grind (arith, nat_tests, passes.second_within)), (to, grind (arith, nat_tests, passes.third_within))) in
+      record {
+        begun = record { nodes = b.nodes; declared = b.declared; arcs = b.arcs ++ arc ∷ [] };
+        is_begun = record {
+          nodes_few = counted.is_begun.nodes_few;
+          arcs_few = counted.is_begun.arcs_few;
+          no_more = omega (arith, length-append b.arcs (arc ∷ []), arc_room, counted.arcs, counted.declared);
+          joined = All-push (JoinsNodes b.nodes) b.arcs arc counted.is_begun.joined (rw counted.nodes at joins);
+          weights = All-push HasWeightAlone b.arcs arc counted.is_begun.weights (refl, refl, whole);
+        };
+        records = ap (λ (earlier : List Record). earlier ++ GraphArc tail head weight ∷ []) counted.records ∙ ap (λ (arcs : List Record). GraphProblem b.nodes b.declared ∷ arcs) (sym (map-append graph_arc b.arcs (arc ∷ [])));
+        nodes = counted.nodes;
+        declared = counted.declared;
+        arcs = omega (arith, length-append b.arcs (arc ∷ []), counted.arcs);
+      }
+
+pub counted_told : (c : CountedGraph) (rs : List Record) → IsGraphCountedBy c rs → counted_lines c ≡ after_records rs
+counted_told c rs counted = rw (counted.nodes, counted.declared, counted.arcs, counted.records) (lines_told counted.begun)
+
+pub gives_graph_summary : (c : CountedGraph) → PassesEnd Graph (counted_lines c) → (rs : List LineRecord) → IsGraphCountedBy c (records_of rs) → GivesGraphSummary rs (record { nodes = c.nodes; arcs = c.arcs })
+gives_graph_summary c p rs counted =
+    let b = counted.begun in
+    let short : c.declared ≤ c.arcs = grind (arith, nat_tests, p.finished) in
+    let full : b.declared ≡ length b.arcs = omega (arith, short, counted.declared, counted.arcs, counted.is_begun.no_more) in (
+      record { nodes = b.nodes; arcs = b.arcs },
+      (
+        counted.records ∙ ap (λ (n : ℕ). GraphProblem b.nodes n ∷ map graph_arc b.arcs) full,
+        record { nodes_few = counted.is_begun.nodes_few; arcs_few = omega (arith, counted.is_begun.no_more, counted.is_begun.arcs_few); joined = counted.is_begun.joined; weights = counted.is_begun.weights },
+      ),
+      record { nodes = counted.nodes; arcs = counted.arcs },
+    )
+
+pub summary_faultless : (rs : List LineRecord) (s : GraphSummary) → GivesGraphSummary rs s → AreFaultless Graph (records_of rs)
+summary_faultless rs s gives = graph_faultless rs gives.0 gives.1
+
+pub one_summary : (rs : List LineRecord) (s other : GraphSummary) → GivesGraphSummary rs s → GivesGraphSummary rs other → s ≡ other
+one_summary rs s other gives also =
+    let same = one_graph rs gives.0 also.0 gives.1 also.1 in
+    ap₂ (λ (n a : ℕ). record { nodes = n; arcs = a }) (gives.2.nodes ∙ ap (λ (g : NetworkValue). g.nodes) same ∙ sym also.2.nodes) (gives.2.arcs ∙ ap (λ (g : NetworkValue). length g.arcs) same ∙ sym also.2.arcs)
+
+-- ---- any instance
+module _ {T V : Type 0} (kind : TextKind) (gives : List LineRecord → V → Type 0) (sums_up : T → V → Type 0) (all : List (List ℕ)) (fault : ℕ → ℕ → Reason → Type 0) (one : (rs : List LineRecord) (v w : V) → gives rs v → gives rs w → v ≡ w)
+    (value_of : (v : V) → (s : T) × sums_up s v) where
+  -- the summary of what the records give
+  abbrev pub sum_given : List LineRecord → T → Type 0
+  sum_given rs s = (v : V) × gives rs v × sums_up s v
+
+  pub reads_summary : (result : Result T ReadError) → Reads (SpellsValue kind sum_given all) fault result → ReadsSummary sums_up (SpellsValue kind gives all) fault result
+  reads_summary (Ok s) reads =
+      let given = reads.0.given in
+      let spelled : SpellsValue kind gives all given.0 = record { said = reads.0.said; spelled = reads.0.spelled; given = given.1 } in
+      (given.0, given.2, (spelled, (λ other other_spelled. spells_one_value kind gives all other given.0 one other_spelled spelled), reads.2))
+  reads_summary (Err (read_errors.Refused place reason)) reads =
+      (reads.0, reads.1, λ v spelled. let s = value_of v in reads.2 s.0 (record { said = spelled.said; spelled = spelled.spelled; given = (v, spelled.given, s.1) }))
+  reads_summary (Err read_errors.Device) reads = tt
+  reads_summary (Err read_errors.Memory) reads = tt

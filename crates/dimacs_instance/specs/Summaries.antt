@@ -1,0 +1,69 @@
+-- What the lines about instances have, of the instances that texts spell.
+use Rattle.std.specs.Prelude.{ℕ, ◌≡◌, List, length, pos, Some, Result, Ok, Err}
+use Rattle.dimacs_records.specs.declared.faults.ReadError.{ReadError}
+use Rattle.dimacs_records.specs.declared.order.Earlier.{Earlier}
+use Rattle.dimacs_records.specs.declared.reasons.Reason.{Reason}
+use Rattle.dimacs_records.specs.declared.records.Record.{Record}
+use Rattle.dimacs_records.specs.Readings.{LineRecord}
+use Rattle.dimacs_records.specs.Tests.{earlier_of}
+use Rattle.dimacs_records.specs.Texts.{Reads}
+use Rattle.dimacs_network.specs.Arcs.{NetworkValue}
+use Rattle.dimacs_instance.specs.Graph.{GivesGraph}
+use Rattle.dimacs_instance.specs.GraphReading.{GraphBegun, IsGraphBegun, graph_begun_records}
+use Rattle.dimacs_instance.specs.MaxFlows.{MaxValue}
+use Rattle.dimacs_instance.specs.MaxTexts.{GivesMax}
+use Rattle.dimacs_instance.specs.declared.summaries.max.MaxSummary.{MaxSummary}
+use Rattle.dimacs_instance.specs.MinFlows.{MinValue, demand_sum, supply_sum}
+use Rattle.dimacs_instance.specs.MinTexts.{GivesMin}
+use Rattle.dimacs_instance.specs.declared.summaries.min.MinSummary.{MinSummary}
+use Rattle.dimacs_instance.specs.declared.summaries.graph.GraphSummary.{GraphSummary}
+use Rattle.dimacs_instance.specs.declared.summaries.graph.CountedGraph.{CountedGraph}
+
+-- the summary of the one value that is spelled, or why none is
+abbrev pub ReadsSummary : {T V : Type 0} → (T → V → Type 0) → (V → Type 0) → (ℕ → ℕ → Reason → Type 0) → Result T ReadError → Type 0
+ReadsSummary {T} {V} sums_up spells fault (Ok summary) = (value : V) × sums_up summary value × Reads spells fault (Ok value)
+ReadsSummary sums_up spells fault (Err error) = Reads spells fault (Err error)
+
+-- as many nodes and arcs as the graph has
+pub record SumsUpGraph (s : GraphSummary) (g : NetworkValue) : Type 0 where
+  pub nodes : s.nodes ≡ g.nodes
+  pub arcs : s.arcs ≡ length g.arcs
+
+-- the records of a text give a graph of which this is the summary
+abbrev pub GivesGraphSummary : List LineRecord → GraphSummary → Type 0
+GivesGraphSummary rs s = (g : NetworkValue) × GivesGraph rs g × SumsUpGraph s g
+
+-- so many arcs came, of these records
+pub record IsGraphCountedBy (c : CountedGraph) (rs : List Record) : Type 0 where
+  pub begun : GraphBegun
+  pub is_begun : IsGraphBegun begun
+  pub records : rs ≡ graph_begun_records begun
+  pub nodes : c.nodes ≡ begun.nodes
+  pub declared : c.declared ≡ begun.declared
+  pub arcs : c.arcs ≡ length begun.arcs
+
+-- after the problem line and the arcs so far
+abbrev pub counted_lines : CountedGraph → Earlier
+counted_lines c = earlier_of (Some (record { nodes = Some c.nodes; count = c.declared })) c.arcs
+
+-- as many nodes and arcs as the instance has, and its ends
+pub record SumsUpMax (s : MaxSummary) (m : MaxValue) : Type 0 where
+  pub nodes : s.nodes ≡ m.nodes
+  pub arcs : s.arcs ≡ length m.arcs
+  pub source : s.source ≡ m.source
+  pub sink : s.sink ≡ m.sink
+
+-- the records of a text give an instance of which this is the summary
+abbrev pub GivesMaxSummary : List LineRecord → MaxSummary → Type 0
+GivesMaxSummary rs s = (m : MaxValue) × GivesMax rs m × SumsUpMax s m
+
+-- as many nodes and arcs as the instance has, and the sums of its supplies
+pub record SumsUpMin (s : MinSummary) (m : MinValue) : Type 0 where
+  pub nodes : s.nodes ≡ m.nodes
+  pub arcs : s.arcs ≡ length m.arcs
+  pub supplied : s.supplied ≡ pos (supply_sum m)
+  pub demanded : s.demanded ≡ pos (demand_sum m)
+
+-- the records of a text give an instance of which this is the summary
+abbrev pub GivesMinSummary : List LineRecord → MinSummary → Type 0
+GivesMinSummary rs s = (m : MinValue) × GivesMin rs m × SumsUpMin s m

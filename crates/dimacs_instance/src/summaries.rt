@@ -1,0 +1,44 @@
+//! What the lines about instances have, read without keeping the arcs.
+
+ghost use Rattle.std.specs.Prelude.{◌≡◌, ℕ, List, Some};
+ghost use Rattle.dimacs_lines.specs.Lines.{lines};
+ghost use Rattle.dimacs_lines.specs.Puts.{Puts};
+ghost use Rattle.dimacs_records.specs.declared.kinds.TextKind.{TextKind};
+ghost use Rattle.dimacs_records.specs.Faults.{Fault};
+ghost use Rattle.dimacs_records.specs.Readings.{CountsRead};
+ghost use Rattle.dimacs_instance.specs.Summaries.{ReadsSummary};
+
+mod graph;
+mod max;
+mod min;
+
+use dimacs_lines::{DeviceFault, Sink, Source};
+use dimacs_records::ReadError;
+pub use graph::GraphSummary;
+pub(crate) use max::CountedMax;
+pub use max::MaxSummary;
+pub use min::MinSummary;
+use std::alloc::Global;
+
+/// What the line about a text has, of the value that the text spells.
+pub trait Summary: Drop {
+    ghost kind: { TextKind };
+
+    ghost Said: { Type 0 };
+
+    /// This is the summary of a value.
+    ghost sums_up: { Self → Said → Type 0 };
+
+    ghost spells: { List ℕ → Said → Type 0 };
+
+    ghost shown: { Said → List ℕ };
+
+    /// Reads a text, and keeps the summary alone.
+    fn read<S: Source>(alloc: Global, source: &mut S) -> Result<Self, ReadError>
+        ensures reads { (bytes : List ℕ) → S.coming source.old ≡ Some bytes → ReadsSummary sums_up (spells bytes) (Fault kind (lines bytes)) result }
+        ensures device { CountsRead result (S.faults source.old) (S.faults source.new) };
+
+    /// Puts the line about the value.
+    fn show<K: Sink>(&self, sink: &mut K) -> Result<(), DeviceFault>
+        ensures puts { (value : Said) → sums_up self.now value → Puts result (K.seen sink.old) (shown value) (K.seen sink.new) };
+}

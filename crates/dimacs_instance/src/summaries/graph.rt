@@ -1,0 +1,121 @@
+//! The summary of a graph.
+
+ghost use Rattle.std.specs.Prelude.{◌≡◌, refl};
+ghost use Rattle.dimacs_records.specs.declared.kinds.TextKind.TheVariants as kinds;
+ghost use Rattle.dimacs_network.specs.Arcs.{NetworkValue};
+ghost use Rattle.dimacs_instance.specs.Graph.{SpellsGraph, shown_graph};
+ghost use Rattle.dimacs_instance.specs.Summaries.{GivesGraphSummary, IsGraphCountedBy, SumsUpGraph, counted_lines};
+
+use crate::summaries::Summary;
+use dimacs_lines::{DeviceFault, Memory, Sink, Source};
+use dimacs_records::{
+    Begun, Declared, Earlier, Part, ReadError, Record, TextKind, put_line, read_counted,
+};
+use std::alloc::Global;
+
+/// How large a graph is.
+#[derive(Clone, Copy, Debug, PartialEq, Eq)]
+pub struct GraphSummary {
+    pub nodes: u32,
+    pub arcs: u32,
+}
+
+impl Summary for GraphSummary {
+    ghost kind = { kinds.Graph };
+
+    ghost Said = { NetworkValue };
+
+    ghost sums_up = { λ s g. SumsUpGraph s g };
+
+    ghost spells = { λ text g. SpellsGraph text g };
+
+    ghost shown = { λ g. shown_graph g };
+
+    fn read<S: Source>(alloc: Global, source: &mut S) -> Result<GraphSummary, ReadError> {
+        read_counted::<CountedGraph, S>(alloc, source)
+    }
+
+    fn show<K: Sink>(&self, sink: &mut K) -> Result<(), DeviceFault> {
+        put_line(
+            sink,
+            b"i",
+            &[
+                Part::Word(b"sp"),
+                Part::Number(i64::from(self.nodes)),
+                Part::Number(i64::from(self.arcs)),
+            ],
+        )
+    }
+}
+
+/// How many arcs came after the problem line.
+#[derive(Clone, Copy)]
+pub struct CountedGraph {
+    nodes: u32,
+    declared: u32,
+    arcs: u32,
+}
+
+impl Begun for CountedGraph {
+    type Value = GraphSummary;
+
+    ghost kind = { kinds.Graph };
+
+    ghost begun_by = { λ counted rs. IsGraphCountedBy counted rs };
+
+    ghost told = { λ counted r. counted_lines counted };
+
+    ghost told_end = { λ counted. counted_lines counted };
+
+    ghost gives = { λ rs summary. GivesGraphSummary rs summary };
+
+    fn kind() -> TextKind {
+        TextKind::Graph
+    }
+
+    fn begin(_alloc: Global, problem: Record) -> CountedGraph {
+        let Record::GraphProblem { nodes, arcs } = problem else {
+            unreachable!()
+        };
+        CountedGraph {
+            nodes,
+            declared: arcs,
+            arcs: 0,
+        }
+    }
+
+    #[inline(always)]
+    fn before(&self, _said: Record) -> Earlier {
+        self.before_end()
+    }
+
+    #[inline(always)]
+    fn keep(&mut self, said: Record) -> Result<(), Memory> {
+        let Record::GraphArc {
+            tail: _tail,
+            head: _head,
+            weight: _weight,
+        } = said
+        else {
+            unreachable!()
+        };
+        self.arcs += 1;
+        Ok(())
+    }
+
+    #[inline(always)]
+    fn before_end(&self) -> Earlier {
+        let nodes = Some(self.nodes);
+        let count = self.declared;
+        Earlier::of(Some(Declared { nodes, count }), self.arcs)
+    }
+
+    fn value(self, _alloc: Global) -> Result<GraphSummary, Memory> {
+        Ok(GraphSummary {
+            nodes: self.nodes,
+            arcs: self.arcs,
+        })
+    }
+
+    ghost has_problem = { refl };
+}

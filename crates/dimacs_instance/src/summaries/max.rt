@@ -1,0 +1,166 @@
+//! The summary of a maximum flow instance.
+
+ghost use Rattle.std.specs.Prelude.{◌≡◌, refl};
+ghost use Rattle.dimacs_records.specs.declared.kinds.TextKind.TheVariants as kinds;
+ghost use Rattle.dimacs_instance.specs.MaxFlows.{MaxValue};
+ghost use Rattle.dimacs_instance.specs.MaxReading.{IsMaxCountedBy, after_lines, before, before_end};
+ghost use Rattle.dimacs_instance.specs.MaxTexts.{SpellsMax, shown_max};
+ghost use Rattle.dimacs_instance.specs.Summaries.{GivesMaxSummary, SumsUpMax};
+
+use crate::max::{EndLine, EndLines};
+use crate::summaries::Summary;
+use dimacs_lines::{DeviceFault, Memory, Sink, Source};
+use dimacs_records::{
+    Begun, Declared, Earlier, Part, ReadError, Record, TextKind, put_line, read_counted,
+};
+use std::alloc::Global;
+use std::marker::Model;
+
+/// How large a maximum flow instance is, and its ends.
+#[derive(Clone, Copy, Debug, PartialEq, Eq)]
+pub struct MaxSummary {
+    pub nodes: u32,
+    pub arcs: u32,
+    pub source: u32,
+    pub sink: u32,
+}
+
+impl Summary for MaxSummary {
+    ghost kind = { kinds.Max };
+
+    ghost Said = { MaxValue };
+
+    ghost sums_up = { λ s m. SumsUpMax s m };
+
+    ghost spells = { λ text m. SpellsMax text m };
+
+    ghost shown = { λ m. shown_max m };
+
+    fn read<S: Source>(alloc: Global, source: &mut S) -> Result<MaxSummary, ReadError> {
+        read_counted::<CountedMax, S>(alloc, source)
+    }
+
+    fn show<K: Sink>(&self, sink: &mut K) -> Result<(), DeviceFault> {
+        put_line(
+            sink,
+            b"i",
+            &[
+                Part::Word(b"max"),
+                Part::Number(i64::from(self.nodes)),
+                Part::Number(i64::from(self.arcs)),
+                Part::Number(i64::from(self.source)),
+                Part::Number(i64::from(self.sink)),
+            ],
+        )
+    }
+}
+
+/// What came after the problem line: at most two node lines, and then so many arcs.
+#[derive(Drop)]
+pub struct CountedMax {
+    pub(crate) nodes: u32,
+    pub(crate) declared: u32,
+    pub(crate) ends: EndLines,
+    pub(crate) arcs: u32,
+}
+
+impl Model for CountedMax {
+    ghost use Rattle.dimacs_instance.specs.MaxReading.{EndsAreApart, MaxCount};
+
+    ghost Value = { MaxCount };
+
+    ghost view = { λ c. record { nodes = c.nodes; declared = c.declared; ends = c.ends; arcs = c.arcs } };
+
+    ghost invariant = { λ c. EndsAreApart c.ends };
+}
+
+impl CountedMax {
+    /// What the lines say of a record that asks for no end.
+    #[inline(always)]
+    fn lines(&self) -> Earlier
+        ensures { result ≡ after_lines self.now }
+    {
+        let nodes = Some(self.nodes);
+        let count = self.declared;
+        Earlier::of(Some(Declared { nodes, count }), self.arcs)
+    }
+}
+
+impl Begun for CountedMax {
+    type Value = MaxSummary;
+
+    ghost kind = { kinds.Max };
+
+    ghost begun_by = { λ counted rs. IsMaxCountedBy counted rs };
+
+    ghost told = { λ counted r. before counted r };
+
+    ghost told_end = { λ counted. before_end counted };
+
+    ghost gives = { λ rs summary. GivesMaxSummary rs summary };
+
+    fn kind() -> TextKind {
+        TextKind::Max
+    }
+
+    fn begin(_alloc: Global, problem: Record) -> CountedMax {
+        let Record::MaxProblem { nodes, arcs } = problem else {
+            unreachable!()
+        };
+        CountedMax {
+            nodes,
+            declared: arcs,
+            ends: EndLines::Neither,
+            arcs: 0,
+        }
+    }
+
+    #[inline(always)]
+    fn before(&self, said: Record) -> Earlier {
+        match said {
+            Record::MaxArc { .. } => self.before_end(),
+            Record::MaxNode { id, end } => Earlier {
+                misplaced: self.arcs > 0,
+                named: self.ends.names(id),
+                end_named: self.ends.has(end),
+                ..self.lines()
+            },
+            Record::MaxProblem { .. } => self.lines(),
+            _ => unreachable!(),
+        }
+    }
+
+    #[inline(always)]
+    fn keep(&mut self, said: Record) -> Result<(), Memory> {
+        match said {
+            Record::MaxArc {
+                tail: _tail,
+                head: _head,
+                cap: _cap,
+            } => self.arcs += 1,
+            Record::MaxNode { id, end } => self.ends = self.ends.and(EndLine { node: id, end }),
+            _ => unreachable!(),
+        }
+        Ok(())
+    }
+
+    #[inline(always)]
+    fn before_end(&self) -> Earlier {
+        Earlier {
+            lacks_end: self.ends.lack_one(),
+            ..self.lines()
+        }
+    }
+
+    fn value(self, _alloc: Global) -> Result<MaxSummary, Memory> {
+        let (source, sink) = self.ends.in_order();
+        Ok(MaxSummary {
+            nodes: self.nodes,
+            arcs: self.arcs,
+            source,
+            sink,
+        })
+    }
+
+    ghost has_problem = { refl };
+}

@@ -1,0 +1,163 @@
+//! The summary of a minimum cost flow instance.
+
+ghost use Rattle.std.specs.Prelude.{◌≡◌, refl};
+ghost use Rattle.dimacs_records.specs.declared.kinds.TextKind.TheVariants as kinds;
+ghost use Rattle.dimacs_instance.specs.MinFlows.{MinValue};
+ghost use Rattle.dimacs_instance.specs.MinReading.{IsMinCountedBy, after_lines, before};
+ghost use Rattle.dimacs_instance.specs.MinTexts.{SpellsMin, shown_min};
+ghost use Rattle.dimacs_instance.specs.Summaries.{GivesMinSummary, SumsUpMin};
+
+use crate::min::MinInstance;
+use crate::summaries::Summary;
+use dimacs_lines::{DeviceFault, Memory, Sink, Source};
+use dimacs_network::{ArcView, PlainArcs};
+use dimacs_nodes::NodeMap;
+use dimacs_records::{
+    Begun, Declared, Earlier, Part, ReadError, Record, TextKind, put_line, read_counted,
+};
+use std::alloc::Global;
+use std::marker::Model;
+
+/// How large a minimum cost flow instance is, and how much all nodes together put into the network and take out of it.
+#[derive(Clone, Copy, Debug, PartialEq, Eq)]
+pub struct MinSummary {
+    pub nodes: u32,
+    pub arcs: u32,
+    pub supplied: i128,
+    pub demanded: i128,
+}
+
+impl Summary for MinSummary {
+    ghost kind = { kinds.Min };
+
+    ghost Said = { MinValue };
+
+    ghost sums_up = { λ s m. SumsUpMin s m };
+
+    ghost spells = { λ text m. SpellsMin text m };
+
+    ghost shown = { λ m. shown_min m };
+
+    fn read<S: Source>(alloc: Global, source: &mut S) -> Result<MinSummary, ReadError> {
+        read_counted::<CountedMin, S>(alloc, source)
+    }
+
+    fn show<K: Sink>(&self, sink: &mut K) -> Result<(), DeviceFault> {
+        put_line(
+            sink,
+            b"i",
+            &[
+                Part::Word(b"min"),
+                Part::Number(i64::from(self.nodes)),
+                Part::Number(i64::from(self.arcs)),
+                Part::Wide(self.supplied),
+                Part::Wide(self.demanded),
+            ],
+        )
+    }
+}
+
+/// What came after the problem line: node lines, and then so many arcs.
+#[derive(Drop)]
+pub struct CountedMin {
+    nodes: u32,
+    declared: u32,
+    /// Those of the nodes that were named, also with 0.
+    supplies: NodeMap<i64>,
+    arcs: u32,
+}
+
+impl Model for CountedMin {
+    ghost use Rattle.dimacs_instance.specs.MinReading.{IsMinBegun, MinCount, without_arcs};
+    ghost use Rattle.dimacs_instance.specs.MinCodes.{count_code};
+
+    ghost Value = { MinCount };
+
+    ghost coded = { count_code };
+
+    ghost view = { λ c. record { nodes = c.nodes; declared = c.declared; supplies = c.supplies; arcs = c.arcs } };
+
+    ghost invariant = { λ c. IsMinBegun (without_arcs (record { nodes = c.nodes; declared = c.declared; supplies = c.supplies; arcs = c.arcs })) };
+}
+
+impl Begun for CountedMin {
+    type Value = MinSummary;
+
+    ghost kind = { kinds.Min };
+
+    ghost begun_by = { λ counted rs. IsMinCountedBy counted rs };
+
+    ghost told = { λ counted r. before counted r };
+
+    ghost told_end = { λ counted. after_lines counted };
+
+    ghost gives = { λ rs summary. GivesMinSummary rs summary };
+
+    fn kind() -> TextKind {
+        TextKind::Min
+    }
+
+    fn begin(alloc: Global, problem: Record) -> CountedMin {
+        let Record::MinProblem { nodes, arcs } = problem else {
+            unreachable!()
+        };
+        CountedMin {
+            nodes,
+            declared: arcs,
+            supplies: NodeMap::new(alloc),
+            arcs: 0,
+        }
+    }
+
+    #[inline(always)]
+    fn before(&self, said: Record) -> Earlier {
+        match said {
+            Record::MinArc { .. } | Record::MinProblem { .. } => self.before_end(),
+            Record::MinNode { id, .. } => Earlier {
+                misplaced: self.arcs > 0,
+                named: self.supplies.get(id).is_some(),
+                ..self.before_end()
+            },
+            _ => unreachable!(),
+        }
+    }
+
+    #[inline(always)]
+    fn keep(&mut self, said: Record) -> Result<(), Memory> {
+        match said {
+            Record::MinArc {
+                tail: _tail,
+                head: _head,
+                low: _low,
+                cap: _cap,
+                cost: _cost,
+            } => self.arcs += 1,
+            Record::MinNode { id, supply } => self.supplies.set(id, supply)?,
+            _ => unreachable!(),
+        }
+        Ok(())
+    }
+
+    #[inline(always)]
+    fn before_end(&self) -> Earlier {
+        let nodes = Some(self.nodes);
+        let count = self.declared;
+        Earlier::of(Some(Declared { nodes, count }), self.arcs)
+    }
+
+    fn value(self, alloc: Global) -> Result<MinSummary, Memory> {
+        let supplied = MinInstance {
+            supplies: self.supplies,
+            network: PlainArcs::<ArcView>::new(alloc, self.nodes),
+        };
+        let sums = supplied.supply_sums();
+        Ok(MinSummary {
+            nodes: self.nodes,
+            arcs: self.arcs,
+            supplied: sums.supplied,
+            demanded: sums.demanded,
+        })
+    }
+
+    ghost has_problem = { refl };
+}
