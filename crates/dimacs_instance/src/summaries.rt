@@ -13,7 +13,7 @@ mod max;
 mod min;
 
 use dimacs_lines::{DeviceFault, Sink, Source};
-use dimacs_records::ReadError;
+use dimacs_records::{ReadError, TextKind};
 pub use graph::GraphSummary;
 pub(crate) use max::CountedMax;
 pub use max::MaxSummary;
@@ -32,6 +32,9 @@ pub trait Summary: Drop {
     ghost spells: { List ℕ → Said → Type 0 };
 
     ghost shown: { Said → List ℕ };
+
+    fn kind() -> TextKind
+        ensures { result ≡ kind };
 
     /// Reads a text, and keeps the summary alone.
     fn read<S: Source>(alloc: Global, source: &mut S) -> Result<Self, ReadError>

@@ -1,19 +1,20 @@
 //! What is told of one text: its canonical form, or a line about it.
 
 ghost use Rattle.std.specs.Prelude.{◌≡◌, ◌≢◌, ◌∷◌, ℕ, List, [], Some, Err};
-ghost use Rattle.dimacs_lines.specs.Puts.{Puts};
 ghost use Rattle.dimacs_runs.specs.declared.outcome.RunError.TheVariants.{Memory};
 ghost use Rattle.dimacs_runs.specs.declared.text.TextForm.TheVariants.{Canonical, Summary};
 ghost use Rattle.dimacs_runs.specs.Judgings.{CountsDevices};
-ghost use Rattle.dimacs_runs.specs.Runs.{Reports, TellsText, Told, in_form};
+ghost use Rattle.dimacs_runs.specs.Runs.{Reports, TellsText, Told};
 ghost use Rattle.dimacs_runs.specs.inside.Judgings.{text_says};
 
 use crate::outcome::{RunError, Status};
-use crate::texts_in_turn::read;
+use crate::texts_in_turn::{read, read_summary};
 use crate::told::put_told;
 use dimacs_claims::{Cut, Distances, Labels, Potentials, Solution};
-use dimacs_instance::{Graph, MaxInstance, MinInstance, Queries};
-use dimacs_lines::{DeviceFault, Sink, Source};
+use dimacs_instance::{
+    Graph, GraphSummary, MaxInstance, MaxSummary, MinInstance, MinSummary, Queries, Summary,
+};
+use dimacs_lines::{Sink, Source};
 use dimacs_network::{ArcView, CapacityArc, PlainArcs, WeightArc};
 use dimacs_records::{Text, TextKind};
 use std::alloc::Global;
@@ -40,7 +41,17 @@ pub fn run_convert<S: Source, K: Sink>(
     ensures nothing_written { S.faults text.new ≢ S.faults text.old → K.seen sink.new ≡ K.seen sink.old }
     ensures memory { result ≡ Err Memory → K.seen sink.new ≡ K.seen sink.old }
 {
-    run_text(alloc, TextForm::Canonical, kind, text, sink)
+    match kind {
+        TextKind::Max => convert::<MaxInstance<PlainArcs<CapacityArc>>, S, K>(alloc, text, sink),
+        TextKind::Min => convert::<MinInstance<PlainArcs<ArcView>>, S, K>(alloc, text, sink),
+        TextKind::Graph => convert::<Graph<PlainArcs<WeightArc>>, S, K>(alloc, text, sink),
+        TextKind::Queries => convert::<Queries, S, K>(alloc, text, sink),
+        TextKind::Solution => convert::<Solution, S, K>(alloc, text, sink),
+        TextKind::Cut => convert::<Cut, S, K>(alloc, text, sink),
+        TextKind::Potentials => convert::<Potentials, S, K>(alloc, text, sink),
+        TextKind::Labels => convert::<Labels, S, K>(alloc, text, sink),
+        TextKind::Distances => convert::<Distances, S, K>(alloc, text, sink),
+    }
 }
 
 /// Puts one line about a text of this kind, or one line that says why it is refused.
@@ -56,7 +67,17 @@ pub fn run_show<S: Source, K: Sink>(
     ensures nothing_written { S.faults text.new ≢ S.faults text.old → K.seen sink.new ≡ K.seen sink.old }
     ensures memory { result ≡ Err Memory → K.seen sink.new ≡ K.seen sink.old }
 {
-    run_text(alloc, TextForm::Summary, kind, text, sink)
+    match kind {
+        TextKind::Max => sum_up::<MaxSummary, S, K>(alloc, text, sink),
+        TextKind::Min => sum_up::<MinSummary, S, K>(alloc, text, sink),
+        TextKind::Graph => sum_up::<GraphSummary, S, K>(alloc, text, sink),
+        TextKind::Queries => show::<Queries, S, K>(alloc, text, sink),
+        TextKind::Solution => show::<Solution, S, K>(alloc, text, sink),
+        TextKind::Cut => show::<Cut, S, K>(alloc, text, sink),
+        TextKind::Potentials => show::<Potentials, S, K>(alloc, text, sink),
+        TextKind::Labels => show::<Labels, S, K>(alloc, text, sink),
+        TextKind::Distances => show::<Distances, S, K>(alloc, text, sink),
+    }
 }
 
 /// Puts a text of this kind in this form, or one line that says why it is refused.
@@ -73,46 +94,71 @@ pub(crate) fn run_text<S: Source, K: Sink>(
     ensures nothing_written { S.faults text.new ≢ S.faults text.old → K.seen sink.new ≡ K.seen sink.old }
     ensures memory { result ≡ Err Memory → K.seen sink.new ≡ K.seen sink.old }
 {
-    match kind {
-        TextKind::Max => tell::<MaxInstance<PlainArcs<CapacityArc>>, S, K>(alloc, form, text, sink),
-        TextKind::Min => tell::<MinInstance<PlainArcs<ArcView>>, S, K>(alloc, form, text, sink),
-        TextKind::Graph => tell::<Graph<PlainArcs<WeightArc>>, S, K>(alloc, form, text, sink),
-        TextKind::Queries => tell::<Queries, S, K>(alloc, form, text, sink),
-        TextKind::Solution => tell::<Solution, S, K>(alloc, form, text, sink),
-        TextKind::Cut => tell::<Cut, S, K>(alloc, form, text, sink),
-        TextKind::Potentials => tell::<Potentials, S, K>(alloc, form, text, sink),
-        TextKind::Labels => tell::<Labels, S, K>(alloc, form, text, sink),
-        TextKind::Distances => tell::<Distances, S, K>(alloc, form, text, sink),
+    match form {
+        TextForm::Canonical => run_convert(alloc, kind, text, sink),
+        TextForm::Summary => run_show(alloc, kind, text, sink),
     }
 }
 
-fn tell<T: Text, S: Source, K: Sink>(
+/// Puts the canonical text of the value that a text spells.
+fn convert<T: Text, S: Source, K: Sink>(
     alloc: Global,
-    form: TextForm,
     text: &mut S,
     sink: &mut K,
 ) -> Result<Status, RunError>
     ensures reports { (bytes : List ℕ) → S.coming text.old ≡ Some bytes
-        → Reports (TellsText (text_says T.kind T.spells bytes) (in_form form T.canonical T.shown)) result
-        (K.seen sink.old).accepted (K.seen sink.new).accepted }
+        → Reports (TellsText (text_says T.kind T.spells bytes) T.canonical) result (K.seen sink.old).accepted (K.seen sink.new).accepted }
     ensures faults { CountsDevices result (S.faults text.old ∷ (K.seen sink.old).faults ∷ []) (S.faults text.new ∷ (K.seen sink.new).faults ∷ []) }
     ensures nothing_written { S.faults text.new ≢ S.faults text.old → K.seen sink.new ≡ K.seen sink.old }
     ensures memory { result ≡ Err Memory → K.seen sink.new ≡ K.seen sink.old }
 {
     match read::<T, S>(alloc, text) {
         Ok(value) => {
-            put(&value, form, sink)?;
+            value.write(sink)?;
             Ok(Status::Done)
         }
         Err(unread) => put_told(unread.told(), sink),
     }
 }
 
-fn put<T: Text, K: Sink>(value: &T, form: TextForm, sink: &mut K) -> Result<(), DeviceFault>
-    ensures { Puts result (K.seen sink.old) (in_form form T.canonical T.shown (T.said value.now)) (K.seen sink.new) }
+/// Puts the line about the value that a text spells.
+fn show<T: Text, S: Source, K: Sink>(
+    alloc: Global,
+    text: &mut S,
+    sink: &mut K,
+) -> Result<Status, RunError>
+    ensures reports { (bytes : List ℕ) → S.coming text.old ≡ Some bytes
+        → Reports (TellsText (text_says T.kind T.spells bytes) T.shown) result (K.seen sink.old).accepted (K.seen sink.new).accepted }
+    ensures faults { CountsDevices result (S.faults text.old ∷ (K.seen sink.old).faults ∷ []) (S.faults text.new ∷ (K.seen sink.new).faults ∷ []) }
+    ensures nothing_written { S.faults text.new ≢ S.faults text.old → K.seen sink.new ≡ K.seen sink.old }
+    ensures memory { result ≡ Err Memory → K.seen sink.new ≡ K.seen sink.old }
 {
-    match form {
-        TextForm::Canonical => value.write(sink),
-        TextForm::Summary => value.show(sink),
+    match read::<T, S>(alloc, text) {
+        Ok(value) => {
+            value.show(sink)?;
+            Ok(Status::Done)
+        }
+        Err(unread) => put_told(unread.told(), sink),
+    }
+}
+
+/// Puts the line about the value that a text spells, of which its summary is kept.
+fn sum_up<T: Summary, S: Source, K: Sink>(
+    alloc: Global,
+    text: &mut S,
+    sink: &mut K,
+) -> Result<Status, RunError>
+    ensures reports { (bytes : List ℕ) → S.coming text.old ≡ Some bytes
+        → Reports (TellsText (text_says T.kind T.spells bytes) T.shown) result (K.seen sink.old).accepted (K.seen sink.new).accepted }
+    ensures faults { CountsDevices result (S.faults text.old ∷ (K.seen sink.old).faults ∷ []) (S.faults text.new ∷ (K.seen sink.new).faults ∷ []) }
+    ensures nothing_written { S.faults text.new ≢ S.faults text.old → K.seen sink.new ≡ K.seen sink.old }
+    ensures memory { result ≡ Err Memory → K.seen sink.new ≡ K.seen sink.old }
+{
+    match read_summary::<T, S>(alloc, text) {
+        Ok(summary) => {
+            summary.show(sink)?;
+            Ok(Status::Done)
+        }
+        Err(unread) => put_told(unread.told(), sink),
     }
 }

@@ -11,6 +11,7 @@ use crate::outcome::RunError;
 use crate::refusal::text_name;
 use crate::told::Told;
 use dimacs_claims::{Place, Placed, read_solution_into};
+use dimacs_instance::Summary;
 use dimacs_lines::Source;
 use dimacs_records::{ReadError, Text, TextKind};
 use std::alloc::Global;
@@ -44,6 +45,23 @@ pub(crate) fn read<V: Text, P: Source>(alloc: Global, source: &mut P) -> Result<
 {
     match V::read(alloc, source) {
         Ok(value) => Ok(value),
+        Err(error) => Err(Unread {
+            text: text_name(V::kind()),
+            error,
+        }),
+    }
+}
+
+/// Reads one text, and keeps its summary.
+pub(crate) fn read_summary<V: Summary, P: Source>(
+    alloc: Global,
+    source: &mut P,
+) -> Result<V, Unread>
+    ensures reads { (a : List ℕ) → P.coming source.old ≡ Some a → PlacesOne (λ value summary. V.sums_up summary value) (text_says V.kind V.spells a) result }
+    ensures faults { CountsUnread result (P.faults source.old ∷ []) (P.faults source.new ∷ []) }
+{
+    match V::read(alloc, source) {
+        Ok(summary) => Ok(summary),
         Err(error) => Err(Unread {
             text: text_name(V::kind()),
             error,

@@ -31,6 +31,10 @@ impl Summary for GraphSummary {
 
     ghost shown = { λ g. shown_graph g };
 
+    fn kind() -> TextKind {
+        TextKind::Graph
+    }
+
     fn read<S: Source>(alloc: Global, source: &mut S) -> Result<GraphSummary, ReadError> {
         read_counted::<CountedGraph, S>(alloc, source)
     }

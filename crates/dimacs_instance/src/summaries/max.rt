@@ -36,6 +36,10 @@ impl Summary for MaxSummary {
 
     ghost shown = { λ m. shown_max m };
 
+    fn kind() -> TextKind {
+        TextKind::Max
+    }
+
     fn read<S: Source>(alloc: Global, source: &mut S) -> Result<MaxSummary, ReadError> {
         read_counted::<CountedMax, S>(alloc, source)
     }

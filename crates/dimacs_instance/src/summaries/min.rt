@@ -38,6 +38,10 @@ impl Summary for MinSummary {
 
     ghost shown = { λ m. shown_min m };
 
+    fn kind() -> TextKind {
+        TextKind::Min
+    }
+
     fn read<S: Source>(alloc: Global, source: &mut S) -> Result<MinSummary, ReadError> {
         read_counted::<CountedMin, S>(alloc, source)
     }
