@@ -17,6 +17,7 @@ use crate::graph::{BegunGraph, Graph, write_graph};
 use crate::max::{BegunMax, MaxInstance, write_max};
 use crate::min::{BegunMin, MinInstance, write_min};
 use crate::queries::{Queries, read_queries, write_queries};
+use crate::summaries::{GraphSummary, MaxSummary, MinSummary, Summary};
 use dimacs_lines::{DeviceFault, Sink, Source};
 use dimacs_network::{Network, OfCapacityArcs, OfCostArcs, OfWeightArcs};
 use dimacs_records::{Part, ReadError, Text, TextKind, put_line, read_counted};
@@ -158,17 +159,13 @@ fn show_max<N: Network, K: Sink>(max: &MaxInstance<N>, sink: &mut K) -> Result<(
     ensures { Puts result (K.seen sink.old) (shown_max max.now) (K.seen sink.new) }
 {
     let network = max.network();
-    put_line(
-        sink,
-        b"i",
-        &[
-            Part::Word(b"max"),
-            Part::Number(i64::from(network.nodes())),
-            Part::Number(i64::from(network.arcs())),
-            Part::Number(i64::from(max.source())),
-            Part::Number(i64::from(max.sink())),
-        ],
-    )
+    let summary = MaxSummary {
+        nodes: network.nodes(),
+        arcs: network.arcs(),
+        source: max.source(),
+        sink: max.sink(),
+    };
+    summary.show(sink)
 }
 
 /// Puts the line about a minimum cost flow instance.
@@ -177,17 +174,13 @@ fn show_min<N: Network, K: Sink>(min: &MinInstance<N>, sink: &mut K) -> Result<(
 {
     let network = min.network();
     let sums = min.supply_sums();
-    put_line(
-        sink,
-        b"i",
-        &[
-            Part::Word(b"min"),
-            Part::Number(i64::from(network.nodes())),
-            Part::Number(i64::from(network.arcs())),
-            Part::Wide(sums.supplied),
-            Part::Wide(sums.demanded),
-        ],
-    )
+    let summary = MinSummary {
+        nodes: network.nodes(),
+        arcs: network.arcs(),
+        supplied: sums.supplied,
+        demanded: sums.demanded,
+    };
+    summary.show(sink)
 }
 
 /// Puts the line about a graph.
@@ -195,15 +188,11 @@ fn show_graph<N: Network, K: Sink>(graph: &Graph<N>, sink: &mut K) -> Result<(),
     ensures { Puts result (K.seen sink.old) (shown_graph graph.now) (K.seen sink.new) }
 {
     let network = graph.network();
-    put_line(
-        sink,
-        b"i",
-        &[
-            Part::Word(b"sp"),
-            Part::Number(i64::from(network.nodes())),
-            Part::Number(i64::from(network.arcs())),
-        ],
-    )
+    let summary = GraphSummary {
+        nodes: network.nodes(),
+        arcs: network.arcs(),
+    };
+    summary.show(sink)
 }
 
 /// Puts the line about queries of this word.
