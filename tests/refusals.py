@@ -583,7 +583,7 @@ def refuse_all(runs, words, status, printed, kinds):
 
 def judge_made(runs, words, whole):
     """Judges what a run made: a claim and a certificate, or a better claim than a refused one. Yields what is wrong."""
-    producer, instance, query = words.split()[:3]
+    producer, instance, query = [*words.split(), ""][:3]
     if producer not in JUDGES or not whole.outputs[1]:
         return
     sources = "long.query" if instance.startswith("long") else "source"
