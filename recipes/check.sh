@@ -44,10 +44,10 @@ lemon_scaling.cpp       judge-min         header lemon/cost_scaling.h
 glpsol_min.sh           judge-min         program glpsol
 networkx_infeasible.py  judge-infeasible  module networkx
 lemon_infeasible.cpp    judge-infeasible  header lemon/circulation.h
-networkx_paths.py       judge-paths       module networkx
-scipy_paths.py          judge-paths       module scipy
-igraph_paths.py         judge-paths       module igraph
-lemon_paths.cpp         judge-paths       header lemon/dijkstra.h
+networkx_paths.py       certify-paths     module networkx
+scipy_paths.py          certify-paths     module scipy
+igraph_paths.py         certify-paths     module igraph
+lemon_paths.cpp         certify-paths     header lemon/dijkstra.h
 networkx_library.py     judge-max         module networkx
 lemon_library.cpp       judge-min         header lemon/network_simplex.h
 scipy_library.py        judge-paths       module scipy
@@ -75,6 +75,12 @@ judge-infeasible  $dir/short.min                              | v infeasible
 judge-infeasible  $dir/back.min                               | v infeasible
 judge-infeasible  $dir/surplus.min                            | v infeasible
 judge-infeasible  $dir/deficit.min                            | v infeasible
+certify-paths     $examples/road.gr $examples/road.query        | v sp distances 2
+certify-paths     $examples/romania.gr $examples/romania.query  | v sp distances 2
+certify-paths     $dir/grid.gr $dir/grid.p2p
+certify-paths     $dir/grid.gr $dir/grid.ss
+certify-paths     $dir/hamlet.gr $dir/hamlet.p2p
+certify-paths     $dir/hamlet.gr $dir/hamlet.ss
 judge-paths       $examples/road.gr $examples/road.query        | v 1 5 1400; v 1 6 unreachable; v 6 3 1400
 judge-paths       $examples/romania.gr $examples/romania.query  | v 1 2 418; v 17 12 942
 judge-paths       $dir/grid.gr $dir/grid.p2p
@@ -139,12 +145,13 @@ solve() {
 try() {
     local recipe=$1 run=$2 wanted=$3 claim=("${@:4}") found count name seen
     name=$(basename "$4")
-    seen=$dir/verdict:$name:$(basename "${5:-}")
+    seen=$dir/verdict:$run:$name:$(basename "${5:-}")
     if ! is_in_process "$recipe"; then
         mkdir -p "$dir/answers/$name"
         case $run in
             judge-max) claim+=("$dir/answers/$name/$recipe.solution" "$dir/answers/$name/$recipe.cut") ;;
             judge-min) claim+=("$dir/answers/$name/$recipe.solution" "$dir/answers/$name/$recipe.pot") ;;
+            certify-paths) claim+=("$dir/answers/$name/$recipe.distances") ;;
             *) claim+=("$dir/answers/$name/$recipe.certificate") ;;
         esac
     fi
@@ -160,6 +167,7 @@ try() {
     if is_in_process "$recipe"; then
         return
     fi
+    [ "$run" != certify-paths ] || claim=("${claim[0]}" "${claim[2]}") # without the queries
     if count=$("$PYTHON" "$here/check/wrong.py" "$run" "${claim[@]}"); then
         refused=$((refused + count))
     else

@@ -1,13 +1,14 @@
 #!/usr/bin/env python3
-"""Distances by igraph (Dijkstra), judged: igraph_paths.py GRAPH QUERY LABELS
+"""Distances by igraph (Dijkstra), certified: igraph_paths.py GRAPH QUERY DISTANCES
 
-Reads GRAPH (.gr, no negative weights) and QUERY (.ss or .p2p), writes LABELS with a block for each source that is asked
-for, and runs `dimacs judge-paths` on the three. The variable DIMACS names the judge.
+Reads GRAPH (.gr, no negative weights) and QUERY (.ss or .p2p), writes DISTANCES with a block for each source in QUERY,
+and runs `dimacs certify-paths`, which needs no predecessors. The variable DIMACS names the judge. igraph's distances
+are floating point numbers: they are exact below 2^53.
 """
+import math
 import os
 import subprocess
 import sys
-import warnings
 
 import igraph
 
@@ -27,34 +28,30 @@ def read_graph(path):
 
 
 def read_sources(path):
-    """The nodes from which distances are asked for, each once."""
+    """The sources of the queries, each once."""
     with open(path, encoding="latin-1") as text:
         words = [line.split() for line in text]
     return dict.fromkeys(int(word[1]) for word in words if word and word[0] in ("s", "q"))
 
 
 def block(graph, weights, source):
-    """The lines of one source's labels, by the number of arcs on the way: the predecessor's way has one arc less. The
-    lengths are summed here, since igraph's own are floating point numbers."""
-    with warnings.catch_warnings():
-        warnings.simplefilter("ignore")  # igraph warns of nodes that can't be reached
-        ways = graph.get_shortest_paths(source - 1, weights=weights, output="epath")
-    ways = sorted((way for way in ways if way), key=len)
-    yield f"t {source} {len(ways)}"
-    for way in ways:
-        last = graph.es[way[-1]]
-        yield f"d {last.target + 1} {sum(weights[arc] for arc in way)} {last.source + 1}"
+    """The lines of one source's distances, in any order."""
+    (distance,) = graph.distances(source - 1, weights=weights)
+    reached = [node for node, length in enumerate(distance) if length < math.inf and node != source - 1]
+    yield f"t {source} {len(reached)}"
+    for node in reached:
+        yield f"d {node + 1} {int(distance[node])}"
 
 
 def main():
-    graph_path, query, labels = sys.argv[1:]
+    graph_path, query, distances = sys.argv[1:]
     graph, weights = read_graph(graph_path)
     sources = read_sources(query)
-    with open(labels, "w", encoding="ascii") as text:
-        text.write(f"p dist {graph.vcount()} {len(sources)}\n")
+    with open(distances, "w", encoding="ascii") as text:
+        text.write(f"p distances {graph.vcount()} {len(sources)}\n")
         for source in sources:
             text.writelines(f"{line}\n" for line in block(graph, weights, source))
-    return subprocess.call([os.environ.get("DIMACS", "dimacs"), "judge-paths", graph_path, query, labels])
+    return subprocess.call([os.environ.get("DIMACS", "dimacs"), "certify-paths", graph_path, distances])
 
 
 if __name__ == "__main__":

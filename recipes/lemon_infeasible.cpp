@@ -1,6 +1,7 @@
-// A set of nodes whose supply can't be met, by LEMON, judged: lemon_infeasible INSTANCE SET
+// That no flow is feasible, by LEMON, certified: lemon_infeasible INSTANCE SET
 //
-// Reads INSTANCE (least cost flow), writes SET, and runs `dimacs judge-infeasible` on the two; DIMACS names the judge.
+// Reads INSTANCE (least cost flow) and asks LEMON for a flow. If LEMON finds none, `dimacs certify-infeasible` needs no
+// certificate: it decides whether that is so, and writes SET, which shows it. DIMACS names the judge.
 //
 //     g++ -O2 -std=c++17 -o lemon_infeasible lemon_infeasible.cpp
 #include <lemon/circulation.h>
@@ -11,7 +12,6 @@
 #include <fstream>
 #include <iostream>
 #include <string>
-#include <vector>
 
 using Graph = lemon::SmartDigraph;
 using Arcs = Graph::ArcMap<long long>;
@@ -48,21 +48,12 @@ struct Instance {
 int main(int count, char** words) {
     if (count != 3) return std::cerr << "lemon_infeasible INSTANCE SET\n", 2;
     const Instance instance(words[1]);
-    const Graph& graph = instance.graph;
-    lemon::Circulation<Graph, Arcs, Arcs, Nodes> circulation(graph, instance.low, instance.capacity, instance.supply);
-    // LEMON takes supplies as what leaves a node at least. Where they don't sum up to 0, the set of all nodes shows it.
-    const bool uneven = instance.total != 0;
-    if (circulation.run() && !uneven) return std::cerr << "there is a feasible flow\n", 1;
-
-    std::vector<int> set;
-    for (Graph::NodeIt node(graph); node != lemon::INVALID; ++node)
-        if (uneven || circulation.barrier(node)) set.push_back(graph.id(node) + 1);
-    std::ofstream certificate(words[2]);
-    certificate << "p cut " << graph.nodeNum() << ' ' << set.size() << '\n';
-    for (const int node : set) certificate << "u " << node << '\n';
-    certificate.close();
+    lemon::Circulation<Graph, Arcs, Arcs, Nodes> circulation(instance.graph, instance.low, instance.capacity,
+                                                             instance.supply);
+    // LEMON takes supplies as what leaves a node at least: if they don't sum to 0, its flow isn't one of the instance.
+    if (circulation.run() && instance.total == 0) return std::cerr << "there is a feasible flow\n", 1;
 
     const char* judge = std::getenv("DIMACS") ? std::getenv("DIMACS") : "dimacs";
-    execlp(judge, judge, "judge-infeasible", words[1], words[2], nullptr);
+    execlp(judge, judge, "certify-infeasible", words[1], words[2], nullptr);
     return std::cerr << "can't run " << judge << '\n', 3;
 }

@@ -1,7 +1,7 @@
-// Distances by LEMON (Dijkstra), judged: lemon_paths GRAPH QUERY LABELS
+// Distances by LEMON (Dijkstra), certified: lemon_paths GRAPH QUERY DISTANCES
 //
-// Reads GRAPH (.gr, no negative weights) and QUERY (.ss or .p2p), writes LABELS with a block for each source that is
-// asked for, and runs `dimacs judge-paths` on the three. The variable DIMACS names the judge.
+// Reads GRAPH (.gr, no negative weights) and QUERY (.ss or .p2p), writes DISTANCES with a block for each source in
+// QUERY, and runs `dimacs certify-paths`, which needs no predecessors. The variable DIMACS names the judge.
 //
 //     g++ -O2 -std=c++17 -o lemon_paths lemon_paths.cpp
 #include <lemon/dijkstra.h>
@@ -44,28 +44,26 @@ std::set<int> read_sources(const char* path) {
 }
 
 int main(int count, char** words) {
-    if (count != 4) return std::cerr << "lemon_paths GRAPH QUERY LABELS\n", 2;
+    if (count != 4) return std::cerr << "lemon_paths GRAPH QUERY DISTANCES\n", 2;
     Graph graph;
     Weights weight(graph);
     read_graph(words[1], graph, weight);
     const std::set<int> sources = read_sources(words[2]);
 
-    std::ofstream labels(words[3]);
-    labels << "p dist " << graph.nodeNum() << ' ' << sources.size() << '\n';
+    std::ofstream distances(words[3]);
+    distances << "p distances " << graph.nodeNum() << ' ' << sources.size() << '\n';
     for (const int source : sources) {
         lemon::Dijkstra<Graph, Weights> dijkstra(graph, weight);
-        std::vector<Graph::Node> settled;  // in this order each node comes after its predecessor
-        dijkstra.init();
-        dijkstra.addSource(graph.nodeFromId(source - 1));
-        while (!dijkstra.emptyQueue()) settled.push_back(dijkstra.processNextNode());
-        labels << "t " << source << ' ' << settled.size() - 1 << '\n';
-        for (std::size_t k = 1; k < settled.size(); ++k)
-            labels << "d " << graph.id(settled[k]) + 1 << ' ' << dijkstra.dist(settled[k]) << ' '
-                   << graph.id(dijkstra.predNode(settled[k])) + 1 << '\n';
+        dijkstra.run(graph.nodeFromId(source - 1));
+        std::vector<int> reached;
+        for (Graph::NodeIt node(graph); node != lemon::INVALID; ++node)
+            if (dijkstra.reached(node) && graph.id(node) != source - 1) reached.push_back(graph.id(node));
+        distances << "t " << source << ' ' << reached.size() << '\n';
+        for (const int id : reached) distances << "d " << id + 1 << ' ' << dijkstra.dist(graph.nodeFromId(id)) << '\n';
     }
-    labels.close();
+    distances.close();
 
     const char* judge = std::getenv("DIMACS") ? std::getenv("DIMACS") : "dimacs";
-    execlp(judge, judge, "judge-paths", words[1], words[2], words[3], nullptr);
+    execlp(judge, judge, "certify-paths", words[1], words[3], nullptr);
     return std::cerr << "can't run " << judge << '\n', 3;
 }

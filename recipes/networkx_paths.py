@@ -1,8 +1,8 @@
 #!/usr/bin/env python3
-"""Distances by networkx (Dijkstra), judged: networkx_paths.py GRAPH QUERY LABELS
+"""Distances by networkx (Dijkstra), certified: networkx_paths.py GRAPH QUERY DISTANCES
 
-Reads GRAPH (.gr, no negative weights) and QUERY (.ss or .p2p), writes LABELS with a block for each source that is asked
-for, and runs `dimacs judge-paths` on the three. The variable DIMACS names the judge.
+Reads GRAPH (.gr, no negative weights) and QUERY (.ss or .p2p), writes DISTANCES with a block for each source in QUERY,
+and runs `dimacs certify-paths`, which needs no predecessors. The variable DIMACS names the judge.
 """
 import os
 import subprocess
@@ -27,31 +27,30 @@ def read_graph(path):
 
 
 def read_sources(path):
-    """The nodes from which distances are asked for, each once."""
+    """The sources of the queries, each once."""
     with open(path, encoding="latin-1") as text:
         words = [line.split() for line in text]
     return dict.fromkeys(int(word[1]) for word in words if word and word[0] in ("s", "q"))
 
 
 def block(graph, source):
-    """The lines of one source's labels, in the order in which Dijkstra settles the nodes: each comes after its
-    predecessor, also where an arc has weight 0."""
-    before, distance = nx.dijkstra_predecessor_and_distance(graph, source)
+    """The lines of one source's distances, in any order."""
+    distance = nx.single_source_dijkstra_path_length(graph, source)
     yield f"t {source} {len(distance) - 1}"
     for node, length in distance.items():
         if node != source:
-            yield f"d {node} {length} {before[node][0]}"
+            yield f"d {node} {length}"
 
 
 def main():
-    graph_path, query, labels = sys.argv[1:]
+    graph_path, query, distances = sys.argv[1:]
     graph = read_graph(graph_path)
     sources = read_sources(query)
-    with open(labels, "w", encoding="ascii") as text:
-        text.write(f"p dist {len(graph)} {len(sources)}\n")
+    with open(distances, "w", encoding="ascii") as text:
+        text.write(f"p distances {len(graph)} {len(sources)}\n")
         for source in sources:
             text.writelines(f"{line}\n" for line in block(graph, source))
-    return subprocess.call([os.environ.get("DIMACS", "dimacs"), "judge-paths", graph_path, query, labels])
+    return subprocess.call([os.environ.get("DIMACS", "dimacs"), "certify-paths", graph_path, distances])
 
 
 if __name__ == "__main__":

@@ -1,14 +1,15 @@
 #!/usr/bin/env python3
-"""Distances by SciPy (Dijkstra), judged: scipy_paths.py GRAPH QUERY LABELS
+"""Distances by SciPy (Dijkstra), certified: scipy_paths.py GRAPH QUERY DISTANCES
 
-Reads GRAPH (.gr, no negative weights) and QUERY (.ss or .p2p), writes LABELS with a block for each source that is asked
-for, and runs `dimacs judge-paths` on the three. The variable DIMACS names the judge. SciPy's distances are floating
-point numbers: they are exact below 2^53.
+Reads GRAPH (.gr, no negative weights) and QUERY (.ss or .p2p), writes DISTANCES with a block for each source in QUERY,
+and runs `dimacs certify-paths`, which needs no predecessors. The variable DIMACS names the judge. SciPy's distances are
+floating point numbers: they are exact below 2^53.
 """
 import os
 import subprocess
 import sys
 
+import numpy as np
 from scipy.sparse import csr_matrix
 from scipy.sparse.csgraph import dijkstra
 
@@ -30,36 +31,30 @@ def read_graph(path):
 
 
 def read_sources(path):
-    """The nodes from which distances are asked for, each once."""
+    """The sources of the queries, each once."""
     with open(path, encoding="latin-1") as text:
         words = [line.split() for line in text]
     return dict.fromkeys(int(word[1]) for word in words if word and word[0] in ("s", "q"))
 
 
 def block(graph, source):
-    """The lines of one source's labels. They follow the tree of the predecessors from the source on; the distances
-    alone wouldn't do, since an arc of weight 0 has the same one at both ends."""
-    distance, before = dijkstra(graph, indices=source - 1, return_predecessors=True)
-    after = {}
-    for node, previous in enumerate(before):
-        after.setdefault(previous, []).append(node)
-    order = [source - 1]
-    for node in order:
-        order += after.get(node, [])
-    yield f"t {source} {len(order) - 1}"
-    for node in order[1:]:
-        yield f"d {node + 1} {int(distance[node])} {before[node] + 1}"
+    """The lines of one source's distances, in any order."""
+    distance = dijkstra(graph, indices=source - 1)
+    reached = [node for node in np.flatnonzero(np.isfinite(distance)) if node != source - 1]
+    yield f"t {source} {len(reached)}"
+    for node in reached:
+        yield f"d {node + 1} {int(distance[node])}"
 
 
 def main():
-    graph_path, query, labels = sys.argv[1:]
+    graph_path, query, distances = sys.argv[1:]
     graph = read_graph(graph_path)
     sources = read_sources(query)
-    with open(labels, "w", encoding="ascii") as text:
-        text.write(f"p dist {graph.shape[0]} {len(sources)}\n")
+    with open(distances, "w", encoding="ascii") as text:
+        text.write(f"p distances {graph.shape[0]} {len(sources)}\n")
         for source in sources:
             text.writelines(f"{line}\n" for line in block(graph, source))
-    return subprocess.call([os.environ.get("DIMACS", "dimacs"), "judge-paths", graph_path, query, labels])
+    return subprocess.call([os.environ.get("DIMACS", "dimacs"), "certify-paths", graph_path, distances])
 
 
 if __name__ == "__main__":

@@ -2,8 +2,9 @@
 """Repeats the runs that the pages show: tests/shown_runs.py [BINARY]
 
 Each line '$ dimacs WORDS' in a page's block of code is run beside a copy of the examples, where it may write files, and
-what it prints is compared with the lines under it, up to a line '...', and its exit status with what these lines mean;
-the standard error has to stay empty. A page that shows no run has failed, and so has one that does and isn't read here.
+what it prints is compared with the lines under it, up to a line '...' and without remarks, which begin with '  # '. Its
+exit status is compared with what these lines mean; the standard error has to stay empty. A page that shows no run has
+failed, and so has one that does and isn't read here.
 BINARY is the built program; crates/dimacs/out/dimacs where none is given.
 """
 import glob
@@ -23,7 +24,7 @@ def shown(page):
         blocks = re.findall(r"^```\n(.*?)^```", it.read(), re.DOTALL | re.MULTILINE)
     for block in blocks:
         for run in re.findall(r"^\$ dimacs (.*)\n((?:(?!\$ ).*\n)*)", block, re.MULTILINE):
-            yield run[0].split(), run[1].rstrip("\n").split("\n")
+            yield run[0].split(), re.sub(r" {2,}# .*", "", run[1]).rstrip("\n").split("\n")
 
 
 def wrong_pages():

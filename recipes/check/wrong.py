@@ -1,9 +1,9 @@
 #!/usr/bin/env python3
 """Spoils an answer in several ways, and tests that each is refused as it should be: wrong.py RUN TEXT..
 
-RUN is judge-max, judge-min, judge-infeasible or judge-paths, and the TEXTs are those that follow it, as dimacs accepts
-them. The variable DIMACS names the judge. Prints how many were refused; or those that were not, or otherwise, and ends
-with status 1.
+RUN is judge-max, judge-min, judge-infeasible or certify-paths, and the TEXTs are those that follow it, as dimacs
+accepts them. The variable DIMACS names the judge. Prints how many were refused; or those that were not, or otherwise,
+and ends with status 1.
 """
 import os
 import re
@@ -74,16 +74,17 @@ def wrong_sets(certificate):
     yield [["p", "cut", str(int(nodes) + 1), size], *certificate[1:]], "x certificate 0 0 NodesDiffer"
 
 
-def wrong_labels(labels):
-    """The first label with 1 more, with a point, and the last label of its block left out."""
-    first = place_of(labels, "d")
+def wrong_distances(distances):
+    """The first distance with 1 more, with 1 less, with a point, and the last one of its block left out."""
+    first = place_of(distances, "d")
     if first is None:
         return
-    one_more = str(int(labels[first][2]) + 1)
-    yield replaced(labels, first, 2, one_more), r"x (node \d+ NoTightArc|arc \d+ NotShortest)"
-    yield replaced(labels, first, 2, labels[first][2] + ".0"), f"x certificate {first + 1} 3 BadNumber"
-    count = int(labels[first - 1][2])
-    shorter = replaced(labels, first - 1, 2, str(count - 1))
+    length = int(distances[first][2])
+    yield replaced(distances, first, 2, str(length + 1)), r"x arc \d+ NotShortest"
+    yield replaced(distances, first, 2, str(length - 1)), r"x (node \d+ NoTightArc|arc \d+ NotShortest)"
+    yield replaced(distances, first, 2, f"{length}.0"), f"x distances {first + 1} 3 BadNumber"
+    count = int(distances[first - 1][2])
+    shorter = replaced(distances, first - 1, 2, str(count - 1))
     yield shorter[:first + count - 1] + shorter[first + count:], r"x arc \d+ Escapes"
 
 
@@ -95,7 +96,7 @@ def wrong_answers(run, texts):
         yield from (([instance, wrong, certificate], refusal) for wrong, refusal in wrong_flows(solution))
         wrongs = wrong_cuts(instance, certificate) if run == "judge-max" else wrong_potentials(*given, certificate)
     else:
-        wrongs = wrong_sets(certificate) if run == "judge-infeasible" else wrong_labels(certificate)
+        wrongs = wrong_sets(certificate) if run == "judge-infeasible" else wrong_distances(certificate)
     yield from (([*given, wrong], refusal) for wrong, refusal in wrongs)
 
 
