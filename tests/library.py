@@ -4,10 +4,10 @@
 FOLDER is where `make` built the library and the program: build, or build/quick for those that aren't proved. It runs
 what stands in lib/test: in C, under sanitizers where they fit and by valgrind, the calls over texts and arrays with
 room and without, in eight threads, with each growth of memory refused in turn, over texts of 100 MB, and over arrays of
-a million arcs; in C++, what LEMON answers; and in Python, by each of `python3` and /usr/bin/python3. N random small
-instances in arrays are compared with the texts that are printed from them, M of which go through the program: `--runs
-20000` has all of them do so, which takes some minutes. Then it installs the wheel and calls it, and builds and runs
-what docs/LIBRARY.md shows.
+a million arcs; in C++, what LEMON answers; and in Python, by each of `python3` and /usr/bin/python3, also networkx' own
+tests of what the backend of it answers. N random small instances in arrays are compared with the texts that are printed
+from them, M of which go through the program: `--runs 20000` has all of them do so, which takes some minutes. Then it
+installs the wheel and calls it, and builds and runs what docs/LIBRARY.md shows.
 
 What needs a tool that isn't there is left out, and named. The last line counts what passed and what failed.
 """
@@ -153,10 +153,31 @@ def package(build):
     return {**os.environ, **found, "PYTHONDONTWRITEBYTECODE": "1"}
 
 
-def test_python(counts, build):
+def installed_package(counts, build, place):
+    """The same with a description of the package, by which networkx finds its backend there as if it were installed."""
+    described, found = os.path.join(place, "described"), package(build)
+    os.mkdir(described)
+    describe = "import sys, build_wheel; build_wheel.prepare_metadata_for_build_wheel(sys.argv[1])"
+    counts.add("the description of the package", run(pythons()[0], "-c", describe, described, env=found), by_status)
+    return {**found, "PYTHONPATH": f"{found['PYTHONPATH']}:{described}"}
+
+
+def test_python(counts, build, place):
+    environment = installed_package(counts, build, place)
     for python in pythons():
         words = [python, "-m", "unittest", "discover", "-v", "-s", TEST]
-        counts.add(f"unittest by {python}", run(*words, cwd=TEST, env=package(build)), by_unittest)
+        counts.add(f"unittest by {python}", run(*words, cwd=TEST, env=environment), by_unittest)
+        test_networkx(counts, python, environment, place)
+
+
+def test_networkx(counts, python, environment, place):
+    """networkx' own tests, with the backend in place."""
+    ran, name = run(python, f"{TEST}/networkx_tests.py", cwd=place, env=environment), f"networkx' own tests by {python}"
+    lacks = re.fullmatch(r"left out: no (.*)\n", ran.stdout)
+    if lacks:
+        counts.leave_out(name, lacks[1])
+    else:
+        counts.add(name, ran, by_count)
 
 
 def test_agreement(counts, build, instances, runs):
@@ -177,8 +198,11 @@ def test_wheel(counts, build, place):
     installed = {name: it for name, it in os.environ.items() if name != "DIMACS_LIBRARY"} | {"PYTHONPATH": target}
     made = run(python, "-m", "pip", "install", *words, f"{LIB}/python", env=package(build))
     call = "import dimacs; print(dimacs.show('cut', 'p cut 4 1\\nu 1\\n'), dimacs.__file__)"
+    call += "\nimport importlib.metadata, importlib.util; assert importlib.util.find_spec('dimacs.backend')"
+    call += "\nprint(*(it.value for it in importlib.metadata.distribution('dimacs').entry_points))"
     ran = made if made.returncode else run(python, "-c", call, cwd=place, env=installed)
-    if ran.returncode == 0 and not (ran.stdout.startswith("i cut 4 1\n") and target in ran.stdout):
+    shown = ran.stdout.startswith("i cut 4 1\n") and target in ran.stdout
+    if ran.returncode == 0 and not (shown and ran.stdout.endswith("\ndimacs.backend dimacs.backend.info:get_info\n")):
         ran.returncode = 1
     counts.add("the wheel", ran, by_status)
 
@@ -244,7 +268,7 @@ def main():
         test_c(counts, build, place)
         test_lemon(counts, build, place)
         test_exports(counts, build)
-        test_python(counts, build)
+        test_python(counts, build, place)
         test_agreement(counts, build, asked.instances, asked.runs)
         test_wheel(counts, build, place)
         test_page(counts, build, place)

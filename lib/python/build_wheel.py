@@ -61,13 +61,29 @@ def tag_of(library: bytes) -> str:
     return f"py3-none-manylinux_2_{oldest_glibc(library)}_x86_64"
 
 
+def entry_points() -> str:
+    """Where other packages find this one: the tables of pyproject.toml, as an installed package has them."""
+    project = (HERE / "pyproject.toml").read_text()
+    tables = re.findall(r'^\[project\.entry-points\."(.+)"\]\n((?:.+\n)+)', project, re.M)
+    return "\n".join(f"[{group}]\n{lines}" for group, lines in tables).replace('"', "")
+
+
+def _description(library: bytes, version: str) -> dict[str, bytes]:
+    """The files that describe a package, by their names in the folder for them."""
+    files = {
+        "METADATA": METADATA.format(name=NAME, version=version),
+        "WHEEL": WHEEL.format(tag=tag_of(library)),
+        "entry_points.txt": entry_points(),
+    }
+    return {name: content.encode() for name, content in files.items()}
+
+
 def _files(library: bytes, version: str) -> dict[str, bytes]:
     """What the wheel holds, but for the list of it."""
-    files = {f"{NAME}/{it.name}": it.read_bytes() for it in sorted((HERE / NAME).glob("*.py"))}
+    files = {it.relative_to(HERE).as_posix(): it.read_bytes() for it in sorted((HERE / NAME).rglob("*.py"))}
     files[f"{NAME}/py.typed"] = b""
     files[f"{NAME}/libdimacs.so"] = library
-    files[f"{NAME}-{version}.dist-info/METADATA"] = METADATA.format(name=NAME, version=version).encode()
-    files[f"{NAME}-{version}.dist-info/WHEEL"] = WHEEL.format(tag=tag_of(library)).encode()
+    files |= {f"{NAME}-{version}.dist-info/{name}": it for name, it in _description(library, version).items()}
     return files
 
 
@@ -88,6 +104,18 @@ def build_wheel(wheel_directory, config_settings=None, metadata_directory=None):
         for name, content in files.items():
             it.writestr(name, content)
     return wheel
+
+
+def prepare_metadata_for_build_wheel(metadata_directory, config_settings=None):
+    """Writes what describes the package into a folder, and answers its name. With the package's own folder on the path,
+    other packages find it by that as if it were installed."""
+    library = _library()
+    version = version_of(library)
+    folder = Path(metadata_directory) / f"{NAME}-{version}.dist-info"
+    folder.mkdir(parents=True, exist_ok=True)
+    for name, content in _description(library, version).items():
+        (folder / name).write_bytes(content)
+    return folder.name
 
 
 def build_sdist(sdist_directory, config_settings=None):

@@ -1,0 +1,160 @@
+"""Graphs of networkx as arrays: nodes by their numbers, from 1, and arcs in the order in which networkx has them.
+
+An undirected edge is two arcs, one in each direction; a loop is one.
+"""
+
+from __future__ import annotations
+
+import math
+import operator
+from contextlib import contextmanager
+from itertools import repeat
+from typing import Any, Callable, Iterable, Iterator, NamedTuple
+
+from ..answers import GaveUp, PastLimit
+from ..buffers import NUMBERS
+
+
+#: Up to here each whole number is a float.
+MOST_FLOAT = 2**53
+
+
+class Unable(NotImplementedError):
+    """What this backend doesn't answer, and why. Where networkx chooses backends by itself, it takes the next one."""
+
+
+class Graph:
+    """A graph that networkx hands over. It is read when a function runs: the answer is of the graph as it is then."""
+
+    __networkx_backend__ = "dimacs"
+
+    def __init__(self, graph: Any) -> None:
+        self.graph = graph
+
+    def is_directed(self) -> bool:
+        return self.graph.is_directed()
+
+    def is_multigraph(self) -> bool:
+        return self.graph.is_multigraph()
+
+
+def graph_of(given: Any) -> Any:
+    """The graph of networkx itself. What networkx keeps of it for another call is forgotten: the graph may change."""
+    if not isinstance(given, Graph):
+        return given
+    kept = getattr(given.graph, "__networkx_cache__", None) or {}
+    kept.get("backends", {}).pop(Graph.__networkx_backend__, None)
+    return given.graph
+
+
+@contextmanager
+def unable() -> Iterator[None]:
+    """Has networkx go on where a number is past a limit, or an answer is out of range."""
+    try:
+        yield
+    except (GaveUp, PastLimit) as it:
+        raise Unable(str(it)) from it
+
+
+class Arcs:
+    """The nodes of a graph, and the ends of its arcs."""
+
+    def __init__(self, graph: Any) -> None:
+        self.graph = graph
+        self.nodes = list(graph)
+        self.number = {node: number for number, node in enumerate(self.nodes, 1)}
+        self.tails: list[int] = []
+        self.heads: list[int] = []
+        is_multigraph = graph.is_multigraph()
+        for tail, heads in graph.adjacency():
+            ends = list(map(self.number.__getitem__, heads))
+            if is_multigraph:
+                ends = [head for head, keyed in zip(ends, heads.values()) for _ in keyed]
+            self.tails.extend(repeat(self.number[tail], len(ends)))
+            self.heads.extend(ends)
+
+    def some(self, arcs: list[int]) -> tuple[list[int], list[int]]:
+        """The tails and heads of some arcs, which count from 0."""
+        return [self.tails[arc] for arc in arcs], [self.heads[arc] for arc in arcs]
+
+    def flow_dict(self, flows: list[int]) -> dict[Any, Any]:
+        """A flow as networkx has it."""
+        amounts = iter(flows)
+        if not self.graph.is_multigraph():
+            return {tail: dict(zip(heads, amounts)) for tail, heads in self.graph.adjacency()}
+        return {
+            tail: {head: dict(zip(keyed, amounts)) for head, keyed in heads.items()}
+            for tail, heads in self.graph.adjacency()
+        }
+
+
+def edges_of(graph: Any) -> Iterator[tuple[Any, ...]]:
+    """The name of each arc as networkx has it: (u, v), or (u, v, key) of a multigraph."""
+    is_multigraph = graph.is_multigraph()
+    for tail, heads in graph.adjacency():
+        for head, keyed in heads.items():
+            if is_multigraph:
+                yield from ((tail, head, key) for key in keyed)
+            else:
+                yield tail, head
+
+
+class Numbers(NamedTuple):
+    """Numbers as ints, or infinite ones, and whether some of them came as floats: then what is answered is too."""
+
+    values: list[Any]
+    are_floats: bool
+
+
+def of_edges(graph: Any, attribute: Any, missing: Any, name: str, infinite: bool = False) -> Numbers:
+    """The number that each arc has. Raises Unable where one isn't whole, or infinite where that is taken."""
+    if graph.is_multigraph():
+        every = (keyed.values() for _, heads in graph.adjacency() for keyed in heads.values())
+    else:
+        every = (heads.values() for _, heads in graph.adjacency())
+    numbers = [data.get(attribute, missing) for some in every for data in some]
+    return whole_ones(numbers, lambda: edges_of(graph), f"the {name} of edge", infinite)
+
+
+def of_nodes(graph: Any, attribute: Any, missing: int, name: str) -> Numbers:
+    """The number that each node has, as those of edges."""
+    numbers = [data.get(attribute, missing) for _, data in graph.nodes(data=True)]
+    return whole_ones(numbers, lambda: graph, f"the {name} of node", True)
+
+
+def whole_ones(numbers: list[Any], names: Callable[[], Iterable[Any]], said: str, infinite: bool = False) -> Numbers:
+    """Numbers as ints of 64 bits; the names of what they belong to are asked for where they aren't ints already."""
+    if not numbers or set(map(type, numbers)) == {int} and _fits(min(numbers)) and _fits(max(numbers)):
+        return Numbers(numbers, False)
+    values = [_whole(number, f"{said} {name!r}", infinite) for number, name in zip(numbers, names())]
+    return Numbers(values, any(isinstance(it, float) and math.isfinite(it) for it in numbers))
+
+
+def _fits(number: int) -> bool:
+    return NUMBERS.least <= number <= NUMBERS.greatest
+
+
+def _whole(number: Any, said: str, infinite: bool) -> Any:
+    if isinstance(number, float):
+        if infinite and math.isinf(number):
+            return number
+        if not number.is_integer() or abs(number) > MOST_FLOAT:
+            raise Unable(f"{said} is {number!r}, which isn't a whole number up to 2^53")
+        return int(number)
+    try:
+        found = operator.index(number)
+    except TypeError:
+        raise Unable(f"{said} is {number!r}, which isn't a whole number") from None
+    if not _fits(found):
+        raise Unable(f"{said} is {found}, which has more than 64 bits")
+    return found
+
+
+def answered(numbers: Iterable[int], are_floats: bool) -> list[Any]:
+    """Numbers that were found, in the form of those that came. Raises Unable where one has no float that is surely it."""
+    found = list(numbers)
+    if not are_floats:
+        return found
+    if any(abs(it) > MOST_FLOAT for it in found):
+        raise Unable("an answer is above 2^53, and the graph has floats")
+    return [float(it) for it in found]

@@ -1,0 +1,87 @@
+"""Distances where weights may be negative, from calls that certify and judge."""
+
+from __future__ import annotations
+
+from typing import NamedTuple, Sequence
+
+from .answers import UNREACHED, GaveUp, NotOptimal
+from .arrays import certify_min_arrays, judge_paths_arrays, solve_paths_arrays
+from .buffers import NUMBERS
+
+
+class NegativeCycle(ValueError):
+    """There is a cycle of negative weight: a walk along it can always be made shorter."""
+
+    def __init__(self) -> None:
+        super().__init__("there is a cycle of negative weight")
+
+
+class Distances(NamedTuple):
+    """For each node its distance from the source, or UNREACHED, and the number of its predecessor, from 1, or 0."""
+
+    distances: list[int]
+    predecessors: list[int]
+
+
+def distances_from(
+    nodes: int,
+    tails: Sequence[int],
+    heads: Sequence[int],
+    weights: Sequence[int],
+    source: int,
+    potentials: Sequence[int] | None = None,
+) -> Distances:
+    """Makes the distances from a source; they were judged with these weights before they are handed out.
+
+    Where weights are negative it takes the potentials of potentials_of, if they are at hand. Raises NegativeCycle where the
+    source reaches one, and GaveUp where a number that is needed is out of range.
+    """
+    if min(weights, default=0) >= 0:
+        solved = solve_paths_arrays(nodes, tails, heads, weights, source)
+        return Distances(list(solved.distances), list(solved.predecessors))
+    if potentials is None:
+        within = _reached(nodes, tails, heads, source)
+        arcs = [arc for arc, tail in enumerate(tails) if within[tail - 1]]
+        tails, heads, weights = ([numbers[arc] for arc in arcs] for numbers in (tails, heads, weights))
+        potentials = potentials_of(nodes, tails, heads, weights)
+    return _with_negative(nodes, tails, heads, weights, source, potentials)
+
+
+def _with_negative(
+    nodes: int,
+    tails: Sequence[int],
+    heads: Sequence[int],
+    weights: Sequence[int],
+    source: int,
+    potentials: Sequence[int],
+) -> Distances:
+    """Weights are changed by potentials, so that none is negative: all walks between two nodes are longer by the same."""
+    ends = zip(weights, tails, heads)
+    reduced = [weight - potentials[tail - 1] + potentials[head - 1] for weight, tail, head in ends]
+    if max(reduced, default=0) > NUMBERS.greatest:
+        raise GaveUp("a reduced weight is out of range")
+    _, found, predecessors = solve_paths_arrays(nodes, tails, heads, reduced, source)
+    start = potentials[source - 1]
+    distances = [it if it == UNREACHED else it + start - own for it, own in zip(found, potentials)]
+    if not all(NUMBERS.least <= it <= UNREACHED for it in distances):
+        raise GaveUp("a distance is out of range")
+    judge_paths_arrays(nodes, tails, heads, weights, source, distances, predecessors)
+    return Distances(distances, list(predecessors))
+
+
+def _reached(nodes: int, tails: Sequence[int], heads: Sequence[int], source: int) -> list[bool]:
+    """Whether each node can be reached from the source."""
+    found = solve_paths_arrays(nodes, tails, heads, [0] * len(tails), source).distances
+    return [it != UNREACHED for it in found]
+
+
+def potentials_of(nodes: int, tails: Sequence[int], heads: Sequence[int], weights: Sequence[int]) -> list[int]:
+    """Potentials by which no arc has a negative reduced weight. Raises NegativeCycle where there is a negative cycle.
+
+    The flow of zeros costs least, where no arc carries more than 1 and no node has a supply, if there is no such cycle.
+    """
+    none, ones = [0] * len(tails), [1] * len(tails)
+    try:
+        return certify_min_arrays(nodes, tails, heads, none, ones, weights, [0] * nodes, none).potentials
+    except NotOptimal:
+        raise NegativeCycle() from None

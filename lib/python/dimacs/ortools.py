@@ -1,0 +1,114 @@
+"""Flows that OR-Tools found, certified.
+
+    from ortools.graph.python import max_flow
+    from dimacs import ortools
+
+    solver = max_flow.SimpleMaxFlow()
+    ..
+    if solver.solve(source, sink) == solver.OPTIMAL:
+        ortools.certify(solver, source, sink)
+
+A solver is asked by the methods that OR-Tools 9.4 and later has, so this module doesn't import it. Nodes and arcs count
+from 0, as they do there.
+"""
+
+from __future__ import annotations
+
+from contextlib import contextmanager
+from typing import Any, Iterator
+
+from .answers import Certified, NotOptimal, PastLimit, Refused
+from .arrays import certify_max_arrays, certify_min_arrays
+
+
+class _Solver:
+    """The arcs of a solver, and what it has each of them carry."""
+
+    def __init__(self, solver: Any) -> None:
+        arcs = range(solver.num_arcs())
+        self.tails = [solver.tail(arc) for arc in arcs]
+        self.heads = [solver.head(arc) for arc in arcs]
+        self.caps = [solver.capacity(arc) for arc in arcs]
+        self.flows = [solver.flow(arc) for arc in arcs]
+        self.nodes = max([solver.num_nodes(), *(it + 1 for it in self.tails), *(it + 1 for it in self.heads)])
+
+    def ends(self) -> tuple[list[int], list[int]]:
+        """Tails and heads as the calls over arrays have them, where nodes count from 1."""
+        return [it + 1 for it in self.tails], [it + 1 for it in self.heads]
+
+    def sent(self) -> list[int]:
+        """What leaves each node, less what enters it."""
+        found = [0] * self.nodes
+        for tail, head, amount in zip(self.tails, self.heads, self.flows):
+            found[tail] += amount
+            found[head] -= amount
+        return found
+
+    @contextmanager
+    def names(self) -> Iterator[None]:
+        """Has what is raised inside name nodes and arcs as the solver does."""
+        try:
+            yield
+        except NotOptimal:
+            raise  # it names none
+        except (Refused, PastLimit) as it:
+            place = {name: at - 1 for name, at in (("arc", it.arc), ("node", it.node)) if at is not None}
+            raise type(it)(it.reason, **place) from None
+
+
+def certify(solver: Any, source: int | None = None, sink: int | None = None) -> Certified:
+    """Decides whether what a solver found is best: a SimpleMaxFlow or a SimpleMinCostFlow, after solve() was OPTIMAL.
+
+    Of a SimpleMaxFlow the value, and for each node whether it is inside a cut that shows it; source and sink are those of
+    solve(), and may be left out where the flow carries something. Of a SimpleMinCostFlow the cost, and for each node a
+    potential, which show it. Raises NotOptimal where the flow is feasible, but there is a better one, which it has as a list
+    by arc; Refused where the flow isn't feasible, or hasn't the value that the solver answers; TypeError where it is
+    another solver. A solver that hasn't solved yet has no flow to ask for, and may end the process.
+    """
+    methods = ("num_arcs", "num_nodes", "tail", "head", "capacity", "flow")
+    if not all(hasattr(solver, it) for it in methods):
+        raise TypeError(f"{type(solver).__name__} is no SimpleMaxFlow or SimpleMinCostFlow of OR-Tools 9.4 or later")
+    if not hasattr(solver, "unit_cost"):
+        return _certify_max(solver, source, sink)
+    if source is not None or sink is not None:
+        raise TypeError("a SimpleMinCostFlow has supplies, and no source and sink")
+    return _certify_min(solver)
+
+
+def _certify_max(solver: Any, source: int | None, sink: int | None) -> Certified:
+    given = _Solver(solver)
+    ends = _ends_of(given, source, sink)
+    with given.names():
+        certified = certify_max_arrays(given.nodes, *ends, *given.ends(), given.caps, given.flows)
+    return _tested(certified, solver.optimal_flow())
+
+
+def _certify_min(solver: Any) -> Certified:
+    given = _Solver(solver)
+    costs = [solver.unit_cost(arc) for arc in range(len(given.caps))]
+    supplies = [solver.supply(node) for node in range(given.nodes)]
+    with given.names():
+        lows = [0] * len(costs)
+        certified = certify_min_arrays(given.nodes, *given.ends(), lows, given.caps, costs, supplies, given.flows)
+    return _tested(certified, solver.optimal_cost())
+
+
+def _tested(certified: Certified, claimed: int) -> Certified:
+    """What is certified, where the solver answers the same value."""
+    if certified.value != claimed:
+        raise Refused("ValueDiffers", text="solution", line=0, field=0)
+    return certified
+
+
+def _ends_of(given: _Solver, source: int | None, sink: int | None) -> tuple[int, int]:
+    """The source and the sink, from 1: those that are named, else the one node that sends and the one that receives."""
+    sent = given.sent()
+    found = []
+    for name, named, nodes in (
+        ("source", source, [node for node, amount in enumerate(sent) if amount > 0]),
+        ("sink", sink, [node for node, amount in enumerate(sent) if amount < 0]),
+    ):
+        if named is None and len(nodes) != 1:
+            raise ValueError(f"name the {name}: by the flow it may be any of {len(nodes)} nodes")
+        found.append(1 + (nodes[0] if named is None else named))
+    return found[0], found[1]

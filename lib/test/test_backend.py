@@ -1,0 +1,434 @@
+"""The backend of networkx, next to networkx' own answers."""
+
+import importlib.metadata
+import inspect
+import math
+import random
+import unittest
+import warnings
+
+import dimacs
+from dimacs.distances import NegativeCycle, distances_from
+
+try:
+    import networkx
+except ImportError:
+    networkx = None
+
+
+def lacks():
+    """What isn't there that these tests need."""
+    if networkx is None:
+        return "no networkx"
+    if not hasattr(networkx, "_dispatchable"):
+        return f"networkx {networkx.__version__}, and these tests need 3.3"
+    if not list(importlib.metadata.entry_points(group="networkx.backends", name="dimacs")):
+        return "networkx finds a backend by what is installed, and the package isn't"
+    return None
+
+
+LACKS = lacks()
+
+
+def answer_of(function, words, backend):
+    """What is answered, or the kind and the text of what is raised."""
+    try:
+        return "answer", function(*words, backend=backend)
+    except (networkx.NetworkXException, KeyError, TypeError) as it:
+        return type(it).__name__, str(it)
+
+
+def pipes(kind="DiGraph"):
+    """A network from s to t; a maximum flow has the value 6."""
+    graph = getattr(networkx, kind)()
+    for ends, capacity, weight in ("sa", 4, 1), ("sb", 2, 2), ("ab", 2, 1), ("at", 2, 3), ("bt", 5, 1):
+        graph.add_edge(*ends, capacity=capacity, weight=weight)
+    return graph
+
+
+def drawn(kind, chance, edges, **attributes):
+    """A graph of a few nodes, with loops, whose edges have most of these attributes, each drawn by a function."""
+    graph = kind()
+    nodes = chance.randrange(1, 8)
+    graph.add_nodes_from(range(nodes))
+    for _ in range(chance.randrange(edges)):
+        data = {name: draw() for name, draw in attributes.items() if chance.random() < 0.85}
+        graph.add_edge(chance.randrange(nodes), chance.randrange(nodes), **data)
+    return graph
+
+
+def bring(chance, graph):
+    """Adds demands that sum up to 0."""
+    for _ in range(chance.randrange(4)):
+        amount = chance.randrange(3)
+        for node, units in (chance.choice(list(graph)), -amount), (chance.choice(list(graph)), amount):
+            graph.nodes[node]["demand"] = graph.nodes[node].get("demand", 0) + units
+
+
+def length_of(graph, path, weight):
+    """How long a path is."""
+    total = 0
+    for tail, head in zip(path, path[1:]):
+        data = graph[tail][head]
+        total += min(it.get(weight, 1) for it in data.values()) if graph.is_multigraph() else data.get(weight, 1)
+    return total
+
+
+@unittest.skipIf(LACKS, LACKS)
+class Backend(unittest.TestCase):
+    def compared(self, function, *words):
+        """What networkx and the backend answer; None where both raise the same."""
+        theirs, ours = (answer_of(function, words, backend) for backend in ("networkx", "dimacs"))
+        if theirs[0] != "answer":
+            self.assertEqual(ours, theirs)
+            return None
+        self.assertEqual(ours[0], "answer", ours[1])
+        return theirs[1], ours[1]
+
+    def same(self, function, *words):
+        both = self.compared(function, *words)
+        if both:
+            self.assertEqual(both[1], both[0])
+
+    def refused(self, name, *words, **more):
+        """Why can_run says no."""
+        from dimacs import backend
+
+        reason = backend.can_run(name, words, more)
+        self.assertFalse(reason)
+        self.assertIsInstance(reason, str)
+        return str(reason)
+
+
+class Flows(Backend):
+    def test_what_networkx_finds(self):
+        chance = random.Random(1)
+        for _ in range(300):
+            draw = lambda: chance.choice([chance.randrange(10), 0, -1, 100, math.inf])
+            graph = drawn(chance.choice([networkx.DiGraph, networkx.Graph]), chance, 20, capacity=draw)
+            ends = chance.randrange(len(graph) + 1), chance.choice(list(graph))
+            both = self.compared(networkx.maximum_flow, graph, *ends)
+            if both:
+                (value, _), (ours, flow) = both
+                self.assertEqual(ours, value)
+                self.test_flow(graph, *ends, value, flow)
+                self.test_cut(graph, *ends, value)
+
+    def test_flow(self, graph=None, source="s", sink="t", value=6, flow=None):
+        graph = graph or pipes()
+        flow = flow or networkx.maximum_flow(graph, source, sink, backend="dimacs")[1]
+        self.assertEqual({node: set(heads) for node, heads in flow.items()}, {node: set(graph[node]) for node in graph})
+        net = dict.fromkeys(graph, 0)
+        for tail, heads in flow.items():
+            for head, amount in heads.items():
+                self.assertTrue(0 <= amount <= max(0, graph[tail][head].get("capacity", math.inf)))
+                self.assertTrue(graph.is_directed() or tail == head or not amount or not flow[head][tail])
+                net[tail] += amount
+                net[head] -= amount
+        self.assertEqual(net, {**dict.fromkeys(graph, 0), source: value, sink: -value})
+
+    def test_cut(self, graph=None, source="s", sink="t", value=6):
+        graph = graph or pipes()
+        found, (side, others) = networkx.minimum_cut(graph, source, sink, backend="dimacs")
+        self.assertTrue(source in side and sink in others and not side & others and side | others == set(graph))
+        leaving = [it for tail in side for head, it in graph[tail].items() if head in others]
+        across = sum(max(0, it.get("capacity", math.inf)) for it in leaving)
+        self.assertEqual((found, across), (value, value))
+        for function in networkx.minimum_cut_value, networkx.maximum_flow_value:
+            self.assertEqual(function(graph, source, sink, backend="dimacs"), value)
+
+    def test_the_cut_is_the_certificate(self):
+        graph = pipes()
+        value, flow = networkx.maximum_flow(graph, "s", "t", backend="dimacs")
+        _, (side, _) = networkx.minimum_cut(graph, "s", "t", backend="dimacs")
+        self.assertEqual(dimacs.judge_networkx_max(graph, "s", "t", flow, side).value, value)
+
+    def test_exceptions(self):
+        unbounded = networkx.DiGraph([("s", "a"), ("a", "t")])
+        for graph, *ends in (
+            (pipes(), "s", "s"),
+            (pipes(), "s", "elsewhere"),
+            (pipes("MultiDiGraph"), "s", "t"),
+            (unbounded, "s", "t"),
+            (networkx.DiGraph(), "s", "t"),
+        ):
+            for name in "maximum_flow", "minimum_cut", "maximum_flow_value", "max_flow_min_cost":
+                self.assertIsNone(self.compared(getattr(networkx, name), graph, *ends))
+
+    def test_capacities_near_the_end_of_64_bits(self):
+        graph = networkx.DiGraph()
+        graph.add_edge("s", "a", capacity=2**63 - 1)
+        graph.add_edge("s", "b", capacity=2**63 - 1)
+        graph.add_edge("a", "t")
+        graph.add_edge("b", "t", capacity=5)
+        self.assertEqual(networkx.maximum_flow_value(graph, "s", "t", backend="dimacs"), 2**63 + 4)
+        graph.edges["s", "a"]["capacity"] = 2**63
+        self.assertIn("more than 64 bits", self.refused("maximum_flow", graph, "s", "t"))
+
+    def test_what_networkx_is_left(self):
+        graph = pipes()
+        by_name = {"flow_func": networkx.algorithms.flow.edmonds_karp}
+        self.assertIn("flow_func", self.refused("maximum_flow", graph, "s", "t", **by_name))
+        for amount in 2.5, 2.0**53 + 2, math.nan, "2", None:
+            graph.edges["s", "a"]["capacity"] = amount
+            self.assertIn("edge ('s', 'a')", self.refused("minimum_cut", graph, "s", "t"))
+        graph.edges["s", "a"]["capacity"] = 0.5
+        with self.assertRaises(NotImplementedError):
+            networkx.maximum_flow(graph, "s", "t", backend="dimacs")
+        with networkx.config(backend_priority=["dimacs"]):
+            self.assertEqual(networkx.maximum_flow_value(graph, "s", "t"), 2.5)
+
+    def test_floats_that_are_whole(self):
+        graph = pipes()
+        graph.edges["s", "a"]["capacity"] = 3.0
+        value, flow = networkx.maximum_flow(graph, "s", "t", backend="dimacs")
+        self.assertEqual((repr(value), repr(flow["s"])), ("5.0", "{'a': 3.0, 'b': 2.0}"))
+        self.assertEqual(repr(networkx.minimum_cut_value(graph, "s", "t", backend="dimacs")), "5.0")
+        graph.add_edge("s", "t", capacity=2.0**53)
+        with networkx.config(backend_priority=["dimacs"]):
+            self.assertIsInstance(networkx.maximum_flow_value(graph, "s", "t"), float)
+        with self.assertRaises(NotImplementedError):
+            networkx.maximum_flow(graph, "s", "t", backend="dimacs")
+
+    def test_numbers_of_other_types(self):
+        class Whole:
+            def __index__(self):
+                return 4
+
+        graph = pipes()
+        graph.edges["s", "a"]["capacity"] = Whole()
+        graph.edges["a", "b"]["capacity"] = True
+        self.assertEqual(networkx.maximum_flow_value(graph, "s", "t", backend="dimacs"), 5)
+
+    def test_the_graph_as_it_is_now(self):
+        """Where networkx keeps what it converted, it warns, and answers for the graph of then."""
+        graph = pipes()
+        with warnings.catch_warnings():
+            warnings.simplefilter("error")
+            for capacity in 1, 2, 3:
+                graph["s"]["a"]["capacity"] = capacity
+                self.assertEqual(networkx.maximum_flow_value(graph, "s", "t", backend="dimacs"), capacity + 2)
+
+    def test_views(self):
+        graph = pipes()
+        for view in graph.subgraph("sat"), graph.reverse(copy=False), graph.to_undirected(as_view=True):
+            for ends in ("s", "t"), ("t", "s"):
+                theirs, ours = self.compared(networkx.maximum_flow, view, *ends)
+                self.assertEqual(ours[0], theirs[0])
+
+
+class Costs(Backend):
+    def test_what_networkx_finds(self):
+        chance = random.Random(2)
+        for _ in range(400):
+            draws = {
+                "capacity": lambda: chance.choice([0, 1, 2, 5, 9, math.inf]),
+                "weight": lambda: chance.randrange(-2, 9),
+            }
+            graph = drawn(chance.choice([networkx.DiGraph, networkx.MultiDiGraph]), chance, 14, **draws)
+            bring(chance, graph)
+            both = self.compared(networkx.network_simplex, graph)
+            if both:
+                (cost, _), (ours, flow) = both
+                self.assertEqual(ours, cost)
+                self.assertEqual(dimacs.certify_networkx_min(graph, flow).value, cost)
+                self.assertEqual(networkx.min_cost_flow_cost(graph, backend="dimacs"), cost)
+
+    def test_least_cost_among_maximum_flows(self):
+        chance = random.Random(3)
+        for _ in range(200):
+            draws = {
+                "capacity": lambda: chance.choice([0, 1, 2, 5, 9, math.inf]),
+                "weight": lambda: chance.randrange(9),
+            }
+            graph = drawn(chance.choice([networkx.DiGraph, networkx.Graph]), chance, 20, **draws)
+            both = self.compared(networkx.max_flow_min_cost, graph, 0, chance.choice(list(graph)))
+            if both:
+                theirs, ours = (networkx.cost_of_flow(networkx.DiGraph(graph), it) for it in both)
+                self.assertEqual(ours, theirs)
+
+    def test_cost_of_a_flow(self):
+        graph = pipes()
+        flow = networkx.max_flow_min_cost(graph, "s", "t", backend="dimacs")
+        self.same(networkx.cost_of_flow, graph, flow)
+        flow["s"]["a"] = 10**12
+        self.same(networkx.cost_of_flow, graph, flow)
+        flow["s"]["a"] = -1
+        self.assertIn("is negative", self.refused("cost_of_flow", graph, flow))
+        self.same(networkx.cost_of_flow, networkx.Graph(), {})
+        del flow["s"]["a"]
+        self.same(networkx.cost_of_flow, graph, flow)
+        flow["s"]["a"] = 2.0
+        self.same(networkx.cost_of_flow, graph, flow)
+        flow["s"]["a"] = 2.5
+        self.assertIn("the flow of edge", self.refused("cost_of_flow", graph, flow))
+
+    def test_exceptions(self):
+        cases = [networkx.DiGraph()]
+        for change in (
+            lambda it: it.nodes["s"].update(demand=-1),
+            lambda it: (it.nodes["s"].update(demand=-9), it.nodes["t"].update(demand=9)),
+            lambda it: it.nodes["s"].update(demand=-math.inf),
+            lambda it: it.edges["s", "a"].update(weight=math.inf),
+            lambda it: it.edges["s", "a"].update(capacity=-1),
+            lambda it: it.add_edge("a", "a", weight=-1),
+            lambda it: (it.add_edge("b", "c", weight=-3), it.add_edge("c", "b")),
+            lambda it: (it.add_edge("a", "a", capacity=-1), it.edges["a", "b"].update(capacity=-1)),
+        ):
+            cases.append(pipes())
+            change(cases[-1])
+        for graph in cases:
+            for function in networkx.network_simplex, networkx.min_cost_flow, networkx.min_cost_flow_cost:
+                self.assertIsNone(self.compared(function, graph))
+        self.assertIsNone(self.compared(networkx.min_cost_flow, pipes("Graph")))
+
+    def test_loops_of_negative_weight(self):
+        graph = pipes()
+        graph.add_edge("a", "a", weight=-2, capacity=7)
+        self.same(networkx.network_simplex, graph)
+
+    def test_floats_that_are_whole(self):
+        graph = pipes()
+        graph.nodes["s"]["demand"], graph.nodes["t"]["demand"] = -2, 2
+        graph.edges["s", "a"]["weight"] = 1.0
+        cost, flow = networkx.network_simplex(graph, backend="dimacs")
+        self.assertEqual((repr(cost), repr(flow["b"])), ("6.0", "{'t': 2}"))
+        graph.nodes["s"]["demand"] = -2.0
+        self.assertEqual(repr(networkx.min_cost_flow(graph, backend="dimacs")["b"]), "{'t': 2.0}")
+
+    def test_other_names(self):
+        graph = networkx.DiGraph()
+        graph.add_node(0, supply=-2)
+        graph.add_node(1, supply=2)
+        graph.add_edge(0, 1, room=3, price=4)
+        self.same(networkx.network_simplex, graph, "supply", "room", "price")
+
+    def test_what_networkx_is_left(self):
+        graph = pipes()
+        graph.nodes["a"]["demand"] = 1
+        self.assertIn("demands", self.refused("max_flow_min_cost", graph, "s", "t"))
+        graph.nodes["a"]["demand"] = 0.5
+        self.assertIn("the demand of node 'a'", self.refused("min_cost_flow", graph))
+        graph.nodes["a"]["demand"] = 0
+        graph.edges["s", "a"]["weight"] = 1.5
+        self.assertIn("the weight of edge ('s', 'a')", self.refused("network_simplex", graph))
+
+
+class Paths(Backend):
+    def test_are_paths(self, graph=None, source="s", weight="weight", found=None):
+        graph = graph or pipes()
+        lengths, paths = found or networkx.single_source_dijkstra(graph, source, backend="dimacs")
+        self.assertEqual(set(lengths), set(paths))
+        for node, path in paths.items():
+            self.assertEqual((path[0], path[-1], length_of(graph, path, weight)), (source, node, lengths[node]))
+
+    def test_what_networkx_finds(self):
+        chance = random.Random(4)
+        kinds = networkx.DiGraph, networkx.MultiDiGraph, networkx.Graph, networkx.MultiGraph
+        for _ in range(300):
+            graph = drawn(chance.choice(kinds), chance, 20, weight=lambda: chance.randrange(9))
+            source, target = chance.randrange(len(graph) + 1), chance.randrange(len(graph) + 1)
+            cutoff, weight = chance.choice([None, 0, 3, 7.5, -1]), chance.choice(["weight", None])
+            self.same(networkx.single_source_dijkstra_path_length, graph, source, cutoff, weight)
+            self.same(networkx.dijkstra_path_length, graph, source, target, weight)
+            both = self.compared(networkx.single_source_dijkstra, graph, source, None, cutoff, weight)
+            if both:
+                self.assertEqual(both[1][0], both[0][0])
+                self.assertEqual(list(both[1][0].values()), list(both[0][0].values()))
+                self.test_are_paths(graph, source, weight, both[1])
+            both = self.compared(networkx.single_source_dijkstra, graph, source, target, cutoff, weight)
+            if both:
+                (length, _), (ours, path) = both
+                self.assertEqual((ours, length_of(graph, path, weight)), (length, length))
+
+    def test_negative_weights(self):
+        chance = random.Random(5)
+        for _ in range(300):
+            kind = chance.choice([networkx.DiGraph, networkx.MultiDiGraph, networkx.Graph])
+            graph = drawn(kind, chance, 16, weight=lambda: chance.choice([-2, -1, 0, 2, 3, 5, 8, 9]))
+            source, target = chance.randrange(len(graph) + 1), chance.randrange(len(graph) + 1)
+            self.same(networkx.single_source_bellman_ford_path_length, graph, source)
+            both = self.compared(networkx.single_source_bellman_ford, graph, source)
+            if both:
+                self.assertEqual(both[1][0], both[0][0])
+                self.test_are_paths(graph, source, "weight", both[1])
+                self.assertEqual(networkx.single_source_bellman_ford_path(graph, source, backend="dimacs"), both[1][1])
+            both = self.compared(networkx.single_source_bellman_ford, graph, source, target)
+            if both:
+                self.assertEqual(both[1][0], both[0][0])
+
+    def test_a_cycle_that_is_not_reached(self):
+        graph = networkx.DiGraph([("s", "t")])
+        graph.add_edge("a", "b", weight=-2)
+        graph.add_edge("b", "a", weight=1)
+        graph.add_edge("a", "s", weight=-3)
+        self.same(networkx.single_source_bellman_ford, graph, "s")
+        self.assertIsNone(self.compared(networkx.single_source_bellman_ford, graph, "a"))
+        with self.assertRaises(NegativeCycle):
+            distances_from(2, [1, 2], [2, 1], [-2, 1], 1)
+
+    def test_missing_nodes(self):
+        for function in (
+            networkx.single_source_dijkstra,
+            networkx.single_source_dijkstra_path,
+            networkx.single_source_dijkstra_path_length,
+            networkx.single_source_bellman_ford,
+            networkx.single_source_bellman_ford_path,
+            networkx.single_source_bellman_ford_path_length,
+        ):
+            self.assertIsNone(self.compared(function, pipes(), "elsewhere"))
+        self.assertIsNone(self.compared(networkx.dijkstra_path_length, pipes(), "elsewhere", "elsewhere"))
+        self.assertIsNone(self.compared(networkx.dijkstra_path_length, pipes(), "t", "s"))
+
+    def test_what_networkx_is_left(self):
+        graph = pipes()
+        no = self.refused("single_source_dijkstra", graph, "s", weight=lambda *edge: 1)
+        self.assertIn("function", no)
+        graph.edges["a", "b"]["weight"] = -1
+        self.assertIn("edge ('a', 'b') is negative", self.refused("dijkstra_path_length", graph, "s", "t"))
+        graph.edges["a", "b"]["weight"] = 1.5
+        self.assertIn("edge ('a', 'b')", self.refused("single_source_bellman_ford", graph, "s"))
+
+    def test_floats_that_are_whole(self):
+        graph = pipes()
+        graph.edges["a", "b"]["weight"] = 1.0
+        self.same(networkx.single_source_dijkstra, graph, "s", "t")
+        lengths = networkx.single_source_bellman_ford_path_length(graph, "s", backend="dimacs")
+        self.assertEqual(repr(lengths), "{'s': 0.0, 'a': 1.0, 'b': 2.0, 't': 3.0}")
+
+    def test_numbers_out_of_range(self):
+        graph = networkx.path_graph(3, networkx.DiGraph)
+        networkx.set_edge_attributes(graph, 2**62, "weight")
+        with networkx.config(backend_priority=["dimacs"]):
+            self.assertEqual(networkx.dijkstra_path_length(graph, 0, 2), 2**63)
+        with self.assertRaises(NotImplementedError):
+            networkx.dijkstra_path_length(graph, 0, 2, backend="dimacs")
+
+
+class Registered(Backend):
+    def test_functions(self):
+        from dimacs import backend
+        from dimacs.backend import info
+
+        dispatched = set(networkx.utils.backends._registered_algorithms)
+        self.assertEqual(set(dir(backend)) & dispatched, set(info.FUNCTIONS))
+        self.assertEqual(set(backend.__all__), {*info.FUNCTIONS, "can_run", "convert_from_nx", "convert_to_nx"})
+        self.assertIn("certificate", networkx.minimum_cut.__doc__)
+
+    def test_arguments(self):
+        """They have the names, the order and the defaults that they have in networkx."""
+        from dimacs import backend
+        from dimacs.backend import info
+
+        for name in info.FUNCTIONS:
+            theirs = networkx.utils.backends._registered_algorithms[name].orig_func
+            words = [inspect.signature(it).parameters.values() for it in (theirs, getattr(backend, name))]
+            self.assertEqual(*([str(it.replace(annotation=it.empty)) for it in some] for some in words))
+
+    def test_wrong_arguments(self):
+        with self.assertRaises(TypeError):
+            networkx.maximum_flow(pipes(), "s", backend="dimacs")
+
+
+if __name__ == "__main__":
+    unittest.main()
