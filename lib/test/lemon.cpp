@@ -1,49 +1,24 @@
-/* What LEMON's solvers answer, judged and certified through arrays, and spoiled. */
+/* What LEMON's solvers answer, judged and certified over LEMON's own graphs and maps, and spoiled. */
 #include "check.h"
-#include "dimacs.h"
+#include "dimacs.hpp"
+#include <lemon/bellman_ford.h>
 #include <lemon/dijkstra.h>
+#include <lemon/list_graph.h>
+#include <lemon/maps.h>
 #include <lemon/network_simplex.h>
 #include <lemon/preflow.h>
 #include <lemon/smart_graph.h>
 #include <random>
-#include <string>
-#include <vector>
 
 using Graph = lemon::SmartDigraph;
+using Node = Graph::Node;
+using Arc = Graph::Arc;
 using Numbers = Graph::ArcMap<long long>;
+using Supplies = Graph::NodeMap<long long>;
+using Better = dimacs::NotOptimal<dimacs::lemon::Map<Graph, Arc, std::int64_t>>;
+using Refused = dimacs::RefusedAt<Node, Arc>;
 
 enum { NODES = 2000, ARCS = 20000 };
-
-/* The arcs by number, from 1 on; a node's ID is the number that LEMON gives it, and 1. */
-struct Arcs {
-    std::vector<Graph::Arc> arcs;
-    std::vector<uint32_t> tails, heads;
-
-    explicit Arcs(const Graph &graph) {
-        for (int id = 0; id < graph.arcNum(); id++) {
-            arcs.push_back(graph.arcFromId(id));
-            tails.push_back(uint32_t(graph.id(graph.source(arcs.back())) + 1));
-            heads.push_back(uint32_t(graph.id(graph.target(arcs.back())) + 1));
-        }
-    }
-
-    template <class Map>
-    std::vector<int64_t> of(const Map &map) const {
-        std::vector<int64_t> numbers;
-        for (Graph::Arc arc : arcs) numbers.push_back(map[arc]);
-        return numbers;
-    }
-};
-
-static dimacs_nodes array(const std::vector<uint32_t> &it) { return {it.data(), it.size()}; }
-static dimacs_numbers array(const std::vector<int64_t> &it) { return {it.data(), it.size()}; }
-
-static uint8_t out[100];
-static size_t told;
-
-static void says(const char *name, uint32_t status, uint32_t wanted, const std::string &line) {
-    check(name, status, out, told, wanted, line.c_str());
-}
 
 /* Random arcs, and a ring along which any supply can flow. */
 static void make(Graph &graph, Numbers &capacity, Numbers &cost) {
@@ -52,105 +27,141 @@ static void make(Graph &graph, Numbers &capacity, Numbers &cost) {
     for (int k = 0; k < ARCS; k++) {
         int tail = k < NODES ? k : int(chance() % NODES);
         int head = k < NODES ? (k + 1) % NODES : int(chance() % NODES);
-        Graph::Arc arc = graph.addArc(graph.nodeFromId(tail), graph.nodeFromId(head));
+        Arc arc = graph.addArc(graph.nodeFromId(tail), graph.nodeFromId(head));
         capacity[arc] = k < NODES ? 1000000 : chance() % 1000;
         cost[arc] = k < NODES ? 1000 : chance() % 100;
     }
 }
 
 static void maximum_flow(const Graph &graph, const Numbers &capacity) {
-    Graph::Node source = graph.nodeFromId(0), sink = graph.nodeFromId(NODES / 2);
+    Node source = graph.nodeFromId(0), sink = graph.nodeFromId(NODES / 2);
     lemon::Preflow<Graph, Numbers> solver(graph, capacity, source, sink);
     solver.run();
-    Arcs arcs(graph);
-    std::vector<int64_t> caps = arcs.of(capacity), flows = arcs.of(solver.flowMap());
-    std::vector<uint8_t> inside(NODES), by(NODES);
-    for (int id = 0; id < NODES; id++) inside[id] = solver.minCut(graph.nodeFromId(id));
-    dimacs_max instance = {NODES, 1, NODES / 2 + 1, array(arcs.tails), array(arcs.heads), array(caps)};
-    std::string line = "v max " + std::to_string(solver.flowValue()) + "\n";
-    uint32_t status = dimacs_judge_max_arrays(&instance, flows.data(), ARCS, inside.data(), NODES, out, 100, &told);
-    says("Preflow's flow and cut", status, 0, line);
+    Graph::NodeMap<bool> cut(graph);
+    solver.minCutMap(cut);
+    const auto judged = dimacs::lemon::judge_max(graph, capacity, source, sink, solver.flowMap(), cut);
+    check_that("Preflow's flow and cut", judged && judged->value == solver.flowValue());
+    const auto yes = dimacs::lemon::certify_max(graph, capacity, source, sink, solver.flowMap());
+    check_that("Preflow's flow", yes && yes->value == solver.flowValue());
+    check_that("by the cut that was handed out",
+               dimacs::lemon::judge_max(graph, capacity, source, sink, solver.flowMap(), yes->inside).has_value());
+    check_that("which has the source", yes->inside[source] && !yes->inside[sink]);
 
-    size_t inside_told, better_told;
-    std::vector<int64_t> better(ARCS), none(ARCS);
-    status = dimacs_certify_max_arrays(&instance, flows.data(), ARCS, out, 100, &told, by.data(), NODES, &inside_told,
-                                       better.data(), ARCS, &better_told);
-    says("Preflow's flow", status, 0, line);
-    status = dimacs_judge_max_arrays(&instance, flows.data(), ARCS, by.data(), inside_told, out, 100, &told);
-    says("by the cut that was handed out", status, 0, line);
-    status = dimacs_certify_max_arrays(&instance, none.data(), ARCS, out, 100, &told, by.data(), NODES, &inside_told,
-                                       better.data(), ARCS, &better_told);
-    says("no flow", status, 1, "x solution 0 0 NotMaximum\n");
-    check_that("a better flow", better_told == ARCS);
+    Numbers flow(graph, 0);
+    const auto no = dimacs::lemon::certify_max(graph, capacity, source, sink, flow);
+    const auto *better = no.get_if<Better>();
+    check_that("no flow", better && no.message() == "x solution 0 0 NotMaximum");
+    lemon::mapCopy(graph, better->better, flow);
+    const auto next = dimacs::lemon::certify_max(graph, capacity, source, sink, flow);
+    check_that("a better one is feasible", next || next.get_if<Better>());
 
-    size_t full = 0;
-    while (flows[full] == 0 || inside[arcs.tails[full] - 1] == inside[arcs.heads[full] - 1]) full++;
-    flows[full] += caps[full] + 1;
-    status = dimacs_judge_max_arrays(&instance, flows.data(), ARCS, inside.data(), NODES, out, 100, &told);
-    says("too much on an arc", status, 1, "x arc " + std::to_string(full + 1) + " AboveCap\n");
+    lemon::mapCopy(graph, solver.flowMap(), flow);
+    Arc full = graph.arcFromId(0);
+    while (flow[full] == 0) full = graph.arcFromId(graph.id(full) + 1);
+    flow[full] = capacity[full] + 1;
+    const auto refused = dimacs::lemon::judge_max(graph, capacity, source, sink, flow, cut);
+    check_that("too much on an arc", refused.get_if<Refused>() && refused.get_if<Refused>()->arc == full &&
+                                         refused.message() == "arc: AboveCap");
+    flow[full] = 0;
+    const auto lost = dimacs::lemon::certify_max(graph, capacity, source, sink, flow);
+    check_that("a node that loses some", lost.get_if<Refused>() && lost.get_if<Refused>()->node &&
+                                             lost.message() == "node: Balance");
 }
 
 static void least_cost(const Graph &graph, const Numbers &capacity, const Numbers &cost) {
-    Graph::NodeMap<long long> supply(graph, 0);
+    Supplies supply(graph, 0);
     supply[graph.nodeFromId(3)] = 5000;
     supply[graph.nodeFromId(9)] = 700;
     supply[graph.nodeFromId(NODES / 2)] = -5700;
+    lemon::ConstMap<Arc, long long> lower(0);
     lemon::NetworkSimplex<Graph, long long> solver(graph);
     solver.upperMap(capacity).costMap(cost).supplyMap(supply);
     check_that("LEMON finds a flow", solver.run() == lemon::NetworkSimplex<Graph, long long>::OPTIMAL);
     Numbers flow(graph);
+    Supplies potential(graph);
     solver.flowMap(flow);
-    Arcs arcs(graph);
-    std::vector<int64_t> lows(ARCS), caps = arcs.of(capacity), costs = arcs.of(cost), flows = arcs.of(flow);
-    std::vector<int64_t> supplies(NODES), potentials(NODES), better(ARCS);
-    for (int id = 0; id < NODES; id++) {
-        supplies[id] = supply[graph.nodeFromId(id)];
-        potentials[id] = -solver.potential(graph.nodeFromId(id));  // LEMON adds that of the tail
-    }
-    dimacs_min instance = {NODES,       array(arcs.tails), array(arcs.heads), array(lows),
-                           array(caps), array(costs),      array(supplies)};
-    std::string line = "v min " + std::to_string(solver.totalCost<long long>()) + "\n";
-    uint32_t status = dimacs_judge_min_arrays(&instance, flows.data(), ARCS, potentials.data(), NODES, out, 100, &told);
-    says("NetworkSimplex's flow and potentials", status, 0, line);
+    solver.potentialMap(potential);
+    const auto total = solver.totalCost<long long>();
+    const auto judged = dimacs::lemon::judge_min(graph, lower, capacity, cost, supply, flow, potential);
+    check_that("NetworkSimplex's flow and potentials", judged && judged->value == total);
+    const auto yes = dimacs::lemon::certify_min(graph, lower, capacity, cost, supply, flow);
+    check_that("NetworkSimplex's flow", yes && yes->cost == total);
+    check_that("by the potentials that were handed out",
+               dimacs::lemon::judge_min(graph, lower, capacity, cost, supply, flow, yes->potentials).has_value());
 
-    size_t shown_told, better_told;
-    status = dimacs_certify_min_arrays(&instance, flows.data(), ARCS, out, 100, &told, potentials.data(), NODES, &shown_told,
-                                       better.data(), ARCS, &better_told);
-    says("NetworkSimplex's flow", status, 0, line);
-    status = dimacs_judge_min_arrays(&instance, flows.data(), ARCS, potentials.data(), shown_told, out, 100, &told);
-    says("by the potentials that were handed out", status, 0, line);
-    for (int id = 0; id < NODES; id++) flows[id] += 1;  // round the ring
-    status = dimacs_certify_min_arrays(&instance, flows.data(), ARCS, out, 100, &told, potentials.data(), NODES, &shown_told,
-                                       better.data(), ARCS, &better_told);
-    says("a unit more round the ring", status, 1, "x solution 0 0 NotLeast\n");
-    check_that("a flow that costs less", better_told == ARCS);
-    supplies[3] += 1;
-    status = dimacs_judge_min_arrays(&instance, flows.data(), ARCS, potentials.data(), NODES, out, 100, &told);
-    says("another supply", status, 1, "x node 4 Balance\n");
+    for (int id = 0; id < NODES; id++) flow[graph.arcFromId(id)] += 1;  // round the ring
+    const auto no = dimacs::lemon::certify_min(graph, lower, capacity, cost, supply, flow);
+    check_that("a unit more round the ring", no.get_if<Better>() && no.message() == "x solution 0 0 NotLeast");
+    lemon::mapCopy(graph, no.get_if<Better>()->better, flow);
+    check_that("a flow that costs less", !dimacs::lemon::certify_min(graph, lower, capacity, cost, supply, flow).get_if<Refused>());
+    supply[graph.nodeFromId(3)] += 1;
+    const auto refused = dimacs::lemon::certify_min(graph, lower, capacity, cost, supply, flow);
+    check_that("another supply", refused.get_if<Refused>() && refused.get_if<Refused>()->node == graph.nodeFromId(3));
+
+    potential[graph.nodeFromId(0)] = INT64_MIN;
+    potential[graph.nodeFromId(1)] = INT64_MAX;
+    try {
+        (void)dimacs::lemon::judge_min(graph, lower, capacity, cost, supply, flow, potential);
+        check_that("potentials that can't be turned", 0);
+    } catch (const std::out_of_range &) {
+        check_that("potentials that can't be turned", 1);
+    }
+    Numbers below(graph, -1);
+    try {
+        (void)dimacs::lemon::certify_min(graph, lower, below, cost, supply, flow);
+        check_that("a capacity below 0", 0);
+    } catch (const dimacs::PastLimitAt<Node, Arc> &it) {
+        check_that("a capacity below 0", it.at().arc && it.at().reason == "BoundOrder");
+    }
 }
 
+/* A search, of whose distances one is less by 1. */
+template <class Search>
+struct Spoiled {
+    const Search &search;
+    Node at;
+
+    bool reached(Node node) const { return search.reached(node); }
+    long long dist(Node node) const { return search.dist(node) - (node == at ? 1 : 0); }
+};
+
 static void distances(const Graph &graph, const Numbers &cost) {
+    const Node source = graph.nodeFromId(5);
     lemon::Dijkstra<Graph, Numbers> solver(graph, cost);
-    solver.run(graph.nodeFromId(5));
-    Arcs arcs(graph);
-    std::vector<int64_t> weights = arcs.of(cost), far(NODES);
-    std::vector<uint32_t> before(NODES), found(NODES);
-    for (int id = 0; id < NODES; id++) {
-        Graph::Node node = graph.nodeFromId(id);
-        far[id] = solver.dist(node);
-        before[id] = id == 5 ? 0 : uint32_t(graph.id(solver.predNode(node)) + 1);
-    }
-    dimacs_graph instance = {NODES, array(arcs.tails), array(arcs.heads), array(weights)};
-    uint32_t status = dimacs_judge_paths_arrays(&instance, 6, far.data(), NODES, before.data(), NODES, out, 100, &told);
-    says("Dijkstra's distances and predecessors", status, 0, "v sp ss 1\n");
-    size_t found_told;
-    status = dimacs_certify_paths_arrays(&instance, 6, far.data(), NODES, out, 100, &told, found.data(), NODES, &found_told);
-    says("Dijkstra's distances", status, 0, "v sp ss 1\n");
-    status = dimacs_judge_paths_arrays(&instance, 6, far.data(), NODES, found.data(), found_told, out, 100, &told);
-    says("by the predecessors that were handed out", status, 0, "v sp ss 1\n");
-    far[8] -= 1;
-    status = dimacs_certify_paths_arrays(&instance, 6, far.data(), NODES, out, 100, &told, found.data(), NODES, &found_told);
-    check_that("a distance less 1", status == 1 && found_told == 0);
+    solver.run(source);
+    check_that("Dijkstra's distances", dimacs::lemon::certify_paths(graph, cost, source, solver).has_value());
+    lemon::BellmanFord<Graph, Numbers> other(graph, cost);
+    other.run(source);
+    check_that("BellmanFord's distances", dimacs::lemon::certify_paths(graph, cost, source, other).has_value());
+    const Spoiled<lemon::Dijkstra<Graph, Numbers>> spoiled{solver, graph.nodeFromId(8)};
+    const auto no = dimacs::lemon::certify_paths(graph, cost, source, spoiled);
+    check_that("a distance less 1", no.get_if<Refused>() && (no.get_if<Refused>()->arc || no.get_if<Refused>()->node));
+}
+
+/* A graph whose IDs have gaps, and one whose edges go both ways. */
+static void other_graphs() {
+    lemon::ListDigraph gaps;
+    lemon::ListDigraph::Node gone = gaps.addNode(), from = gaps.addNode(), to = gaps.addNode();
+    gaps.addArc(gone, to);
+    lemon::ListDigraph::Arc arc = gaps.addArc(from, to);
+    gaps.erase(gone);
+    lemon::ListDigraph::ArcMap<int> three(gaps, 3), none(gaps, 0);
+    const auto no = dimacs::lemon::certify_max(gaps, three, from, to, none);
+    using Found = dimacs::NotOptimal<dimacs::lemon::Map<lemon::ListDigraph, lemon::ListDigraph::Arc, std::int64_t>>;
+    check_that("a graph of which a node was erased", no.get_if<Found>() && no.get_if<Found>()->better[arc] == 3);
+    check_that("certified", dimacs::lemon::certify_max(gaps, three, from, to, three)->value == 3);
+
+    lemon::ListGraph edges;
+    lemon::ListGraph::Node one = edges.addNode(), other = edges.addNode(), alone = edges.addNode();
+    edges.addEdge(other, one);
+    lemon::ListGraph::ArcMap<int> length(edges, 4);
+    lemon::Dijkstra<lemon::ListGraph, lemon::ListGraph::ArcMap<int>> solver(edges, length);
+    solver.run(one);
+    check_that("an edge goes both ways", solver.reached(other) && !solver.reached(alone) &&
+                                             dimacs::lemon::certify_paths(edges, length, one, solver));
+    lemon::Preflow<lemon::ListGraph, lemon::ListGraph::ArcMap<int>> flow(edges, length, one, other);
+    flow.run();
+    check_that("for flows too", dimacs::lemon::certify_max(edges, length, one, other, flow.flowMap())->value == 4);
 }
 
 int main() {
@@ -160,5 +171,6 @@ int main() {
     maximum_flow(graph, capacity);
     least_cost(graph, capacity, cost);
     distances(graph, cost);
+    other_graphs();
     return count();
 }

@@ -1,0 +1,249 @@
+/* dimacs.hpp over texts and arrays: each answer and each exception of each call. */
+#include "check.h"
+#include "dimacs.hpp"
+#include <array>
+
+using dimacs::Flows;
+using dimacs::Inside;
+using dimacs::NotOptimal;
+using dimacs::Refused;
+using dimacs::Text;
+using Ids = std::vector<std::uint32_t>;
+using Amounts = std::vector<std::int64_t>;
+
+static void is(const char *name, const std::string &got, const std::string &wanted) {
+    check_that(name, got == wanted);
+    if (got != wanted) printf("%s: wanted '%s', got '%s'\n", name, wanted.c_str(), got.c_str());
+}
+
+template <class Call>
+static void throws_length(const char *name, const Call &call) {
+    try {
+        (void)call();
+        check_that(name, 0);
+    } catch (const dimacs::WrongLength &) {
+        check_that(name, 1);
+    }
+}
+
+template <class Call>
+static void throws_limit(const char *name, const Call &call, const std::string &line) {
+    try {
+        (void)call();
+        check_that(name, 0);
+    } catch (const dimacs::PastLimit &it) {
+        is(name, it.what(), line);
+        is(name, it.refused().line, line);
+    }
+}
+
+/* 1 to 4; a maximum flow has the value 6, and four units cost 14 at least. */
+static const std::string max = "p max 4 5\nn 1 s\nn 4 t\na 1 2 4\na 1 3 2\na 2 3 2\na 2 4 3\na 3 4 5\n";
+static const std::string flow = "s 6\nf 1 2 4\nf 1 3 2\nf 2 3 1\nf 2 4 3\nf 3 4 3\n";
+static const std::string slow = "s 5\nf 1 2 3\nf 1 3 2\nf 2 4 3\nf 3 4 2\n";
+static const std::string cut = "p cut 4 1\nu 1\n";
+static const std::string min =
+    "p min 4 5\nn 1 4\nn 4 -4\na 1 2 0 4 2\na 1 3 0 2 2\na 2 3 0 2 1\na 2 4 0 3 3\na 3 4 0 5 1\n";
+static const std::string least = "s 14\nf 1 2 2\nf 1 3 2\nf 2 3 2\nf 3 4 4\n";
+static const std::string dear = "s 15\nf 1 2 2\nf 1 3 2\nf 2 3 1\nf 2 4 1\nf 3 4 3\n";
+static const std::string pot = "p pot 4 3\ny 1 4\ny 2 2\ny 3 1\n";
+static const std::string graph = "p sp 4 3\na 1 2 5\na 3 4 0\na 4 3 0\n";
+static const std::string pairs = "p aux sp p2p 2\nq 1 2\nq 1 4\n";
+static const std::string source = "p aux sp ss 1\ns 1\n";
+static const std::string dist = "p dist 4 1\nt 1 1\nd 2 5 1\n";
+static const std::string surplus = "p min 2 1\nn 1 1\na 1 2 0 5 1\n";
+static const std::string both = "p cut 2 2\nu 1\nu 2\n";
+
+static void judges_texts() {
+    is("maximum", dimacs::judge_max(max, flow, cut).value().value->str(), "6");
+    is("least", dimacs::judge_min(min, least, pot).value().value->str(), "14");
+    check_that("no flow", dimacs::judge_infeasible(surplus, both) && !dimacs::judge_infeasible(surplus, both)->value);
+    check_that("all distances", dimacs::judge_paths(graph, source, dist)->sources == 1);
+    const auto answer = dimacs::judge_paths(graph, pairs, dist);
+    check_that("two pairs", answer && answer->sources == 0 && answer->pairs.size() == 2);
+    const dimacs::Pair &near = answer->pairs[0], &far = answer->pairs[1];
+    check_that("a distance", near.source == 1 && near.target == 2 && near.kind == dimacs::Pair::Kind::distance &&
+                                 near.number == 5);
+    check_that("no walk", far.target == 4 && far.kind == dimacs::Pair::Kind::unreachable);
+    const auto beyond = dimacs::judge_paths(graph, "p aux sp p2p 1\nq 1 2\n", "p dist 4 1\nt 1 0 4\n");
+    check_that("beyond a radius", beyond && beyond->pairs[0].kind == dimacs::Pair::Kind::beyond &&
+                                      beyond->pairs[0].number == 4);
+    const auto none = dimacs::judge_max("", "", "");
+    is("an empty text", none.message(), "x instance 1 0 ProblemMissing");
+    const auto fault = dimacs::judge_max(max, "s six\n", cut);
+    const Refused &no = *fault.get_if<Refused>();
+    check_that("a fault's place", no.text && no.text->text == "solution" && no.text->line == 1 && no.text->field == 2 &&
+                                      no.reason == "BadNumber" && !no.arc && !no.node);
+    const auto arc = dimacs::judge_max(max, slow, cut);
+    check_that("a test's arc", !arc && arc.get_if<Refused>()->arc == 1U && !arc.get_if<Refused>()->text);
+    const auto node = dimacs::judge_max(max, flow, "p cut 4 0\n");
+    check_that("a test's node", node.get_if<Refused>()->node == 1U);
+    try {
+        (void)dimacs::judge_max(max, slow, cut).value();
+        check_that("the value of a no", 0);
+    } catch (const dimacs::BadAnswer &it) {
+        is("the value of a no", it.what(), "x arc 1 NotSaturated");
+    }
+}
+
+static void certifies_texts() {
+    const auto yes = dimacs::certify_max(max, flow);
+    check_that("certified maximum", yes && yes->value == 6 && yes->certificate == cut && yes.message().empty());
+    const auto no = dimacs::certify_max(max, slow);
+    const auto *better = no.get_if<dimacs::NotOptimalText>();
+    check_that("not maximum", !no && better && better->line == "x solution 1 2 NotMaximum" && better->better);
+    check_that("the better one is maximum", dimacs::certify_max(max, *better->better).has_value());
+    const auto cheap = dimacs::certify_min(min, least);
+    check_that("certified least", cheap && cheap->value == 14);
+    check_that("by potentials", dimacs::judge_min(min, least, cheap->certificate).has_value());
+    is("not least", dimacs::certify_min(min, dear).message(), "x solution 1 2 NotLeast");
+    is("no flow", dimacs::certify_min(min, "s 14").message(), "x node 1 Balance");
+    const std::string much = "p min 1 1\na 1 1 0 9223372036854775807 9223372036854775807\n";
+    is("an amount out of range", dimacs::certify_min(much, "s 0\nf 1 1 9223372036854775807\n").message(),
+       "x arc 1 CostRange");
+}
+
+static void solves_texts() {
+    const auto most = dimacs::solve_max(max);
+    check_that("a maximum flow", most && most->value == 6 && dimacs::judge_max(max, most->solution, most->certificate));
+    check_that("no flow is asked about", dimacs::solve_max(max, 0).get_if<dimacs::GaveUp>() != nullptr);
+    const auto cheap = dimacs::solve_min(min);
+    check_that("least cost", cheap && cheap->value == 14 && dimacs::judge_min(min, cheap->solution, cheap->certificate));
+    const auto none = dimacs::solve_min(surplus);
+    const auto *set = none.get_if<dimacs::Infeasible<std::string>>();
+    check_that("no feasible flow", set && set->inside == both && none.message() == "v infeasible");
+    check_that("no step", dimacs::solve_min(min, 0).get_if<dimacs::GaveUp>() != nullptr);
+    is("a fault", dimacs::solve_min(max).message(), "x instance 1 2 BadWord");
+    const auto found = dimacs::solve_paths(graph, pairs);
+    check_that("paths", found && found->labels == dist && found->pairs.size() == 2 && found->pairs[0].number == 5);
+    check_that("all paths", dimacs::solve_paths(graph, source)->sources == 1);
+    is("a weight below 0", dimacs::solve_paths("p sp 2 2\na 1 2 0\na 2 1 -1\n", source).message(), "x arc 2 NegativeWeight");
+}
+
+static void makes_texts() {
+    is("converted", dimacs::convert(Text::max, "c\n" + max).value(), max);
+    is("shown", dimacs::show(Text::max, max).value(), "i max 4 5 1 4\n");
+    is("of another kind", dimacs::show(Text::min, max).message(), "x instance 1 2 BadWord");
+    std::string queries = "p aux sp p2p 900\n";
+    for (int k = 0; k < 900; k++) queries += "q 1 4\n";
+    const auto many = dimacs::judge_paths(graph, queries, dist);
+    check_that("more than the first room", many && many->pairs.size() == 900);
+    std::string long_form = "p cut 4 0";
+    for (int k = 0; k < 9; k++) long_form += "\n";
+    is("lines", dimacs::convert(Text::cut, long_form + "\n").value(), "p cut 4 0\n");
+}
+
+static const Ids tails{1, 1, 2, 2, 3}, heads{2, 3, 3, 4, 4};
+static const Amounts caps{4, 2, 2, 3, 5}, lows(5), costs{2, 2, 1, 3, 1}, supplies{4, 0, 0, -4};
+static const dimacs::MaxInstance network{4, 1, 4, tails, heads, caps};
+static const dimacs::MinInstance shipping{4, tails, heads, lows, caps, costs, supplies};
+static const Amounts last(3, INT64_MAX);
+
+static void maximum_flows() {
+    const Amounts flows{4, 2, 1, 3, 3}, few{3, 2, 0, 3, 2}, lost{4, 2, 2, 3, 3};
+    const auto yes = dimacs::certify_max(network, flows);
+    check_that("a maximum flow in arrays", yes && yes->value == 6 && yes->inside == Inside({1, 0, 0, 0}));
+    is("judged by its cut", dimacs::judge_max(network, flows, yes->inside).value().value->str(), "6");
+    const auto no = dimacs::certify_max(network, few);
+    const auto *better = no.get_if<NotOptimal<Flows>>();
+    check_that("a better flow", better && better->better.size() == 5 && no.message() == "x solution 0 0 NotMaximum");
+    check_that("which is maximum", dimacs::certify_max(network, better->better).has_value());
+    const auto refused = dimacs::certify_max(network, lost);
+    check_that("a node that keeps some", refused.get_if<Refused>() && refused.get_if<Refused>()->node == 2U);
+    is("at no cut", dimacs::judge_max(network, few, yes->inside).message(), "x arc 1 NotSaturated");
+    const auto made = dimacs::solve_max(network);
+    check_that("made", made && made->value == 6 && dimacs::judge_max(network, made->flows, made->inside));
+    check_that("given up", dimacs::solve_max(network, 0).message() == "g limit");
+    const auto most = dimacs::certify_max({2, 1, 2, Ids{1, 1, 1}, Ids{2, 2, 2}, last}, last);
+    check_that("a value past 64 bits", most->value.str() == "27670116110564327421" && !most->value.to_int64());
+    check_that("one of 64 bits", yes->value.to_int64() == 6 && yes->value != most->value);
+    const auto empty = dimacs::certify_max({2, 1, 2, {}, {}, {}}, {});
+    check_that("no arcs", empty && empty->value == 0 && empty->inside == Inside({1, 0}));
+}
+
+static void misuses() {
+    const Amounts flows{4, 2, 1, 3, 3};
+    throws_length("fewer flows", [&] { return dimacs::certify_max(network, Amounts{1}); });
+    throws_length("fewer heads", [&] { return dimacs::solve_max({4, 1, 4, tails, Ids{2}, caps}); });
+    throws_length("more marks", [&] { return dimacs::judge_infeasible(shipping, Inside(5)); });
+    throws_length("fewer potentials", [&] { return dimacs::judge_min(shipping, flows, Amounts(3)); });
+    throws_length("fewer distances", [&] { return dimacs::certify_paths({4, tails, heads, caps}, 1, Amounts(3)); });
+    throws_length("no kind", [&] { return dimacs::convert(static_cast<Text>(99), max); });
+    throws_limit("a head", [&] { return dimacs::solve_max({3, 1, 3, tails, heads, caps}); }, "x arc 4 NodeRange");
+    throws_limit("the sink", [&] { return dimacs::certify_max({4, 1, 1, tails, heads, caps}, flows); }, "x node 1 NodeTwice");
+    throws_limit("too many nodes", [&] { return dimacs::solve_max({UINT32_MAX, 1, 2, {}, {}, {}}); },
+                 "x node 134217729 NumberRange");
+    throws_limit("bounds", [&] { return dimacs::solve_min({4, tails, heads, caps, lows, costs, supplies}); },
+                 "x arc 1 BoundOrder");
+    throws_limit("no source", [&] { return dimacs::solve_paths({4, tails, heads, caps}, 5); }, "x node 5 NodeRange");
+}
+
+static void least_costs() {
+    const Amounts flows{2, 2, 2, 0, 4}, much{2, 2, 1, 1, 3};
+    const auto yes = dimacs::certify_min(shipping, flows);
+    check_that("least cost in arrays", yes && yes->cost == 14 && dimacs::judge_min(shipping, flows, yes->potentials));
+    const auto no = dimacs::certify_min(shipping, much);
+    check_that("a cheaper flow", no.get_if<NotOptimal<Flows>>() && no.get_if<NotOptimal<Flows>>()->better.size() == 5);
+    check_that("no flow", dimacs::certify_min(shipping, lows).get_if<Refused>()->node == 1U);
+    const auto made = dimacs::solve_min(shipping);
+    check_that("made", made && made->cost == 14 && dimacs::judge_min(shipping, made->flows, made->potentials));
+    const Amounts more{9, 0, 0, -9};
+    const dimacs::MinInstance short_of{4, tails, heads, lows, caps, costs, more};
+    const auto none = dimacs::solve_min(short_of);
+    const auto *set = none.get_if<dimacs::Infeasible<Inside>>();
+    check_that("no feasible flow", set && dimacs::judge_infeasible(short_of, set->inside));
+    is("there is one", dimacs::judge_infeasible(shipping, Inside{1, 0, 0, 0}).message(), "x certificate 0 0 NotViolated");
+    check_that("given up", dimacs::solve_min(shipping, 0).get_if<dimacs::GaveUp>() != nullptr);
+    const Ids chain{1, 2, 3}, next{2, 3, 4};
+    const Amounts one(3, 1), zero(3), ends{1, 0, 0, -1}, low{-INT64_MAX, -INT64_MAX, -INT64_MAX};
+    const auto wide = dimacs::certify_min({4, chain, next, zero, one, low, ends}, one);
+    check_that("potentials past 64 bits or within them", wide || wide.get_if<dimacs::GaveUp>());
+}
+
+static void distances() {
+    const dimacs::Graph roads{4, tails, heads, costs};
+    const Amounts right{0, 2, 2, 3};
+    const auto yes = dimacs::certify_paths(roads, 1, right);
+    check_that("distances in arrays", yes && dimacs::judge_paths(roads, 1, right, yes->predecessors));
+    const auto no = dimacs::certify_paths(roads, 1, Amounts{0, 2, 1, 3});
+    check_that("one less 1", no.get_if<Refused>() != nullptr);
+    const auto made = dimacs::solve_paths(roads, 1);
+    check_that("made", made && made->distances == right && made->predecessors[0] == 0);
+    const auto alone = dimacs::solve_paths(roads, 4);
+    check_that("none is reached", alone->distances[0] == dimacs::unreached);
+    is("a weight below 0", dimacs::solve_paths({2, Ids{1}, Ids{2}, Amounts{-1}}, 1).message(), "x arc 1 NegativeWeight");
+    check_that("a distance that doesn't fit", dimacs::solve_paths({3, Ids{1, 2}, Ids{2, 3}, Amounts{INT64_MAX, 1}}, 1)
+                                                      .get_if<dimacs::GaveUp>() != nullptr);
+}
+
+static void takes_what_has_items() {
+    const std::array<std::uint32_t, 1> tail{1};
+    const std::uint32_t head[] = {2};
+    std::vector<std::int64_t> cap{7};
+    const dimacs::MaxInstance arc{2, 1, 2, tail, head, {cap.data(), cap.size()}};
+    check_that("an array, a C array, and a pointer with a size", dimacs::solve_max(arc)->value == 7);
+    const std::int64_t sum = std::visit(
+        [](const auto &it) -> std::int64_t {
+            if constexpr (std::is_same_v<std::decay_t<decltype(it)>, dimacs::GaveUp>) {
+                return 0;
+            } else {
+                return it.flows[0];
+            }
+        },
+        dimacs::solve_max(arc).variant());
+    check_that("visited", sum == 7);
+    check_that("the version", dimacs::version() == DIMACS_VERSION_NUMBER);
+}
+
+int main() {
+    judges_texts();
+    certifies_texts();
+    solves_texts();
+    makes_texts();
+    maximum_flows();
+    misuses();
+    least_costs();
+    distances();
+    takes_what_has_items();
+    return count();
+}
