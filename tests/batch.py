@@ -42,7 +42,10 @@ pipes.max | pipes-careless.solution | certify-max | x solution 2 2 NotMaximum | 
 pipes.max | pipes.solution pipes.cut | judge-max | v max 12 |
 road-faulty.gr | | show gr | x instance 12 4 BadNumber | instance
 road.gr | road.query road.dist | judge-paths | v 1 5 1400; 2 more |
+road.gr | road-near.distances | certify-paths | x node 5 NoTightArc | claim
+road.gr | road.distances | certify-paths | v sp distances 2 |
 romania.gr | romania.query romania.dist | judge-paths | v 1 2 418; 1 more |
+romania.gr | romania.distances | certify-paths | v sp distances 2 |
 shortage.min | shortage.cut | judge-infeasible | v infeasible |
 trucks.max | trucks.solution trucks.cut | judge-max | v max 23 |
 """
@@ -249,7 +252,7 @@ def classes(_):
     source = open(BATCH, encoding="utf-8").read()
     of_the_claim = set(re.findall(r'"(\w+)"', re.search(r"OF_THE_CLAIM = \{(.*?)\}", source, re.DOTALL)[1]))
     texts, judging = (open(f"{TOP}/docs/{name}.md", encoding="utf-8").read() for name in ("TEXTS", "JUDGING"))
-    judged = set(re.findall(r"`x (?:solution|certificate) \S+ \S+ (\w+)`", judging))
+    judged = set(re.findall(r"`x (?:(?:solution|certificate) \S+ \S+|\w+ 0 0) (\w+)`", judging))
     of_texts = set(re.findall(r"^\| \d+ \| (\w+) \|", texts, re.MULTILINE))
     assert of_the_claim == judged, of_the_claim ^ judged
     assert len(of_texts) == 21 and not of_texts & of_the_claim, of_texts
