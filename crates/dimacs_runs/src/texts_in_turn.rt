@@ -4,7 +4,7 @@ ghost use Rattle.std.specs.Prelude.{◌≡◌, ℕ, List, [], ◌∷◌, Some, I
 ghost use Rattle.dimacs_records.specs.declared.kinds.TextKind.TheVariants as kinds;
 ghost use Rattle.dimacs_claims.specs.SolutionReading.{IsPlaced, IsPlacedLawful};
 ghost use Rattle.dimacs_claims.specs.SolutionTexts.{GivesSolution};
-ghost use Rattle.dimacs_runs.specs.Runs.{says};
+ghost use Rattle.dimacs_runs.specs.Runs.{says, text_word};
 ghost use Rattle.dimacs_runs.specs.inside.Judgings.{CountsUnread, HasFault, PlacesOne, ReadsOne, ReadsPlaced, ReadsTwo, ReadsThree, error_told, text_says};
 
 use crate::outcome::RunError;
@@ -24,6 +24,16 @@ pub(crate) struct Unread {
 }
 
 impl Unread {
+    fn of(kind: TextKind, error: ReadError) -> Unread
+        ensures named { result.text.now ≡ text_word kind }
+        ensures error { result.error ≡ error }
+    {
+        Unread {
+            text: text_name(kind),
+            error,
+        }
+    }
+
     /// What is told of it.
     pub(crate) fn told(self) -> Result<Told, RunError>
         ensures { result ≡ error_told self self.error }
@@ -45,10 +55,7 @@ pub(crate) fn read<V: Text, P: Source>(alloc: Global, source: &mut P) -> Result<
 {
     match V::read(alloc, source) {
         Ok(value) => Ok(value),
-        Err(error) => Err(Unread {
-            text: text_name(V::kind()),
-            error,
-        }),
+        Err(error) => Err(Unread::of(V::kind(), error)),
     }
 }
 
@@ -62,10 +69,7 @@ pub(crate) fn read_summary<V: Summary, P: Source>(
 {
     match V::read(alloc, source) {
         Ok(summary) => Ok(summary),
-        Err(error) => Err(Unread {
-            text: text_name(V::kind()),
-            error,
-        }),
+        Err(error) => Err(Unread::of(V::kind(), error)),
     }
 }
 
@@ -146,9 +150,6 @@ pub(crate) fn place_solution<E: Place, P: Source>(
 {
     match read_solution_into(alloc, place, source) {
         Ok(placed) => Ok(placed),
-        Err(error) => Err(Unread {
-            text: text_name(TextKind::Solution),
-            error,
-        }),
+        Err(error) => Err(Unread::of(TextKind::Solution, error)),
     }
 }
