@@ -206,6 +206,14 @@ uint32_t dimacs_certify_min_arrays(const dimacs_min *instance, const int64_t *fl
                                    size_t room, size_t *told, int64_t *potentials, size_t potentials_room,
                                    size_t *potentials_told, int64_t *better, size_t better_room, size_t *better_told);
 
+/* Certifies that an instance has no feasible flow, without a set. Hands out `v infeasible`, and a byte for each node to
+ * `inside`, 1 for each node of a set by which dimacs_judge_infeasible_arrays says yes, and 0 for the others, exactly if
+ * no flow is feasible; else `x instance 0 0 Feasible`, and a feasible flow to `flows`, an amount for each arc. The time that
+ * it takes isn't bounded by the number of arcs. */
+uint32_t dimacs_certify_infeasible_arrays(const dimacs_min *instance, uint8_t *out, size_t room, size_t *told,
+                                          uint8_t *inside, size_t inside_room, size_t *inside_told, int64_t *flows,
+                                          size_t flows_room, size_t *flows_told);
+
 /* Certifies distances from the source, by node, that have no predecessors, in time by the number of arcs and nodes.
  * Hands out `v sp ss 1`, and predecessors, by node, by which dimacs_judge_paths_arrays says yes too, exactly where they
  * are the least weights of walks; of a no the first test that fails: the source, NotShortest; each arc whose tail is

@@ -271,6 +271,8 @@ def said(call, *words):
         it = call(*words)
         kind = "sp ss" if it.kind == "sp" else it.kind
         return f"v {kind}" if it.value is None else f"v {kind} {it.value}"
+    except dimacs.Feasible as it:
+        return f"x {it.text} {it.line} {it.field} {it.reason}"
     except dimacs.Refused as it:
         return f"x {it}"
 
@@ -285,6 +287,7 @@ class Texts:
         "judge-paths": dimacs.judge_paths,
         "certify-max": lambda *words: dimacs.Verdict("max", dimacs.certify_max(*words).value),
         "certify-min": lambda *words: dimacs.Verdict("min", dimacs.certify_min(*words).value),
+        "certify-infeasible": lambda *words: dimacs.Verdict("infeasible", dimacs.certify_infeasible(*words).value),
     }
 
     def __init__(self, program, every):
@@ -372,6 +375,20 @@ def certified_min(chance, texts):
     return certified("certify min", *words, texts)
 
 
+def certified_infeasible(chance, texts):
+    it = InfeasibleCase(chance)
+    instance = it.texts()[0]
+    try:
+        inside = dimacs.certify_infeasible_arrays(*it.instance()).inside
+        yield "certify infeasible", "v infeasible", texts.line("certify-infeasible", instance)
+        yield "certify infeasible, its set", "v infeasible", texts.line("judge-infeasible", instance, it.cut(inside))
+    except dimacs.Feasible as no:
+        yield "certify infeasible", "x instance 0 0 Feasible", texts.line("certify-infeasible", instance)
+        again = texts.line("certify-min", *it.texts(no.flow))
+        is_feasible = again.startswith("v ") or again.endswith(("NotLeast", "CostRange"))
+        yield "certify infeasible, a flow", "feasible" if is_feasible else again, "feasible"
+
+
 def certified_paths(chance, texts):
     it = PathsCase(chance)
     try:
@@ -435,7 +452,8 @@ def solved_paths(chance, texts):
         yield "solve paths", f"x {no}", f"x arc {negative[0]} NegativeWeight"
 
 
-COMPARED = [judged_max, judged_min, judged_infeasible, judged_paths, certified_max, certified_min, certified_paths]
+COMPARED = [judged_max, judged_min, judged_infeasible, judged_paths]
+COMPARED += [certified_max, certified_min, certified_infeasible, certified_paths]
 COMPARED += [solved_max, solved_min, solved_paths]
 
 

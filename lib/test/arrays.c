@@ -373,6 +373,53 @@ static void certifies_min(void) {
 
 static const struct {
     const char *name;
+    dimacs_min instance;
+    uint32_t status;
+    const char *said;
+    size_t inside, flows;
+} certified_infeasible[] = {
+    {"a unit too many", {2, IDS(1), IDS(2), NUMBERS(0), NUMBERS(5), NUMBERS(0), NUMBERS(1, 0)}, 0, "v infeasible\n", 2, 0},
+    {"a unit too few", {2, IDS(1), IDS(2), NUMBERS(0), NUMBERS(5), NUMBERS(0), NUMBERS(1, -2)}, 0, "v infeasible\n", 2, 0},
+    {"no arc is that wide", {2, IDS(1), IDS(2), NUMBERS(0), NUMBERS(5), NUMBERS(0), NUMBERS(6, -6)}, 0, "v infeasible\n", 2,
+     0},
+    {"more has to leave", {2, IDS(1), IDS(2), NUMBERS(4), NUMBERS(5), NUMBERS(0), NUMBERS(3, -3)}, 0, "v infeasible\n", 2, 0},
+    {"supplies past 64 bits",
+     {3, IDS(1, 2), IDS(3, 3), NUMBERS(0, 0), NUMBERS(LAST, LAST), NUMBERS(0, 0), NUMBERS(LAST, LAST, 0)}, 0, "v infeasible\n",
+     3, 0},
+    {"there is a flow", SHIPPING, 1, "x instance 0 0 Feasible\n", 0, 5},
+    {"some of it goes the longer way",
+     {3, IDS(1, 1, 3), IDS(2, 3, 2), NUMBERS(0, 0, 0), NUMBERS(1, 2, 2), NUMBERS(0, 0, 0), NUMBERS(3, -3, 0)}, 1,
+     "x instance 0 0 Feasible\n", 0, 3},
+    {"a loop that has to carry", ROUND_TRIP(3, 3, LAST), 1, "x instance 0 0 Feasible\n", 0, 1},
+    {"no node", {0, EMPTY, EMPTY, EMPTY, EMPTY, EMPTY, EMPTY}, 1, "x instance 0 0 Feasible\n", 0, 0},
+    {"fewer costs", {4, TAILS, HEADS, LOWS, CAPS, NUMBERS(2, 2, 1, 3), NUMBERS(4, 0, 0, -4)}, 2, "", 0, 0},
+    {"bounds in the wrong order", ROUND_TRIP(3, 2, 0), 2, "x arc 1 BoundOrder\n", 0, 0},
+};
+
+static void certifies_infeasible(void) {
+    EACH(k, certified_infeasible) {
+        dimacs_min instance = exact_min(certified_infeasible[k].instance);
+        const char *name = certified_infeasible[k].name;
+        told = shown_told = better_told = 99;
+        uint32_t status = dimacs_certify_infeasible_arrays(&instance, out, 100, &told, inside, 9, &shown_told, better, 9,
+                                                           &better_told);
+        check(name, status, out, told, certified_infeasible[k].status, certified_infeasible[k].said);
+        check_that(name, shown_told == certified_infeasible[k].inside && better_told == certified_infeasible[k].flows);
+        if (status == DIMACS_DONE) {
+            status = dimacs_judge_infeasible_arrays(&instance, inside, shown_told, out, 100, &told);
+            check(name, status, out, told, 0, "v infeasible\n");
+        } else if (status == DIMACS_REFUSED) {
+            dimacs_numbers flows = exact_numbers((dimacs_numbers){better, better_told});
+            instance.costs = instance.lows; /* which flows are feasible doesn't depend on them */
+            status = certify_min(&instance, flows);
+            check_that(name, status == DIMACS_DONE || !memcmp(out, "x solution 0 0 NotLeast\n", told));
+        }
+        let_go();
+    }
+}
+
+static const struct {
+    const char *name;
     dimacs_graph graph;
     uint32_t source;
     dimacs_numbers distances;
@@ -603,6 +650,7 @@ int main(void) {
     judges_paths();
     certifies_max();
     certifies_min();
+    certifies_infeasible();
     certifies_paths();
     solves_max();
     solves_min();

@@ -112,6 +112,13 @@ static uint32_t certify_max_arrays(void) { return certify_max_by(flows); }
 static uint32_t certify_slow_arrays(void) { return certify_max_by(slow_flows); }
 static uint32_t certify_min_arrays(void) { return certify_min_by(least_flows); }
 static uint32_t certify_dear_arrays(void) { return certify_min_by(dear_flows); }
+static uint32_t certify_infeasible_by(const int64_t *by_node) {
+    dimacs_min instance = min_arrays;
+    instance.supplies.at = by_node;
+    return dimacs_certify_infeasible_arrays(&instance, OUT, MARKS, BETTER);
+}
+static uint32_t certify_infeasible_arrays(void) { return certify_infeasible_by(potentials); }
+static uint32_t certify_feasible_arrays(void) { return certify_infeasible_by(supplies); }
 static uint32_t certify_paths_arrays(void) {
     return dimacs_certify_paths_arrays(&graph_arrays, 1, distances, 4, OUT, (uint32_t *)to.shown, 100, &to.shown_told);
 }
@@ -160,6 +167,8 @@ static const struct {
     {"certify a slow flow in arrays", certify_slow_arrays, 1},
     {"certify min in arrays", certify_min_arrays, 0},
     {"certify a dear flow in arrays", certify_dear_arrays, 1},
+    {"certify in arrays that no flow is feasible", certify_infeasible_arrays, 0},
+    {"certify it where one is", certify_feasible_arrays, 1},
     {"certify paths in arrays", certify_paths_arrays, 0},
     {"solve max in arrays", solve_max_arrays, 0},
     {"solve min in arrays", solve_min_arrays, 0},

@@ -107,7 +107,24 @@ class Judges(unittest.TestCase):
         self.assertEqual((it.text, it.line, it.field, it.reason), ("certificate", 0, 0, "NotViolated"))
 
 
+#: No flow leaves node 1, which supplies 6 of 5 that can.
+NARROW = (2, [1], [2], [0], [5], [1], [6, -6])
+
+
 class Certifies(unittest.TestCase):
+    def test_infeasible(self):
+        found = dimacs.certify_infeasible_arrays(*NARROW)
+        self.assertEqual(found.value, None)
+        self.assertEqual(dimacs.judge_infeasible_arrays(*NARROW, found.inside), dimacs.Verdict("infeasible"))
+
+    def test_feasible(self):
+        with self.assertRaises(dimacs.Feasible) as caught:
+            dimacs.certify_infeasible_arrays(*MIN)
+        it = caught.exception
+        self.assertEqual((it.text, it.line, it.field, it.reason), ("instance", 0, 0, "Feasible"))
+        self.assertEqual((it.arc, it.node), (None, None))
+        self.assertEqual(improved(dimacs.certify_min_arrays, *MIN, it.flow).value, 14)
+
     def test_yes(self):
         self.assertEqual(dimacs.certify_max_arrays(*MAX, FLOW), dimacs.Certified(6, CUT))
         cost, potentials = dimacs.certify_min_arrays(*MIN, LEAST)
@@ -156,6 +173,7 @@ class Certifies(unittest.TestCase):
             (dimacs.certify_max_arrays, (*MAX, SLOW)),
             (dimacs.judge_max_arrays, (*MAX, SLOW, CUT)),
             (dimacs.judge_max_arrays, (0, *MAX[1:], SLOW, [])),
+            (dimacs.certify_infeasible_arrays, MIN),
         ]:
             with self.assertRaises((dimacs.Refused, dimacs.PastLimit)) as caught:
                 call(*words)
@@ -217,6 +235,7 @@ class Misuse(unittest.TestCase):
             (dimacs.judge_min_arrays, (5, *MIN[1:], LEAST, POTENTIALS), "supplies has 4 items, and there are 5 nodes"),
             (dimacs.judge_paths_arrays, (*GRAPH, 1, [], PREDECESSORS), "distances has 0 items, and there are 4 nodes"),
             (dimacs.certify_paths_arrays, (*GRAPH, 1, [0] * 5), "distances has 5 items, and there are 4 nodes"),
+            (dimacs.certify_infeasible_arrays, (*MIN[:-1], [0] * 3), "supplies has 3 items, and there are 4 nodes"),
         ]
         for call, words, said in cases:
             with self.subTest(said), self.assertRaises(ValueError) as caught:
@@ -233,6 +252,7 @@ class Misuse(unittest.TestCase):
             (dimacs.judge_max_arrays, (4, 1, 4, [1], [2], [-1], [0], CUT), "arc 1 BoundOrder"),
             (dimacs.certify_min_arrays, (2, [1], [2], [3], [2], [0], [0, 0], [0]), "arc 1 BoundOrder"),
             (dimacs.certify_min_arrays, (2, [1], [2], [-3], [2], [0], [0, 0], [0]), "arc 1 BoundOrder"),
+            (dimacs.certify_infeasible_arrays, (2, [1], [2], [3], [2], [0], [0, 0]), "arc 1 BoundOrder"),
             (dimacs.judge_paths_arrays, (*GRAPH, 5, DISTANCES, PREDECESSORS), "node 5 NodeRange"),
             (dimacs.certify_max_arrays, (2**32 - 1, *MAX[1:], FLOW), "node 134217729 NumberRange"),
         ]
@@ -456,6 +476,11 @@ class Forms(unittest.TestCase):
         predecessors = dimacs.certify_paths_arrays(*GRAPH, 1, distances).predecessors
         self.assertEqual((predecessors.dtype, predecessors.tolist()), (numpy.dtype("uint32"), PREDECESSORS))
         self.assertEqual(dimacs.judge_paths_arrays(*GRAPH, 1, distances, predecessors), dimacs.Verdict("sp", 1))
+        inside = dimacs.certify_infeasible_arrays(*map(numpy.array, NARROW)).inside
+        self.assertEqual(inside.dtype, numpy.dtype(bool))
+        with self.assertRaises(dimacs.Feasible) as caught:
+            dimacs.certify_infeasible_arrays(*map(numpy.array, MIN))
+        self.assertEqual(caught.exception.flow.dtype, numpy.dtype("int64"))
         nothing = numpy.zeros(0, "int64")
         self.assertEqual(dimacs.certify_min_arrays(0, *[nothing] * 6, nothing).potentials.tolist(), [])
 

@@ -222,6 +222,46 @@ class LeastCost(Networkx):
         self.refused(ValueError, dimacs.certify_networkx_min, graph, flow)
 
 
+class NoFlow(Networkx):
+    def test_what_networkx_finds(self):
+        for seed in range(10):
+            for kind in (networkx.DiGraph, networkx.MultiDiGraph):
+                graph = random_graph(kind, 30, 100, seed)
+                it = self.refused(dimacs.Feasible, dimacs.certify_networkx_infeasible, graph)
+                cost, _ = networkx.network_simplex(graph)
+                self.assertEqual(improved(dimacs.certify_networkx_min, graph, it.flow).value, cost)
+                for node, demand in (("n0", -400), ("n1", 400)):
+                    graph.nodes[node]["demand"] = graph.nodes[node].get("demand", 0) + demand
+                self.refused(networkx.NetworkXUnfeasible, networkx.network_simplex, graph)
+                found = dimacs.certify_networkx_infeasible(graph)
+                self.assertIsNone(found.value)
+                self.assertGreater(*self.sides(graph, found.inside))
+
+    def sides(self, graph, inside):
+        """What a set supplies, and how much can leave it; or what it demands, and how much can enter it."""
+        supply = -sum(graph.nodes[node].get("demand", 0) for node in inside)
+        edges = [(data["capacity"], tail in inside, head in inside) for tail, head, data in graph.edges(data=True)]
+        leaving = sum(capacity for capacity, *ends in edges if ends == [True, False])
+        entering = sum(capacity for capacity, *ends in edges if ends == [False, True])
+        return (supply, leaving) if supply > 0 else (-supply, entering)
+
+    def test_edges_without_capacity(self):
+        graph = networkx.DiGraph([("a", "c"), ("b", "c")])
+        great = 2**63 - 1
+        for node, demand in (("a", -great), ("b", -great), ("c", great), ("d", great)):
+            graph.add_node(node, demand=demand)
+        self.assertIn(dimacs.certify_networkx_infeasible(graph).inside, (set("abc"), set("d")))
+        graph.add_edge("c", "d")
+        it = self.refused(dimacs.Feasible, dimacs.certify_networkx_infeasible, graph)
+        self.assertEqual(it.flow["c"], {"d": great})
+        for demand, node in ((great, "d"), (great, "e"), (0, "c")):
+            graph.add_node(node, demand=demand)
+        graph.add_edge("d", "e")
+        for call in (dimacs.certify_networkx_infeasible, dimacs.solve_networkx_min):
+            it = self.refused(dimacs.GaveUp, call, graph)
+            self.assertIn("without a capacity", str(it))
+
+
 class Demands(Networkx):
     """Of two nodes with an edge from "a" to "b"."""
 

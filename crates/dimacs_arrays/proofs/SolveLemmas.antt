@@ -18,7 +18,7 @@ use Rattle.dimacs_decide.specs.Claims.{claimed_by_node}
 use Rattle.dimacs_decide.specs.Distances.{AreDistancesFrom, AreLabelsOf}
 use Rattle.dimacs_solve.specs.Paths.{AreProduced, block_source, distinct_after}
 use Rattle.dimacs_arrays.specs.ByNode.{AreBits, marked}
-use Rattle.dimacs_arrays.specs.MinArrays.{ShowsInfeasible}
+use Rattle.dimacs_arrays.specs.MinArrays.{IsInfeasibleBy}
 use Rattle.dimacs_arrays.specs.Paths.{ArePredecessors}
 use Rattle.dimacs_arrays.specs.inside.LabelTrees.{ArePredsOf}
 use Rattle.dimacs_arrays.specs.inside.Reached.{AreDistancesOf}
@@ -27,7 +27,7 @@ use Rattle.dimacs_arrays.proofs.OrderLemmas.{predecessors_by}
 -- ---- no flow
 -- a violated set, in bytes
 pub infeasible_by : (i : MinValue) (set : CutValue) (bytes : List ℕ) → ShowsNoFlow i set → length bytes ≡ set.nodes → marked bytes ≡ members set → AreBits bytes
-    → ShowsInfeasible i (marked bytes) × (length bytes ≡ i.nodes) × AreBits bytes
+    → IsInfeasibleBy i bytes
 infeasible_by i set bytes shown each marks bits = ((subst (Violated i) (sym marks) shown.0.violated, shown.1), each ∙ shown.0.nodes_are, bits)
 
 -- ---- distances from one source

@@ -27,6 +27,8 @@ use Rattle.dimacs_arrays.specs.declared.error.Array.TheVariants as arrays
 use Rattle.dimacs_arrays.specs.declared.error.ArrayError.{ArrayError}
 use Rattle.dimacs_arrays.specs.declared.lengths.ArrayLength.{ArrayLength}
 use Rattle.dimacs_arrays.specs.declared.min.MinArrays.{MinArrays}
+use Rattle.dimacs_arrays.specs.declared.certify_infeasible.InfeasibleCertified.{InfeasibleCertified}
+use Rattle.dimacs_arrays.specs.declared.certify_infeasible.InfeasibleCertified.TheVariants as certified
 use Rattle.dimacs_arrays.specs.declared.certify_min.MinCertified.{MinCertified}
 use Rattle.dimacs_arrays.specs.declared.certify_min.MinCertified.TheVariants.{Optimal, Wide, Better}
 use Rattle.dimacs_arrays.specs.declared.solve_min.MinSolved.{MinSolved}
@@ -112,11 +114,20 @@ ShowsInfeasible i set = Violated i set × NoFlow i
 abbrev pub JudgesInfeasible : MinValue → (ℕ → Bool) → Result Verdict JudgeError → Type 0
 JudgesInfeasible i set = Judges (violated_row i set ∷ []) (ShowsInfeasible i set) (λ verdict. verdict ≡ Infeasible)
 
--- a flow that is least by potentials, with its cost, where the limit is 0 the flow to start from; marked nodes that show that no flow is feasible, where each byte is 0 or 1; or that none of so many flows is least, or that the least cost is out of range; want of memory says nothing, and no test fails
+-- the marked nodes show that no flow is feasible, and each byte is 0 or 1
+abbrev pub IsInfeasibleBy : MinValue → List ℕ → Type 0
+IsInfeasibleBy i inside = ShowsInfeasible i (marked inside) × (length inside ≡ i.nodes) × AreBits inside
+
+-- no flow is feasible by marked nodes; or this one is
+abbrev pub CertifiesInfeasible : MinValue → InfeasibleCertified → Type 0
+CertifiesInfeasible i (certified.Infeasible inside) = IsInfeasibleBy i inside.items
+CertifiesInfeasible i (certified.Feasible x) = FeasibleMin i x
+
+-- a flow that is least by potentials, with its cost, where the limit is 0 the flow to start from; marked nodes that show that no flow is feasible; or that none of so many flows is least, or that the least cost is out of range; want of memory says nothing, and no test fails
 abbrev pub SolvesMinFlow : MinValue → ℕ → Result MinSolved JudgeError → Type 0
 SolvesMinFlow i limit (Ok (solved.Optimal total x potentials)) = IsMinBy i x total potentials.items × (limit ≡ 0 → x ≡ start_flow i.arcs)
 SolvesMinFlow i limit (Ok (solved.Wide total x p)) = IsMinByWider i x total p × (limit ≡ 0 → x ≡ start_flow i.arcs)
-SolvesMinFlow i limit (Ok (solved.Infeasible inside)) = ShowsInfeasible i (marked inside.items) × (length inside.items ≡ i.nodes) × AreBits inside.items
+SolvesMinFlow i limit (Ok (solved.Infeasible inside)) = IsInfeasibleBy i inside.items
 SolvesMinFlow i limit (Ok solved.GaveUp) = GivesUpMin i limit
 SolvesMinFlow i limit (Err (Refused place reason)) = ⊥
 SolvesMinFlow i limit (Err Memory) = Unit
@@ -129,6 +140,9 @@ JudgesMinArrays a flows potentials =
 abbrev pub JudgesInfeasibleArrays : MinArrays → List ℕ → Result Verdict ArrayError → Type 0
 JudgesInfeasibleArrays a inside =
     AnswersArrays (infeasible_lengths a inside) (min_limits a) (IsMin (min_spelled a)) (JudgesInfeasible (min_spelled a) (marked inside))
+
+abbrev pub CertifiesInfeasibleArrays : MinArrays → Result InfeasibleCertified ArrayError → Type 0
+CertifiesInfeasibleArrays a = AnswersArrays (min_lengths a) (min_limits a) (IsMin (min_spelled a)) (Settles (CertifiesInfeasible (min_spelled a)) [])
 
 abbrev pub CertifiesMinArrays : MinArrays → List ℤ → Result MinCertified ArrayError → Type 0
 CertifiesMinArrays a flows =

@@ -8,6 +8,7 @@
 #![tactic(auto)]
 
 mod by_node;
+mod certify_infeasible;
 mod certify_max;
 mod certify_min;
 mod certify_paths;
@@ -32,6 +33,7 @@ mod solve_min;
 mod solve_paths;
 mod way_back;
 
+pub use certify_infeasible::{InfeasibleCertified, certify_infeasible_arrays};
 pub use certify_max::{MaxCertified, certify_max_arrays};
 pub use certify_min::{MinCertified, certify_min_arrays};
 pub use certify_paths::certify_paths_arrays;

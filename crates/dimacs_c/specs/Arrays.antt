@@ -1,9 +1,11 @@
 -- What the calls over arrays answer, and what they hand out.
-use Rattle.std.specs.Prelude.{ℕ, ◌≡◌, [], List, Option, IfSome, Result, Ok, Err, ℤ}
+use Rattle.std.specs.Prelude.{ℕ, ◌≡◌, [], List, Option, IfSome, Result, Ok, Err, ℤ, codes}
 use Rattle.std.specs.Global.{Vec}
-use Rattle.dimacs_records.specs.declared.reasons.Reason.TheVariants.{NotLeast, NotMaximum}
+use Rattle.dimacs_records.specs.declared.reasons.Reason.TheVariants.{Feasible, NotLeast, NotMaximum}
 use Rattle.dimacs_judge.specs.declared.verdict.Verdict.{Verdict}
 use Rattle.dimacs_judge.specs.declared.verdict.Where.TheVariants.{Solution}
+use Rattle.dimacs_arrays.specs.declared.certify_infeasible.InfeasibleCertified.{InfeasibleCertified}
+use Rattle.dimacs_arrays.specs.declared.certify_infeasible.InfeasibleCertified.TheVariants as infeasible_certified
 use Rattle.dimacs_arrays.specs.declared.certify_max.MaxCertified.{MaxCertified}
 use Rattle.dimacs_arrays.specs.declared.certify_max.MaxCertified.TheVariants as max_certified
 use Rattle.dimacs_arrays.specs.declared.certify_min.MinCertified.{MinCertified}
@@ -16,6 +18,7 @@ use Rattle.dimacs_arrays.specs.declared.solve_min.MinSolved.{MinSolved}
 use Rattle.dimacs_arrays.specs.declared.solve_min.MinSolved.TheVariants as min_solved
 use Rattle.dimacs_arrays.specs.declared.solve_paths.PathsSolved.{PathsSolved}
 use Rattle.dimacs_arrays.specs.declared.solve_paths.PathsSolved.TheVariants as paths_solved
+use Rattle.dimacs_runs.specs.Refusals.{refusal_line}
 use Rattle.dimacs_runs.specs.Verdicts.{failure_line, gave_up_line, infeasible_line, max_line, min_line, sources_line, verdict_lines}
 use Rattle.dimacs_c.specs.Calls.{Handed, HandsOut}
 
@@ -62,6 +65,14 @@ abbrev pub min_said : MinCertified → Said
 min_said (min_certified.Optimal total potentials) = record (only 0 (min_line total)) { numbers = potentials.items }
 min_said (min_certified.Wide total p) = only 5 gave_up_line
 min_said (min_certified.Better y) = record (only 1 (failure_line (Solution 0 0) NotLeast)) { amounts = y }
+
+-- an instance has a feasible flow that was claimed to have none
+abbrev pub feasible_line : List ℕ
+feasible_line = refusal_line (codes "instance") 0 0 Feasible
+
+abbrev pub infeasible_said : InfeasibleCertified → Said
+infeasible_said (infeasible_certified.Infeasible inside) = record (only 0 infeasible_line) { marks = inside.items }
+infeasible_said (infeasible_certified.Feasible x) = record (only 1 feasible_line) { amounts = x }
 
 abbrev pub paths_said : Vec ℕ → Said
 paths_said preds = record (only 0 (sources_line 1)) { marks = preds.items }

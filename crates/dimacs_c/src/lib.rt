@@ -7,6 +7,7 @@
 
 mod answer;
 mod certify;
+mod infeasible;
 mod judge;
 mod kinds;
 mod lines;

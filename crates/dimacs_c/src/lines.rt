@@ -3,7 +3,7 @@
 ghost use Rattle.std.specs.Prelude.{◌≡◌, ℕ, List, Option, IfOk};
 ghost use Rattle.dimacs_lines.specs.Puts.{Puts};
 ghost use Rattle.dimacs_runs.specs.Verdicts.{failure_line, gave_up_line, verdict_lines};
-ghost use Rattle.dimacs_c.specs.Arrays.{error_line, error_status, said, verdict_said};
+ghost use Rattle.dimacs_c.specs.Arrays.{error_line, error_status, feasible_line, said, verdict_said};
 ghost use Rattle.dimacs_c.specs.Calls.{handed};
 ghost use Rattle.dimacs_c.specs.inside.Arrays.{EndsLine};
 
@@ -11,7 +11,7 @@ use crate::answer::{MISUSED, NO_MEMORY, hand_said};
 use dimacs_arrays::ArrayError;
 use dimacs_judge::{Verdict, Where};
 use dimacs_lines::{DeviceFault, MemorySink, Sink};
-use dimacs_records::Reason;
+use dimacs_records::{Part, Reason, put_line};
 use dimacs_runs::{put_failure, put_gave_up, put_verdict};
 use std::alloc::Global;
 
@@ -74,6 +74,24 @@ pub(crate) fn put_no<K: Sink>(
     ensures line { Puts result (K.seen sink.old) (failure_line place reason) (K.seen sink.new) }
 {
     put_failure(sink, place, reason)?;
+    Ok(NO)
+}
+
+/// Puts the line of an instance that was claimed to have no feasible flow, and has one.
+pub(crate) fn put_feasible<K: Sink>(sink: &mut K) -> Result<u32, DeviceFault>
+    ensures status { IfOk result (λ status. status ≡ 1) }
+    ensures line { Puts result (K.seen sink.old) feasible_line (K.seen sink.new) }
+{
+    put_line(
+        sink,
+        b"x",
+        &[
+            Part::Word(b"instance"),
+            Part::Number(0),
+            Part::Number(0),
+            Part::Word(Reason::Feasible.name().as_bytes()),
+        ],
+    )?;
     Ok(NO)
 }
 

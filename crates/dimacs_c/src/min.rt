@@ -1,16 +1,16 @@
-//! Flows of least cost over arrays, and instances without a feasible flow.
+//! Flows of least cost over arrays.
 
 ghost use Rattle.std.specs.Prelude.{◌≡◌, ℕ, List, Option, None, Some, IfOk};
 ghost use Rattle.dimacs_lines.specs.Puts.{Puts};
-ghost use Rattle.dimacs_arrays.specs.MinArrays.{CertifiesMinArrays, JudgesInfeasibleArrays, JudgesMinArrays, SolvesMinArrays};
+ghost use Rattle.dimacs_arrays.specs.MinArrays.{CertifiesMinArrays, JudgesMinArrays, SolvesMinArrays};
 ghost use Rattle.dimacs_c.specs.Arrays.{AnswersItems, AnswersLine, min_found, min_said, rooms, said};
 ghost use Rattle.dimacs_c.specs.Calls.{handed};
 
 use crate::answer::hand_said;
 use crate::lines::{WHOLE_FLOW, hand_judged, put_error, put_no, put_wide, put_yes};
 use dimacs_arrays::{
-    ArrayError, MinArrays, MinCertified, MinSolved, certify_min_arrays, judge_infeasible_arrays,
-    judge_min_arrays, solve_min_arrays,
+    ArrayError, MinArrays, MinCertified, MinSolved, certify_min_arrays, judge_min_arrays,
+    solve_min_arrays,
 };
 use dimacs_judge::Verdict;
 use dimacs_lines::{DeviceFault, MemorySink, Sink};
@@ -30,21 +30,6 @@ pub extern "C" fn dimacs_judge_min_arrays(
     ensures { AnswersLine (JudgesMinArrays instance.now flows.now potentials.now) result (handed out.old out.new told.new) }
 {
     let answer = judge_min_arrays(alloc, instance, flows, potentials);
-    hand_judged(alloc, answer, out, told)
-}
-
-/// Judges that no flow is feasible by the nodes inside, as `judge_infeasible_arrays`.
-#[unsafe(no_mangle)]
-pub extern "C" fn dimacs_judge_infeasible_arrays(
-    alloc: Global,
-    instance: &MinArrays<'_>,
-    inside: &[u8],
-    out: &mut [u8],
-    told: &mut usize,
-) -> u32
-    ensures { AnswersLine (JudgesInfeasibleArrays instance.now inside.now) result (handed out.old out.new told.new) }
-{
-    let answer = judge_infeasible_arrays(alloc, instance, inside);
     hand_judged(alloc, answer, out, told)
 }
 

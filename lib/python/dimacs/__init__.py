@@ -19,6 +19,7 @@ from .answers import (
     Verdict,
 )
 from .arrays import (
+    certify_infeasible_arrays,
     certify_max_arrays,
     certify_min_arrays,
     certify_paths_arrays,
@@ -31,6 +32,7 @@ from .arrays import (
     solve_paths_arrays,
 )
 from .graphs import (
+    certify_networkx_infeasible,
     certify_networkx_max,
     certify_networkx_min,
     certify_networkx_paths,
@@ -72,10 +74,12 @@ __all__ = [
     "Solved",
     "Verdict",
     "certify_infeasible",
+    "certify_infeasible_arrays",
     "certify_max",
     "certify_max_arrays",
     "certify_min",
     "certify_min_arrays",
+    "certify_networkx_infeasible",
     "certify_networkx_max",
     "certify_networkx_min",
     "certify_networkx_paths",

@@ -17,7 +17,7 @@ import ctypes
 from typing import Any, Callable, NamedTuple
 
 from . import library
-from .answers import Certified, Infeasible, Solved, Verdict
+from .answers import Certified, Feasible, Infeasible, Solved, Verdict
 from .buffers import DISTANCES, IDS, LIMIT, LIMITS, MARKS, NUMBERS, Buffer, Items, Room, array_of, number_of
 
 #: There may be no more nodes than these.
@@ -191,6 +191,22 @@ def certify_min_arrays(
     given = _Given(_MIN, nodes, tails, heads, lows, caps, costs, supplies)
     given.add(_FLOWS, flows)
     return _certify(library.certify_min_arrays, given, flows, _POTENTIALS, _FLOWS)
+
+
+def certify_infeasible_arrays(
+    nodes: int, tails: Any, heads: Any, lows: Any, caps: Any, costs: Any, supplies: Any
+) -> Certified:
+    """Decides whether no flow is feasible; no value, and for each node whether it is inside a set that shows it.
+
+    Raises Feasible where a flow is, which it has. What is handed out has the form of caps, as in certify_max_arrays.
+    """
+    given = _Given(_MIN, nodes, tails, heads, lows, caps, costs, supplies)
+    given.test_lengths()
+    inside, flows = rooms = [given.room(_INSIDE), given.room(_FLOWS)]
+    status, _ = library.call_with_rooms(library.certify_infeasible_arrays, given.words, rooms)
+    if status == library.REFUSED:
+        raise Feasible(flows.in_form_of(caps))
+    return Certified(None, inside.in_form_of(caps))
 
 
 def certify_paths_arrays(

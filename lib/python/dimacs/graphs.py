@@ -18,7 +18,7 @@ from contextlib import contextmanager
 from typing import Any, Iterator
 
 from . import arrays
-from .answers import UNREACHED, Certified, GaveUp, Infeasible, NotOptimal, PastLimit, Refused, Solved, Verdict
+from .answers import UNREACHED, Certified, Feasible, GaveUp, Infeasible, NotOptimal, PastLimit, Refused, Solved, Verdict
 from .buffers import LIMIT, NUMBERS, converted, is_bool, number_of, unlabelled
 
 #: The capacity of an edge without one. A flow has to stay below it there: then the same edges have room left as if
@@ -116,6 +116,18 @@ class _Graph:
         """The nodes that are marked."""
         return {node for node, is_inside in zip(self.nodes, inside) if is_inside}
 
+    def found_set(self, inside: Any) -> set[Any]:
+        """A set that was found to show that no flow is feasible. It has to show it of edges without a limit too."""
+        leaving = entering = 0
+        for tail, head, limit, capacity in zip(self.tails, self.heads, self.capacities(), self._capacities()):
+            amount = math.inf if capacity == math.inf else limit
+            leaving += amount if inside[tail - 1] and not inside[head - 1] else 0
+            entering += amount if inside[head - 1] and not inside[tail - 1] else 0
+        supply = sum(it for it, is_inside in zip(self.supplies(), inside) if is_inside)
+        if -entering <= supply <= leaving:
+            raise GaveUp("no flow is feasible that stays below 2^63 - 1 on the edges without a capacity")
+        return self.nodes_inside(inside)
+
     def predecessors(self, source: Any, by_node: Any) -> dict[Any, Any]:
         """The predecessor of each node that is reached; None of the source."""
         found = {node: self.nodes[it - 1] for node, it in zip(self.nodes, by_node) if it != 0}
@@ -147,7 +159,9 @@ class _Graph:
             better = self.flow_dict(it.better)
             raise NotOptimal(it.reason, better, text=it.text, line=it.line, field=it.field) from None
         except Infeasible as it:
-            raise Infeasible(self.nodes_inside(it.inside)) from None
+            raise Infeasible(self.found_set(it.inside)) from None
+        except Feasible as it:
+            raise Feasible(self.flow_dict(it.flow)) from None
         except (Refused, PastLimit) as it:
             raise type(it)(it.reason, **self._place(it)) from None
 
@@ -221,6 +235,18 @@ def certify_networkx_min(graph: Any, flow: Any) -> Certified:
     return Certified(cost, dict(zip(given.nodes, potentials)))
 
 
+def certify_networkx_infeasible(graph: Any) -> Certified:
+    """Decides whether no flow meets the demands; no value, and a set of nodes that shows it.
+
+    Raises Feasible where a flow does, which it has as a dict; GaveUp where one would have to carry 2^63 or more by edges
+    without a capacity.
+    """
+    given = _Graph(graph)
+    with given.names():
+        inside = arrays.certify_infeasible_arrays(*_min_words(given)).inside
+    return Certified(None, given.found_set(inside))
+
+
 def certify_networkx_paths(graph: Any, source: Any, distances: Any) -> Certified:
     """Decides whether these are the distances from a source, a dict by node; no value, and a dict of predecessors.
 
@@ -251,7 +277,7 @@ def solve_networkx_min(graph: Any, limit: int = LIMIT) -> Solved:
     """Makes a flow of least cost; its cost, the flow, and a dict of potentials by node, which show it.
 
     Raises Infeasible where no flow is feasible, which has the set of nodes that shows it; GaveUp as solve_min_arrays, or
-    where an edge without a capacity carries 2^63 - 1 or more.
+    where an edge without a capacity carries 2^63 - 1 or more, or would have to.
     """
     given = _Graph(graph)
     with given.names():

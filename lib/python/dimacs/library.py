@@ -61,6 +61,7 @@ judge_infeasible_arrays = _export("dimacs_judge_infeasible_arrays", _address, te
 judge_paths_arrays = _export("dimacs_judge_paths_arrays", _address, _number, texts=2)
 certify_max_arrays = _export("dimacs_certify_max_arrays", _address, texts=1, rooms=3)
 certify_min_arrays = _export("dimacs_certify_min_arrays", _address, texts=1, rooms=3)
+certify_infeasible_arrays = _export("dimacs_certify_infeasible_arrays", _address, rooms=3)
 certify_paths_arrays = _export("dimacs_certify_paths_arrays", _address, _number, texts=1, rooms=2)
 solve_max_arrays = _export("dimacs_solve_max_arrays", _address, _limit, rooms=3)
 solve_min_arrays = _export("dimacs_solve_min_arrays", _address, _limit, rooms=4)

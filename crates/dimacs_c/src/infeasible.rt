@@ -1,0 +1,90 @@
+//! Instances without a feasible flow, over arrays.
+
+ghost use Rattle.std.specs.Prelude.{◌≡◌, ℕ, List, Option, None, Some, IfOk};
+ghost use Rattle.dimacs_lines.specs.Puts.{Puts};
+ghost use Rattle.dimacs_arrays.specs.MinArrays.{CertifiesInfeasibleArrays, JudgesInfeasibleArrays};
+ghost use Rattle.dimacs_c.specs.Arrays.{AnswersItems, AnswersLine, infeasible_said, rooms, said};
+ghost use Rattle.dimacs_c.specs.Calls.{handed};
+
+use crate::answer::hand_said;
+use crate::lines::{hand_judged, put_error, put_feasible, put_yes};
+use dimacs_arrays::{
+    ArrayError, InfeasibleCertified, MinArrays, certify_infeasible_arrays, judge_infeasible_arrays,
+};
+use dimacs_judge::Verdict;
+use dimacs_lines::{DeviceFault, MemorySink, Sink};
+use std::alloc::Global;
+
+/// Judges that no flow is feasible by the nodes inside, as `judge_infeasible_arrays`.
+#[unsafe(no_mangle)]
+pub extern "C" fn dimacs_judge_infeasible_arrays(
+    alloc: Global,
+    instance: &MinArrays<'_>,
+    inside: &[u8],
+    out: &mut [u8],
+    told: &mut usize,
+) -> u32
+    ensures { AnswersLine (JudgesInfeasibleArrays instance.now inside.now) result (handed out.old out.new told.new) }
+{
+    let answer = judge_infeasible_arrays(alloc, instance, inside);
+    hand_judged(alloc, answer, out, told)
+}
+
+/// Certifies that no flow is feasible, as `certify_infeasible_arrays`. The second room is for the nodes inside a set that
+/// shows it, and the third for a feasible flow.
+#[unsafe(no_mangle)]
+pub extern "C" fn dimacs_certify_infeasible_arrays(
+    alloc: Global,
+    instance: &MinArrays<'_>,
+    out: &mut [u8],
+    told: &mut usize,
+    inside: &mut [u8],
+    inside_told: &mut usize,
+    flows: &mut [i64],
+    flows_told: &mut usize,
+) -> u32
+    ensures { AnswersItems infeasible_said (CertifiesInfeasibleArrays instance.now) result
+        (rooms (handed out.old out.new told.new) (Some (handed inside.old inside.new inside_told.new)) None (Some (handed flows.old flows.new flows_told.new))) }
+{
+    let answer = certify_infeasible_arrays(alloc, instance);
+    let mut line = MemorySink::new(alloc);
+    let put = put_certified(&mut line, &answer);
+    hand_said(put, inside_of(&answer), inside, inside_told);
+    hand_said(put, flow_of(&answer), flows, flows_told);
+    hand_said(put, line.bytes(), out, told)
+}
+
+/// Puts the line of what is certified, and answers its status.
+fn put_certified<K: Sink>(
+    sink: &mut K,
+    answer: &Result<InfeasibleCertified, ArrayError>,
+) -> Result<u32, DeviceFault>
+    ensures status { IfOk result (λ status. status ≡ (said infeasible_said answer.now).status) }
+    ensures line { Puts result (K.seen sink.old) (said infeasible_said answer.now).line (K.seen sink.new) }
+{
+    match answer {
+        Ok(InfeasibleCertified::Infeasible(_)) => put_yes(sink, &Verdict::Infeasible),
+        Ok(InfeasibleCertified::Feasible(_)) => put_feasible(sink),
+        Err(error) => put_error(sink, *error),
+    }
+}
+
+/// The nodes inside, where they show that no flow is feasible.
+fn inside_of(answer: &Result<InfeasibleCertified, ArrayError>) -> &[u8]
+    ensures { result.now ≡ (said infeasible_said answer.now).marks }
+{
+    match answer {
+        Ok(InfeasibleCertified::Infeasible(inside)) => inside,
+        _ => &[],
+    }
+}
+
+/// The feasible flow, where there is one.
+fn flow_of(answer: &Result<InfeasibleCertified, ArrayError>) -> &[i64]
+    ensures { result.now ≡ (said infeasible_said answer.now).amounts }
+{
+    match answer {
+        Ok(InfeasibleCertified::Feasible(flow)) => flow.amounts(),
+        _ => &[],
+    }
+}
