@@ -1,19 +1,24 @@
 -- What certifying tells of the texts that it was given.
-use Rattle.std.proofs.Common.{◌≡◌, ◌∙◌, ℕ, ℤ, List, [], ◌∷◌, Option, None, Result, Ok, Err, refl, sym, subst, ap, inl, inr, ◌⊎◌, drop}
+use Rattle.std.proofs.Common.{◌≡◌, ◌≢◌, ◌∙◌, ℕ, ℤ, List, [], ◌∷◌, Option, None, Result, Ok, Err, refl, sym, subst, ap, inl, inr, ◌⊎◌, drop, length}
+use Rattle.std.specs.Prelude.{codes}
 use Rattle.dimacs_lines.specs.Devices.{Written}
 use Rattle.dimacs_claims.specs.Cuts.{CutValue, canonical_cut}
+use Rattle.dimacs_claims.specs.Labels.{LabelsValue}
+use Rattle.dimacs_claims.specs.LabelTexts.{canonical_labels}
 use Rattle.dimacs_claims.specs.Potentials.{PotentialsValue, canonical_potentials}
 use Rattle.dimacs_claims.specs.SolutionTexts.{SolutionValue, canonical_solution, claimed}
 use Rattle.dimacs_claims.specs.declared.solution.Solution.{Solution}
+use Rattle.dimacs_network.specs.Arcs.{NetworkValue}
 use Rattle.dimacs_instance.specs.MaxFlows.{MaxValue, IsMax}
 use Rattle.dimacs_instance.specs.MinFlows.{MinValue}
 use Rattle.dimacs_records.specs.declared.reasons.Reason.{Reason}
-use Rattle.dimacs_records.specs.declared.reasons.Reason.TheVariants.{NotLeast, NotMaximum}
+use Rattle.dimacs_records.specs.declared.reasons.Reason.TheVariants.{Feasible, NodesDiffer, NotLeast, NotMaximum}
 use Rattle.dimacs_judge.specs.declared.verdict.JudgeError.{JudgeError}
 use Rattle.dimacs_judge.specs.declared.verdict.JudgeError.TheVariants as judge_errors
 use Rattle.dimacs_judge.specs.declared.verdict.Verdict.TheVariants as verdicts
 use Rattle.dimacs_judge.specs.declared.verdict.Where.{Where}
 use Rattle.dimacs_judge.specs.declared.verdict.Where.TheVariants as places
+use Rattle.dimacs_judge.specs.InfeasibleJudge.{ShowsNoFlow}
 use Rattle.dimacs_judge.specs.MaxJudge.{ShowsMaximum, max_claim_rows}
 use Rattle.dimacs_judge.specs.MinJudge.{ShowsLeast, min_claim_rows}
 use Rattle.dimacs_judge.specs.Optimum.{Least, Maximum}
@@ -23,18 +28,22 @@ use Rattle.dimacs_judge.proofs.MaxJudge as max
 use Rattle.dimacs_judge.proofs.MinJudge as min
 use Rattle.dimacs_decide.specs.CertifiedMax.{CertifiesMax}
 use Rattle.dimacs_decide.specs.CertifiedMin.{CertifiesMin}
+use Rattle.dimacs_decide.specs.CertifiedPaths.{AreAllDistances, AreLabelsOfAll, CertifiesPaths}
 use Rattle.dimacs_runs.specs.declared.outcome.Status.{Status}
 use Rattle.dimacs_runs.specs.declared.outcome.Status.TheVariants.{Done, Refused, GaveUp}
 use Rattle.dimacs_runs.specs.declared.outcome.RunError.{RunError}
-use Rattle.dimacs_runs.specs.declared.produced.Made.TheVariants.{Better, Nothing, Set, Slack}
+use Rattle.dimacs_runs.specs.declared.produced.Made.TheVariants.{Better, Distances, Nothing, Set, Slack}
 use Rattle.dimacs_runs.specs.declared.produced.Produced.{Produced}
+use Rattle.dimacs_runs.specs.declared.told.Told.{Told}
 use Rattle.dimacs_runs.specs.declared.told.Told.TheVariants as told
-use Rattle.dimacs_runs.specs.Certified.{CertificateOr, CertifiesLeast, CertifiesMaximum, SaysCheaper, SaysCut, SaysGreater, SaysPotentials, uncertified}
+use Rattle.dimacs_runs.specs.Certified.{CertificateOr, CertifiesDistances, CertifiesInfeasible, CertifiesLeast, CertifiesMaximum, SaysCheaper, SaysCut, SaysFeasible, SaysGreater, SaysPotentials, SaysSet, uncertified}
 use Rattle.dimacs_runs.specs.Outputs.{AcceptAll, AcceptInTurn, ReportsAll, TellsAlike, report_of}
-use Rattle.dimacs_runs.specs.Verdicts.{failure_line}
+use Rattle.dimacs_runs.specs.Refusals.{refusal_line}
+use Rattle.dimacs_runs.specs.Verdicts.{distances_line, failure_line}
 use Rattle.dimacs_runs.specs.inside.Judgings.{answer_told}
+use Rattle.dimacs_runs.specs.inside.Making.{IsPut}
 use Rattle.dimacs_runs.specs.inside.Produced.{EndsProducing, MayCertify, accepted_by, produced_texts, reported, unclaimed_texts}
-use Rattle.dimacs_runs.specs.inside.Told.{told_status}
+use Rattle.dimacs_runs.specs.inside.Told.{told_lines, told_status}
 
 -- ---- the claim
 -- where one of two kinds of text can be, no test of the claim fails, and the other kind can't be
@@ -123,6 +132,62 @@ module _ (i : MinValue) (s : SolutionValue) where
   pub least_error : (error : JudgeError) → Refutes (CertifiesMin i s) (min_claim_rows i s) error → MayCertify (CertifiesLeast i s) (reported (answer_told (Err error)))
   least_error error refutes = error_tells potentials_apart _ _ (CertifiesMin i s) error refutes
 
+module _ (i : MinValue) where
+  -- a set shows that no flow is feasible, or a flow is
+  set_apart : AreApart (SaysSet i) (SaysFeasible i) []
+  set_apart = record {
+    shown_clear = λ text says. tt;
+    better_clear = λ text says. tt;
+    one = λ a b says feasible. says.1.1 feasible.0 feasible.1;
+  }
+
+  -- a set shows it
+  pub set_certifies : (set : CutValue) → ShowsNoFlow i set → MayCertify (CertifiesInfeasible i) (Ok (record { made = Set set; told = told.Yes verdicts.Infeasible }))
+  set_certifies set shown = yes_tells set_apart (canonical_cut set) (set, shown, refl)
+
+  -- a flow is feasible
+  pub feasible_certifies : (solution : Solution) (text : Told) → told_status text ≡ Refused → told_lines text ≡ refusal_line (codes "instance") 0 0 Feasible → SaysFeasible i (canonical_solution (claimed solution))
+      → MayCertify (CertifiesInfeasible i) (Ok (record { made = Better solution; told = text }))
+  feasible_certifies solution text status lines says = rw (status, lines) (better_tells set_apart (canonical_solution (claimed solution)) says)
+
+  -- a flow is feasible, whose cost no solution can say
+  pub unsaid_feasible_certifies : (text : Told) → told_status text ≡ Refused → told_lines text ≡ refusal_line (codes "instance") 0 0 Feasible → SaysFeasible i []
+      → MayCertify (CertifiesInfeasible i) (Ok (record { made = Nothing; told = text }))
+  unsaid_feasible_certifies text status lines says = rw (status, lines) (better_tells set_apart [] says)
+
+module _ (g : NetworkValue) (d : LabelsValue) where
+  -- the distances are of another graph
+  pub other_nodes_told : (text : Told) → told_status text ≡ Refused → told_lines text ≡ refusal_line (codes "distances") 0 0 NodesDiffer → d.nodes ≢ g.nodes → MayCertify (CertifiesDistances g d) (reported (Ok text))
+  other_nodes_told text status lines other = rw (status, lines) ((inl (other, refl)), alike)
+    where
+      alike : (s : Status) (out : List (List ℕ)) → CertifiesDistances g d s out → (s ≡ Refused) × (report_of out ≡ refusal_line (codes "distances") 0 0 NodesDiffer)
+      alike Done out h = absurd (other h.0)
+      alike Refused out (inl h) = (refl, ap report_of h.1)
+      alike Refused out (inr h) = absurd (other h.0)
+      alike GaveUp out h = absurd h
+
+  -- labels show the distances true
+  pub labels_certify : (labels : LabelsValue) (sources : ℕ) → sources ≡ length d.blocks → d.nodes ≡ g.nodes → AreAllDistances g d.blocks × AreLabelsOfAll g d.blocks labels
+      → MayCertify (CertifiesDistances g d) (Ok (record { made = Distances labels; told = told.Distances sources }))
+  labels_certify labels sources count same shown = rw count ((same, (canonical_labels labels, (shown.0, (labels, shown.1, refl)), refl)), alike)
+    where
+      alike : (s : Status) (out : List (List ℕ)) → CertifiesDistances g d s out → (s ≡ Done) × (report_of out ≡ distances_line (length d.blocks))
+      alike Done out h = (refl, ap report_of h.1.2)
+      alike Refused out (inl h) = absurd (h.0 same)
+      alike Refused out (inr h) = absurd (h.1 shown.0)
+      alike GaveUp out h = absurd h
+
+  -- a test fails, or memory was wanting
+  pub distances_error : (error : JudgeError) → d.nodes ≡ g.nodes → CertifiesPaths g d.blocks (Err error) → MayCertify (CertifiesDistances g d) (reported (answer_told (Err error)))
+  distances_error (judge_errors.Refused place reason) same refutes = (inr (same, refutes.1, (place, reason, refutes.0.0, refl)), alike)
+    where
+      alike : (s : Status) (out : List (List ℕ)) → CertifiesDistances g d s out → (s ≡ Refused) × (report_of out ≡ failure_line place reason)
+      alike Done out h = absurd (refutes.1 h.1.1.0)
+      alike Refused out (inl h) = absurd (h.0 same)
+      alike Refused out (inr h) = let is = refutes.0.1 h.2.0 h.2.1 h.2.2 in (refl, ap report_of h.2.3 ∙ rw (is.0, is.1) refl)
+      alike GaveUp out h = absurd h
+  distances_error judge_errors.Memory same refutes = tt
+
 -- ---- what was put, without a claim
 accepted_after : (texts : List (List ℕ)) (old new : List (Option (List ℕ))) → AcceptAll texts (None ∷ old) (None ∷ new) → AcceptAll (drop 1 texts) old new
 accepted_after [] old new same = cc
@@ -134,8 +199,16 @@ in_turn_after (text ∷ texts) old new (inl (front, same)) = inl same
 in_turn_after (text ∷ texts) old new (inr (whole, more)) = inr more
 
 -- a sink that keeps nothing
-abbrev nowhere : Written
+abbrev pub nowhere : Written
 nowhere = record { accepted = None; faults = 0 }
+
+-- what was put of what was produced
+pub puts_all : (p : Produced) (result : Result Status RunError) (old new : List Written) → EndsProducing (Ok p) result (nowhere ∷ old) (nowhere ∷ new) → ReportsAll (IsPut p) result (accepted_by old) (accepted_by new)
+puts_all p (Ok status) old new ends = (unclaimed_texts p, (ends.0, refl), accepted_after (produced_texts p) (accepted_by old) (accepted_by new) ends.1)
+puts_all p (Err error) old new ends = elim (in_turn_after (produced_texts p) (accepted_by old) (accepted_by new) ends.1) [
+  | inl same ↦ inl same
+  | inr more ↦ inr (told_status p.told, unclaimed_texts p, (refl, refl), more)
+]
 
 pub certified_reports : (tells : Status → List (List ℕ) → Type 0) (produced : Result Produced RunError) (result : Result Status RunError) (old new : List Written)
     → MayCertify tells produced → EndsProducing produced result (nowhere ∷ old) (nowhere ∷ new) → ReportsAll (TellsAlike tells) result (accepted_by old) (accepted_by new)

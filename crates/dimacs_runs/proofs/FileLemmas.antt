@@ -95,9 +95,9 @@ module _ (faults counted : ℕ) where
   ]
 
   -- a run told of the device that failed
-  pub tells_failure : (closed : List Closed) (ended : Result Status RunError) (failure : Option Failure) → IsFirstOf failure (flat_map failures (closings closed))
+  pub tells_failure : {X : Type 0} (closed : List Closed) (ended : Result X RunError) (failure : Option Failure) → IsFirstOf failure (flat_map failures (closings closed))
       → CountsDevices ended (all_before closed) (all_after closed) → (flat_map failures (closings closed) ≡ failures_told (named ended failure)) × (counted ≡ output_faults (named ended failure) faults)
-  tells_failure closed (Ok status) failure first counts = none_failed closed counts
+  tells_failure closed (Ok x) failure first counts = none_failed closed counts
   tells_failure closed (Err Memory) failure first counts = none_failed closed counts
   tells_failure closed (Err Device) None first counts = elim (one_failed closed counts) [
     | inl none ↦ none

@@ -6,3 +6,4 @@ pub mod ReportLemmas
 pub mod SolvingLemmas
 pub mod CertifyingLemmas
 pub mod TextLemmas
+pub mod MakingLemmas

@@ -1,5 +1,5 @@
 -- How a run ends that reads files, and creates one for the text that it made of theirs.
-use Rattle.std.proofs.Common.{ℕ, ◌≡◌, ◌++◌, ◌∙◌, ◌⊎◌, List, [], ◌∷◌, Option, None, Some, Result, Ok, Err, refl, sym, ap, append_assoc, append-nil, flat_map, inl, inr, map}
+use Rattle.std.proofs.Common.{ℕ, ◌≡◌, ◌≢◌, ◌++◌, ◌∙◌, ◌⊎◌, List, [], ◌∷◌, Option, None, Some, Result, Ok, Err, refl, sym, ap, append-nil, arith, drop, flat_map, inl, inr, map}
 use Rattle.std.specs.Result.{IsErrAnd}
 use Rattle.std.proofs.lemmas.Grind.{flat_map-append}
 use Rattle.dimacs_lines.specs.Devices.{Written}
@@ -9,14 +9,21 @@ use Rattle.dimacs_runs.specs.declared.outcome.RunError.{RunError}
 use Rattle.dimacs_runs.specs.declared.outcome.RunError.TheVariants.{Device, Memory}
 use Rattle.dimacs_runs.specs.declared.outcome.Status.{Status}
 use Rattle.dimacs_runs.specs.declared.produced.Produced.{Produced}
-use Rattle.dimacs_runs.specs.Commands.{Contents, Making, MakesOfFiles, Plan, at_first, at_last, failures_told, files_for, made_events, output_faults, seen_by, text_first}
-use Rattle.dimacs_runs.specs.Files.{Created, FileEvent, FilesSeen, NotCreated, Opened, Read, ReadFile, Sees, WrittenFile, Wrote, failures}
+use Rattle.dimacs_runs.specs.declared.jobs.CertifyKind.{CertifyKind}
+use Rattle.dimacs_runs.specs.declared.produced.Made.{Made}
+use Rattle.dimacs_runs.specs.declared.produced.Made.TheVariants.{Better, Distances, Least, Maximum, Nothing, Set, Slack}
+use Rattle.dimacs_runs.specs.Certified.{Certified}
+use Rattle.dimacs_runs.specs.Commands.{Contents, Making, MakesCertificate, MakesOfFiles, files_for, seen_by}
+use Rattle.dimacs_runs.specs.Files.{Created, FileEvent, FilesSeen, NotCreated, NotOpened, Opened, Read, ReadFile, Sees, WrittenFile, closed_written, failures}
 use Rattle.dimacs_runs.specs.Judgings.{CountsDevices, OneMore}
 use Rattle.dimacs_runs.specs.Outputs.{ReportsAll}
 use Rattle.dimacs_runs.specs.inside.Commands.{FailsWith, IsFirstOf, named}
-use Rattle.dimacs_runs.specs.inside.Making.{AnswersFiles, IsPut, MayMake, PutsMade}
-use Rattle.dimacs_runs.proofs.FileLemmas.{Closed, all_after, all_before, closings, faults_of, none_of, sees_then, tells_failure}
-use Rattle.dimacs_runs.proofs.PlanLemmas.{is_error, opened_none}
+use Rattle.dimacs_runs.specs.inside.Making.{AnswersFiles, IsPut, MayMake, PutsMade, PutsReport}
+use Rattle.dimacs_runs.specs.inside.Produced.{EndsProducing, MayCertify, faults_by, made_texts, unclaimed_texts, with_report}
+use Rattle.dimacs_runs.specs.inside.Told.{told_lines}
+use Rattle.dimacs_runs.proofs.CertifyingLemmas.{nowhere, puts_all}
+use Rattle.dimacs_runs.proofs.FileLemmas.{all_after, all_before, closings, one_first, sees_then, sees_two, tells_failure, why_nothing}
+use Rattle.dimacs_runs.proofs.PlanLemmas.{is_error, opened_none, reports_all_named, sees_nothing}
 
 -- ---- what is told of what was put
 reports_all_told : {E : Type 0} (a b : Status → List (List ℕ) → Type 0) (result : Result Status E) (old new : List (Option (List ℕ))) → ((s : Status) (o : List (List ℕ)) → a s o → b s o)
@@ -82,11 +89,10 @@ module _ {opened : List (List ℕ)} {holds : Contents} {makes : Making} {result 
       may_name texts (Err Memory) failure may = tt
 
 -- ---- what was produced is put
-module _ {plan : Plan} {holds : Contents} {empty : Option (List ℕ)} {makes : Making} {result : Result Status CommandError} {a b : FilesSeen} {old : Written} where
+module _ (opened created : List (List ℕ)) {holds : Contents} {empty : Option (List ℕ)} {makes : Making} {result : Result Status CommandError} {a b : FilesSeen} {old : Written} where
   -- nothing was produced
-  pub makes_nothing : (answer : Result Produced CommandError) (error : CommandError) → answer ≡ Err error → AnswersFiles plan.opened holds makes answer a b → IsErrAnd result (λ e. e ≡ error)
-      → MakesOfFiles plan holds empty makes result (seen_by a old) (seen_by b old)
-  makes_nothing (Err error) e is answers same = rw (is_error result e same, ← e_is) record {
+  pub makes_nothing : (error : CommandError) → AnswersFiles opened holds makes (Err error) a b → IsErrAnd result (λ e. e ≡ error) → MakesOfFiles (record { opened = opened; created = created }) holds empty makes result (seen_by a old) (seen_by b old)
+  makes_nothing error answers is = rw (is_error result error is) record {
     events = answers.events;
     seen = answers.seen;
     failure = answers.failure;
@@ -97,22 +103,18 @@ module _ {plan : Plan} {holds : Contents} {empty : Option (List ℕ)} {makes : M
           read = read.read;
           written = [];
           all_read = read.all_read;
-          happened = read.happened ∙ sym (append-nil _);
+          happened = read.happened ∙ sym (append-nil (map Opened opened ++ map Read read.read));
           told = λ texts same. inl refl;
           nothing_written = λ nothing. (refl, refl);
         })
     ];
   }
-    where
-      e_is : error ≡ e
-      e_is = cc
-  makes_nothing (Ok p) e is answers same = absurd cc
 
   -- what was produced was put
-  pub makes_of_files : {c : FilesSeen} {new : Written} (p : Produced) → AnswersFiles plan.opened holds makes (Ok p) a b → PutsMade p plan.created empty result (seen_by b old) (seen_by c new)
-      → MakesOfFiles plan holds empty makes result (seen_by a old) (seen_by c new)
+  pub makes_of_files : {c : FilesSeen} {new : Written} (p : Produced) → AnswersFiles opened holds makes (Ok p) a b → PutsMade p created empty result (seen_by b old) (seen_by c new)
+      → MakesOfFiles (record { opened = opened; created = created }) holds empty makes result (seen_by a old) (seen_by c new)
   makes_of_files {c} {new} p answers puts = elim answers.ends [
-    | inl stops ↦ absurd stops.1
+    | inl stops ↦ let never = stops.1 in absurd cc
     | inr read ↦ record {
         events = answers.events ++ puts.events;
         seen = sees_then answers.events puts.events a b c answers.seen puts.seen;
@@ -139,3 +141,113 @@ module _ {plan : Plan} {holds : Contents} {empty : Option (List ℕ)} {makes : M
         ];
       }
   ]
+
+-- ---- whether there is a text
+something_made : (made : Made) (report : List ℕ) (names : List (List ℕ)) → made ≢ Nothing → files_for names (drop 1 (with_report (made_texts made) report)) ≡ names
+something_made Nothing report names some = absurd (some refl)
+something_made (Maximum solution cut) report names some = refl
+something_made (Least solution potentials) report names some = refl
+something_made (Set set) report names some = refl
+something_made (Slack potentials) report names some = refl
+something_made (Better solution) report names some = refl
+something_made (Distances labels) report names some = refl
+
+nothing_made : (made : Made) (report : List ℕ) (names : List (List ℕ)) → made ≡ Nothing → files_for names (drop 1 (with_report (made_texts made) report)) ≡ []
+nothing_made Nothing report names is = refl
+nothing_made other report names is = absurd cc
+
+no_files : (out : List (List ℕ)) → files_for [] out ≡ []
+no_files [] = refl
+no_files ([] ∷ out) = refl
+no_files ((x ∷ text) ∷ out) = refl
+
+-- ---- the devices that can fail
+without_first : (ended : Result Status RunError) (old new : List ℕ) → CountsDevices ended (0 ∷ old) (0 ∷ new) → CountsDevices ended old new
+without_first (Ok status) old new counts = cc
+without_first (Err Memory) old new counts = cc
+without_first (Err Device) old new (inl more) = absurd (omega (arith, more.0))
+without_first (Err Device) old new (inr more) = more.1
+
+counts_of : (p : Produced) (ended : Result Status RunError) (old new : List Written) → EndsProducing (Ok p) ended old new → CountsDevices ended (faults_by old) (faults_by new)
+counts_of p (Ok status) old new ends = ends.2
+counts_of p (Err Device) old new ends = ends.2
+counts_of p (Err Memory) old new ends = absurd cc
+
+never_memory : (p : Produced) (ended : Result Status RunError) (old new : List Written) → EndsProducing (Ok p) ended old new → ended ≢ Err Memory
+never_memory p (Ok status) old new ends is = absurd cc
+never_memory p (Err Device) old new ends is = absurd cc
+never_memory p (Err Memory) old new ends is = let never : Memory ≡ Device = ends.0 in absurd cc
+
+-- ---- what was produced is put
+-- the report alone
+pub puts_report : {result : Result Status CommandError} {old new : Written} (p : Produced) (ended : Result Status RunError) → result ≡ named ended None → EndsProducing (Ok p) ended (nowhere ∷ nowhere ∷ old ∷ []) (nowhere ∷ nowhere ∷ new ∷ []) → PutsReport p result old new
+puts_report {result} {old} {new} p ended is ends =
+    let counts = without_first ended (0 ∷ old.faults ∷ []) (0 ∷ new.faults ∷ []) (counts_of p ended _ _ ends) in
+    let fails = tells_failure old.faults new.faults [] ended None refl (without_first ended (old.faults ∷ []) (new.faults ∷ []) counts) in
+    rw is record {
+      put = reports_all_named (IsPut p) ended None _ _ (puts_all p ended (nowhere ∷ old ∷ []) (nowhere ∷ new ∷ []) ends);
+      failure = sym fails.0;
+      faults = fails.1;
+      something_put = why_nothing ⊥ [] ended None refl (never_memory p ended _ _ ends) (λ unread. unread);
+    }
+
+module _ {empty : Option (List ℕ)} {result : Result Status CommandError} {old : Written} {b : FilesSeen} (p : Produced) where
+  no_text : {new : Written} (names : List (List ℕ)) → files_for names (unclaimed_texts p) ≡ [] → PutsReport p result old new → PutsMade p names empty result (seen_by b old) (seen_by b new)
+  no_text {new} names none puts = record {
+    events = [];
+    seen = sees_nothing b;
+    failure = sym puts.failure;
+    faults = puts.faults;
+    ends = inr (record { written = []; all_written = sym none; happened = refl; put = puts.put; something_put = puts.something_put });
+  }
+
+  -- no file is named
+  pub puts_unnamed : {new : Written} → PutsReport p result old new → PutsMade p [] empty result (seen_by b old) (seen_by b new)
+  puts_unnamed {new} puts = no_text {new = new} [] (no_files (unclaimed_texts p)) puts
+
+  -- there is no text
+  pub puts_no_text : {new : Written} (names : List (List ℕ)) → p.made ≡ Nothing → PutsReport p result old new → PutsMade p names empty result (seen_by b old) (seen_by b new)
+  puts_no_text {new} names is puts = no_text {new = new} names (nothing_made p.made (told_lines p.told) names is) puts
+
+  -- the file for the text could not be created
+  pub puts_nowhere : {name : List ℕ} {error : CommandError} {c : FilesSeen} → p.made ≢ Nothing → IsErrAnd result (λ e. e ≡ error) → FailsWith (NotCreated name) b c error → PutsMade p (name ∷ []) empty result (seen_by b old) (seen_by c old)
+  puts_nowhere {name} {error} some is fails = rw (is_error result error is) record {
+    events = NotCreated name fails.cause ∷ [];
+    seen = fails.seen;
+    failure = append-nil (failures (NotCreated name fails.cause)) ∙ fails.failure;
+    faults = sym (fails.output old.faults);
+    ends = inl (record { name = name; error = fails.cause; whole = refl; happened = refl; text = something_made p.made (told_lines p.told) (name ∷ []) some; failed = refl; nothing_put = refl });
+  }
+
+  -- the file for the text was created, written and closed
+  pub puts_text : {new : Written} {name : List ℕ} {c d : FilesSeen} (seen : Written) (ended : Result Status RunError) (failure : Option Failure) → p.made ≢ Nothing → Sees (Created name ∷ []) b c → Sees (closed_written name seen ∷ []) c d
+      → result ≡ named ended failure → IsFirstOf failure (failures (closed_written name seen)) → EndsProducing (Ok p) ended (nowhere ∷ record { accepted = empty; faults = 0 } ∷ old ∷ []) (nowhere ∷ seen ∷ new ∷ [])
+      → PutsMade p (name ∷ []) empty result (seen_by b old) (seen_by d new)
+  puts_text {new} {name} {c} {d} seen ended failure some created closed is first ends =
+      let file : WrittenFile = record { name = name; seen = seen } in
+      let fresh : Written = record { accepted = empty; faults = 0 } in
+      let counts = without_first ended (0 ∷ old.faults ∷ []) (seen.faults ∷ new.faults ∷ []) (counts_of p ended _ _ ends) in
+      let one = one_first failure (closed_written name seen) first in
+      let fails = tells_failure old.faults new.faults (inr file ∷ []) ended failure one counts in
+      rw is record {
+        events = Created name ∷ closed_written name seen ∷ [];
+        seen = sees_two created closed;
+        failure = fails.0;
+        faults = fails.1;
+        ends = inr (record {
+          written = file ∷ [];
+          all_written = sym (something_made p.made (told_lines p.told) (name ∷ []) some);
+          happened = refl;
+          put = reports_all_named (IsPut p) ended failure _ _ (puts_all p ended (fresh ∷ old ∷ []) (seen ∷ new ∷ []) ends);
+          something_put = why_nothing ⊥ (inr file ∷ []) ended failure one (never_memory p ended _ _ ends) (λ unread. unread);
+        });
+      }
+
+-- ---- what a certifier makes
+pub pair_made : (kind : CertifyKind) (a b : List ℕ) (answer : Result Produced RunError) → MayCertify (Certified kind a b) answer → MayMake (MakesCertificate kind) (a ∷ b ∷ []) answer
+pair_made kind a b (Ok p) may = may
+pair_made kind a b (Err error) may = tt
+
+pub instance_made : (kind : CertifyKind) (a : List ℕ) (answer : Result Produced RunError) → MayCertify (Certified kind a []) answer → MayMake (MakesCertificate kind) (a ∷ []) answer
+instance_made kind a (Ok p) may = may
+instance_made kind a (Err error) may = tt

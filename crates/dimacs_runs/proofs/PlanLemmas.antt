@@ -23,7 +23,7 @@ use Rattle.dimacs_runs.specs.Solved.{AreQueries, Solved}
 use Rattle.dimacs_runs.specs.inside.Commands.{FailsWith, IsFirstOf, named}
 use Rattle.dimacs_runs.proofs.FileLemmas.{AnyRead, Closed, all_after, all_before, closings, sees_then, tells_failure, why_nothing}
 
-opened_none : (names : List (List ℕ)) → flat_map failures (map Opened names) ≡ []
+pub opened_none : (names : List (List ℕ)) → flat_map failures (map Opened names) ≡ []
 opened_none [] = refl
 opened_none (name ∷ names) = opened_none names
 
@@ -57,7 +57,7 @@ sees_nothing seen = record { done = nothing seen.done; faults = refl }
     nothing None = refl
     nothing (Some earlier) = sym (ap Some (append-nil earlier))
 
-is_error : {X : Type 0} (result : Result X CommandError) (error : CommandError) → IsErrAnd result (λ e. e ≡ error) → result ≡ Err error
+pub is_error : {X : Type 0} (result : Result X CommandError) (error : CommandError) → IsErrAnd result (λ e. e ≡ error) → result ≡ Err error
 is_error result error is = let (other, same, it) = err_from_is_err_and result is in same ∙ ap Err it
 
 module _ {plan : Plan} {holds : Contents} {empty : Option (List ℕ)} {tells : Telling} {result : Result Status CommandError} {a : FilesSeen} {output : Written} where

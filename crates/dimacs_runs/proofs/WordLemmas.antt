@@ -9,7 +9,11 @@ use Rattle.dimacs_runs.specs.declared.jobs.Job.TheVariants.{Convert, Show, Judge
 use Rattle.dimacs_runs.specs.declared.jobs.JudgeKind.{JudgeKind}
 use Rattle.dimacs_runs.specs.declared.jobs.SolveJob.{SolveJob}
 use Rattle.dimacs_runs.specs.declared.jobs.SolveJob.TheVariants.{Max, Min, Paths}
-use Rattle.dimacs_runs.specs.Jobs.{AreOptions, Asks, AsksProducer, IsLimit, TellLimit, TwoOrThree, certify_word, file_count, judge_word, solve_word}
+use Rattle.dimacs_runs.specs.Jobs.{AreCertifyFiles, AreOptions, Asks, AsksProducer, IsLimit, TellLimit, certify_word, file_count, judge_word, solve_word}
+
+pub one_word : {A : Type 0} (f : A → List ℕ) (words : List A) (a : A) (x : List ℕ) → 1 ≤ length words → length words < 2 → a ≡ get_or words 0 a → x ≡ f a → map f words ≡ x ∷ []
+one_word f (p ∷ []) a x least most first is_x = sym (rw (is_x, first) refl)
+one_word f words a x least most first is_x = absurd (omega (arith, least, most))
 
 pub two_words : {A : Type 0} (f : A → List ℕ) (words : List A) (a b : A) (x y : List ℕ) → 2 ≤ length words → length words < 3 → a ≡ get_or words 0 a → b ≡ get_or words 1 b
     → x ≡ f a → y ≡ f b → map f words ≡ x ∷ y ∷ []
@@ -55,7 +59,7 @@ no_producer f verb words options least is none job files asks = absurd (omega (a
 module _ {A : Type 0} (f : A → List ℕ) (words : List A) (first : A) (rest : List A) (verb : List ℕ) (is : words ≡ first ∷ rest) (is_verb : verb ≡ f first) where
   -- a word that names no run, and words after it that no judge, no certifier and no producer takes
   pub nothing_asked : (answer : Option Job) → verb ≢ codes "convert" → verb ≢ codes "show" → IfNone answer ((kind : JudgeKind) → verb ≡ judge_word kind → length rest ≢ file_count kind)
-      → IfNone answer ((kind : CertifyKind) → verb ≡ certify_word kind → ¬ TwoOrThree (length rest))
+      → IfNone answer ((kind : CertifyKind) → verb ≡ certify_word kind → ¬ AreCertifyFiles kind (length rest))
       → IfNone answer ((job : SolveJob) (files : List (List ℕ)) → ¬ AsksProducer (verb ∷ map f rest) job files) → IfNone answer ((wanted : Job) → ¬ Asks (map f words) wanted)
   nothing_asked (Some job) convert show judge certifier producer = tt
   nothing_asked None convert show judge certifier producer = rw (is, ← is_verb) nothing
@@ -71,5 +75,5 @@ module _ {A : Type 0} (f : A → List ℕ) (words : List A) (first : A) (rest : 
           let word : verb ≡ certify_word kind = cc in
           let others : map f rest ≡ map string_bytes files.now = cc in
           let long : length files.now ≡ length rest = sym (length-map files.now string_bytes) ∙ sym (ap length others) ∙ length-map rest f in
-          certifier kind word (subst TwoOrThree long count)
+          certifier kind word (subst (AreCertifyFiles kind) long count)
       nothing (Solve job files) asks = producer job (map string_bytes files.now) asks

@@ -202,12 +202,12 @@ output_faults (Ok x) faults = faults
 output_faults (Err error) faults = faults_by_error error faults
 
 -- a run took place over files, and ended so; and the device that is told of is the only one that failed
-pub record RunsOver (ends : List FileEvent → Type 0) (result : Result Status CommandError) (old new : Seen) : Type 0 where
+pub record RunsOver (end : List FileEvent → Type 0) (result : Result Status CommandError) (old new : Seen) : Type 0 where
   pub events : List FileEvent
   pub seen : Sees events old.files new.files
   pub failure : flat_map failures events ≡ failures_told result
   pub faults : new.output.faults ≡ output_faults result old.output.faults
-  pub ends : ends events
+  pub ends : end events
 
 -- a file could not be opened or created, and nothing was put
 abbrev pub PutsNothing : Type 0 → Result Status CommandError → Seen → Seen → Type 0

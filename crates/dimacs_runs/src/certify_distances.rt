@@ -52,10 +52,23 @@ fn answer_distances<N: Network>(
         let told = Told::Fault(text_name(TextKind::Distances), at, Reason::NodesDiffer);
         return report_alone(Ok(told));
     }
+    answer_blocks(alloc, graph, distances)
+}
+
+/// The answer about distances of as many nodes as the graph has.
+fn answer_blocks<N: Network>(
+    alloc: Global,
+    graph: &Graph<N>,
+    distances: &Distances,
+) -> Result<Produced, RunError>
+    requires { distances.now.nodes ≡ graph.now.nodes }
+    ensures certifies { MayCertify (CertifiesDistances graph.now distances.now) result }
+    ensures no_device { result ≢ Err Device }
+{
     match certify_paths(alloc, graph, distances) {
         Ok(labels) => Ok(Produced {
             made: Made::Distances(labels),
-            told: Told::Distances(distances.blocks().len() as u64),
+            told: Told::Distances(distances.blocks().len() as u32),
         }),
         Err(error) => report_alone(answer_told(Err(error))),
     }

@@ -1,10 +1,8 @@
 //! Files that are created for a text once it is made.
 
-ghost use Rattle.std.specs.Prelude.{◌≡◌, ◌≢◌, ◌∷◌, [], None};
-ghost use Rattle.dimacs_runs.specs.declared.produced.Made.TheVariants.{Nothing};
-ghost use Rattle.dimacs_runs.specs.Commands.{WritesNothing, failures_told, output_faults, seen_by};
-ghost use Rattle.dimacs_runs.specs.Outputs.{ReportsAll};
-ghost use Rattle.dimacs_runs.specs.inside.Making.{IsPut, PutsMade, names_of};
+ghost use Rattle.std.specs.Prelude.{◌∷◌, []};
+ghost use Rattle.dimacs_runs.specs.Commands.{seen_by};
+ghost use Rattle.dimacs_runs.specs.inside.Making.{PutsMade, PutsReport, names_of};
 
 use crate::discard::Discard;
 use crate::failure::{CommandError, name_failure};
@@ -27,23 +25,25 @@ pub(crate) fn put_made<'a, F: Files, K: Sink>(
         (seen_by (F.seen files.new) (K.seen output.new)) }
 {
     match name {
-        Some(name) if produced.made.is_something() => put_into(produced, name, files, output),
-        _ => put_report(produced, output),
+        Some(name) => put_into(produced, name, files, output),
+        None => put_report(produced, output),
     }
 }
 
-/// Puts what was produced, with its text into a file of this name.
+/// Puts what was produced, with its text, where there is one, into a file of this name.
 fn put_into<'a, F: Files, K: Sink>(
     produced: Produced,
     name: &'a str,
     files: &mut F,
     output: &mut K,
 ) -> Result<Status, CommandError<'a>>
-    requires { produced.made ≢ Nothing }
     ensures puts { PutsMade produced (name.now ∷ []) F.empty result
         (seen_by (F.seen files.old) (K.seen output.old))
         (seen_by (F.seen files.new) (K.seen output.new)) }
 {
+    if produced.made.is_nothing() {
+        return put_report(produced, output);
+    }
     let mut file = create(files, name)?;
     let ended = put_produced(Ok(produced), &mut Discard, &mut file.device, output);
     let failure = close_written(files, file);
@@ -55,10 +55,7 @@ fn put_report<'a, K: Sink>(
     produced: Produced,
     output: &mut K,
 ) -> Result<Status, CommandError<'a>>
-    ensures reports { ReportsAll (IsPut produced) result (None ∷ (K.seen output.old).accepted ∷ []) (None ∷ (K.seen output.new).accepted ∷ []) }
-    ensures faults { (K.seen output.new).faults ≡ output_faults result (K.seen output.old).faults }
-    ensures no_file { failures_told result ≡ [] }
-    ensures put { ¬ WritesNothing result }
+    ensures puts { PutsReport produced result (K.seen output.old) (K.seen output.new) }
 {
     let ended = put_produced(Ok(produced), &mut Discard, &mut Discard, output);
     name_failure(ended, None)

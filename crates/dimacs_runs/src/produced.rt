@@ -1,6 +1,6 @@
 //! What a run tells that makes a claim or a certificate, and how it is put.
 
-ghost use Rattle.std.specs.Prelude.{◌≡◌, ◌≢◌, ◌↔◌, ◌∷◌, [], IfOk, IsTrue};
+ghost use Rattle.std.specs.Prelude.{◌≡◌, ◌↔◌, ◌∷◌, [], IfOk, IsTrue};
 ghost use Rattle.dimacs_runs.specs.declared.produced.Made.TheVariants.{Nothing};
 ghost use Rattle.dimacs_runs.specs.inside.Produced.{EndsProducing, IsClaimless, PutTexts, least_produced, made_texts, maximum_produced, reported};
 ghost use Rattle.dimacs_runs.specs.inside.Produced as produced;
@@ -34,11 +34,11 @@ pub(crate) enum Made {
 }
 
 impl Made {
-    /// Whether there is a text to be put.
-    pub(crate) fn is_something(&self) -> bool
-        ensures { IsTrue result ↔ (self.now ≢ Nothing) }
+    /// Whether there is no text to be put.
+    pub(crate) fn is_nothing(&self) -> bool
+        ensures { IsTrue result ↔ (self.now ≡ Nothing) }
     {
-        !matches!(self, Made::Nothing)
+        matches!(self, Made::Nothing)
     }
 
     /// Puts the claim, and then the certificate.

@@ -1,6 +1,6 @@
 //! The runs that certify a claim by files.
 
-ghost use Rattle.std.specs.Prelude.{◌≡◌, ◌∷◌, [], length, map};
+ghost use Rattle.std.specs.Prelude.{◌≤◌, ◌∷◌, [], length, map};
 ghost use Rattle.std.specs.String.{string_bytes};
 ghost use Rattle.dimacs_runs.specs.declared.jobs.CertifyKind.TheVariants as certifies;
 ghost use Rattle.dimacs_runs.specs.Commands.{MakesCertificate, MakesOfFiles, reads_first, seen_by};
@@ -32,15 +32,48 @@ pub(crate) fn certify_files<'a, F: Files, K: Sink>(
         (seen_by (F.seen files.old) (K.seen output.old))
         (seen_by (F.seen files.new) (K.seen output.new)) }
 {
-    if kind == CertifyKind::Infeasible {
-        return match names {
-            [instance] => certify_instance(alloc, instance.as_str(), None, files, output),
-            [instance, set] => {
-                certify_instance(alloc, instance.as_str(), Some(set.as_str()), files, output)
-            }
-            _ => unreachable!(),
-        };
+    match kind {
+        CertifyKind::Infeasible => certify_by_one(alloc, names, files, output),
+        kind => certify_by_two(alloc, kind, names, files, output),
     }
+}
+
+/// Certifies by the files of these names where one is read, that of the instance.
+fn certify_by_one<'a, F: Files, K: Sink>(
+    alloc: Global,
+    names: &'a [String],
+    files: &mut F,
+    output: &mut K,
+) -> Result<Status, CommandError<'a>>
+    requires least { 1 ≤ length names.now }
+    requires most { length names.now ≤ 2 }
+    ensures runs { MakesOfFiles (reads_first 1 (map string_bytes names.now)) (F.holds files.old) F.empty (MakesCertificate certifies.Infeasible) result
+        (seen_by (F.seen files.old) (K.seen output.old))
+        (seen_by (F.seen files.new) (K.seen output.new)) }
+{
+    match names {
+        [instance] => certify_instance(alloc, instance.as_str(), None, files, output),
+        [instance, set] => {
+            certify_instance(alloc, instance.as_str(), Some(set.as_str()), files, output)
+        }
+        _ => unreachable!(),
+    }
+}
+
+/// Certifies by the files of these names where two are read, those of the instance and the claim.
+fn certify_by_two<'a, F: Files, K: Sink>(
+    alloc: Global,
+    kind: CertifyKind,
+    names: &'a [String],
+    files: &mut F,
+    output: &mut K,
+) -> Result<Status, CommandError<'a>>
+    requires least { 2 ≤ length names.now }
+    requires most { length names.now ≤ 3 }
+    ensures runs { MakesOfFiles (reads_first 2 (map string_bytes names.now)) (F.holds files.old) F.empty (MakesCertificate kind) result
+        (seen_by (F.seen files.old) (K.seen output.old))
+        (seen_by (F.seen files.new) (K.seen output.new)) }
+{
     match names {
         [instance, claim] => certify_pair(
             alloc,

@@ -18,7 +18,7 @@ pub(crate) enum Told {
     /// The judge's yes.
     Yes(Verdict),
     /// The distances from so many sources are true.
-    Distances(u64),
+    Distances(u32),
     /// The first test that fails.
     No(Where, Reason),
     /// The fault of a text.

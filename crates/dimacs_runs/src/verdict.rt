@@ -62,7 +62,7 @@ fn write_answer<K: Sink>(page: &mut Page, sink: &mut K, answer: &Answer)
 }
 
 /// Puts the line that tells that the distances from so many sources are true.
-pub fn put_distances<K: Sink>(sink: &mut K, sources: u64) -> Result<(), DeviceFault>
+pub fn put_distances<K: Sink>(sink: &mut K, sources: u32) -> Result<(), DeviceFault>
     ensures { Puts result (K.seen sink.old) (distances_line sources) (K.seen sink.new) }
 {
     put_line(
@@ -71,7 +71,7 @@ pub fn put_distances<K: Sink>(sink: &mut K, sources: u64) -> Result<(), DeviceFa
         &[
             Part::Word(b"sp"),
             Part::Word(b"distances"),
-            Part::Wide(i128::from(sources)),
+            Part::Number(i64::from(sources)),
         ],
     )
 }

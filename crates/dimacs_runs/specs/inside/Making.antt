@@ -1,6 +1,7 @@
 -- Inside: files that are read, and one that is created for the text that was made of theirs.
 use Rattle.std.specs.Prelude.{ℕ, ◌≡◌, ◌⊎◌, ◌++◌, List, [], ◌∷◌, Option, None, Some, Result, Ok, Err, IsErr, map}
 use Rattle.std.specs.List.{flat_map}
+use Rattle.dimacs_lines.specs.Devices.{Written}
 use Rattle.dimacs_runs.specs.declared.failure.CommandError.{CommandError}
 use Rattle.dimacs_runs.specs.declared.outcome.RunError.{RunError}
 use Rattle.dimacs_runs.specs.declared.outcome.Status.{Status}
@@ -38,6 +39,13 @@ pub record AnswersFiles (opened : List (List ℕ)) (holds : Contents) (makes : M
   pub failure : flat_map failures events ≡ failures_told result
   pub output : (faults : ℕ) → faults ≡ output_faults result faults
   pub ends : (StopsOpening (reads opened) events × IsErr result) ⊎ ClosesRead opened holds makes events result
+
+-- the report was put, and no text
+pub record PutsReport (p : Produced) (result : Result Status CommandError) (old new : Written) : Type 0 where
+  pub put : ReportsAll (IsPut p) result (None ∷ old.accepted ∷ []) (None ∷ new.accepted ∷ [])
+  pub failure : failures_told result ≡ []
+  pub faults : new.faults ≡ output_faults result old.faults
+  pub something_put : ¬ WritesNothing result
 
 -- the file for the text could not be created, and nothing was put
 pub record PutsNowhere (p : Produced) (created : List (List ℕ)) (events : List FileEvent) (result : Result Status CommandError) (old new : Seen) : Type 0 where

@@ -1,0 +1,27 @@
+use Rattle.std.proofs.Common.{ℕ, ◌∙◌, List, [], ◌∷◌, refl}
+use Rattle.dimacs_runs.specs.declared.jobs.CertifyKind.TheVariants as certifies
+use Rattle.dimacs_runs.specs.Commands.{MakesCertificate}
+use Rattle.dimacs_runs.specs.Files.{Read, ReadFile}
+use Rattle.dimacs_runs.specs.inside.Making.{MayMake}
+use Rattle.dimacs_runs.proofs.FileLemmas.{one_first}
+use Rattle.dimacs_runs.proofs.MakingLemmas.{answers_files, answers_nothing, instance_made}
+use Rattle.dimacs_runs.proofs.PlanLemmas.{each_text, sees_nothing}
+use Rattle.dimacs_runs.proofs.runs_that_certify.answer_instance.Goals as goal
+
+pub returns-in_err-instance : goal.returns-in_err-instance
+returns-in_err-instance g c =
+    record { answers = answers_nothing [] [] refl c.from_residual.ensures.1 (sees_nothing _) c.in_err-instance.ensures.failed }
+
+pub returns : goal.returns
+returns g c =
+    let answer = c.certify_infeasible-answer.result in
+    let instance : ReadFile = record { name = c.in_ok-instance.instance.name.now; faults = g.F.Input.Source.faults c.certify_infeasible-answer.new.instance } in
+    record {
+      answers = answers_files (instance ∷ []) answer c.close_read-failure.result
+          (rw c.in_ok-instance.ensures.named refl)
+          c.in_ok-instance.ensures.opened c.close_read-failure.ensures.seen c.name_failure.ensures
+          (one_first c.close_read-failure.result (Read instance) c.close_read-failure.ensures.failure)
+          (rw c.in_ok-instance.ensures.faultless at c.certify_infeasible-answer.ensures.faults)
+          (each_text (_ ∷ []) (λ (texts : List (List ℕ)). MayMake (MakesCertificate certifies.Infeasible) texts answer) (λ a first.
+          instance_made certifies.Infeasible a answer (c.certify_infeasible-answer.ensures.certifies a (c.in_ok-instance.ensures.coming ∙ first))));
+    }
