@@ -1,9 +1,11 @@
 -- What the lines about instances have, of the instances that texts spell.
-use Rattle.std.specs.Prelude.{ℕ, ◌≡◌, List, length, pos, Some, Result, Ok, Err}
+use Rattle.std.specs.Prelude.{ℕ, ◌≡◌, List, [], ◌∷◌, codes, length, pos, Some, Result, Ok, Err}
+use Rattle.std.specs.Fmt.{decimal, signed_decimal}
 use Rattle.dimacs_records.specs.declared.faults.ReadError.{ReadError}
 use Rattle.dimacs_records.specs.declared.order.Earlier.{Earlier}
 use Rattle.dimacs_records.specs.declared.reasons.Reason.{Reason}
 use Rattle.dimacs_records.specs.declared.records.Record.{Record}
+use Rattle.dimacs_records.specs.Printed.{shown}
 use Rattle.dimacs_records.specs.Readings.{LineRecord}
 use Rattle.dimacs_records.specs.Tests.{earlier_of}
 use Rattle.dimacs_records.specs.Texts.{Reads}
@@ -29,6 +31,9 @@ pub record SumsUpGraph (s : GraphSummary) (g : NetworkValue) : Type 0 where
   pub nodes : s.nodes ≡ g.nodes
   pub arcs : s.arcs ≡ length g.arcs
 
+abbrev pub graph_summary_line : GraphSummary → List ℕ
+graph_summary_line s = shown (codes "sp" ∷ decimal s.nodes ∷ decimal s.arcs ∷ [])
+
 -- the records of a text give a graph of which this is the summary
 abbrev pub GivesGraphSummary : List LineRecord → GraphSummary → Type 0
 GivesGraphSummary rs s = (g : NetworkValue) × GivesGraph rs g × SumsUpGraph s g
@@ -53,6 +58,9 @@ pub record SumsUpMax (s : MaxSummary) (m : MaxValue) : Type 0 where
   pub source : s.source ≡ m.source
   pub sink : s.sink ≡ m.sink
 
+abbrev pub max_summary_line : MaxSummary → List ℕ
+max_summary_line s = shown (codes "max" ∷ decimal s.nodes ∷ decimal s.arcs ∷ decimal s.source ∷ decimal s.sink ∷ [])
+
 -- the records of a text give an instance of which this is the summary
 abbrev pub GivesMaxSummary : List LineRecord → MaxSummary → Type 0
 GivesMaxSummary rs s = (m : MaxValue) × GivesMax rs m × SumsUpMax s m
@@ -63,6 +71,9 @@ pub record SumsUpMin (s : MinSummary) (m : MinValue) : Type 0 where
   pub arcs : s.arcs ≡ length m.arcs
   pub supplied : s.supplied ≡ pos (supply_sum m)
   pub demanded : s.demanded ≡ pos (demand_sum m)
+
+abbrev pub min_summary_line : MinSummary → List ℕ
+min_summary_line s = shown (codes "min" ∷ decimal s.nodes ∷ decimal s.arcs ∷ signed_decimal s.supplied ∷ signed_decimal s.demanded ∷ [])
 
 -- the records of a text give an instance of which this is the summary
 abbrev pub GivesMinSummary : List LineRecord → MinSummary → Type 0

@@ -33,8 +33,13 @@ pub trait Summary: Drop {
 
     ghost shown: { Said → List ℕ };
 
+    /// The line about a value of which this is the summary.
+    ghost line: { Self → List ℕ };
+
+    /// A summary has all that the line about its value has.
     fn kind() -> TextKind
-        ensures { result ≡ kind };
+        ensures kind { result ≡ kind }
+        ensures enough { (summary : Self) (value : Said) → sums_up summary value → line summary ≡ shown value };
 
     /// Reads a text, and keeps the summary alone.
     fn read<S: Source>(alloc: Global, source: &mut S) -> Result<Self, ReadError>
@@ -43,5 +48,5 @@ pub trait Summary: Drop {
 
     /// Puts the line about the value.
     fn show<K: Sink>(&self, sink: &mut K) -> Result<(), DeviceFault>
-        ensures puts { (value : Said) → sums_up self.now value → Puts result (K.seen sink.old) (shown value) (K.seen sink.new) };
+        ensures puts { Puts result (K.seen sink.old) (line self.now) (K.seen sink.new) };
 }

@@ -4,7 +4,7 @@ ghost use Rattle.std.specs.Prelude.{◌≡◌, refl};
 ghost use Rattle.dimacs_records.specs.declared.kinds.TextKind.TheVariants as kinds;
 ghost use Rattle.dimacs_network.specs.Arcs.{NetworkValue};
 ghost use Rattle.dimacs_instance.specs.Graph.{SpellsGraph, shown_graph};
-ghost use Rattle.dimacs_instance.specs.Summaries.{GivesGraphSummary, IsGraphCountedBy, SumsUpGraph, counted_lines};
+ghost use Rattle.dimacs_instance.specs.Summaries.{GivesGraphSummary, IsGraphCountedBy, SumsUpGraph, counted_lines, graph_summary_line};
 
 use crate::summaries::Summary;
 use dimacs_lines::{DeviceFault, Memory, Sink, Source};
@@ -30,6 +30,8 @@ impl Summary for GraphSummary {
     ghost spells = { λ text g. SpellsGraph text g };
 
     ghost shown = { λ g. shown_graph g };
+
+    ghost line = { λ s. graph_summary_line s };
 
     fn kind() -> TextKind {
         TextKind::Graph

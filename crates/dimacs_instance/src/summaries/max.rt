@@ -5,7 +5,7 @@ ghost use Rattle.dimacs_records.specs.declared.kinds.TextKind.TheVariants as kin
 ghost use Rattle.dimacs_instance.specs.MaxFlows.{MaxValue};
 ghost use Rattle.dimacs_instance.specs.MaxReading.{IsMaxCountedBy, after_lines, before, before_end};
 ghost use Rattle.dimacs_instance.specs.MaxTexts.{SpellsMax, shown_max};
-ghost use Rattle.dimacs_instance.specs.Summaries.{GivesMaxSummary, SumsUpMax};
+ghost use Rattle.dimacs_instance.specs.Summaries.{GivesMaxSummary, SumsUpMax, max_summary_line};
 
 use crate::max::{EndLine, EndLines};
 use crate::summaries::Summary;
@@ -35,6 +35,8 @@ impl Summary for MaxSummary {
     ghost spells = { λ text m. SpellsMax text m };
 
     ghost shown = { λ m. shown_max m };
+
+    ghost line = { λ s. max_summary_line s };
 
     fn kind() -> TextKind {
         TextKind::Max

@@ -5,7 +5,7 @@ ghost use Rattle.dimacs_records.specs.declared.kinds.TextKind.TheVariants as kin
 ghost use Rattle.dimacs_instance.specs.MinFlows.{MinValue};
 ghost use Rattle.dimacs_instance.specs.MinReading.{IsMinCountedBy, after_lines, before};
 ghost use Rattle.dimacs_instance.specs.MinTexts.{SpellsMin, shown_min};
-ghost use Rattle.dimacs_instance.specs.Summaries.{GivesMinSummary, SumsUpMin};
+ghost use Rattle.dimacs_instance.specs.Summaries.{GivesMinSummary, SumsUpMin, min_summary_line};
 
 use crate::min::MinInstance;
 use crate::summaries::Summary;
@@ -37,6 +37,8 @@ impl Summary for MinSummary {
     ghost spells = { λ text m. SpellsMin text m };
 
     ghost shown = { λ m. shown_min m };
+
+    ghost line = { λ s. min_summary_line s };
 
     fn kind() -> TextKind {
         TextKind::Min
