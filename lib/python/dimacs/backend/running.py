@@ -89,7 +89,7 @@ def can_run(name: str, args: tuple[Any, ...], kwargs: dict[str, Any]) -> bool | 
         _TESTS[_FUNCTIONS[name]](given.arguments)
     except Unable as no:
         return Reason(no)
-    except (AttributeError, KeyError, TypeError, ValueError):
+    except (AttributeError, LookupError, TypeError, ValueError):
         return True  # what is wrong with the arguments the call itself says
     return True
 
