@@ -65,11 +65,13 @@ pub(crate) fn read_summary<V: Summary, P: Source>(
     source: &mut P,
 ) -> Result<V, Unread>
     ensures reads { (a : List ℕ) → P.coming source.old ≡ Some a → PlacesOne (λ value summary. V.sums_up summary value) (text_says V.kind V.spells a) result }
+    ensures enough { IfOk result (λ summary. (value : V.Said) → V.sums_up summary value → V.line summary ≡ V.shown value) }
     ensures faults { CountsUnread result (P.faults source.old ∷ []) (P.faults source.new ∷ []) }
 {
+    let kind = V::kind();
     match V::read(alloc, source) {
         Ok(summary) => Ok(summary),
-        Err(error) => Err(Unread::of(V::kind(), error)),
+        Err(error) => Err(Unread::of(kind, error)),
     }
 }
 

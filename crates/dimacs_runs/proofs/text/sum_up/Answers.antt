@@ -10,13 +10,13 @@ use Rattle.dimacs_runs.proofs.text.sum_up.Goals as goal
 pub returns-in_ok-show-in-Ok-clause-reports : goal.returns-in_ok-show-in-Ok-clause-reports
 returns-in_ok-show-in-Ok-clause-reports g c = λ bytes coming.
     let read = c.in-Ok.ensures.reads bytes coming in
-    (g.T.Summary.shown read.0, value_told (text_says g.T.Summary.kind g.T.Summary.spells bytes) g.T.Summary.shown read.0 read.2, rw (g.T.Summary.kind_laws) at c.in_ok-show-in-Ok.ensures.puts.accepted)
+    (g.T.Summary.shown read.0, value_told (text_says g.T.Summary.kind g.T.Summary.spells bytes) g.T.Summary.shown read.0 read.2, rw (c.in-Ok.ensures.enough read.0 read.1) at c.in_ok-show-in-Ok.ensures.puts.accepted)
 
 pub returns-in_err-show-in-Ok-clause-reports : goal.returns-in_err-show-in-Ok-clause-reports
 returns-in_err-show-in-Ok-clause-reports g c = λ bytes coming.
     let read = c.in-Ok.ensures.reads bytes coming in
     let (error, is, device) = err_from_is_err_and c.from_residual.result c.from_residual.ensures.1 in
-    rw is (inr (Done, g.T.Summary.shown read.0, value_told (text_says g.T.Summary.kind g.T.Summary.spells bytes) g.T.Summary.shown read.0 read.2, (c.in_err-show-in-Ok.ensures.puts read.0 read.1).accepted))
+    rw is (inr (Done, g.T.Summary.shown read.0, value_told (text_says g.T.Summary.kind g.T.Summary.spells bytes) g.T.Summary.shown read.0 read.2, rw (c.in-Ok.ensures.enough read.0 read.1) at c.in_err-show-in-Ok.ensures.puts.accepted))
 
 pub returns-in-Err-clause-reports : goal.returns-in-Err-clause-reports
 returns-in-Err-clause-reports g c = λ bytes coming.
