@@ -476,10 +476,10 @@ class Forms(unittest.TestCase):
         predecessors = dimacs.certify_paths_arrays(*GRAPH, 1, distances).predecessors
         self.assertEqual((predecessors.dtype, predecessors.tolist()), (numpy.dtype("uint32"), PREDECESSORS))
         self.assertEqual(dimacs.judge_paths_arrays(*GRAPH, 1, distances, predecessors), dimacs.Verdict("sp", 1))
-        inside = dimacs.certify_infeasible_arrays(*map(numpy.array, NARROW)).inside
+        inside = dimacs.certify_infeasible_arrays(NARROW[0], *map(numpy.array, NARROW[1:])).inside
         self.assertEqual(inside.dtype, numpy.dtype(bool))
         with self.assertRaises(dimacs.Feasible) as caught:
-            dimacs.certify_infeasible_arrays(*map(numpy.array, MIN))
+            dimacs.certify_infeasible_arrays(MIN[0], *map(numpy.array, MIN[1:]))
         self.assertEqual(caught.exception.flow.dtype, numpy.dtype("int64"))
         nothing = numpy.zeros(0, "int64")
         self.assertEqual(dimacs.certify_min_arrays(0, *[nothing] * 6, nothing).potentials.tolist(), [])
