@@ -1,0 +1,39 @@
+//! The answer about a claimed flow, and the text that shows it.
+
+ghost use Rattle.std.specs.Prelude.{◌≡◌, ℤ, List, Ok, true};
+ghost use Rattle.dimacs_claims.specs.SolutionTexts.{claimed};
+ghost use Rattle.dimacs_judge.specs.MaxJudge.{IsMaxClaim};
+ghost use Rattle.dimacs_judge.specs.Optimum.{Maximum};
+
+use crate::failure::Failure;
+use dimacs_claims::{Solution, write_cut, write_solution};
+use dimacs_decide::{MaxDecision, certify_max};
+use dimacs_instance::MaxInstance;
+use dimacs_judge::max_solution;
+use dimacs_lines::Sink;
+use dimacs_network::Network;
+use std::alloc::Global;
+
+/// Whether the solution's flow is maximum. Puts the cut that shows it, or a solution with a better flow. Yes only where the
+/// flow has the claimed value and no feasible flow has a greater one.
+pub fn certify<N: Network, K: Sink>(
+    alloc: Global,
+    instance: &MaxInstance<N>,
+    solution: &Solution,
+    shown: &mut K,
+) -> Result<bool, Failure>
+    ensures maximum { result ≡ Ok true
+        → (x : List ℤ) × IsMaxClaim instance.now (claimed solution.now) x × Maximum instance.now x }
+{
+    match certify_max(alloc, instance, solution)? {
+        MaxDecision::Optimal(cut) => {
+            write_cut(&cut, shown)?;
+            Ok(true)
+        }
+        MaxDecision::Better(flow) => {
+            let better = max_solution(alloc, instance, &flow)?;
+            write_solution(&better, shown)?;
+            Ok(false)
+        }
+    }
+}

@@ -1,0 +1,51 @@
+//! Certifies a maximum flow by the crates: example_judge INSTANCE SOLUTION
+//!
+//! Prints the text of what shows the answer, a cut or a better solution, then the checksum of that text as a comment. The
+//! exit statuses are those of `dimacs certify-max`.
+#![tactic(auto)]
+
+mod certify;
+mod checksum;
+mod failure;
+
+use crate::certify::certify;
+use crate::checksum::Checksum;
+use crate::failure::Failure;
+use dimacs_claims::read_solution;
+use dimacs_instance::read_max;
+use dimacs_lines::{FileSink, FileSource, StdoutSink};
+use std::fs::File;
+use std::process::ExitCode;
+use std::{env, io};
+
+fn main(rt: HostRuntime) -> ExitCode {
+    let ended = match env::args(&rt).and_then(|words| Ok(words.collect::<Vec<String>>(
+        rt.alloc(),
+    )?)) {
+        Ok(words) => run(&rt, words.get(1..).unwrap_or_default()),
+        Err(_) => Err(Failure::Misused),
+    };
+    ExitCode::from(match ended {
+        Ok(true) => 0,
+        Ok(false) => 1,
+        Err(failure) => failure.status(&rt),
+    })
+}
+
+/// Whether the flow of the solution in the second file is maximum in the instance in the first one.
+fn run(rt: &HostRuntime, words: &[String]) -> Result<bool, Failure> {
+    let [instance, solution] = words else {
+        return Err(Failure::Misused);
+    };
+    let mut instance = FileSource::new(File::open(rt, instance.as_str())?);
+    let instance = read_max(rt.alloc(), &mut instance).map_err(|it| Failure::of("instance", it))?;
+    let mut solution = FileSource::new(File::open(rt, solution.as_str())?);
+    let solution = read_solution(rt.alloc(), &mut solution).map_err(|it| Failure::of(
+        "solution", it,
+    ))?;
+    let stdout: StdoutSink<'_, HostRuntime> = FileSink::new(io::writer(rt));
+    let mut shown = Checksum::new(stdout);
+    let is_maximum = certify(rt.alloc(), &instance, &solution, &mut shown)?;
+    println!(rt; "c checksum {:08x}", shown.sum())?;
+    Ok(is_maximum)
+}

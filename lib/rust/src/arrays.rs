@@ -1,0 +1,487 @@
+//! The calls over slices.
+//!
+//! Nodes and arcs count from 1. The k-th items of the slices by arc say what the k-th arc is, and the k-th item of a slice
+//! by node belongs to node k. Each call gives [`Error::WrongLength`] if a slice has another length than it has to have,
+//! [`Error::PastLimit`] if a number of the instance is past its limit, and [`Error::OutOfMemory`]; its own text names the
+//! other variants that it gives.
+
+use crate::ffi::{self, Array, Graph as RawGraph, Max, Min, DONE, GAVE_UP, MISUSED, NO_MEMORY, REFUSED};
+use crate::rooms::{room_for, Room, LINE};
+use crate::words::{is_infeasible, is_not_optimal, refused, value};
+
+/// Why a call over slices doesn't say yes: a better flow is an amount for each arc, and a set says for each node whether it
+/// is inside.
+pub type Error = crate::Error<Vec<i64>, Vec<bool>>;
+
+/// The distance of a node that isn't reached. Its predecessor is 0, as that of the source.
+pub const UNREACHED: i64 = i64::MAX;
+
+/// A maximum flow instance: an arc goes from its tail to its head, and carries from 0 to its capacity.
+#[derive(Clone, Copy, Debug)]
+pub struct MaxInstance<'a> {
+    /// How many nodes there are.
+    pub nodes: u32,
+    /// Where flow comes from.
+    pub source: u32,
+    /// Where it goes to.
+    pub sink: u32,
+    /// By arc.
+    pub tails: &'a [u32],
+    /// By arc.
+    pub heads: &'a [u32],
+    /// By arc, from 0 on.
+    pub caps: &'a [i64],
+}
+
+/// A minimum cost flow instance: an arc carries from its lower bound to its capacity, at a cost for each unit. What leaves
+/// a node less what enters it is its supply, which is negative where it demands.
+#[derive(Clone, Copy, Debug)]
+pub struct MinInstance<'a> {
+    /// How many nodes there are.
+    pub nodes: u32,
+    /// By arc.
+    pub tails: &'a [u32],
+    /// By arc.
+    pub heads: &'a [u32],
+    /// By arc, from 0 to the capacity.
+    pub lows: &'a [i64],
+    /// By arc.
+    pub caps: &'a [i64],
+    /// By arc.
+    pub costs: &'a [i64],
+    /// By node.
+    pub supplies: &'a [i64],
+}
+
+/// A graph: an arc goes from its tail to its head, and has a weight, which may be negative.
+#[derive(Clone, Copy, Debug)]
+pub struct Graph<'a> {
+    /// How many nodes there are.
+    pub nodes: u32,
+    /// By arc.
+    pub tails: &'a [u32],
+    /// By arc.
+    pub heads: &'a [u32],
+    /// By arc.
+    pub weights: &'a [i64],
+}
+
+/// A maximum flow's value, and a cut that shows it: by node, whether it is on the source's side.
+#[derive(Clone, Debug, PartialEq, Eq)]
+pub struct CertifiedMax {
+    /// The value, which may have more than 64 bits.
+    pub value: i128,
+    /// The cut.
+    pub inside: Vec<bool>,
+}
+
+/// A least cost, and potentials that show it, by node.
+#[derive(Clone, Debug, PartialEq, Eq)]
+pub struct CertifiedMin {
+    /// The cost, which may have more than 64 bits.
+    pub cost: i128,
+    /// The potentials.
+    pub potentials: Vec<i64>,
+}
+
+/// A maximum flow, with the cut that shows it.
+#[derive(Clone, Debug, PartialEq, Eq)]
+pub struct SolvedMax {
+    /// The value.
+    pub value: i128,
+    /// An amount for each arc.
+    pub flows: Vec<i64>,
+    /// The cut.
+    pub inside: Vec<bool>,
+}
+
+/// A flow of least cost, with the potentials that show it.
+#[derive(Clone, Debug, PartialEq, Eq)]
+pub struct SolvedMin {
+    /// The cost.
+    pub cost: i128,
+    /// An amount for each arc.
+    pub flows: Vec<i64>,
+    /// The potentials.
+    pub potentials: Vec<i64>,
+}
+
+/// Distances from a source, by node, with the predecessors that show them.
+#[derive(Clone, Debug, PartialEq, Eq)]
+pub struct SolvedPaths {
+    /// The distances, [`UNREACHED`] for a node that isn't reached.
+    pub distances: Vec<i64>,
+    /// The predecessors.
+    pub predecessors: Vec<u32>,
+}
+
+impl MaxInstance<'_> {
+    fn raw(&self) -> Max {
+        Max {
+            nodes: self.nodes,
+            source: self.source,
+            sink: self.sink,
+            tails: Array::of(self.tails),
+            heads: Array::of(self.heads),
+            caps: Array::of(self.caps),
+        }
+    }
+}
+
+impl MinInstance<'_> {
+    fn raw(&self) -> Min {
+        Min {
+            nodes: self.nodes,
+            tails: Array::of(self.tails),
+            heads: Array::of(self.heads),
+            lows: Array::of(self.lows),
+            caps: Array::of(self.caps),
+            costs: Array::of(self.costs),
+            supplies: Array::of(self.supplies),
+        }
+    }
+}
+
+impl Graph<'_> {
+    fn raw(&self) -> RawGraph {
+        RawGraph {
+            nodes: self.nodes,
+            tails: Array::of(self.tails),
+            heads: Array::of(self.heads),
+            weights: Array::of(self.weights),
+        }
+    }
+}
+
+/// The line of a yes, or what the status means.
+fn line_of(status: u32, line: Room<u8>) -> Result<String, Error> {
+    let line = line.text();
+    match status {
+        DONE => Ok(line),
+        GAVE_UP => Err(Error::GaveUp),
+        NO_MEMORY => Err(Error::OutOfMemory),
+        MISUSED if line.is_empty() => Err(Error::WrongLength),
+        MISUSED => Err(Error::PastLimit(refused(&line))),
+        REFUSED => Err(Error::Refused(refused(&line))),
+        _ => unreachable!("the library answers the status {status}"),
+    }
+}
+
+/// The same of a call that hands out better flows.
+fn line_or_better(status: u32, line: Room<u8>, better: Room<i64>) -> Result<String, Error> {
+    match line_of(status, line) {
+        Err(Error::Refused(it)) if is_not_optimal(&it) => Err(Error::NotOptimal(better.take())),
+        other => other,
+    }
+}
+
+/// Judges that a flow, by arc, is maximum, as a cut shows, by node; its value. [`Error::Refused`] for the first test that
+/// fails.
+///
+/// ```
+/// # use dimacs::arrays::{judge_max, MaxInstance};
+/// let pipe = MaxInstance { nodes: 2, source: 1, sink: 2, tails: &[1], heads: &[2], caps: &[7] };
+/// assert_eq!(judge_max(&pipe, &[7], &[true, false]), Ok(7));
+/// assert_eq!(judge_max(&pipe, &[6], &[true, false]).unwrap_err().to_string(), "x arc 1 NotSaturated");
+/// ```
+pub fn judge_max(instance: &MaxInstance, flows: &[i64], inside: &[bool]) -> Result<i128, Error> {
+    let (instance, mut line) = (instance.raw(), Room::new(LINE)?);
+    // The pointers and lengths are those of slices that outlive the call, a bool is a byte that is 0 or 1, and what is
+    // written is borrowed alone. So it is in all calls here.
+    let status = unsafe {
+        ffi::dimacs_judge_max_arrays(
+            &instance,
+            flows.as_ptr(),
+            flows.len(),
+            inside.as_ptr().cast(),
+            inside.len(),
+            line.at(),
+            line.room(),
+            line.told(),
+        )
+    };
+    Ok(value(&line_of(status, line)?))
+}
+
+/// Judges that a flow, by arc, costs least, as potentials show, by node; its cost. The reduced cost of an arc is its cost,
+/// less the potential of its tail, and with that of its head. [`Error::Refused`] for the first test that fails.
+///
+/// ```
+/// # use dimacs::arrays::{judge_min, MinInstance};
+/// let road = MinInstance {
+///     nodes: 2, tails: &[1, 1], heads: &[2, 2], lows: &[0, 0], caps: &[3, 9], costs: &[1, 2], supplies: &[5, -5],
+/// };
+/// assert_eq!(judge_min(&road, &[3, 2], &[2, 0]), Ok(7));
+/// assert_eq!(judge_min(&road, &[2, 3], &[2, 0]).unwrap_err().to_string(), "x arc 1 NotTight");
+/// ```
+pub fn judge_min(instance: &MinInstance, flows: &[i64], potentials: &[i64]) -> Result<i128, Error> {
+    let (instance, mut line) = (instance.raw(), Room::new(LINE)?);
+    let status = unsafe {
+        ffi::dimacs_judge_min_arrays(
+            &instance,
+            flows.as_ptr(),
+            flows.len(),
+            potentials.as_ptr(),
+            potentials.len(),
+            line.at(),
+            line.room(),
+            line.told(),
+        )
+    };
+    Ok(value(&line_of(status, line)?))
+}
+
+/// Judges that an instance has no feasible flow, as a set of nodes shows. [`Error::Refused`] where this set doesn't;
+/// there may be no flow all the same.
+///
+/// ```
+/// # use dimacs::arrays::{judge_infeasible, MinInstance};
+/// let road = MinInstance {
+///     nodes: 2, tails: &[1], heads: &[2], lows: &[0], caps: &[3], costs: &[1], supplies: &[5, -5],
+/// };
+/// assert_eq!(judge_infeasible(&road, &[true, false]), Ok(()));
+/// ```
+pub fn judge_infeasible(instance: &MinInstance, inside: &[bool]) -> Result<(), Error> {
+    let (instance, mut line) = (instance.raw(), Room::new(LINE)?);
+    let status = unsafe {
+        ffi::dimacs_judge_infeasible_arrays(
+            &instance,
+            inside.as_ptr().cast(),
+            inside.len(),
+            line.at(),
+            line.room(),
+            line.told(),
+        )
+    };
+    line_of(status, line).map(drop)
+}
+
+/// Judges that distances from the source, by node, are the least weights of walks, as predecessors show, by node.
+/// [`Error::Refused`] for the first test that fails.
+///
+/// ```
+/// # use dimacs::arrays::{judge_paths, Graph, UNREACHED};
+/// let street = Graph { nodes: 3, tails: &[1], heads: &[2], weights: &[300] };
+/// assert_eq!(judge_paths(&street, 1, &[0, 300, UNREACHED], &[0, 1, 0]), Ok(()));
+/// assert_eq!(judge_paths(&street, 1, &[0, 299, UNREACHED], &[0, 1, 0]).unwrap_err().to_string(), "x node 2 NoTightArc");
+/// ```
+pub fn judge_paths(graph: &Graph, source: u32, distances: &[i64], predecessors: &[u32]) -> Result<(), Error> {
+    let (graph, mut line) = (graph.raw(), Room::new(LINE)?);
+    let status = unsafe {
+        ffi::dimacs_judge_paths_arrays(
+            &graph,
+            source,
+            distances.as_ptr(),
+            distances.len(),
+            predecessors.as_ptr(),
+            predecessors.len(),
+            line.at(),
+            line.room(),
+            line.told(),
+        )
+    };
+    line_of(status, line).map(drop)
+}
+
+/// Decides whether a flow, by arc, is maximum: its value and a cut by which [`judge_max`] says yes. [`Error::NotOptimal`]
+/// with a feasible flow of greater value, and [`Error::Refused`] where the flow isn't feasible. The time that it takes isn't
+/// bounded by the number of arcs.
+///
+/// ```
+/// # use dimacs::arrays::{certify_max, Error, MaxInstance};
+/// let pipe = MaxInstance { nodes: 2, source: 1, sink: 2, tails: &[1], heads: &[2], caps: &[7] };
+/// assert_eq!(certify_max(&pipe, &[7]).unwrap().inside, [true, false]);
+/// assert_eq!(certify_max(&pipe, &[6]), Err(Error::NotOptimal(vec![7])));
+/// assert_eq!(certify_max(&pipe, &[]), Err(Error::WrongLength));
+/// ```
+pub fn certify_max(instance: &MaxInstance, flows: &[i64]) -> Result<CertifiedMax, Error> {
+    let (mut line, mut inside) = (Room::new(LINE)?, Room::<u8>::new(room_for(instance.nodes))?);
+    let (instance, mut better) = (instance.raw(), Room::new(flows.len())?);
+    let status = unsafe {
+        ffi::dimacs_certify_max_arrays(
+            &instance,
+            flows.as_ptr(),
+            flows.len(),
+            line.at(),
+            line.room(),
+            line.told(),
+            inside.at(),
+            inside.room(),
+            inside.told(),
+            better.at(),
+            better.room(),
+            better.told(),
+        )
+    };
+    let line = line_or_better(status, line, better)?;
+    Ok(CertifiedMax { value: value(&line), inside: inside.marks() })
+}
+
+/// Decides whether a flow, by arc, costs least: its cost and potentials by which [`judge_min`] says yes, or
+/// [`Error::GaveUp`] where those that were found don't fit in 64 bits. [`Error::NotOptimal`] with a feasible flow that costs
+/// less, and [`Error::Refused`] where the flow isn't feasible.
+///
+/// ```
+/// # use dimacs::arrays::{certify_min, Error, MinInstance};
+/// let road = MinInstance {
+///     nodes: 2, tails: &[1, 1], heads: &[2, 2], lows: &[0, 0], caps: &[3, 9], costs: &[1, 2], supplies: &[5, -5],
+/// };
+/// assert_eq!(certify_min(&road, &[3, 2]).unwrap().cost, 7);
+/// assert_eq!(certify_min(&road, &[2, 3]), Err(Error::NotOptimal(vec![3, 2])));
+/// assert_eq!(certify_min(&road, &[3, 3]).unwrap_err().to_string(), "x node 1 Balance");
+/// ```
+pub fn certify_min(instance: &MinInstance, flows: &[i64]) -> Result<CertifiedMin, Error> {
+    let (mut line, mut potentials) = (Room::new(LINE)?, Room::new(room_for(instance.nodes))?);
+    let (instance, mut better) = (instance.raw(), Room::new(flows.len())?);
+    let status = unsafe {
+        ffi::dimacs_certify_min_arrays(
+            &instance,
+            flows.as_ptr(),
+            flows.len(),
+            line.at(),
+            line.room(),
+            line.told(),
+            potentials.at(),
+            potentials.room(),
+            potentials.told(),
+            better.at(),
+            better.room(),
+            better.told(),
+        )
+    };
+    let line = line_or_better(status, line, better)?;
+    Ok(CertifiedMin { cost: value(&line), potentials: potentials.take() })
+}
+
+/// Decides whether distances from the source, by node, are the least weights of walks, in time by the number of arcs and
+/// nodes: predecessors by which [`judge_paths`] says yes. [`Error::Refused`] for the first test that fails.
+///
+/// ```
+/// # use dimacs::arrays::{certify_paths, Graph, UNREACHED};
+/// let street = Graph { nodes: 3, tails: &[1], heads: &[2], weights: &[300] };
+/// assert_eq!(certify_paths(&street, 1, &[0, 300, UNREACHED]), Ok(vec![0, 1, 0]));
+/// assert_eq!(certify_paths(&street, 1, &[0, 301, UNREACHED]).unwrap_err().to_string(), "x arc 1 NotShortest");
+/// ```
+pub fn certify_paths(graph: &Graph, source: u32, distances: &[i64]) -> Result<Vec<u32>, Error> {
+    let (mut line, mut predecessors) = (Room::new(LINE)?, Room::new(room_for(graph.nodes))?);
+    let graph = graph.raw();
+    let status = unsafe {
+        ffi::dimacs_certify_paths_arrays(
+            &graph,
+            source,
+            distances.as_ptr(),
+            distances.len(),
+            line.at(),
+            line.room(),
+            line.told(),
+            predecessors.at(),
+            predecessors.room(),
+            predecessors.told(),
+        )
+    };
+    line_of(status, line)?;
+    Ok(predecessors.take())
+}
+
+/// Makes a maximum flow, and a cut by which [`judge_max`] says yes. [`Error::GaveUp`] after `limit` flows that aren't
+/// maximum.
+///
+/// ```
+/// # use dimacs::arrays::{solve_max, MaxInstance};
+/// let pipes = MaxInstance { nodes: 3, source: 1, sink: 3, tails: &[1, 2], heads: &[2, 3], caps: &[5, 4] };
+/// assert_eq!(solve_max(&pipes, dimacs::LIMIT).unwrap().flows, [4, 4]);
+/// ```
+pub fn solve_max(instance: &MaxInstance, limit: u64) -> Result<SolvedMax, Error> {
+    let (mut line, mut flows) = (Room::new(LINE)?, Room::new(instance.tails.len())?);
+    let (mut inside, instance) = (Room::<u8>::new(room_for(instance.nodes))?, instance.raw());
+    let status = unsafe {
+        ffi::dimacs_solve_max_arrays(
+            &instance,
+            limit,
+            line.at(),
+            line.room(),
+            line.told(),
+            flows.at(),
+            flows.room(),
+            flows.told(),
+            inside.at(),
+            inside.room(),
+            inside.told(),
+        )
+    };
+    let line = line_of(status, line)?;
+    Ok(SolvedMax { value: value(&line), flows: flows.take(), inside: inside.marks() })
+}
+
+/// Makes a flow of least cost, and potentials by which [`judge_min`] says yes. [`Error::Infeasible`] with a set by which
+/// [`judge_infeasible`] says yes, where no flow is feasible; [`Error::GaveUp`] after `limit` steps to better flows, or where
+/// the least cost or the potentials are out of range.
+///
+/// ```
+/// # use dimacs::arrays::{solve_min, Error, MinInstance};
+/// let mut road = MinInstance {
+///     nodes: 2, tails: &[1, 1], heads: &[2, 2], lows: &[0, 0], caps: &[3, 9], costs: &[1, 2], supplies: &[5, -5],
+/// };
+/// assert_eq!(solve_min(&road, dimacs::LIMIT).unwrap().flows, [3, 2]);
+/// road.supplies = &[13, -13];
+/// assert!(matches!(solve_min(&road, dimacs::LIMIT), Err(Error::Infeasible(_))));
+/// ```
+pub fn solve_min(instance: &MinInstance, limit: u64) -> Result<SolvedMin, Error> {
+    let (mut line, mut flows) = (Room::new(LINE)?, Room::new(instance.tails.len())?);
+    let (mut potentials, mut inside) =
+        (Room::new(room_for(instance.nodes))?, Room::<u8>::new(room_for(instance.nodes))?);
+    let instance = instance.raw();
+    let status = unsafe {
+        ffi::dimacs_solve_min_arrays(
+            &instance,
+            limit,
+            line.at(),
+            line.room(),
+            line.told(),
+            flows.at(),
+            flows.room(),
+            flows.told(),
+            potentials.at(),
+            potentials.room(),
+            potentials.told(),
+            inside.at(),
+            inside.room(),
+            inside.told(),
+        )
+    };
+    let line = line_of(status, line)?;
+    if is_infeasible(&line) {
+        return Err(Error::Infeasible(inside.marks()));
+    }
+    Ok(SolvedMin { cost: value(&line), flows: flows.take(), potentials: potentials.take() })
+}
+
+/// Makes distances from the source, and predecessors by which [`judge_paths`] says yes. [`Error::Refused`] for the first arc
+/// of negative weight, and [`Error::GaveUp`] where a distance is 2^63 - 1 or more.
+///
+/// ```
+/// # use dimacs::arrays::{solve_paths, Graph, UNREACHED};
+/// let street = Graph { nodes: 3, tails: &[1], heads: &[2], weights: &[300] };
+/// assert_eq!(solve_paths(&street, 1).unwrap().distances, [0, 300, UNREACHED]);
+/// ```
+pub fn solve_paths(graph: &Graph, source: u32) -> Result<SolvedPaths, Error> {
+    let (mut distances, mut predecessors) = (Room::new(room_for(graph.nodes))?, Room::new(room_for(graph.nodes))?);
+    let (mut line, graph) = (Room::new(LINE)?, graph.raw());
+    let status = unsafe {
+        ffi::dimacs_solve_paths_arrays(
+            &graph,
+            source,
+            line.at(),
+            line.room(),
+            line.told(),
+            distances.at(),
+            distances.room(),
+            distances.told(),
+            predecessors.at(),
+            predecessors.room(),
+            predecessors.told(),
+        )
+    };
+    line_of(status, line)?;
+    Ok(SolvedPaths { distances: distances.take(), predecessors: predecessors.take() })
+}

@@ -1,0 +1,88 @@
+//! What isn't a yes.
+
+use std::fmt;
+
+/// Where a refusal points.
+#[derive(Clone, Debug, PartialEq, Eq)]
+pub enum Place {
+    /// A line and a field of a text, from 1: "instance", "query", "solution" or "certificate". Field 0 is the whole line,
+    /// and line 0 the whole text.
+    Text {
+        /// The text's name.
+        text: String,
+        /// The line.
+        line: u64,
+        /// The field.
+        field: u64,
+    },
+    /// The number of an arc, from 1.
+    Arc(u64),
+    /// The ID of a node, from 1.
+    Node(u64),
+}
+
+/// The fault of a text, the first test that fails, or the first number past its limit.
+#[derive(Clone, Debug, PartialEq, Eq)]
+pub struct Refused {
+    /// Where.
+    pub place: Place,
+    /// Why, by the word that the command has for it.
+    pub reason: String,
+}
+
+/// The line that the command prints.
+impl fmt::Display for Refused {
+    fn fmt(&self, out: &mut fmt::Formatter<'_>) -> fmt::Result {
+        match &self.place {
+            Place::Text { text, line, field } => write!(out, "x {text} {line} {field} {}", self.reason),
+            Place::Arc(arc) => write!(out, "x arc {arc} {}", self.reason),
+            Place::Node(node) => write!(out, "x node {node} {}", self.reason),
+        }
+    }
+}
+
+/// Why a call doesn't say yes. A call over arrays has an [`arrays::Error`](crate::arrays::Error), one over texts a
+/// [`texts::Error`](crate::texts::Error).
+#[derive(Clone, Debug, PartialEq, Eq)]
+#[non_exhaustive]
+pub enum Error<Flow, Set> {
+    /// A text has a fault, or a test fails: the first one.
+    Refused(Refused),
+    /// The flow is feasible and what it claims, and this one is better.
+    NotOptimal(Flow),
+    /// No flow is feasible, as this set of nodes shows.
+    Infeasible(Set),
+    /// A limit was reached, the least cost is out of range, or what was found doesn't fit in 64 bits.
+    GaveUp,
+    /// A number of an instance in arrays is past its limit: the first one. Nothing was judged.
+    PastLimit(Refused),
+    /// An array has another length than it has to have. Nothing was judged.
+    WrongLength,
+    /// There was not enough memory, and nothing is said of the claim.
+    OutOfMemory,
+}
+
+impl<Flow, Set> fmt::Display for Error<Flow, Set> {
+    fn fmt(&self, out: &mut fmt::Formatter<'_>) -> fmt::Result {
+        match self {
+            Error::Refused(refused) => refused.fmt(out),
+            Error::NotOptimal(_) => out.write_str("there is a better flow"),
+            Error::Infeasible(_) => out.write_str("no flow is feasible"),
+            Error::GaveUp => out.write_str("a limit was reached"),
+            Error::PastLimit(refused) => write!(out, "a number is past its limit: {refused}"),
+            Error::WrongLength => out.write_str("an array has another length than it has to have"),
+            Error::OutOfMemory => out.write_str("there was not enough memory"),
+        }
+    }
+}
+
+impl<Flow: fmt::Debug, Set: fmt::Debug> std::error::Error for Error<Flow, Set> {}
+
+/// A growth that was refused.
+pub(crate) struct NoMemory;
+
+impl<Flow, Set> From<NoMemory> for Error<Flow, Set> {
+    fn from(_: NoMemory) -> Self {
+        Error::OutOfMemory
+    }
+}

@@ -1,0 +1,240 @@
+//! What `dimacs.h` declares.
+
+/// Where an array begins, and how many items it has.
+#[repr(C)]
+pub struct Array<T> {
+    at: *const T,
+    length: usize,
+}
+
+impl<T> Array<T> {
+    pub fn of(items: &[T]) -> Array<T> {
+        Array { at: items.as_ptr(), length: items.len() }
+    }
+}
+
+#[repr(C)]
+pub struct Max {
+    pub nodes: u32,
+    pub source: u32,
+    pub sink: u32,
+    pub tails: Array<u32>,
+    pub heads: Array<u32>,
+    pub caps: Array<i64>,
+}
+
+#[repr(C)]
+pub struct Min {
+    pub nodes: u32,
+    pub tails: Array<u32>,
+    pub heads: Array<u32>,
+    pub lows: Array<i64>,
+    pub caps: Array<i64>,
+    pub costs: Array<i64>,
+    pub supplies: Array<i64>,
+}
+
+#[repr(C)]
+pub struct Graph {
+    pub nodes: u32,
+    pub tails: Array<u32>,
+    pub heads: Array<u32>,
+    pub weights: Array<i64>,
+}
+
+pub const DONE: u32 = 0;
+pub const REFUSED: u32 = 1;
+pub const MISUSED: u32 = 2;
+pub const NO_MEMORY: u32 = 4;
+pub const GAVE_UP: u32 = 5;
+
+extern "C" {
+    pub fn dimacs_version() -> u32;
+
+    pub fn dimacs_judge(
+        kind: u32,
+        instance: *const u8,
+        instance_length: usize,
+        claim: *const u8,
+        claim_length: usize,
+        certificate: *const u8,
+        certificate_length: usize,
+        out: *mut u8,
+        room: usize,
+        told: *mut usize,
+    ) -> u32;
+
+    pub fn dimacs_certify(
+        kind: u32,
+        instance: *const u8,
+        instance_length: usize,
+        claim: *const u8,
+        claim_length: usize,
+        out: *mut u8,
+        room: usize,
+        told: *mut usize,
+        shown: *mut u8,
+        shown_room: usize,
+        shown_told: *mut usize,
+    ) -> u32;
+
+    pub fn dimacs_solve(
+        kind: u32,
+        instance: *const u8,
+        instance_length: usize,
+        queries: *const u8,
+        queries_length: usize,
+        limit: u64,
+        out: *mut u8,
+        room: usize,
+        told: *mut usize,
+        solution: *mut u8,
+        solution_room: usize,
+        solution_told: *mut usize,
+        certificate: *mut u8,
+        certificate_room: usize,
+        certificate_told: *mut usize,
+    ) -> u32;
+
+    pub fn dimacs_convert(
+        kind: u32,
+        text: *const u8,
+        length: usize,
+        out: *mut u8,
+        room: usize,
+        told: *mut usize,
+    ) -> u32;
+
+    pub fn dimacs_show(kind: u32, text: *const u8, length: usize, out: *mut u8, room: usize, told: *mut usize) -> u32;
+
+    pub fn dimacs_judge_max_arrays(
+        instance: *const Max,
+        flows: *const i64,
+        flows_length: usize,
+        inside: *const u8,
+        inside_length: usize,
+        out: *mut u8,
+        room: usize,
+        told: *mut usize,
+    ) -> u32;
+
+    pub fn dimacs_judge_min_arrays(
+        instance: *const Min,
+        flows: *const i64,
+        flows_length: usize,
+        potentials: *const i64,
+        potentials_length: usize,
+        out: *mut u8,
+        room: usize,
+        told: *mut usize,
+    ) -> u32;
+
+    pub fn dimacs_judge_infeasible_arrays(
+        instance: *const Min,
+        inside: *const u8,
+        inside_length: usize,
+        out: *mut u8,
+        room: usize,
+        told: *mut usize,
+    ) -> u32;
+
+    pub fn dimacs_judge_paths_arrays(
+        graph: *const Graph,
+        source: u32,
+        distances: *const i64,
+        distances_length: usize,
+        predecessors: *const u32,
+        predecessors_length: usize,
+        out: *mut u8,
+        room: usize,
+        told: *mut usize,
+    ) -> u32;
+
+    pub fn dimacs_certify_max_arrays(
+        instance: *const Max,
+        flows: *const i64,
+        flows_length: usize,
+        out: *mut u8,
+        room: usize,
+        told: *mut usize,
+        inside: *mut u8,
+        inside_room: usize,
+        inside_told: *mut usize,
+        better: *mut i64,
+        better_room: usize,
+        better_told: *mut usize,
+    ) -> u32;
+
+    pub fn dimacs_certify_min_arrays(
+        instance: *const Min,
+        flows: *const i64,
+        flows_length: usize,
+        out: *mut u8,
+        room: usize,
+        told: *mut usize,
+        potentials: *mut i64,
+        potentials_room: usize,
+        potentials_told: *mut usize,
+        better: *mut i64,
+        better_room: usize,
+        better_told: *mut usize,
+    ) -> u32;
+
+    pub fn dimacs_certify_paths_arrays(
+        graph: *const Graph,
+        source: u32,
+        distances: *const i64,
+        distances_length: usize,
+        out: *mut u8,
+        room: usize,
+        told: *mut usize,
+        predecessors: *mut u32,
+        predecessors_room: usize,
+        predecessors_told: *mut usize,
+    ) -> u32;
+
+    pub fn dimacs_solve_max_arrays(
+        instance: *const Max,
+        limit: u64,
+        out: *mut u8,
+        room: usize,
+        told: *mut usize,
+        flows: *mut i64,
+        flows_room: usize,
+        flows_told: *mut usize,
+        inside: *mut u8,
+        inside_room: usize,
+        inside_told: *mut usize,
+    ) -> u32;
+
+    pub fn dimacs_solve_min_arrays(
+        instance: *const Min,
+        limit: u64,
+        out: *mut u8,
+        room: usize,
+        told: *mut usize,
+        flows: *mut i64,
+        flows_room: usize,
+        flows_told: *mut usize,
+        potentials: *mut i64,
+        potentials_room: usize,
+        potentials_told: *mut usize,
+        inside: *mut u8,
+        inside_room: usize,
+        inside_told: *mut usize,
+    ) -> u32;
+
+    pub fn dimacs_solve_paths_arrays(
+        graph: *const Graph,
+        source: u32,
+        out: *mut u8,
+        room: usize,
+        told: *mut usize,
+        distances: *mut i64,
+        distances_room: usize,
+        distances_told: *mut usize,
+        predecessors: *mut u32,
+        predecessors_room: usize,
+        predecessors_told: *mut usize,
+    ) -> u32;
+}

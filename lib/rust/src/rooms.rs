@@ -1,0 +1,72 @@
+//! Rooms for what calls hand out.
+
+use crate::error::NoMemory;
+
+/// As much as any line has that isn't one of many.
+pub const LINE: usize = 256;
+
+/// As many nodes as an instance may have. One with more of them is refused, and needs no room.
+pub fn room_for(nodes: u32) -> usize {
+    if nodes <= 1 << 27 {
+        nodes as usize
+    } else {
+        0
+    }
+}
+
+/// Room for so many items, and how many there are to hand out.
+pub struct Room<T> {
+    items: Vec<T>,
+    told: usize,
+}
+
+impl<T: Copy + Default> Room<T> {
+    pub fn new(room: usize) -> Result<Room<T>, NoMemory> {
+        let mut items = Vec::new();
+        items.try_reserve_exact(room).map_err(|_| NoMemory)?;
+        items.resize(room, T::default());
+        Ok(Room { items, told: 0 })
+    }
+
+    pub fn at(&mut self) -> *mut T {
+        self.items.as_mut_ptr()
+    }
+
+    pub fn room(&self) -> usize {
+        self.items.len()
+    }
+
+    pub fn told(&mut self) -> *mut usize {
+        &mut self.told
+    }
+
+    pub fn fits(&self) -> bool {
+        self.told <= self.items.len()
+    }
+
+    /// Room for what there is to hand out.
+    pub fn grow(&mut self) -> Result<(), NoMemory> {
+        if !self.fits() {
+            *self = Room::new(self.told)?;
+        }
+        Ok(())
+    }
+
+    /// What was handed out.
+    pub fn take(mut self) -> Vec<T> {
+        self.items.truncate(self.told);
+        self.items
+    }
+}
+
+impl Room<u8> {
+    /// A text that was handed out, which is ASCII.
+    pub fn text(self) -> String {
+        String::from_utf8_lossy(&self.take()).into_owned()
+    }
+
+    /// A byte for each node that was handed out.
+    pub fn marks(self) -> Vec<bool> {
+        self.take().into_iter().map(|it| it != 0).collect()
+    }
+}

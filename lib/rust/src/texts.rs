@@ -1,0 +1,377 @@
+//! The calls over DIMACS texts in memory: `&str`, bytes, or whatever else has them. What is handed out is a `String`.
+//!
+//! Each call gives [`Error::Refused`] for the fault of the first text that has one, else for the first test that fails, and
+//! [`Error::OutOfMemory`]; its own text names the other variants that it gives.
+
+use crate::error::NoMemory;
+use crate::ffi::{self, DONE, GAVE_UP, NO_MEMORY, REFUSED};
+use crate::rooms::{Room, LINE};
+use crate::words::{is_infeasible, is_not_optimal, refused, value};
+
+/// Why a call over texts doesn't say yes: a better flow is the text of a solution, or `None` where its cost is out of the
+/// range of such texts; a set is a text too.
+pub type Error = crate::Error<Option<String>, String>;
+
+/// A kind of text.
+#[derive(Clone, Copy, Debug, PartialEq, Eq)]
+pub enum Kind {
+    /// A maximum flow instance.
+    Max = 0,
+    /// A minimum cost flow instance.
+    Min = 1,
+    /// A graph.
+    Gr = 2,
+    /// Queries.
+    Query = 3,
+    /// A claimed flow.
+    Solution = 4,
+    /// A set of nodes.
+    Cut = 5,
+    /// Potentials.
+    Pot = 6,
+    /// Labels: distances and predecessors.
+    Dist = 7,
+    /// Distances alone.
+    Distances = 8,
+}
+
+/// A value or a cost, and the text of a cut or of potentials that shows it.
+#[derive(Clone, Debug, PartialEq, Eq)]
+pub struct Certified {
+    /// The value of the flow, or its cost.
+    pub value: i128,
+    /// The text.
+    pub certificate: String,
+}
+
+/// The texts of a solution and of what shows it.
+#[derive(Clone, Debug, PartialEq, Eq)]
+pub struct Solved {
+    /// The value of the flow, or its cost.
+    pub value: i128,
+    /// The solution.
+    pub solution: String,
+    /// A cut or potentials.
+    pub certificate: String,
+}
+
+/// What is between two nodes.
+#[derive(Clone, Copy, Debug, PartialEq, Eq)]
+pub enum Distance {
+    /// The least weight of a walk.
+    Is(i128),
+    /// No walk, or none that weighs no more than this radius.
+    Beyond(i128),
+    /// No walk.
+    Unreachable,
+}
+
+/// The answer to a query from one node to another.
+#[derive(Clone, Copy, Debug, PartialEq, Eq)]
+pub struct Pair {
+    /// From where.
+    pub source: u32,
+    /// To where.
+    pub target: u32,
+    /// How far.
+    pub distance: Distance,
+}
+
+/// The answers to queries.
+#[derive(Clone, Debug, PartialEq, Eq)]
+pub enum Paths {
+    /// All distances from so many sources.
+    Sources(u64),
+    /// From one node to another, in the order of the queries.
+    Pairs(Vec<Pair>),
+}
+
+const MAX: u32 = 0;
+const MIN: u32 = 1;
+const INFEASIBLE: u32 = 2;
+const PATHS: u32 = 3;
+
+/// The lines of a yes, or what the status means.
+fn lines_of(status: u32, lines: Room<u8>) -> Result<String, Error> {
+    let lines = lines.text();
+    match status {
+        DONE => Ok(lines),
+        GAVE_UP => Err(Error::GaveUp),
+        NO_MEMORY => Err(Error::OutOfMemory),
+        REFUSED => Err(Error::Refused(refused(&lines))),
+        _ => unreachable!("the library answers the status {status}"),
+    }
+}
+
+fn grow<const N: usize>(mut rooms: [&mut Room<u8>; N]) -> Result<bool, NoMemory> {
+    let is_enough = rooms.iter().all(|it| it.fits());
+    for room in &mut rooms {
+        room.grow()?;
+    }
+    Ok(is_enough)
+}
+
+fn judge(kind: u32, texts: [&[u8]; 3], room: usize) -> Result<String, Error> {
+    let mut lines = Room::new(room)?;
+    let [instance, claim, certificate] = texts;
+    loop {
+        // The pointers and lengths are those of slices that outlive the call, and what is written is borrowed alone. So it
+        // is in all calls here.
+        let status = unsafe {
+            ffi::dimacs_judge(
+                kind,
+                instance.as_ptr(),
+                instance.len(),
+                claim.as_ptr(),
+                claim.len(),
+                certificate.as_ptr(),
+                certificate.len(),
+                lines.at(),
+                lines.room(),
+                lines.told(),
+            )
+        };
+        if grow([&mut lines])? {
+            return lines_of(status, lines);
+        }
+    }
+}
+
+/// A line, or what the status means, and the text that shows it.
+fn certify(kind: u32, instance: &[u8], claim: &[u8]) -> Result<(Result<String, Error>, String), Error> {
+    let (mut line, mut shown) = (Room::new(LINE)?, Room::new(LINE + instance.len() + claim.len())?);
+    loop {
+        let status = unsafe {
+            ffi::dimacs_certify(
+                kind,
+                instance.as_ptr(),
+                instance.len(),
+                claim.as_ptr(),
+                claim.len(),
+                line.at(),
+                line.room(),
+                line.told(),
+                shown.at(),
+                shown.room(),
+                shown.told(),
+            )
+        };
+        if grow([&mut line, &mut shown])? {
+            return Ok((lines_of(status, line), shown.text()));
+        }
+    }
+}
+
+fn certify_flow(kind: u32, instance: &[u8], solution: &[u8]) -> Result<Certified, Error> {
+    match certify(kind, instance, solution)? {
+        (Ok(line), certificate) => Ok(Certified { value: value(&line), certificate }),
+        (Err(Error::Refused(it)), better) if is_not_optimal(&it) => {
+            Err(Error::NotOptimal(Some(better).filter(|it| !it.is_empty())))
+        }
+        (Err(error), _) => Err(error),
+    }
+}
+
+/// The lines, and the texts of a solution and a certificate.
+fn solve(kind: u32, instance: &[u8], queries: &[u8], limit: u64) -> Result<(String, String, String), Error> {
+    // An answer to a query is a longer line than the query, and a potential or a label may be one than an arc.
+    let mut lines = Room::new(LINE + 4 * queries.len())?;
+    let (mut solution, mut shown) = (Room::new(LINE + instance.len())?, Room::new(LINE + 2 * instance.len())?);
+    loop {
+        let status = unsafe {
+            ffi::dimacs_solve(
+                kind,
+                instance.as_ptr(),
+                instance.len(),
+                queries.as_ptr(),
+                queries.len(),
+                limit,
+                lines.at(),
+                lines.room(),
+                lines.told(),
+                solution.at(),
+                solution.room(),
+                solution.told(),
+                shown.at(),
+                shown.room(),
+                shown.told(),
+            )
+        };
+        if grow([&mut lines, &mut solution, &mut shown])? {
+            return Ok((lines_of(status, lines)?, solution.text(), shown.text()));
+        }
+    }
+}
+
+fn pair(line: &str) -> Option<Pair> {
+    let mut words = line.split_whitespace().skip(1);
+    let (source, target) = (words.next()?.parse().ok()?, words.next()?.parse().ok()?);
+    let distance = match words.next()? {
+        "unreachable" => Distance::Unreachable,
+        "more" => Distance::Beyond(words.next()?.parse().ok()?),
+        number => Distance::Is(number.parse().ok()?),
+    };
+    Some(Pair { source, target, distance })
+}
+
+fn paths(lines: &str) -> Paths {
+    match lines.strip_prefix("v sp ss ") {
+        Some(count) => Paths::Sources(count.trim().parse().unwrap_or_default()),
+        None => Paths::Pairs(lines.lines().filter_map(pair).collect()),
+    }
+}
+
+/// Judges that a solution's flow is maximum, as a cut shows; its value.
+///
+/// ```
+/// # use dimacs::texts::judge_max;
+/// let pipe = "p max 2 1\nn 1 s\nn 2 t\na 1 2 7\n";
+/// assert_eq!(judge_max(pipe, "s 7\nf 1 2 7\n", "p cut 2 1\nu 1\n"), Ok(7));
+/// assert_eq!(judge_max(pipe, "s six\n", "").unwrap_err().to_string(), "x solution 1 2 BadNumber");
+/// ```
+pub fn judge_max(instance: impl AsRef<[u8]>, solution: impl AsRef<[u8]>, cut: impl AsRef<[u8]>) -> Result<i128, Error> {
+    judge(MAX, [instance.as_ref(), solution.as_ref(), cut.as_ref()], LINE).map(|it| value(&it))
+}
+
+/// Judges that a solution's flow costs least, as potentials show; its cost.
+///
+/// ```
+/// # use dimacs::texts::judge_min;
+/// let road = "p min 2 1\nn 1 3\nn 2 -3\na 1 2 0 5 2\n";
+/// assert_eq!(judge_min(road, "s 6\nf 1 2 3\n", "p pot 2 1\ny 1 2\n"), Ok(6));
+/// ```
+pub fn judge_min(
+    instance: impl AsRef<[u8]>,
+    solution: impl AsRef<[u8]>,
+    potentials: impl AsRef<[u8]>,
+) -> Result<i128, Error> {
+    judge(MIN, [instance.as_ref(), solution.as_ref(), potentials.as_ref()], LINE).map(|it| value(&it))
+}
+
+/// Judges that an instance has no feasible flow, as a set of nodes shows.
+///
+/// ```
+/// # use dimacs::texts::judge_infeasible;
+/// let road = "p min 2 1\nn 1 6\nn 2 -6\na 1 2 0 5 2\n";
+/// assert_eq!(judge_infeasible(road, "p cut 2 1\nu 1\n"), Ok(()));
+/// ```
+pub fn judge_infeasible(instance: impl AsRef<[u8]>, set: impl AsRef<[u8]>) -> Result<(), Error> {
+    judge(INFEASIBLE, [instance.as_ref(), &[], set.as_ref()], LINE).map(drop)
+}
+
+/// Judges labels, and answers queries by them.
+///
+/// ```
+/// # use dimacs::texts::{judge_paths, Distance, Pair, Paths};
+/// let answers = judge_paths("p sp 2 1\na 1 2 7\n", "p aux sp p2p 1\nq 1 2\n", "p dist 2 1\nt 1 1\nd 2 7 1\n");
+/// assert_eq!(answers, Ok(Paths::Pairs(vec![Pair { source: 1, target: 2, distance: Distance::Is(7) }])));
+/// ```
+pub fn judge_paths(
+    graph: impl AsRef<[u8]>,
+    queries: impl AsRef<[u8]>,
+    labels: impl AsRef<[u8]>,
+) -> Result<Paths, Error> {
+    let room = LINE + 4 * queries.as_ref().len();
+    judge(PATHS, [graph.as_ref(), queries.as_ref(), labels.as_ref()], room).map(|it| paths(&it))
+}
+
+/// Decides whether a solution's flow is maximum: its value and a cut with which [`judge_max`] says yes.
+/// [`Error::NotOptimal`] where the flow is feasible and has the claimed value.
+///
+/// ```
+/// # use dimacs::texts::{certify_max, Error};
+/// let pipe = "p max 2 1\nn 1 s\nn 2 t\na 1 2 7\n";
+/// assert_eq!(certify_max(pipe, "s 7\nf 1 2 7\n").unwrap().certificate, "p cut 2 1\nu 1\n");
+/// assert_eq!(certify_max(pipe, "s 6\nf 1 2 6\n"), Err(Error::NotOptimal(Some("s 7\nf 1 2 7\n".to_owned()))));
+/// ```
+pub fn certify_max(instance: impl AsRef<[u8]>, solution: impl AsRef<[u8]>) -> Result<Certified, Error> {
+    certify_flow(MAX, instance.as_ref(), solution.as_ref())
+}
+
+/// Decides whether a solution's flow costs least: its cost and potentials with which [`judge_min`] says yes.
+/// [`Error::NotOptimal`] where the flow is feasible and has the claimed cost.
+///
+/// ```
+/// # use dimacs::texts::certify_min;
+/// let road = "p min 2 1\nn 1 3\nn 2 -3\na 1 2 0 5 2\n";
+/// assert_eq!(certify_min(road, "s 6\nf 1 2 3\n").unwrap().value, 6);
+/// assert_eq!(certify_min(road, "s 7\nf 1 2 3\n").unwrap_err().to_string(), "x solution 1 2 ValueDiffers");
+/// ```
+pub fn certify_min(instance: impl AsRef<[u8]>, solution: impl AsRef<[u8]>) -> Result<Certified, Error> {
+    certify_flow(MIN, instance.as_ref(), solution.as_ref())
+}
+
+/// Makes a maximum flow: the texts of a solution and of a cut. [`Error::GaveUp`] after `limit` flows that aren't maximum.
+///
+/// ```
+/// let solved = dimacs::texts::solve_max("p max 2 1\nn 1 s\nn 2 t\na 1 2 7\n", dimacs::LIMIT).unwrap();
+/// assert_eq!((solved.value, solved.solution.as_str()), (7, "s 7\nf 1 2 7\n"));
+/// ```
+pub fn solve_max(instance: impl AsRef<[u8]>, limit: u64) -> Result<Solved, Error> {
+    let (line, solution, certificate) = solve(MAX, instance.as_ref(), &[], limit)?;
+    Ok(Solved { value: value(&line), solution, certificate })
+}
+
+/// Makes a flow of least cost: the texts of a solution and of potentials. [`Error::Infeasible`] with the text of a set
+/// where no flow is feasible; [`Error::GaveUp`] after `limit` steps to better flows, or where the least cost is out of range.
+///
+/// ```
+/// # use dimacs::texts::{solve_min, Error};
+/// assert_eq!(solve_min("p min 2 1\nn 1 3\nn 2 -3\na 1 2 0 5 2\n", dimacs::LIMIT).unwrap().value, 6);
+/// assert!(matches!(solve_min("p min 1 0\nn 1 3\n", dimacs::LIMIT), Err(Error::Infeasible(_))));
+/// ```
+pub fn solve_min(instance: impl AsRef<[u8]>, limit: u64) -> Result<Solved, Error> {
+    let (line, solution, certificate) = solve(MIN, instance.as_ref(), &[], limit)?;
+    if is_infeasible(&line) {
+        return Err(Error::Infeasible(certificate));
+    }
+    Ok(Solved { value: value(&line), solution, certificate })
+}
+
+/// Makes labels, and answers queries by them. Refused too where a query names no node or a weight is negative.
+///
+/// ```
+/// # use dimacs::texts::{solve_paths, Paths};
+/// let (paths, labels) = solve_paths("p sp 2 1\na 1 2 7\n", "p aux sp ss 1\ns 1\n").unwrap();
+/// assert_eq!((paths, labels.as_str()), (Paths::Sources(1), "p dist 2 1\nt 1 1\nd 2 7 1\n"));
+/// ```
+pub fn solve_paths(graph: impl AsRef<[u8]>, queries: impl AsRef<[u8]>) -> Result<(Paths, String), Error> {
+    let (lines, _, labels) = solve(PATHS, graph.as_ref(), queries.as_ref(), crate::LIMIT)?;
+    Ok((paths(&lines), labels))
+}
+
+/// The canonical form of a text.
+///
+/// ```
+/// # use dimacs::texts::{convert, Kind};
+/// assert_eq!(convert(Kind::Cut, "c mine\np  cut 4 1\nu 2").unwrap(), "p cut 4 1\nu 2\n");
+/// ```
+pub fn convert(kind: Kind, text: impl AsRef<[u8]>) -> Result<String, Error> {
+    let text = text.as_ref();
+    let mut out = Room::new(LINE + text.len())?;
+    loop {
+        let status =
+            unsafe { ffi::dimacs_convert(kind as u32, text.as_ptr(), text.len(), out.at(), out.room(), out.told()) };
+        if grow([&mut out])? {
+            return lines_of(status, out);
+        }
+    }
+}
+
+/// A line that says what a text is.
+///
+/// ```
+/// # use dimacs::texts::{show, Kind};
+/// assert_eq!(show(Kind::Cut, "p cut 4 1\nu 2\n").unwrap(), "i cut 4 1\n");
+/// ```
+pub fn show(kind: Kind, text: impl AsRef<[u8]>) -> Result<String, Error> {
+    let text = text.as_ref();
+    let mut out = Room::new(LINE)?;
+    loop {
+        let status =
+            unsafe { ffi::dimacs_show(kind as u32, text.as_ptr(), text.len(), out.at(), out.room(), out.told()) };
+        if grow([&mut out])? {
+            return lines_of(status, out);
+        }
+    }
+}

@@ -1,0 +1,94 @@
+//! What the documentation doesn't show: refusals with their places, misuse, numbers past 64 bits, and longer texts.
+
+use dimacs::arrays::{self, Graph, MaxInstance, MinInstance};
+use dimacs::texts::{self, Distance, Kind, Paths};
+use dimacs::{Error, Place, Refused};
+
+const ARC: MaxInstance = MaxInstance { nodes: 2, source: 1, sink: 2, tails: &[1], heads: &[2], caps: &[7] };
+
+fn refused(place: Place, reason: &str) -> Refused {
+    Refused { place, reason: reason.to_owned() }
+}
+
+#[test]
+fn refusals_have_places() {
+    assert_eq!(arrays::certify_max(&ARC, &[8]), Err(Error::Refused(refused(Place::Arc(1), "AboveCap"))));
+    let text = Place::Text { text: "solution".to_owned(), line: 1, field: 2 };
+    assert_eq!(
+        texts::certify_max("p max 2 0\nn 1 s\nn 2 t\n", "s x\n"),
+        Err(Error::Refused(refused(text, "BadNumber")))
+    );
+    let set = Place::Text { text: "certificate".to_owned(), line: 0, field: 0 };
+    let supplies = MinInstance { nodes: 1, tails: &[], heads: &[], lows: &[], caps: &[], costs: &[], supplies: &[0] };
+    assert_eq!(arrays::judge_infeasible(&supplies, &[true]), Err(Error::Refused(refused(set, "NotViolated"))));
+}
+
+#[test]
+fn misuse_is_no_refusal() {
+    assert_eq!(arrays::judge_max(&ARC, &[7], &[true]), Err(Error::WrongLength));
+    let below = MaxInstance { caps: &[-1], ..ARC };
+    assert_eq!(arrays::solve_max(&below, 9), Err(Error::PastLimit(refused(Place::Arc(1), "BoundOrder"))));
+    let many = MaxInstance { nodes: u32::MAX, ..ARC };
+    assert_eq!(arrays::solve_max(&many, 9), Err(Error::PastLimit(refused(Place::Node(134_217_729), "NumberRange"))));
+    assert_eq!(arrays::solve_max(&ARC, 0), Err(Error::GaveUp));
+    let street = Graph { nodes: 1, tails: &[], heads: &[], weights: &[] };
+    assert_eq!(arrays::certify_paths(&street, 2, &[0]), Err(Error::PastLimit(refused(Place::Node(2), "NodeRange"))));
+}
+
+#[test]
+fn values_pass_64_bits() {
+    let most = [i64::MAX; 3];
+    let wide = MaxInstance { tails: &[1, 1, 1], heads: &[2, 2, 2], caps: &most, ..ARC };
+    assert_eq!(arrays::certify_max(&wide, &most).unwrap().value, 3 * i128::from(i64::MAX));
+}
+
+#[test]
+fn empty_slices_do() {
+    let none = MaxInstance { tails: &[], heads: &[], caps: &[], ..ARC };
+    assert_eq!(arrays::certify_max(&none, &[]).unwrap().inside, [true, false]);
+    assert_eq!(texts::judge_max("", "", "").unwrap_err().to_string(), "x instance 1 0 ProblemMissing");
+}
+
+#[test]
+fn negative_weights_are_certified_and_not_solved() {
+    let street = Graph { nodes: 2, tails: &[1], heads: &[2], weights: &[-3] };
+    assert_eq!(arrays::certify_paths(&street, 1, &[0, -3]), Ok(vec![0, 1]));
+    assert_eq!(arrays::solve_paths(&street, 1), Err(Error::Refused(refused(Place::Arc(1), "NegativeWeight"))));
+}
+
+#[test]
+fn texts_longer_than_their_room_do() {
+    let mut queries = "p aux sp p2p 500\n".to_owned();
+    queries.push_str(&"q 1 2\n".repeat(500));
+    let labels = format!("p dist 2 1\nt 1 1\nd 2 {} 1\n", i64::MAX);
+    let graph = format!("p sp 2 1\na 1 2 {}\n", i64::MAX);
+    match texts::judge_paths(graph, queries, labels).unwrap() {
+        Paths::Pairs(pairs) => {
+            assert_eq!((pairs.len(), pairs[499].distance), (500, Distance::Is(i64::MAX.into())));
+        }
+        other => panic!("{other:?}"),
+    }
+    let beyond = texts::judge_paths("p sp 2 1\na 1 2 5\n", "p aux sp p2p 1\nq 1 2\n", "p dist 2 1\nt 1 0 4\n");
+    match beyond.unwrap() {
+        Paths::Pairs(pairs) => assert_eq!(pairs[0].distance, Distance::Beyond(4)),
+        other => panic!("{other:?}"),
+    }
+}
+
+#[test]
+fn each_kind_is_itself() {
+    let texts = [
+        (Kind::Max, "p max 2 0\nn 1 s\nn 2 t\n"),
+        (Kind::Min, "p min 1 0\n"),
+        (Kind::Gr, "p sp 1 0\n"),
+        (Kind::Query, "p aux sp ss 0\n"),
+        (Kind::Solution, "s 0\n"),
+        (Kind::Cut, "p cut 1 0\n"),
+        (Kind::Pot, "p pot 1 0\n"),
+        (Kind::Dist, "p dist 1 0\n"),
+        (Kind::Distances, "p distances 1 0\n"),
+    ];
+    for (kind, text) in texts {
+        assert_eq!(texts::convert(kind, text).as_deref(), Ok(text), "{kind:?}");
+    }
+}
