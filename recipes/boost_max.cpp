@@ -1,4 +1,4 @@
-// A maximum flow by Boost, judged: boost_max INSTANCE SOLUTION CUT
+// A maximum flow by Boost, certified: boost_max INSTANCE SOLUTION CUT
 //
 // Reads INSTANCE, writes SOLUTION, and runs `dimacs certify-max` on the two, which writes CUT; DIMACS names the judge.
 //

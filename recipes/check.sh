@@ -1,6 +1,6 @@
 #!/bin/bash
-# Runs the recipes whose packages are there on the examples and on generated instances, and fails where a verdict isn't
-# the expected one, or where an answer that is spoiled on purpose isn't refused as it should be.
+# Runs the recipes whose packages are there on the examples and on generated instances. Fails if a verdict isn't the
+# expected one, or if an answer that is spoiled on purpose isn't refused as it should be.
 #
 #   recipes/check.sh [BINARY]
 #
@@ -13,7 +13,7 @@
 #   BUILD    the folder where make built the library; build
 #   ONLY     run only the recipes whose names match this pattern, as 'lemon|glpsol'
 #
-# The last lines tell what was left out, and how many answers were accepted, refused and judged otherwise than expected.
+# The last lines name what was left out, and count the answers that were accepted, refused and judged unexpectedly.
 set -eu
 
 here=$(cd "$(dirname "$0")" && pwd)

@@ -9,8 +9,8 @@ trap 'rm -rf "$dir"' EXIT
 glpsol --mincost "$1" --write "$dir/raw" >"$dir/log" || { cat "$dir/log" >&2; exit 3; }
 
 # First the instance is read, then the result: 'i NODE STATUS VALUE DUAL' for each node, 'j COLUMN STATUS VALUE DUAL'
-# for each arc. The columns go by tail, and among the arcs of a tail from the last to the first. A node's row says what
-# leaves it minus what enters it, so the dual is a potential, with the sign that the judge wants.
+# for each arc. The columns go by tail, and among the arcs of a tail from the last to the first. A node's row is what
+# leaves it minus what enters it, so the dual is a potential with the sign that the judge wants.
 awk -v solution="$2" -v potentials="$3" '
     NR == FNR && $1 == "p" { nodes = $3 }
     NR == FNR && $1 == "a" { arcs++; tail[arcs] = $2; head[arcs] = $3; cost[arcs] = $6; of[$2] = arcs " " of[$2] }

@@ -1,6 +1,6 @@
 // A flow of least cost and its potentials by LEMON, judged in the same process: lemon_library INSTANCE
 //
-// Reads INSTANCE, and writes nothing: the library is asked, and what it says is printed. In the folder above this one:
+// Reads INSTANCE, asks the library, and prints its answer. Writes no file. In the folder above this one:
 //
 //     g++ -O2 -std=c++17 -Ilib/include -o lemon_library recipes/lemon_library.cpp build/libdimacs.a
 #include <dimacs.h>

@@ -1,8 +1,8 @@
 #!/usr/bin/env python3
 """A maximum flow by networkx, certified in the same process: networkx_library.py INSTANCE
 
-Reads INSTANCE, and writes nothing: the library is asked. Where networkx is wrong, its last line is the refusal, which
-names an edge or a node of the graph. It needs the package of docs/LIBRARY.md, installed or on the path:
+Reads INSTANCE and asks the library; writes no file. If networkx is wrong, the last line is the refusal, which names an
+edge or a node of the graph. It needs the package of docs/LIBRARY.md, installed or on the path:
 
     PYTHONPATH=lib/python python3 recipes/networkx_library.py examples/trucks.max
 """

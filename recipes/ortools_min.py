@@ -1,7 +1,7 @@
 #!/usr/bin/env python3
-"""A flow of least cost by OR-Tools, judged: ortools_min.py INSTANCE SOLUTION POTENTIALS
+"""A flow of least cost by OR-Tools, certified: ortools_min.py INSTANCE SOLUTION POTENTIALS
 
-NOT RUN YET: written after the documentation of OR-Tools 9, where no package of it was at hand.
+NOT RUN YET: written after the documentation of OR-Tools 9, since no package of it was at hand.
 
 Reads INSTANCE, writes SOLUTION, and runs `dimacs certify-min` on the two, which writes POTENTIALS. The variable DIMACS
 names the judge. An instance without a feasible flow ends it with a message: networkx_infeasible.py shows that there is none.

@@ -1,9 +1,9 @@
 #!/usr/bin/env python3
 """Distances by SciPy (Dijkstra), certified in the same process: scipy_library.py GRAPH QUERY
 
-Reads GRAPH (.gr, no negative weights) and QUERY (.ss or .p2p), and writes nothing: the library is asked, with SciPy's
-distances as they are. It prints what `dimacs judge-paths` would, or the refusal. It needs the package of
-docs/LIBRARY.md, installed or on the path:
+Reads GRAPH (.gr, no negative weights) and QUERY (.ss or .p2p), and asks the library about SciPy's distances as they
+are; writes no file. It prints what `dimacs judge-paths` would, or the refusal. It needs the package of docs/LIBRARY.md,
+installed or on the path:
 
     PYTHONPATH=lib/python python3 recipes/scipy_library.py examples/romania.gr examples/romania.query
 """

@@ -1,5 +1,5 @@
 #!/usr/bin/env python3
-"""A maximum flow by SciPy, judged: scipy_max.py INSTANCE SOLUTION CUT
+"""A maximum flow by SciPy, certified: scipy_max.py INSTANCE SOLUTION CUT
 
 Reads INSTANCE, writes SOLUTION, and runs `dimacs certify-max` on the two, which writes CUT. The variable DIMACS names the
 judge. SciPy's capacities have 32 bits; a greater one ends it with a message.

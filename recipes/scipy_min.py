@@ -28,8 +28,8 @@ def read(path):
 
 
 def solve(supply, arcs):
-    """The flow of each arc and the potential of each node. The rows say what leaves a node minus what enters it, so
-    their duals are potentials with the sign that the judge wants. The simplex method ends in a corner, where all are
+    """The flow of each arc and the potential of each node. A row is what leaves a node minus what enters it, so its
+    dual is a potential with the sign that the judge wants. The simplex method ends in a corner, where all are
     whole, up to rounding; an interior point needn't be."""
     tails, heads = [arc[0] - 1 for arc in arcs], [arc[1] - 1 for arc in arcs]
     columns = list(range(len(arcs)))

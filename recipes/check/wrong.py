@@ -52,7 +52,7 @@ def wrong_cuts(instance, cut):
 
 
 def wrong_potentials(instance, solution, potentials):
-    """The first arc that has a choice is made to cost far too much where it carries CAP, else far too little."""
+    """The first arc that has a choice is made to cost far too much if it carries CAP, else far too little."""
     flows = {}
     for record in solution:
         if record[0] == "f":
