@@ -25,4 +25,6 @@ mod paths_arrays;
 #[cfg(test)]
 mod paths_by_node;
 #[cfg(test)]
+mod spread;
+#[cfg(test)]
 mod tables;

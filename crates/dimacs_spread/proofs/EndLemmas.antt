@@ -1,0 +1,76 @@
+-- The first arc between two nodes.
+use Rattle.std.proofs.Common.{◌≡◌, inl, inr, ℕ, ◌+◌, ◌<◌, ◌≤◌, ◌==◌, true, cond, List, length, take, slice_get, count_by, Some, None, eqb-true, refl, arith}
+use Rattle.std.proofs.lemmas.Bool.{and_parts, cases_order}
+use Rattle.std.proofs.lemmas.Option.{get_or_from_slice_get, slice_get-get_or, slice_get_within}
+use Rattle.std.proofs.lemmas.List.{take-take}
+use Rattle.std.proofs.lemmas.List.Sums.{count_by_more_yes, sum_by-take-le}
+use Rattle.dimacs_claims.specs.declared.solution.Entry.{Entry}
+use Rattle.dimacs_network.specs.declared.network.ArcView.{ArcView}
+use Rattle.dimacs_network.specs.Arcs.{joins, IsKthBetween, arc_at, no_arc}
+use Rattle.dimacs_network.proofs.ArcLemmas.{joins_ends}
+use Rattle.dimacs_judge.specs.Claims.{is_between}
+use Rattle.dimacs_spread.specs.inside.Raised.{AreAlike}
+use Rattle.dimacs_spread.specs.inside.Rests.{IsFirstLike}
+
+pub ends_of : (tail head : ℕ) (a : ArcView) → joins tail head a ≡ true → (a.tail ≡ tail) × (a.head ≡ head)
+ends_of tail head a is = let both = and_parts (a.tail == tail) (a.head == head) is in (eqb-true a.tail tail both.0, eqb-true a.head head both.1)
+
+module _ (arcs : List ArcView) (tail head : ℕ) where
+  pub first_joins : (f : ℕ) → IsKthBetween arcs tail head 0 (Some f) → joins tail head (arc_at arcs f) ≡ true
+  first_joins f found = rw (slice_get-get_or arcs f no_arc found.0) at found.1
+
+  pub first_ends : (f : ℕ) → IsKthBetween arcs tail head 0 (Some f) → ((arc_at arcs f).tail ≡ tail) × ((arc_at arcs f).head ≡ head)
+  first_ends f found = ends_of tail head (arc_at arcs f) (first_joins f found)
+
+  counted_after : (i : ℕ) → IsKthBetween arcs tail head 0 (Some i) → 1 ≤ count_by (joins tail head) (take (i + 1) arcs)
+  counted_after i found = omega (arith, found.2, count_by_more_yes (joins tail head) arcs i no_arc found.0 (first_joins i found))
+
+  not_before : (i j : ℕ) → IsKthBetween arcs tail head 0 (Some i) → IsKthBetween arcs tail head 0 (Some j) → ¬ (i < j)
+  not_before i j found other before =
+      let some = rw (take-take (i + 1) j arcs (omega (arith, before))) at (sum_by-take-le (λ b. cond (joins tail head b) 1 0) (take j arcs) (i + 1)) in
+      omega (arith, counted_after i found, some, other.2)
+
+  pub one_first : (i j : ℕ) → IsKthBetween arcs tail head 0 (Some i) → IsKthBetween arcs tail head 0 (Some j) → i ≡ j
+  one_first i j found other = elim (cases_order i j) [
+    | inl same ↦ same
+    | inr (inl before) ↦ absurd (not_before i j found other before)
+    | inr (inr after) ↦ absurd (not_before j i other found after)
+  ]
+
+  -- the first arc between two nodes is the first with its own ends
+  pub first_itself : (f : ℕ) → IsKthBetween arcs tail head 0 (Some f) → IsFirstLike arcs f f
+  first_itself f found = let e = first_ends f found in rw (e.0, e.1) found
+
+  pub known_from : (f : ℕ) → IsKthBetween arcs tail head 0 (Some f) → 1 ≤ count_by (joins tail head) arcs
+  known_from f found = omega (arith, counted_after f found, sum_by-take-le (λ b. cond (joins tail head b) 1 0) arcs (f + 1))
+
+-- ---- arcs with the same ends
+module _ (arcs : List ArcView) where
+  pub first_alike : (k f : ℕ) → IsFirstLike arcs k f → AreAlike arcs f k
+  first_alike k f found = first_ends arcs (arc_at arcs k).tail (arc_at arcs k).head f found
+
+  pub first_of_alike : (i j f : ℕ) → AreAlike arcs i j → IsFirstLike arcs i f → IsFirstLike arcs j f
+  first_of_alike i j f same found = rw (← same.0, ← same.1) found
+
+  pub alike_joins : (i j tail head : ℕ) → AreAlike arcs i j → joins tail head (arc_at arcs i) ≡ joins tail head (arc_at arcs j)
+  alike_joins i j tail head same = rw (same.0, same.1) refl
+
+  pub own_joins : (k : ℕ) → joins (arc_at arcs k).tail (arc_at arcs k).head (arc_at arcs k) ≡ true
+  own_joins k = joins_ends (arc_at arcs k).tail (arc_at arcs k).head (arc_at arcs k) refl refl
+
+  -- an arc has the ends of itself
+  pub known_itself : (k : ℕ) → k < length arcs → 1 ≤ count_by (joins (arc_at arcs k).tail (arc_at arcs k).head) arcs
+  known_itself k inside =
+      let more = count_by_more_yes (joins (arc_at arcs k).tail (arc_at arcs k).head) arcs k no_arc inside (own_joins k) in
+      omega (arith, more, sum_by-take-le (λ b. cond (joins (arc_at arcs k).tail (arc_at arcs k).head b) 1 0) arcs (k + 1))
+
+  -- some arc has the ends of an arc, and this is the first
+  pub always_first : (k : ℕ) (a : ArcView) → slice_get arcs k ≡ Some a → IsKthBetween arcs a.tail a.head 0 None → ⊥
+  always_first k a here none = let none_like = rw (← get_or_from_slice_get arcs k a no_arc here) at none in omega (arith, none_like, known_itself k (slice_get_within arcs k a here))
+
+  pub first_of_arc : (k f : ℕ) (a : ArcView) → slice_get arcs k ≡ Some a → IsKthBetween arcs a.tail a.head 0 (Some f) → IsFirstLike arcs k f
+  first_of_arc k f a here found = rw (get_or_from_slice_get arcs k a no_arc here) found
+
+-- ---- entries
+pub entry_joins : (arcs : List ArcView) (e : Entry) (f tail head : ℕ) → IsKthBetween arcs e.tail e.head 0 (Some f) → joins tail head (arc_at arcs f) ≡ is_between tail head e
+entry_joins arcs e f tail head found = let same = ends_of e.tail e.head (arc_at arcs f) (first_joins arcs e.tail e.head f found) in rw (same.0, same.1) refl

@@ -1,0 +1,7 @@
+pub mod EndLemmas
+pub mod SumLemmas
+mod RestLemmas
+mod RaisedLemmas
+mod DealtLemmas
+mod OrderLemmas
+mod Cheapest

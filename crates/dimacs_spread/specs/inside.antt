@@ -1,0 +1,3 @@
+pub mod ArcsByCost
+pub mod Raised
+pub mod Rests

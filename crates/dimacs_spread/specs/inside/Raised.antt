@@ -1,0 +1,58 @@
+-- Inside: amounts within the bounds, and how far they were raised.
+use Rattle.std.specs.Prelude.{ℕ, ◌≡◌, ◌<◌, ◌⊎◌, List, length, set, ℤ, pos, ◌+ℤ◌, ◌-ℤ◌, ◌≤ℤ◌, ◌<ℤ◌}
+use Rattle.dimacs_network.specs.declared.network.ArcView.{ArcView}
+use Rattle.dimacs_network.specs.Arcs.{arc_at}
+use Rattle.dimacs_judge.specs.Rows.{amount_at}
+use Rattle.dimacs_spread.specs.declared.arcs_by_cost.ArcOfCost.{ArcOfCost}
+use Rattle.dimacs_spread.specs.inside.ArcsByCost.{place_at}
+use Rattle.dimacs_spread.specs.inside.Rests.{IsFirstLike}
+
+-- every arc carries from its lower bound to its capacity
+pub record AreWithin (arcs : List ArcView) (x : List ℤ) : Type 0 where
+  pub one_each : length x ≡ length arcs
+  pub low : (k : ℕ) → k < length arcs → (arc_at arcs k).low ≤ℤ amount_at x k
+  pub cap : (k : ℕ) → k < length arcs → amount_at x k ≤ℤ (arc_at arcs k).cap
+
+-- two arcs with the same ends
+abbrev pub AreAlike : List ArcView → ℕ → ℕ → Type 0
+AreAlike arcs i j = ((arc_at arcs i).tail ≡ (arc_at arcs j).tail) × ((arc_at arcs i).head ≡ (arc_at arcs j).head)
+
+-- where an arc carries more than its lower bound, those with its ends that cost less are full
+abbrev pub CheapestAreFull : List ArcView → List ℤ → Type 0
+CheapestAreFull arcs x =
+    (i j : ℕ) → i < length arcs → j < length arcs → AreAlike arcs i j → (arc_at arcs i).cost <ℤ (arc_at arcs j).cost
+    → (arc_at arcs j).low <ℤ amount_at x j → amount_at x i ≡ (arc_at arcs i).cap
+
+-- where more is left between the ends of an arc, it is full; where too little is, it carries its lower bound
+pub record AreDealt (arcs : List ArcView) (rests x : List ℤ) : Type 0 where
+  pub rests_long : length rests ≡ length arcs
+  pub at_first : (k : ℕ) → k < length arcs → (amount_at rests k ≡ pos 0 → ⊥) → IsFirstLike arcs k k
+  pub within : AreWithin arcs x
+  pub full : (k f : ℕ) → k < length arcs → IsFirstLike arcs k f → pos 0 <ℤ amount_at rests f → amount_at x k ≡ (arc_at arcs k).cap
+  pub low : (k f : ℕ) → k < length arcs → IsFirstLike arcs k f → amount_at rests f <ℤ pos 0 → amount_at x k ≡ (arc_at arcs k).low
+  pub cheapest_first : CheapestAreFull arcs x
+
+-- the same while arcs are raised: those at the first so many places are full where more is left
+pub record AreDealtUpTo (arcs : List ArcView) (order : List ArcOfCost) (so_many : ℕ) (rests x : List ℤ) : Type 0 where
+  pub rests_long : length rests ≡ length arcs
+  pub at_first : (k : ℕ) → k < length arcs → (amount_at rests k ≡ pos 0 → ⊥) → IsFirstLike arcs k k
+  pub within : AreWithin arcs x
+  pub full : (q f : ℕ) → q < so_many → IsFirstLike arcs (place_at order q).arc f → pos 0 <ℤ amount_at rests f → amount_at x (place_at order q).arc ≡ (arc_at arcs (place_at order q).arc).cap
+  pub low : (k f : ℕ) → k < length arcs → IsFirstLike arcs k f → amount_at rests f <ℤ pos 0 → amount_at x k ≡ (arc_at arcs k).low
+  pub cheapest_first : CheapestAreFull arcs x
+
+-- more of a rest is put on an arc, as much as there is room for
+pub record IsMore (rest room more : ℤ) : Type 0 where
+  pub not_less : pos 0 ≤ℤ more
+  pub has_room : more ≤ℤ room
+  pub from_rest : (more ≡ pos 0) ⊎ (more ≤ℤ rest)
+  pub all_room : more <ℤ rest → more ≡ room
+
+-- one arc is raised, and the rest of its ends is less by that
+pub record IsRaised (arcs : List ArcView) (k : ℕ) (rests x rests_then x_then : List ℤ) : Type 0 where
+  pub first : ℕ
+  pub more : ℤ
+  pub is_first : IsFirstLike arcs k first
+  pub is_more : IsMore (amount_at rests first) ((arc_at arcs k).cap -ℤ amount_at x k) more
+  pub rest_is : rests_then ≡ set rests first (amount_at rests first -ℤ more)
+  pub amount_is : x_then ≡ set x k (amount_at x k +ℤ more)

@@ -1,0 +1,116 @@
+//! The rests of the sums: what is still to be dealt out between two nodes, at the first arc between them.
+
+ghost use Rattle.std.specs.Prelude.{◌≡◌, ◌<◌, ◌+◌, ◌^◌, ◌+ℤ◌, [], ℕ, ℤ, List, pos, length, replicate, IfErr, IfNone, IfOk, IfSome, OnOk, ◌≢◌};
+ghost use Rattle.std.specs.List.{All};
+ghost use Rattle.dimacs_instance.specs.MinFlows.{HasBounds};
+ghost use Rattle.dimacs_judge.specs.Rows.{amount_at};
+ghost use Rattle.dimacs_judge.specs.Tests.{TellsRow};
+ghost use Rattle.dimacs_spread.specs.Spread.{unknown_row};
+ghost use Rattle.dimacs_spread.specs.inside.Rests.{AddUp, AreLows, AreRests, IsOfRest, RestFails};
+
+use crate::arcs_by_ends::ArcsByEnds;
+use dimacs_claims::Entry;
+use dimacs_judge::Where;
+use dimacs_lines::Memory;
+use dimacs_network::Network;
+use dimacs_records::Reason;
+use std::alloc::Global;
+
+/// No rest for any arc.
+pub(crate) fn no_rests(alloc: Global, arcs: u32) -> Result<Vec<i128>, Memory>
+    ensures { IfOk result (λ rests. rests.items ≡ replicate arcs (pos 0)) }
+{
+    Ok(vec![in alloc; 0i128; arcs as usize]?)
+}
+
+/// No amount on any arc.
+pub(crate) fn no_amounts(alloc: Global, arcs: u32) -> Result<Vec<i64>, Memory>
+    ensures { IfOk result (λ amounts. amounts.items ≡ replicate arcs (pos 0)) }
+{
+    Ok(vec![in alloc; 0i64; arcs as usize]?)
+}
+
+/// Puts on each arc its lower bound, and takes it from the rest of its ends.
+pub(crate) fn put_lows<N: Network>(
+    arcs: &ArcsByEnds<'_, N>,
+    rests: &mut [i128],
+    amounts: &mut [i64],
+)
+    requires bounds { All HasBounds arcs.now }
+    requires no_rests { rests.old ≡ replicate (length arcs.now) (pos 0) }
+    requires no_amounts { amounts.old ≡ replicate (length arcs.now) (pos 0) }
+    ensures rests { AreRests arcs.now (length arcs.now) rests.new }
+    ensures lows { AreLows arcs.now (length arcs.now) amounts.new }
+    ensures sums { AddUp arcs.now [] rests.new amounts.new }
+{
+    for arc in 0..arcs.len() {
+        let low = arcs.arc(arc).low;
+        amounts[arc as usize] = low;
+        rests[arcs.first_like(arc) as usize] -= i128::from(low);
+    }
+}
+
+/// Adds each entry to the rest of its ends, or finds the first entry whose ends no arc has.
+pub(crate) fn add_entries<N: Network>(
+    arcs: &ArcsByEnds<'_, N>,
+    entries: &[Entry],
+    rests: &mut [i128],
+) -> Result<(), (Where, Reason)>
+    requires rests { AreRests arcs.now (length arcs.now) rests.old }
+    requires few_arcs { length arcs.now < 2 ^ 32 }
+    requires few { length entries.now < 2 ^ 63 }
+    ensures unknown { TellsRow (unknown_row arcs.now entries.now) result }
+    ensures rests { OnOk result (AreRests arcs.now (length arcs.now + length entries.now) rests.new) }
+    ensures sums { OnOk result ((x : List ℤ) → AddUp arcs.now [] rests.old x → AddUp arcs.now entries.now rests.new x) }
+{
+    for entry in entries {
+        let Some(first) = arcs.first(entry.tail, entry.head) else {
+            let place = Where::Solution {
+                line: entry.line,
+                field: 0,
+            };
+            return Err((place, Reason::UnknownArc));
+        };
+        rests[first as usize] += i128::from(entry.flow);
+    }
+    Ok(())
+}
+
+/// Puts each rest that is left on the first arc between its ends, where it leaves the bounds. The first arc that has no
+/// number for it is refused, as the judge would refuse any number there.
+pub(crate) fn put_rests(rests: &[i128], amounts: &mut [i64]) -> Result<(), (Where, Reason)>
+    requires one_each { length rests.now ≡ length amounts.old }
+    requires few { length amounts.old < 2 ^ 32 }
+    ensures put { OnOk result ((k : ℕ) → amount_at amounts.new k ≡ amount_at amounts.old k +ℤ amount_at rests.now k) }
+    ensures refused { IfErr result (λ refusal. IsOfRest rests.now refusal.0 refusal.1) }
+{
+    for arc in 0..amounts.len() {
+        let rest = rests[arc];
+        match with_rest(amounts[arc], rest) {
+            Some(amount) => amounts[arc] = amount,
+            None => return Err((Where::Arc(arc as u32 + 1), reason_of(rest))),
+        }
+    }
+    Ok(())
+}
+
+/// The amount with a rest, where it is a number of 64 bits.
+fn with_rest(amount: i64, rest: i128) -> Option<i64>
+    ensures sum { IfSome result (λ sum. sum ≡ amount +ℤ rest) }
+    ensures some_rest { IfNone result (rest ≢ pos 0) }
+{
+    let rest = i64::try_from(rest).ok()?;
+    amount.checked_add(rest)
+}
+
+/// Why a rest that isn't 0 is refused.
+fn reason_of(rest: i128) -> Reason
+    requires { rest ≢ pos 0 }
+    ensures { RestFails rest result }
+{
+    if rest < 0 {
+        Reason::BelowLow
+    } else {
+        Reason::AboveCap
+    }
+}

@@ -1,0 +1,97 @@
+//! The sums between any two nodes, dealt out to the arcs between them.
+
+ghost use Rattle.std.specs.Prelude.{◌≡◌, ◌<◌, ◌^◌, pos, length, replicate, IfErr, IfOk, OnOk};
+ghost use Rattle.std.specs.List.{All};
+ghost use Rattle.dimacs_instance.specs.MinFlows.{HasBounds};
+ghost use Rattle.dimacs_spread.specs.Spread.{Deals, FirstArcsFail, IsRefusal, IsRefusedAt, KeepsBoundsIfAny, NoneCheaper};
+ghost use Rattle.dimacs_spread.specs.inside.ArcsByCost.{AreByCost};
+
+use crate::arcs_by_cost::{ArcOfCost, arcs_by_cost};
+use crate::arcs_by_ends::ArcsByEnds;
+use crate::raise::raise_all;
+use crate::rests::{add_entries, no_amounts, no_rests, put_lows, put_rests};
+use dimacs_claims::{Entry, Solution};
+use dimacs_instance::{MaxInstance, MinInstance};
+use dimacs_judge::{Flow, JudgeError, Where};
+use dimacs_network::Network;
+use dimacs_records::Reason;
+use std::alloc::Global;
+
+/// The flow that carries between any two nodes what the entries of the solution sum up to, and keeps the bounds of all
+/// arcs if any such flow does. Arcs with the same ends are filled in the order of the instance.
+///
+/// `UnknownArc` at the first entry whose ends no arc has. Where no flow keeps the bounds of the arcs between two nodes,
+/// what is too much, or too little, stands on the first of them: there `judge_max` refuses the flow. Where no number of
+/// 64 bits can, it is refused here, at that arc and for the same reason.
+pub fn spread_max<N: Network>(
+    alloc: Global,
+    instance: &MaxInstance<N>,
+    solution: &Solution,
+) -> Result<Flow, JudgeError>
+    ensures deals { IfOk result (λ flow. Deals instance.now.arcs solution.now.entries.items flow) }
+    ensures kept { IfOk result (λ flow. KeepsBoundsIfAny instance.now.arcs solution.now.entries.items flow) }
+    ensures failing { IfOk result (λ flow. FirstArcsFail instance.now.arcs solution.now.entries.items flow) }
+    ensures refused { IfErr result (IsRefusal instance.now.arcs solution.now.entries.items) }
+{
+    let network = instance.network();
+    spread(alloc, network, solution)
+}
+
+/// The same of a minimum cost flow. Of all such flows that keep the bounds, none costs less: arcs with the same ends are
+/// filled by their costs, and then in the order of the instance.
+pub fn spread_min<N: Network>(
+    alloc: Global,
+    instance: &MinInstance<N>,
+    solution: &Solution,
+) -> Result<Flow, JudgeError>
+    ensures deals { IfOk result (λ flow. Deals instance.now.arcs solution.now.entries.items flow) }
+    ensures kept { IfOk result (λ flow. KeepsBoundsIfAny instance.now.arcs solution.now.entries.items flow) }
+    ensures least { IfOk result (λ flow. NoneCheaper instance.now.arcs solution.now.entries.items flow) }
+    ensures failing { IfOk result (λ flow. FirstArcsFail instance.now.arcs solution.now.entries.items flow) }
+    ensures refused { IfErr result (IsRefusal instance.now.arcs solution.now.entries.items) }
+{
+    spread(alloc, instance.network(), solution)
+}
+
+/// The same of any network. First each arc gets its lower bound, then the cheapest are raised first.
+fn spread<N: Network>(alloc: Global, network: &N, solution: &Solution) -> Result<Flow, JudgeError>
+    requires { All HasBounds (N.list network.now) }
+    ensures deals { IfOk result (λ flow. Deals (N.list network.now) solution.now.entries.items flow) }
+    ensures kept { IfOk result (λ flow. KeepsBoundsIfAny (N.list network.now) solution.now.entries.items flow) }
+    ensures least { IfOk result (λ flow. NoneCheaper (N.list network.now) solution.now.entries.items flow) }
+    ensures failing { IfOk result (λ flow. FirstArcsFail (N.list network.now) solution.now.entries.items flow) }
+    ensures refused { IfErr result (IsRefusal (N.list network.now) solution.now.entries.items) }
+{
+    let arcs = ArcsByEnds::of(alloc, network)?;
+    let order = arcs_by_cost(alloc, network)?;
+    let mut rests = no_rests(alloc, network.arcs())?;
+    let mut amounts = no_amounts(alloc, network.arcs())?;
+    deal(&arcs, &order, &solution.entries, &mut rests, &mut amounts)?;
+    Ok(Flow::from_vec(amounts))
+}
+
+/// Deals the sums of the entries out to the arcs, where nothing is dealt out yet.
+fn deal<N: Network>(
+    arcs: &ArcsByEnds<'_, N>,
+    order: &[ArcOfCost],
+    entries: &[Entry],
+    rests: &mut [i128],
+    amounts: &mut [i64],
+) -> Result<(), (Where, Reason)>
+    requires bounds { All HasBounds arcs.now }
+    requires few_arcs { length arcs.now < 2 ^ 32 }
+    requires few { length entries.now < 2 ^ 63 }
+    requires by_cost { AreByCost arcs.now order.now }
+    requires no_rests { rests.old ≡ replicate (length arcs.now) (pos 0) }
+    requires no_amounts { amounts.old ≡ replicate (length arcs.now) (pos 0) }
+    ensures deals { OnOk result (Deals arcs.now entries.now amounts.new) }
+    ensures kept { OnOk result (KeepsBoundsIfAny arcs.now entries.now amounts.new) }
+    ensures least { OnOk result (NoneCheaper arcs.now entries.now amounts.new) }
+    ensures failing { OnOk result (FirstArcsFail arcs.now entries.now amounts.new) }
+    ensures refused { IfErr result (λ refusal. IsRefusedAt arcs.now entries.now refusal.0 refusal.1) }
+{
+    put_lows(arcs, rests, amounts);
+    add_entries(arcs, entries, rests)?;
+    raise_all(arcs, order, rests, amounts);
+    put_rests(rests, amounts)
+}
