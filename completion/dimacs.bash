@@ -33,6 +33,8 @@ _dimacs_places() {
         certify-paths) echo gr distances dist ;;
         judge-paths | solve-paths) echo gr query dist ;;
         solve-max) echo max solution cut --limit ;;
+        spread-max) echo max solution solution ;;
+        spread-min) echo min solution solution ;;
         solve-min) echo min solution certificate --limit ;;
     esac
 }
@@ -40,7 +42,8 @@ _dimacs_places() {
 _dimacs() {
     local word=${COMP_WORDS[COMP_CWORD]} places at=1
     local commands='convert show certify-max certify-min certify-infeasible certify-paths judge-max judge-min
-        judge-infeasible judge-paths solve-max solve-min solve-paths'
+        judge-infeasible judge-paths solve-max solve-min solve-paths
+        spread-max spread-min'
     local kinds='max min gr query solution distances cut pot dist'
     COMPREPLY=()
     if ((COMP_CWORD > 1)) && [[ ${COMP_WORDS[1]} == explain ]]; then

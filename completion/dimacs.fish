@@ -35,6 +35,8 @@ complete -c dimacs -n '__dimacs_begins' -a judge-paths -d 'Are these distances, 
 complete -c dimacs -n '__dimacs_begins' -a solve-max -d 'Write a maximum flow'
 complete -c dimacs -n '__dimacs_begins' -a solve-min -d 'Write a cheapest flow'
 complete -c dimacs -n '__dimacs_begins' -a solve-paths -d 'Write distances'
+complete -c dimacs -n '__dimacs_begins' -a spread-max -d 'Spread sums over parallel arcs'
+complete -c dimacs -n '__dimacs_begins' -a spread-min -d 'The same, at least cost'
 complete -c dimacs -n '__fish_is_first_token' -a explain -d 'Do it, and explain a refusal'
 
 set -l texts convert show
@@ -50,7 +52,8 @@ complete -c dimacs -n "__dimacs_at 1 $texts" -a distances -d 'Claimed distances'
 complete -c dimacs -n "__dimacs_at 2 $texts" -F
 
 set -l of_two judge-infeasible certify-infeasible
-set -l of_three judge-max judge-min judge-paths certify-max certify-min certify-paths solve-max solve-min solve-paths
+set -l of_three judge-max judge-min judge-paths certify-max certify-min certify-paths solve-max solve-min solve-paths \
+    spread-max spread-min
 complete -c dimacs -n "__dimacs_at 1 $of_two $of_three" -F
 complete -c dimacs -n "__dimacs_at 2 $of_two $of_three" -F
 complete -c dimacs -n "__dimacs_at 3 $of_three" -F

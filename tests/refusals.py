@@ -45,6 +45,8 @@ TEXTS = {
     "SPACED": "p sp 1 0\n",
     "max": MAX,
     "flow": "s 6\nf 1 2 4\nf 1 3 2\nf 2 3 1\nf 2 4 3\nf 3 4 3\n",
+    "turned": "s 6\nf 3 4 3\nf 2 4 3\nf 2 3 1\nf 1 3 2\nf 1 2 3\nf 1 2 1\n",
+    "astray": "s 6\nf 4 1 6\n",
     "slow": "s 5\nf 1 2 3\nf 1 3 2\nf 2 4 3\nf 3 4 2\n",
     "cut": "p cut 4 1\nu 1\n",
     "min": MIN,
@@ -100,6 +102,9 @@ RUNS = [
     ("certify-paths cycle near", 0, "v sp distances 1\n"),
     ("certify-paths cycle near SHOWN", 0, "v sp distances 1\n"),
     ("certify-paths cycle circled SHOWN", 1, "x node 3 NoTightArc\n"),
+    ("spread-max max turned SHOWN", 0, ""),
+    ("spread-min min least SHOWN", 0, ""),
+    ("spread-max max astray SHOWN", 1, "x solution 2 0 UnknownArc\n"),
     ("solve-max max CLAIM SHOWN --limit 10", 0, "v max 6\n"),
     ("solve-max max CLAIM SHOWN --limit 1", 5, "g limit\n"),
     ("solve-min min CLAIM SHOWN", 0, "v min 14\n"),
@@ -131,6 +136,8 @@ GROWING = [
     ("certify-infeasible long.unmet SHOWN", 0, "v infeasible\n"),
     ("certify-infeasible long.min SHOWN", 1, "x instance 0 0 Feasible\n"),
     ("certify-paths long.gr long.near SHOWN", 0, "v sp distances 2\n"),
+    ("spread-max long.max long.flow SHOWN", 0, ""),
+    ("spread-min long.min long.least SHOWN", 0, ""),
     ("solve-max long.max CLAIM SHOWN", 0, "v max 1\n"),
     ("solve-min long.min CLAIM SHOWN", 0, "v min 39\n"),
     ("solve-min long.unmet CLAIM SHOWN", 0, "v infeasible\n"),
@@ -143,10 +150,15 @@ JUDGES = {
     "certify-min": "judge-min {instance} {query} SHOWN",
     "certify-infeasible": "judge-infeasible {instance} SHOWN",
     "certify-paths": "judge-paths {instance} {sources} SHOWN",
+    "spread-max": "certify-max {instance} SHOWN",
+    "spread-min": "certify-min {instance} SHOWN",
     "solve-max": "judge-max {instance} CLAIM SHOWN",
     "solve-min": "judge-min {instance} CLAIM SHOWN",
     "solve-paths": "judge-paths {instance} {query} SHOWN",
 }
+
+# Runs that create their file once its text is made.
+LATE = ("certify-", "spread-")
 
 # The reasons for which a run that certifies writes a solution.
 BETTER = ("NotMaximum", "NotLeast", "Feasible")
@@ -482,8 +494,8 @@ def faults_of(ran, words, status, printed):
 
 
 def writes(words, printed):
-    """Whether a run creates its files: one that certifies does only if it has a text to write."""
-    return not words.startswith("certify-") or printed.startswith("v") or printed.rstrip().endswith(BETTER)
+    """Whether a run creates its files: one that certifies or spreads does only if it has a text to write."""
+    return not words.startswith(LATE) or printed[:1] in ("", "v") or printed.rstrip().endswith(BETTER)
 
 
 def may_pass_over(kind, words, call):
@@ -507,7 +519,7 @@ def fault_of(kind, words, ran, whole):
         wanted.append(complaint_of(ran.refused))
     if ran.complaint not in wanted:
         return f"complains {ran.complaint!r}"
-    if words.startswith("certify-") and kind.call != "write" and ran.outputs[1] is not None:
+    if words.startswith(LATE) and kind.call != "write" and ran.outputs[1] is not None:
         return f"creates {MADE[1]}"
     allowed = whole.outputs if kind.call == "write" else [""] * len(ran.outputs)
     if not is_beginning(ran.outputs, allowed):
@@ -597,6 +609,8 @@ def judge_made(runs, words, whole):
         judge = judge.replace(name, f"kept.{name}")
     judged = runs.run(judge, {})
     wanted = whole.outputs[-1].replace("sp distances", "sp ss")
+    if producer.startswith("spread-"):
+        wanted = judged.outputs[-1]
     if producer == "certify-infeasible" and whole.status == 1:
         is_right = judged.status == 0 or judged.outputs[-1] == "x solution 1 2 NotLeast\n"
     else:

@@ -4,7 +4,7 @@ use clap::Command;
 use std::alloc::{AllocError, Global};
 
 /// The words of each run, and what it does. With two blanks between them they fit 80 columns.
-static RUNS: [(&str, &str); 14] = [
+static RUNS: [(&str, &str); 16] = [
     ("convert KIND FILE", "Prints its canonical form"),
     ("show KIND FILE", "Prints a line about it"),
     ("judge-max INSTANCE SOLUTION CUT", "Is the flow maximum?"),
@@ -39,6 +39,11 @@ static RUNS: [(&str, &str); 14] = [
         "Writes a cheapest flow",
     ),
     ("solve-paths GRAPH QUERY LABELS", "Writes distances"),
+    (
+        "spread-max INSTANCE SOLUTION OUT",
+        "Spreads sums over parallel arcs",
+    ),
+    ("spread-min INSTANCE SOLUTION OUT", "The same, at least cost"),
     ("explain COMMAND FILE...", "Does it, and explains a refusal"),
 ];
 
@@ -46,9 +51,9 @@ static RUNS: [(&str, &str); 14] = [
 static NOTES: &str = "\
 A judge is given what shows that a claim is true. A certify run needs no such
 file: it writes one to CERTIFICATE or LABELS, if it is named, or a better or a
-feasible solution, once the other files are read. A solve run empties the files
-that it writes before it reads INSTANCE, or GRAPH and QUERY, so no other word may
-name them. The other runs write no file. N is how many flows or steps are tried,
+feasible solution, once the other files are read; so do spread runs with OUT. A
+solve run empties the files that it writes before it reads INSTANCE, or GRAPH and
+QUERY, so no other word may name them. The other runs write no file. N is how many flows or steps are tried,
 a number from 0 to 1000000000, and 1000000 if it isn't given.
 
 KIND:

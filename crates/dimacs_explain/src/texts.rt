@@ -2,7 +2,7 @@
 
 use dimacs_lines::{Lines, MAX_LINES, Memory, Source};
 use dimacs_records::{Record, TextKind, record};
-use dimacs_runs::{CertifyKind, Files, Job, JudgeKind, SolveJob};
+use dimacs_runs::{CertifyKind, Files, Job, JudgeKind, SolveJob, SpreadKind};
 use std::alloc::Global;
 
 /// A text of a run: its kind, and the name of its file.
@@ -42,6 +42,8 @@ impl<'a> Texts<'a> {
             },
             Job::Judge(kind, files) => judged(kind, files),
             Job::Certify(kind, files) => certified(kind, files),
+            Job::Spread(SpreadKind::Max, files) => claimed(TextKind::Max, TextKind::Solution, files),
+            Job::Spread(SpreadKind::Min, files) => claimed(TextKind::Min, TextKind::Solution, files),
             Job::Solve(job, files) => solved(job, files),
         }
     }

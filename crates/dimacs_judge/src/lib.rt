@@ -51,6 +51,6 @@ pub use paths::judge_paths;
 pub use places::FlowPlaces;
 pub use potentials::slack_tests;
 pub use queries::{answer_queries, index_for, query_nodes_hold, source_asked};
-pub use solution::{max_solution, min_solution};
+pub use solution::{entries_for, max_solution, min_solution};
 pub use value::value_of;
 pub use verdict::{Answer, JudgeError, Verdict, Where};

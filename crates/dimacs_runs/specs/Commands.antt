@@ -11,11 +11,12 @@ use Rattle.dimacs_runs.specs.declared.failure.FileCall.{FileCall}
 use Rattle.dimacs_runs.specs.declared.failure.FileCall.TheVariants as calls
 use Rattle.dimacs_runs.specs.declared.jobs.CertifyKind.{CertifyKind}
 use Rattle.dimacs_runs.specs.declared.jobs.Job.{Job}
-use Rattle.dimacs_runs.specs.declared.jobs.Job.TheVariants.{Convert, Show, Judge, Certify, Solve}
+use Rattle.dimacs_runs.specs.declared.jobs.Job.TheVariants.{Convert, Show, Judge, Certify, Spread, Solve}
 use Rattle.dimacs_runs.specs.declared.jobs.JudgeKind.{JudgeKind}
 use Rattle.dimacs_runs.specs.declared.jobs.JudgeKind.TheVariants as judges
 use Rattle.dimacs_runs.specs.declared.jobs.SolveJob.{SolveJob}
 use Rattle.dimacs_runs.specs.declared.jobs.SolveJob.TheVariants as solves
+use Rattle.dimacs_runs.specs.declared.jobs.SpreadKind.{SpreadKind}
 use Rattle.dimacs_runs.specs.declared.outcome.RunError.{RunError}
 use Rattle.dimacs_runs.specs.declared.outcome.RunError.TheVariants as run_errors
 use Rattle.dimacs_runs.specs.declared.outcome.Status.{Status}
@@ -28,6 +29,7 @@ use Rattle.dimacs_runs.specs.Outputs.{MayTell, ReportsAll, TellsAlike}
 use Rattle.dimacs_runs.specs.declared.text.TextForm.TheVariants.{Canonical, Summary}
 use Rattle.dimacs_runs.specs.Runs.{Reports, Told}
 use Rattle.dimacs_runs.specs.Solved.{Solved}
+use Rattle.dimacs_runs.specs.Spread.{Spreads}
 
 -- what files of these names hold, where that is told
 abbrev pub Contents : Type 0
@@ -63,6 +65,7 @@ plan_of (Convert kind file) = reads (file.now ∷ [])
 plan_of (Show kind file) = reads (file.now ∷ [])
 plan_of (Judge kind files) = reads (map string_bytes files.now)
 plan_of (Certify kind files) = reads_first (certify_reads kind) (map string_bytes files.now)
+plan_of (Spread kind files) = reads_first 2 (map string_bytes files.now)
 plan_of (Solve job files) = reads_first (read_count job) (map string_bytes files.now)
 
 -- a run writes a claim and its certificate to one file, of this name
@@ -111,6 +114,10 @@ abbrev pub MakesCertificate : CertifyKind → Making
 MakesCertificate kind (instance ∷ []) = TellsAlike (Certified kind instance [])
 MakesCertificate kind (instance ∷ claim ∷ []) = TellsAlike (Certified kind instance claim)
 MakesCertificate kind other = λ status out. ⊥
+
+abbrev pub MakesSpread : SpreadKind → Making
+MakesSpread kind (instance ∷ claim ∷ []) = Spreads kind instance claim
+MakesSpread kind other = λ status out. ⊥
 
 -- a file could not be opened: those before it were, and nothing else was done
 pub record StopsOpening (plan : Plan) (events : List FileEvent) : Type 0 where
@@ -223,12 +230,13 @@ abbrev pub MakesOfFiles : Plan → Contents → Option (List ℕ) → Making →
 MakesOfFiles plan holds empty makes result old new =
     RunsOver (λ events. PutsNothing (StopsOpening plan events ⊎ StopsMaking plan holds makes events) result old new ⊎ MakesFiles plan holds empty makes events result old.output.accepted new.output.accepted) result old new
 
--- certifiers create a file where they made a text for it, the others before they run
+-- certifiers, and runs that spread, create a file where they made a text for it, the others before they run
 abbrev pub RunsJob : Job → Contents → Option (List ℕ) → Result Status CommandError → Seen → Seen → Type 0
 RunsJob (Convert kind file) holds empty = RunsFiles (plan_of (Convert kind file)) holds empty (TellsOne (Told Canonical kind))
 RunsJob (Show kind file) holds empty = RunsFiles (plan_of (Show kind file)) holds empty (TellsOne (Told Summary kind))
 RunsJob (Judge kind files) holds empty = RunsFiles (plan_of (Judge kind files)) holds empty (TellsJudged kind)
 RunsJob (Certify kind files) holds empty = MakesOfFiles (plan_of (Certify kind files)) holds empty (MakesCertificate kind)
+RunsJob (Spread kind files) holds empty = MakesOfFiles (plan_of (Spread kind files)) holds empty (MakesSpread kind)
 RunsJob (Solve job files) holds empty = RunsFiles (plan_of (Solve job files)) holds empty (TellsSolved job)
 
 -- how the command ends after a run, with the device that failed

@@ -7,11 +7,13 @@ use Rattle.dimacs_records.specs.declared.kinds.TextKind.TheVariants.{Max, Min, G
 use Rattle.dimacs_runs.specs.declared.jobs.CertifyKind.{CertifyKind}
 use Rattle.dimacs_runs.specs.declared.jobs.CertifyKind.TheVariants as certifies
 use Rattle.dimacs_runs.specs.declared.jobs.Job.{Job}
-use Rattle.dimacs_runs.specs.declared.jobs.Job.TheVariants.{Convert, Show, Judge, Certify, Solve}
+use Rattle.dimacs_runs.specs.declared.jobs.Job.TheVariants.{Convert, Show, Judge, Certify, Spread, Solve}
 use Rattle.dimacs_runs.specs.declared.jobs.JudgeKind.{JudgeKind}
 use Rattle.dimacs_runs.specs.declared.jobs.JudgeKind.TheVariants as judges
 use Rattle.dimacs_runs.specs.declared.jobs.SolveJob.{SolveJob}
 use Rattle.dimacs_runs.specs.declared.jobs.SolveJob.TheVariants as solves
+use Rattle.dimacs_runs.specs.declared.jobs.SpreadKind.{SpreadKind}
+use Rattle.dimacs_runs.specs.declared.jobs.SpreadKind.TheVariants as spreads
 
 abbrev pub kind_word : TextKind → List ℕ
 kind_word Max = codes "max"
@@ -50,6 +52,10 @@ certify_reads kind = 2
 abbrev pub AreCertifyFiles : CertifyKind → ℕ → Type 0
 AreCertifyFiles kind count = (certify_reads kind ≤ count) × (count ≤ certify_reads kind + 1)
 
+abbrev pub spread_word : SpreadKind → List ℕ
+spread_word spreads.Max = codes "spread-max"
+spread_word spreads.Min = codes "spread-min"
+
 abbrev pub solve_word : SolveJob → List ℕ
 solve_word (solves.Max limit) = codes "solve-max"
 solve_word (solves.Min limit) = codes "solve-min"
@@ -80,4 +86,5 @@ Asks words (Convert kind file) = words ≡ codes "convert" ∷ kind_word kind �
 Asks words (Show kind file) = words ≡ codes "show" ∷ kind_word kind ∷ file.now ∷ []
 Asks words (Judge kind files) = (words ≡ judge_word kind ∷ map string_bytes files.now) × (length files.now ≡ file_count kind)
 Asks words (Certify kind files) = (words ≡ certify_word kind ∷ map string_bytes files.now) × AreCertifyFiles kind (length files.now)
+Asks words (Spread kind files) = (words ≡ spread_word kind ∷ map string_bytes files.now) × (length files.now ≡ 3)
 Asks words (Solve job files) = AsksProducer words job (map string_bytes files.now)

@@ -9,5 +9,6 @@ pub mod Outputs
 pub mod Refusals
 pub mod Runs
 pub mod Solved
+pub mod Spread
 pub mod Verdicts
 pub mod inside

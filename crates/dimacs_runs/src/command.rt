@@ -11,6 +11,7 @@ use crate::jobs::Job;
 use crate::outcome::{RunError, Status, exit_status};
 use crate::runs_that_certify::certify_files;
 use crate::runs_that_read::{judge_files, tell_file};
+use crate::runs_that_spread::spread_files;
 use crate::runs_that_write::solve_files;
 use crate::text::TextForm;
 use crate::words::job;
@@ -91,6 +92,7 @@ fn run_job<'a, F: Files, K: Sink>(
         Job::Show(kind, name) => tell_file(alloc, TextForm::Summary, kind, name, files, output),
         Job::Judge(kind, names) => judge_files(alloc, kind, names, files, output),
         Job::Certify(kind, names) => certify_files(alloc, kind, names, files, output),
+        Job::Spread(kind, names) => spread_files(alloc, kind, names, files, output),
         Job::Solve(job, names) => solve_files(alloc, job, names, files, output),
     }
 }

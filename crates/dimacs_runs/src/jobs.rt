@@ -33,6 +33,15 @@ pub enum CertifyKind {
     Paths,
 }
 
+/// Of which instance a claimed flow is spread.
+#[derive(Clone, Copy, Debug, PartialEq, Eq)]
+pub enum SpreadKind {
+    /// Of maximum flow.
+    Max,
+    /// Of least cost.
+    Min,
+}
+
 /// What a producer is asked for.
 #[derive(Clone, Copy, Debug, PartialEq, Eq)]
 pub enum SolveJob {
@@ -58,6 +67,9 @@ pub enum Job<'a> {
     /// the certificate, or of a better solution, which is written; nothing is claimed of an instance without a feasible
     /// flow, so there the certificate is the second.
     Certify(CertifyKind, &'a [String]),
+    /// Deals a claimed flow out to parallel arcs. The files of the instance and of the claim, which are read, and that of
+    /// the solution, which is written.
+    Spread(SpreadKind, &'a [String]),
     /// Makes a claim. The file of the instance, which is read, and those of the claim and of its certificate, which are
     /// written; for distances those of the graph and of the queries, which are read, and that of the labels.
     Solve(SolveJob, &'a [String]),

@@ -25,6 +25,8 @@ pub(crate) enum Told {
     Fault(&'static str, At, Reason),
     /// A producer reached its limit.
     GaveUp,
+    /// Nothing: the text that was made says it.
+    Nothing,
 }
 
 impl Told {
@@ -32,7 +34,7 @@ impl Told {
         ensures { result ≡ told_status self.now }
     {
         match self {
-            Told::Yes(_) | Told::Distances(_) => Status::Done,
+            Told::Yes(_) | Told::Distances(_) | Told::Nothing => Status::Done,
             Told::No(..) | Told::Fault(..) => Status::Refused,
             Told::GaveUp => Status::GaveUp,
         }
@@ -47,6 +49,7 @@ impl Told {
             Told::No(place, reason) => put_failure(sink, *place, *reason),
             Told::Fault(text, place, reason) => put_refusal(sink, text, *place, *reason),
             Told::GaveUp => put_gave_up(sink),
+            Told::Nothing => Ok(()),
         }
     }
 }

@@ -6,10 +6,11 @@ ghost use Rattle.dimacs_runs.specs.declared.jobs.CertifyKind.{CertifyKind};
 ghost use Rattle.dimacs_runs.specs.declared.jobs.Job.{Job};
 ghost use Rattle.dimacs_runs.specs.declared.jobs.JudgeKind.{JudgeKind};
 ghost use Rattle.dimacs_runs.specs.declared.jobs.SolveJob.{SolveJob};
+ghost use Rattle.dimacs_runs.specs.declared.jobs.SpreadKind.{SpreadKind};
 ghost use Rattle.std.specs.String.{string_bytes};
-ghost use Rattle.dimacs_runs.specs.Jobs.{AreCertifyFiles, AreOptions, Asks, AsksProducer, IsLimit, TellLimit, certify_word, file_count, judge_word, kind_word, solve_word};
+ghost use Rattle.dimacs_runs.specs.Jobs.{AreCertifyFiles, AreOptions, Asks, AsksProducer, IsLimit, TellLimit, certify_word, file_count, judge_word, kind_word, solve_word, spread_word};
 
-use crate::jobs::{CertifyKind, Job, JudgeKind, SolveJob};
+use crate::jobs::{CertifyKind, Job, JudgeKind, SolveJob, SpreadKind};
 use dimacs_lines::number;
 use dimacs_records::TextKind;
 
@@ -57,6 +58,7 @@ fn files_job<'a>(verb: &str, words: &'a [String]) -> Option<Job<'a>>
     ensures asked { IfSome result (Asks (verb.now ∷ map string_bytes words.now)) }
     ensures no_judge { IfNone result ((kind : JudgeKind) → verb.now ≡ judge_word kind → length words.now ≢ file_count kind) }
     ensures no_certifier { IfNone result ((kind : CertifyKind) → verb.now ≡ certify_word kind → ¬ AreCertifyFiles kind (length words.now)) }
+    ensures no_spreading { IfNone result ((kind : SpreadKind) → verb.now ≡ spread_word kind → length words.now ≢ 3) }
     ensures no_producer { IfNone result ((job : SolveJob) (files : List (List ℕ)) → ¬ AsksProducer (verb.now ∷ map string_bytes words.now) job files) }
 {
     if let Some(kind) = judge_kind(verb, words.len()) {
@@ -64,6 +66,9 @@ fn files_job<'a>(verb: &str, words: &'a [String]) -> Option<Job<'a>>
     }
     if let Some(kind) = certify_kind(verb, words.len()) {
         return Some(Job::Certify(kind, words));
+    }
+    if let Some(kind) = spread_kind(verb, words.len()) {
+        return Some(Job::Spread(kind, words));
     }
     let (files, options) = words.split_at_checked(PRODUCER_FILES)?;
     Some(Job::Solve(solve_job(verb, options)?, files))
@@ -93,6 +98,18 @@ fn certify_kind(word: &str, files: usize) -> Option<CertifyKind>
         ("certify-min", 2 | 3) => Some(CertifyKind::Min),
         ("certify-infeasible", 1 | 2) => Some(CertifyKind::Infeasible),
         ("certify-paths", 2 | 3) => Some(CertifyKind::Paths),
+        _ => None,
+    }
+}
+
+/// Of which instance a word asks to spread a flow, with so many files after it.
+fn spread_kind(word: &str, files: usize) -> Option<SpreadKind>
+    ensures named { IfSome result (λ kind. (word.now ≡ spread_word kind) × (files ≡ 3)) }
+    ensures not_named { IfNone result ((kind : SpreadKind) → word.now ≡ spread_word kind → files ≢ 3) }
+{
+    match (word, files) {
+        ("spread-max", 3) => Some(SpreadKind::Max),
+        ("spread-min", 3) => Some(SpreadKind::Min),
         _ => None,
     }
 }

@@ -6,7 +6,7 @@ use Rattle.dimacs_runs.specs.declared.failure.Failure.{Failure}
 use Rattle.dimacs_runs.specs.declared.failure.Failure.TheVariants.{File, Output}
 use Rattle.dimacs_runs.specs.declared.failure.FileCall.{FileCall}
 use Rattle.dimacs_runs.specs.declared.jobs.Job.{Job}
-use Rattle.dimacs_runs.specs.declared.jobs.Job.TheVariants.{Judge, Certify, Solve}
+use Rattle.dimacs_runs.specs.declared.jobs.Job.TheVariants.{Judge, Certify, Spread, Solve}
 use Rattle.dimacs_runs.specs.declared.outcome.RunError.{RunError}
 use Rattle.dimacs_runs.specs.declared.outcome.RunError.TheVariants as run_errors
 use Rattle.dimacs_runs.specs.Commands.{faults_by_error, file_failures}
@@ -17,6 +17,7 @@ use Rattle.dimacs_runs.specs.Jobs.{AreCertifyFiles, file_count}
 abbrev pub HasFiles : Job → Type 0
 HasFiles (Judge kind files) = length files.now ≡ file_count kind
 HasFiles (Certify kind files) = AreCertifyFiles kind (length files.now)
+HasFiles (Spread kind files) = length files.now ≡ 3
 HasFiles (Solve job files) = length files.now ≡ 3
 HasFiles job = Unit {0}
 

@@ -1,20 +1,24 @@
 -- Inside: what a producer's run puts, in texts and with a status.
-use Rattle.std.specs.Prelude.{ℕ, ◌≡◌, List, [], ◌∷◌, Option, Result, Ok, Err, drop, map}
+use Rattle.std.specs.Prelude.{ℕ, ℤ, ◌≡◌, List, [], ◌∷◌, Option, Result, Ok, Err, drop, map}
 use Rattle.dimacs_lines.specs.Devices.{Written}
 use Rattle.dimacs_lines.specs.declared.device.DeviceFault.{DeviceFault}
 use Rattle.dimacs_claims.specs.Cuts.{canonical_cut}
 use Rattle.dimacs_claims.specs.LabelTexts.{canonical_labels}
 use Rattle.dimacs_claims.specs.Potentials.{canonical_potentials}
-use Rattle.dimacs_claims.specs.SolutionTexts.{canonical_solution, claimed}
+use Rattle.dimacs_claims.specs.SolutionTexts.{SolutionValue, canonical_solution, claimed}
+use Rattle.dimacs_judge.specs.declared.verdict.JudgeError.{JudgeError}
 use Rattle.dimacs_judge.specs.declared.verdict.Verdict.TheVariants as verdicts
 use Rattle.dimacs_judge.specs.declared.verdict.Where.TheVariants.{Arc}
 use Rattle.dimacs_records.specs.declared.reasons.Reason.TheVariants as reasons
+use Rattle.dimacs_network.specs.declared.network.ArcView.{ArcView}
 use Rattle.dimacs_solve.specs.declared.error.SolveError.{SolveError}
 use Rattle.dimacs_solve.specs.declared.error.SolveError.TheVariants as solve_errors
 use Rattle.dimacs_solve.specs.declared.maximum.MaxAnswer.{MaxAnswer}
 use Rattle.dimacs_solve.specs.declared.maximum.MaxAnswer.TheVariants as answers
 use Rattle.dimacs_solve.specs.declared.least.MinAnswer.{MinAnswer}
 use Rattle.dimacs_solve.specs.declared.least.MinAnswer.TheVariants as least
+use Rattle.dimacs_spread.specs.Spread.{IsRefusal}
+use Rattle.dimacs_runs.specs.declared.jobs.SpreadKind.{SpreadKind}
 use Rattle.dimacs_runs.specs.declared.outcome.Status.{Status}
 use Rattle.dimacs_runs.specs.declared.outcome.RunError.{RunError}
 use Rattle.dimacs_runs.specs.declared.outcome.RunError.TheVariants.{Device, Memory}
@@ -25,6 +29,7 @@ use Rattle.dimacs_runs.specs.declared.told.Told.{Told}
 use Rattle.dimacs_runs.specs.declared.told.Told.TheVariants as told
 use Rattle.dimacs_runs.specs.Judgings.{OneMore}
 use Rattle.dimacs_runs.specs.Outputs.{AcceptAll, AcceptInTurn, MayTell, TellsAlike}
+use Rattle.dimacs_runs.specs.Spread.{IsBestOf, SpreadsFlow}
 use Rattle.dimacs_runs.specs.inside.Told.{IfTold, told_lines, told_status}
 
 -- the texts of the claim and of the certificate
@@ -100,6 +105,15 @@ unclaimed_texts p = drop 1 (produced_texts p)
 -- what is produced of someone else's claim, where something is, may be told
 abbrev pub MayCertify : (Status → List (List ℕ) → Type 0) → Result Produced RunError → Type 0
 MayCertify = IfTold TellsAlike produced_status unclaimed_texts
+
+-- what is made of someone else's claim, where something is, is one of these
+abbrev pub MaySpread : (Status → List (List ℕ) → Type 0) → Result Produced RunError → Type 0
+MaySpread = IfTold (λ tells. tells) produced_status unclaimed_texts
+
+-- the flow that deals a claim out, or why there is none
+abbrev pub DealsOut : SpreadKind → List ArcView → SolutionValue → Result (List ℤ) JudgeError → Type 0
+DealsOut kind arcs s (Ok x) = SpreadsFlow arcs s x × IsBestOf kind arcs s x
+DealsOut kind arcs s (Err error) = IsRefusal arcs s.entries error
 
 -- how a run ends that was to put this, or had nothing to tell
 abbrev pub EndsProducing : Result Produced RunError → Result Status RunError → List Written → List Written → Type 0

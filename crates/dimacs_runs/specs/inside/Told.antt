@@ -1,5 +1,5 @@
 -- Inside: what a run tells of a claim, in lines and with a status.
-use Rattle.std.specs.Prelude.{ℕ, ◌≡◌, List, Result, Ok, Err}
+use Rattle.std.specs.Prelude.{ℕ, ◌≡◌, List, [], Result, Ok, Err}
 use Rattle.dimacs_lines.specs.Devices.{Written, after_piece, one_more}
 use Rattle.dimacs_lines.specs.Puts.{AcceptsFront}
 use Rattle.dimacs_runs.specs.declared.outcome.Status.{Status}
@@ -7,7 +7,7 @@ use Rattle.dimacs_runs.specs.declared.outcome.Status.TheVariants as statuses
 use Rattle.dimacs_runs.specs.declared.outcome.RunError.{RunError}
 use Rattle.dimacs_runs.specs.declared.outcome.RunError.TheVariants.{Device}
 use Rattle.dimacs_runs.specs.declared.told.Told.{Told}
-use Rattle.dimacs_runs.specs.declared.told.Told.TheVariants.{Yes, Distances, No, Fault, GaveUp}
+use Rattle.dimacs_runs.specs.declared.told.Told.TheVariants.{Yes, Distances, No, Fault, GaveUp, Nothing}
 use Rattle.dimacs_runs.specs.Refusals.{refusal_line}
 use Rattle.dimacs_runs.specs.Runs.{TellsAlone}
 use Rattle.dimacs_runs.specs.Verdicts.{distances_line, failure_line, gave_up_line, verdict_lines}
@@ -18,6 +18,7 @@ told_status (Distances sources) = statuses.Done
 told_status (No place reason) = statuses.Refused
 told_status (Fault text place reason) = statuses.Refused
 told_status GaveUp = statuses.GaveUp
+told_status Nothing = statuses.Done
 
 abbrev pub told_lines : Told → List ℕ
 told_lines (Yes verdict) = verdict_lines verdict
@@ -25,6 +26,7 @@ told_lines (Distances sources) = distances_line sources
 told_lines (No place reason) = failure_line place reason
 told_lines (Fault text place reason) = refusal_line text.now place.line place.field reason
 told_lines GaveUp = gave_up_line
+told_lines Nothing = []
 
 -- what is told, where something is, is told in this way
 abbrev pub IfTold : {R O : Type 0} → ((Status → O → Type 0) → Status → O → Type 0) → (R → Status) → (R → O) → (Status → O → Type 0) → Result R RunError → Type 0

@@ -1,0 +1,54 @@
+-- What a run that spreads makes of the bytes of an instance and of a solution: the text of a solution with an entry for every arc, or a report. A text that isn't put is empty here.
+use Rattle.std.specs.Prelude.{ℕ, ◌≡◌, List, [], ◌∷◌, ℤ, map}
+use Rattle.dimacs_records.specs.declared.kinds.TextKind.TheVariants as kinds
+use Rattle.dimacs_records.specs.declared.reasons.Reason.{Reason}
+use Rattle.dimacs_claims.specs.declared.solution.Entry.{Entry}
+use Rattle.dimacs_claims.specs.SolutionTexts.{SolutionValue, GivesSolution, canonical_solution}
+use Rattle.dimacs_instance.specs.MaxTexts.{GivesMax}
+use Rattle.dimacs_instance.specs.MinTexts.{GivesMin}
+use Rattle.dimacs_judge.specs.declared.verdict.Where.{Where}
+use Rattle.dimacs_judge.specs.Entries.{IsSolutionOf}
+use Rattle.dimacs_network.specs.declared.network.ArcView.{ArcView}
+use Rattle.dimacs_spread.specs.Spread.{Deals, IsRefusedAt, KeepsBoundsIfAny, NoneCheaper}
+use Rattle.dimacs_runs.specs.declared.jobs.SpreadKind.{SpreadKind}
+use Rattle.dimacs_runs.specs.declared.jobs.SpreadKind.TheVariants.{Max, Min}
+use Rattle.dimacs_runs.specs.declared.outcome.Status.{Status}
+use Rattle.dimacs_runs.specs.declared.outcome.Status.TheVariants.{Done, Refused, GaveUp}
+use Rattle.dimacs_runs.specs.Certified.{uncertified}
+use Rattle.dimacs_runs.specs.Runs.{says}
+use Rattle.dimacs_runs.specs.Solved.{FaultAloneOr}
+use Rattle.dimacs_runs.specs.Verdicts.{failure_line}
+
+-- the flow carries between any two nodes what is claimed, and keeps the bounds if any such flow does
+pub record SpreadsFlow (arcs : List ArcView) (s : SolutionValue) (x : List ℤ) : Type 0 where
+  pub deals : Deals arcs s.entries x
+  pub kept : KeepsBoundsIfAny arcs s.entries x
+
+-- the solution has the claimed value, and an entry for every arc with its amount
+pub record IsSpreadOf (arcs : List ArcView) (s : SolutionValue) (x : List ℤ) (t : SolutionValue) : Type 0 where
+  pub value : t.value ≡ s.value
+  pub all_arcs : IsSolutionOf arcs t
+  pub flows : map (λ (e : Entry). e.flow) t.entries ≡ x
+
+-- of least cost, no flow with the same sums that keeps the bounds costs less
+abbrev pub IsBestOf : SpreadKind → List ArcView → SolutionValue → List ℤ → Type 0
+IsBestOf Max arcs s x = Unit {0}
+IsBestOf Min arcs s x = NoneCheaper arcs s.entries x
+
+-- the text of a solution with such a flow, and no report; or the line of the first entry that no arc has, or of a sum that the arcs can't carry
+abbrev pub SpreadsClaim : SpreadKind → List ArcView → SolutionValue → Status → List (List ℕ) → Type 0
+SpreadsClaim kind arcs s Done out =
+    (x : List ℤ) × SpreadsFlow arcs s x × IsBestOf kind arcs s x × (t : SolutionValue) × IsSpreadOf arcs s x t × (out ≡ canonical_solution t ∷ [] ∷ [])
+SpreadsClaim kind arcs s Refused out = (place : Where) × (reason : Reason) × IsRefusedAt arcs s.entries place reason × (out ≡ uncertified (failure_line place reason))
+SpreadsClaim kind arcs s GaveUp out = ⊥
+
+-- what is made of an instance and of a claimed flow
+abbrev pub Spreads : SpreadKind → List ℕ → List ℕ → Status → List (List ℕ) → Type 0
+Spreads Max instance claim =
+    FaultAloneOr uncertified (says kinds.Max GivesMax instance) (λ i.
+    FaultAloneOr uncertified (says kinds.Solution GivesSolution claim) (λ s.
+    SpreadsClaim Max i.arcs s))
+Spreads Min instance claim =
+    FaultAloneOr uncertified (says kinds.Min GivesMin instance) (λ i.
+    FaultAloneOr uncertified (says kinds.Solution GivesSolution claim) (λ s.
+    SpreadsClaim Min i.arcs s))

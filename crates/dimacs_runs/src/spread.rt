@@ -1,0 +1,136 @@
+//! Dealing a claimed flow out to parallel arcs.
+
+ghost use Rattle.std.specs.Prelude.{◌≡◌, ◌≢◌, ◌≤◌, ◌⊎◌, ◌∷◌, [], ℕ, List, Some, Err, IfOk, length};
+ghost use Rattle.dimacs_lines.specs.Limits.{most_count};
+ghost use Rattle.dimacs_claims.specs.SolutionTexts.{SolutionValue};
+ghost use Rattle.dimacs_runs.specs.declared.jobs.SpreadKind.{SpreadKind};
+ghost use Rattle.dimacs_runs.specs.declared.jobs.SpreadKind.TheVariants as spreads;
+ghost use Rattle.dimacs_runs.specs.declared.outcome.RunError.TheVariants.{Device, Memory};
+ghost use Rattle.dimacs_runs.specs.Judgings.{CountsDevices};
+ghost use Rattle.dimacs_runs.specs.Outputs.{ReportsAll};
+ghost use Rattle.dimacs_runs.specs.Spread.{Spreads, SpreadsClaim};
+ghost use Rattle.dimacs_runs.specs.inside.Produced.{DealsOut, MaySpread};
+
+use crate::discard::Discard;
+use crate::jobs::SpreadKind;
+use crate::outcome::{RunError, Status};
+use crate::produced::{Made, Produced, put_produced, report_alone};
+use crate::texts_in_turn::read_two;
+use crate::told::Told;
+use dimacs_claims::Solution;
+use dimacs_instance::{MaxInstance, MinInstance};
+use dimacs_judge::{Flow, JudgeError, entries_for};
+use dimacs_lines::{Sink, Source};
+use dimacs_network::{ArcView, CapacityArc, Network, PlainArcs};
+use dimacs_spread::{spread_max, spread_min};
+use std::alloc::Global;
+
+/// Reads an instance and a claimed flow, in this order, adds up the entries of each two ends, and puts a solution with an
+/// entry for every arc and the claimed value: each sum is dealt out to the arcs with these ends, within the bounds if that
+/// can be, for an instance of least cost at the least cost. Else it puts the line of the first text's fault, of the first
+/// entry whose ends no arc has, or of a sum that no numbers of 64 bits on the arcs add up to, and nothing else.
+pub fn run_spread<P: Source, Q: Source, C: Sink, K: Sink>(
+    alloc: Global,
+    kind: SpreadKind,
+    instance: &mut P,
+    claim: &mut Q,
+    solution_out: &mut C,
+    report: &mut K,
+) -> Result<Status, RunError>
+    ensures reports { (a b : List ℕ) → P.coming instance.old ≡ Some a → Q.coming claim.old ≡ Some b
+        → ReportsAll (Spreads kind a b) result
+        ((C.seen solution_out.old).accepted ∷ (K.seen report.old).accepted ∷ [])
+        ((C.seen solution_out.new).accepted ∷ (K.seen report.new).accepted ∷ []) }
+    ensures faults { CountsDevices result
+        (P.faults instance.old ∷ Q.faults claim.old ∷ (C.seen solution_out.old).faults ∷ (K.seen report.old).faults ∷ [])
+        (P.faults instance.new ∷ Q.faults claim.new ∷ (C.seen solution_out.new).faults ∷ (K.seen report.new).faults ∷ []) }
+    ensures nothing_written { (P.faults instance.new ≢ P.faults instance.old) ⊎ (Q.faults claim.new ≢ Q.faults claim.old)
+        → (C.seen solution_out.new ≡ C.seen solution_out.old) × (K.seen report.new ≡ K.seen report.old) }
+    ensures memory { result ≡ Err Memory → (C.seen solution_out.new ≡ C.seen solution_out.old) × (K.seen report.new ≡ K.seen report.old) }
+{
+    let produced = spread_claim(alloc, kind, instance, claim);
+    put_produced(produced, &mut Discard, solution_out, report)
+}
+
+/// The solution that is made of a claimed flow, or what is reported in its place.
+pub(crate) fn spread_claim<P: Source, Q: Source>(
+    alloc: Global,
+    kind: SpreadKind,
+    instance: &mut P,
+    claim: &mut Q,
+) -> Result<Produced, RunError>
+    ensures spreads { (a b : List ℕ) → P.coming instance.old ≡ Some a → Q.coming claim.old ≡ Some b → MaySpread (Spreads kind a b) result }
+    ensures faults { CountsDevices result (P.faults instance.old ∷ Q.faults claim.old ∷ []) (P.faults instance.new ∷ Q.faults claim.new ∷ []) }
+{
+    match kind {
+        SpreadKind::Max => spread_maximum(alloc, instance, claim),
+        SpreadKind::Min => spread_least(alloc, instance, claim),
+    }
+}
+
+/// That of a maximum flow.
+fn spread_maximum<P: Source, Q: Source>(
+    alloc: Global,
+    instance: &mut P,
+    claim: &mut Q,
+) -> Result<Produced, RunError>
+    ensures spreads { (a b : List ℕ) → P.coming instance.old ≡ Some a → Q.coming claim.old ≡ Some b → MaySpread (Spreads spreads.Max a b) result }
+    ensures faults { CountsDevices result (P.faults instance.old ∷ Q.faults claim.old ∷ []) (P.faults instance.new ∷ Q.faults claim.new ∷ []) }
+{
+    match read_two::<MaxInstance<PlainArcs<CapacityArc>>, Solution, P, Q>(alloc, instance, claim) {
+        Ok((instance, claim)) => {
+            let flow = spread_max(alloc, &instance, &claim);
+            answer_spread(alloc, instance.network(), claim.value, flow)
+        }
+        Err(unread) => report_alone(unread.told()),
+    }
+}
+
+/// That of a flow of least cost.
+fn spread_least<P: Source, Q: Source>(
+    alloc: Global,
+    instance: &mut P,
+    claim: &mut Q,
+) -> Result<Produced, RunError>
+    ensures spreads { (a b : List ℕ) → P.coming instance.old ≡ Some a → Q.coming claim.old ≡ Some b → MaySpread (Spreads spreads.Min a b) result }
+    ensures faults { CountsDevices result (P.faults instance.old ∷ Q.faults claim.old ∷ []) (P.faults instance.new ∷ Q.faults claim.new ∷ []) }
+{
+    match read_two::<MinInstance<PlainArcs<ArcView>>, Solution, P, Q>(alloc, instance, claim) {
+        Ok((instance, claim)) => {
+            let flow = spread_min(alloc, &instance, &claim);
+            answer_spread(alloc, instance.network(), claim.value, flow)
+        }
+        Err(unread) => report_alone(unread.told()),
+    }
+}
+
+/// The solution with this value that carries a flow, or the refusal in its place.
+fn answer_spread<N: Network>(
+    alloc: Global,
+    network: &N,
+    value: i128,
+    flow: Result<Flow, JudgeError>,
+) -> Result<Produced, RunError>
+    requires few_arcs { length (N.list network.now) ≤ most_count }
+    requires one_each { IfOk flow (λ x. length x ≡ length (N.list network.now)) }
+    ensures spreads { (kind : SpreadKind) (s : SolutionValue) → value ≡ s.value → DealsOut kind (N.list network.now) s flow
+        → MaySpread (SpreadsClaim kind (N.list network.now) s) result }
+    ensures no_device { result ≢ Err Device }
+{
+    match flow {
+        Ok(flow) => {
+            let entries = entries_for(alloc, network, &flow)?;
+            let solution = Solution {
+                value,
+                value_line: 1,
+                entries,
+            };
+            Ok(Produced {
+                made: Made::Better(solution),
+                told: Told::Nothing,
+            })
+        }
+        Err(JudgeError::Refused(place, reason)) => report_alone(Ok(Told::No(place, reason))),
+        Err(JudgeError::Memory) => Err(RunError::Memory),
+    }
+}
