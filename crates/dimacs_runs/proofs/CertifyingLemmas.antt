@@ -42,7 +42,7 @@ use Rattle.dimacs_runs.specs.Refusals.{refusal_line}
 use Rattle.dimacs_runs.specs.Verdicts.{distances_line, failure_line}
 use Rattle.dimacs_runs.specs.inside.Judgings.{answer_told}
 use Rattle.dimacs_runs.specs.inside.Making.{IsPut}
-use Rattle.dimacs_runs.specs.inside.Produced.{EndsProducing, MayCertify, accepted_by, produced_texts, reported, unclaimed_texts}
+use Rattle.dimacs_runs.specs.inside.Produced.{EndsProducing, MayCertify, accepted_by, produced_texts, reported, unclaimed_texts, MaySpread}
 use Rattle.dimacs_runs.specs.inside.Told.{told_lines, told_status}
 
 -- ---- the claim
@@ -210,11 +210,19 @@ puts_all p (Err error) old new ends = elim (in_turn_after (produced_texts p) (ac
   | inr more ↦ inr (told_status p.told, unclaimed_texts p, (refl, refl), more)
 ]
 
-pub certified_reports : (tells : Status → List (List ℕ) → Type 0) (produced : Result Produced RunError) (result : Result Status RunError) (old new : List Written)
-    → MayCertify tells produced → EndsProducing produced result (nowhere ∷ old) (nowhere ∷ new) → ReportsAll (TellsAlike tells) result (accepted_by old) (accepted_by new)
-certified_reports tells (Ok p) (Ok status) old new may ends = rw ends.0 (unclaimed_texts p, may, accepted_after (produced_texts p) (accepted_by old) (accepted_by new) ends.1)
-certified_reports tells (Ok p) (Err error) old new may ends = elim (in_turn_after (produced_texts p) (accepted_by old) (accepted_by new) ends.1) [
+pub made_reports : (tells : Status → List (List ℕ) → Type 0) (produced : Result Produced RunError) (result : Result Status RunError) (old new : List Written)
+    → MaySpread tells produced → EndsProducing produced result (nowhere ∷ old) (nowhere ∷ new) → ReportsAll tells result (accepted_by old) (accepted_by new)
+made_reports tells (Ok p) (Ok status) old new may ends = rw ends.0 (unclaimed_texts p, may, accepted_after (produced_texts p) (accepted_by old) (accepted_by new) ends.1)
+made_reports tells (Ok p) (Err error) old new may ends = elim (in_turn_after (produced_texts p) (accepted_by old) (accepted_by new) ends.1) [
   | inl same ↦ inl same
   | inr more ↦ inr (told_status p.told, unclaimed_texts p, may, more)
 ]
-certified_reports tells (Err error) result old new may ends = rw ends.0 (let same : nowhere ∷ new ≡ nowhere ∷ old = ends.1 in inl (ap (λ (sinks : List Written). drop 1 (accepted_by sinks)) same))
+made_reports tells (Err error) result old new may ends = rw ends.0 (let same : nowhere ∷ new ≡ nowhere ∷ old = ends.1 in inl (ap (λ (sinks : List Written). drop 1 (accepted_by sinks)) same))
+
+certified_made : (tells : Status → List (List ℕ) → Type 0) (produced : Result Produced RunError) → MayCertify tells produced → MaySpread (TellsAlike tells) produced
+certified_made tells (Ok p) may = may
+certified_made tells (Err error) may = tt
+
+pub certified_reports : (tells : Status → List (List ℕ) → Type 0) (produced : Result Produced RunError) (result : Result Status RunError) (old new : List Written)
+    → MayCertify tells produced → EndsProducing produced result (nowhere ∷ old) (nowhere ∷ new) → ReportsAll (TellsAlike tells) result (accepted_by old) (accepted_by new)
+certified_reports tells produced result old new may ends = made_reports (TellsAlike tells) produced result old new (certified_made tells produced may) ends

@@ -7,3 +7,4 @@ pub mod SolvingLemmas
 pub mod CertifyingLemmas
 pub mod TextLemmas
 pub mod MakingLemmas
+pub mod SpreadLemmas

@@ -13,13 +13,15 @@ use Rattle.dimacs_runs.specs.declared.jobs.CertifyKind.{CertifyKind}
 use Rattle.dimacs_runs.specs.declared.produced.Made.{Made}
 use Rattle.dimacs_runs.specs.declared.produced.Made.TheVariants.{Better, Distances, Least, Maximum, Nothing, Set, Slack}
 use Rattle.dimacs_runs.specs.Certified.{Certified}
-use Rattle.dimacs_runs.specs.Commands.{Contents, Making, MakesCertificate, MakesOfFiles, files_for, seen_by}
+use Rattle.dimacs_runs.specs.declared.jobs.SpreadKind.{SpreadKind}
+use Rattle.dimacs_runs.specs.Spread.{Spreads}
+use Rattle.dimacs_runs.specs.Commands.{Contents, Making, MakesCertificate, MakesOfFiles, files_for, seen_by, MakesSpread}
 use Rattle.dimacs_runs.specs.Files.{Created, FileEvent, FilesSeen, NotCreated, NotOpened, Opened, Read, ReadFile, Sees, WrittenFile, closed_written, failures}
 use Rattle.dimacs_runs.specs.Judgings.{CountsDevices, OneMore}
 use Rattle.dimacs_runs.specs.Outputs.{ReportsAll}
 use Rattle.dimacs_runs.specs.inside.Commands.{FailsWith, IsFirstOf, named}
 use Rattle.dimacs_runs.specs.inside.Making.{AnswersFiles, IsPut, MayMake, PutsMade, PutsReport}
-use Rattle.dimacs_runs.specs.inside.Produced.{EndsProducing, MayCertify, faults_by, made_texts, unclaimed_texts, with_report}
+use Rattle.dimacs_runs.specs.inside.Produced.{EndsProducing, MayCertify, faults_by, made_texts, unclaimed_texts, with_report, MaySpread}
 use Rattle.dimacs_runs.specs.inside.Told.{told_lines}
 use Rattle.dimacs_runs.proofs.CertifyingLemmas.{nowhere, puts_all}
 use Rattle.dimacs_runs.proofs.FileLemmas.{all_after, all_before, closings, one_first, sees_then, sees_two, tells_failure, why_nothing}
@@ -251,3 +253,8 @@ pair_made kind a b (Err error) may = tt
 pub instance_made : (kind : CertifyKind) (a : List ℕ) (answer : Result Produced RunError) → MayCertify (Certified kind a []) answer → MayMake (MakesCertificate kind) (a ∷ []) answer
 instance_made kind a (Ok p) may = may
 instance_made kind a (Err error) may = tt
+
+-- ---- what a run that spreads makes
+pub spread_made : (kind : SpreadKind) (a b : List ℕ) (answer : Result Produced RunError) → MaySpread (Spreads kind a b) answer → MayMake (MakesSpread kind) (a ∷ b ∷ []) answer
+spread_made kind a b (Ok p) may = may
+spread_made kind a b (Err error) may = tt

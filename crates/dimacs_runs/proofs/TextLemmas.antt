@@ -72,6 +72,18 @@ producing = record {
   made = λ a told is. made_alone MayTell produced_texts report_alone a told (λ t. refl) is;
 }
 
+abbrev pub spreading : Way Produced (List (List ℕ))
+spreading = record {
+  tells = λ tells. tells;
+  status = produced_status;
+  out = unclaimed_texts;
+  alone = uncertified;
+  report = reported;
+  carried = λ a b s o to from told. to s o told;
+  refused = λ a o told only. told;
+  made = λ a told is. made_alone (λ tells. tells) unclaimed_texts uncertified a told (λ t. refl) is;
+}
+
 module _ {R O : Type 0} (way : Way R O) where
   abbrev pub Tells : (Status → O → Type 0) → Result R RunError → Type 0
   Tells a made = IfTold way.tells way.status way.out a made

@@ -5,11 +5,12 @@ use Rattle.std.proofs.lemmas.List.{length-map}
 use Rattle.std.specs.String.{string_bytes}
 use Rattle.dimacs_runs.specs.declared.jobs.CertifyKind.{CertifyKind}
 use Rattle.dimacs_runs.specs.declared.jobs.Job.{Job}
-use Rattle.dimacs_runs.specs.declared.jobs.Job.TheVariants.{Convert, Show, Judge, Certify, Solve}
+use Rattle.dimacs_runs.specs.declared.jobs.Job.TheVariants.{Convert, Show, Judge, Certify, Spread, Solve}
 use Rattle.dimacs_runs.specs.declared.jobs.JudgeKind.{JudgeKind}
 use Rattle.dimacs_runs.specs.declared.jobs.SolveJob.{SolveJob}
+use Rattle.dimacs_runs.specs.declared.jobs.SpreadKind.{SpreadKind}
 use Rattle.dimacs_runs.specs.declared.jobs.SolveJob.TheVariants.{Max, Min, Paths}
-use Rattle.dimacs_runs.specs.Jobs.{AreCertifyFiles, AreOptions, Asks, AsksProducer, IsLimit, TellLimit, certify_word, file_count, judge_word, solve_word}
+use Rattle.dimacs_runs.specs.Jobs.{AreCertifyFiles, AreOptions, Asks, AsksProducer, IsLimit, TellLimit, certify_word, file_count, judge_word, solve_word, spread_word}
 
 pub one_word : {A : Type 0} (f : A → List ℕ) (words : List A) (a : A) (x : List ℕ) → 1 ≤ length words → length words < 2 → a ≡ get_or words 0 a → x ≡ f a → map f words ≡ x ∷ []
 one_word f (p ∷ []) a x least most first is_x = sym (rw (is_x, first) refl)
@@ -57,12 +58,13 @@ no_producer f verb (p ∷ q ∷ r ∷ rest) options least is none job files (mor
 no_producer f verb words options least is none job files asks = absurd (omega (arith, least))
 
 module _ {A : Type 0} (f : A → List ℕ) (words : List A) (first : A) (rest : List A) (verb : List ℕ) (is : words ≡ first ∷ rest) (is_verb : verb ≡ f first) where
-  -- a word that names no run, and words after it that no judge, no certifier and no producer takes
+  -- a word that names no run, and words after it that no judge, no certifier, no run that spreads and no producer takes
   pub nothing_asked : (answer : Option Job) → verb ≢ codes "convert" → verb ≢ codes "show" → IfNone answer ((kind : JudgeKind) → verb ≡ judge_word kind → length rest ≢ file_count kind)
       → IfNone answer ((kind : CertifyKind) → verb ≡ certify_word kind → ¬ AreCertifyFiles kind (length rest))
+      → IfNone answer ((kind : SpreadKind) → verb ≡ spread_word kind → length rest ≢ 3)
       → IfNone answer ((job : SolveJob) (files : List (List ℕ)) → ¬ AsksProducer (verb ∷ map f rest) job files) → IfNone answer ((wanted : Job) → ¬ Asks (map f words) wanted)
-  nothing_asked (Some job) convert show judge certifier producer = tt
-  nothing_asked None convert show judge certifier producer = rw (is, ← is_verb) nothing
+  nothing_asked (Some job) convert show judge certifier spreading producer = tt
+  nothing_asked None convert show judge certifier spreading producer = rw (is, ← is_verb) nothing
     where
       nothing : (wanted : Job) → ¬ Asks (verb ∷ map f rest) wanted
       nothing (Convert kind file) asks = convert cc
@@ -76,4 +78,8 @@ module _ {A : Type 0} (f : A → List ℕ) (words : List A) (first : A) (rest : 
           let others : map f rest ≡ map string_bytes files.now = cc in
           let long : length files.now ≡ length rest = sym (length-map files.now string_bytes) ∙ sym (ap length others) ∙ length-map rest f in
           certifier kind word (subst (AreCertifyFiles kind) long count)
+      nothing (Spread kind files) (same, count) =
+          let word : verb ≡ spread_word kind = cc in
+          let others : map f rest ≡ map string_bytes files.now = cc in
+          spreading kind word (sym (length-map rest f) ∙ ap length others ∙ length-map files.now string_bytes ∙ count)
       nothing (Solve job files) asks = producer job (map string_bytes files.now) asks

@@ -1,0 +1,34 @@
+use Rattle.std.proofs.Common.{ℕ, ◌∙◌, List, [], ◌∷◌, ap, refl}
+use Rattle.dimacs_runs.specs.Commands.{Contents, MakesSpread}
+use Rattle.dimacs_runs.specs.Files.{Read, ReadFile}
+use Rattle.dimacs_runs.specs.inside.Making.{MayMake}
+use Rattle.dimacs_runs.proofs.FileLemmas.{sees_two, two_first}
+use Rattle.dimacs_runs.proofs.MakingLemmas.{answers_files, answers_nothing, spread_made}
+use Rattle.dimacs_runs.proofs.PlanLemmas.{each_text, sees_nothing}
+use Rattle.dimacs_runs.proofs.runs_that_spread.answer_claim.Goals as goal
+
+pub returns-in_err-instance : goal.returns-in_err-instance
+returns-in_err-instance g c =
+    record { answers = answers_nothing [] (c.args.claim.now ∷ []) refl c.from_residual.ensures.1 (sees_nothing _) c.in_err-instance.ensures.failed }
+
+pub returns-in_err-claim : goal.returns-in_err-claim
+returns-in_err-claim g c =
+    record { answers = answers_nothing (c.args.instance.now ∷ []) [] refl c.from_residual-in_err-claim.ensures.1 c.in_ok-instance.ensures.opened c.in_err-claim.ensures.failed }
+
+pub returns : goal.returns
+returns g c =
+    let answer = c.spread_claim-answer.result in
+    let instance : ReadFile = record { name = c.in_ok-instance.instance.name.now; faults = g.F.Input.Source.faults c.spread_claim-answer.new.instance } in
+    let claim : ReadFile = record { name = c.in_ok-claim.claim.name.now; faults = g.F.Input.Source.faults c.spread_claim-answer.new.claim } in
+    record {
+      answers = answers_files (instance ∷ claim ∷ []) answer c.or-failure.result
+          (rw (c.in_ok-instance.ensures.named, c.in_ok-claim.ensures.named) refl)
+          (sees_two c.in_ok-instance.ensures.opened c.in_ok-claim.ensures.opened)
+          (sees_two c.close_read.ensures.seen c.close_read-2.ensures.seen) c.name_failure.ensures
+          (rw c.or-failure.ensures (two_first c.close_read.result c.close_read-2.result (Read instance) (Read claim) c.close_read.ensures.failure c.close_read-2.ensures.failure))
+          (rw (c.in_ok-instance.ensures.faultless, c.in_ok-claim.ensures.faultless) at c.spread_claim-answer.ensures.faults)
+          (each_text (_ ∷ _ ∷ []) (λ (texts : List (List ℕ)). MayMake (MakesSpread c.args.kind) texts answer) (λ a first b second.
+          spread_made c.args.kind a b answer (c.spread_claim-answer.ensures.spreads a b
+          (c.in_ok-instance.ensures.coming ∙ first)
+          (c.in_ok-claim.ensures.coming ∙ ap (λ (h : Contents). h c.args.claim.now) c.in_ok-instance.ensures.holds ∙ second))));
+    }
