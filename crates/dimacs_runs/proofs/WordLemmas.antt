@@ -4,13 +4,14 @@ use Rattle.std.specs.Prelude.{codes}
 use Rattle.std.proofs.lemmas.List.{length-map}
 use Rattle.std.specs.String.{string_bytes}
 use Rattle.dimacs_runs.specs.declared.jobs.CertifyKind.{CertifyKind}
+use Rattle.dimacs_runs.specs.declared.jobs.CertifyKind.TheVariants as certifies
 use Rattle.dimacs_runs.specs.declared.jobs.Job.{Job}
 use Rattle.dimacs_runs.specs.declared.jobs.Job.TheVariants.{Convert, Show, Judge, Certify, Spread, Solve}
 use Rattle.dimacs_runs.specs.declared.jobs.JudgeKind.{JudgeKind}
 use Rattle.dimacs_runs.specs.declared.jobs.SolveJob.{SolveJob}
 use Rattle.dimacs_runs.specs.declared.jobs.SpreadKind.{SpreadKind}
 use Rattle.dimacs_runs.specs.declared.jobs.SolveJob.TheVariants.{Max, Min, Paths}
-use Rattle.dimacs_runs.specs.Jobs.{AreCertifyFiles, AreOptions, Asks, AsksProducer, IsLimit, TellLimit, certify_word, file_count, judge_word, solve_word, spread_word}
+use Rattle.dimacs_runs.specs.Jobs.{AreCertifyFiles, AreOptions, Asks, AsksProducer, IsLimit, TellLimit, certify_reads, certify_word, file_count, judge_word, solve_word, spread_word}
 
 pub one_word : {A : Type 0} (f : A → List ℕ) (words : List A) (a : A) (x : List ℕ) → 1 ≤ length words → length words < 2 → a ≡ get_or words 0 a → x ≡ f a → map f words ≡ x ∷ []
 one_word f (p ∷ []) a x least most first is_x = sym (rw (is_x, first) refl)
@@ -25,6 +26,11 @@ pub three_words : {A : Type 0} (f : A → List ℕ) (words : List A) (a b c : A)
     → x ≡ f a → y ≡ f b → z ≡ f c → map f words ≡ x ∷ y ∷ z ∷ []
 three_words f (p ∷ q ∷ r ∷ []) a b c x y z least most first second third is_x is_y is_z = sym (rw (is_x, is_y, is_z, first, second, third) refl)
 three_words f words a b c x y z least most first second third is_x is_y is_z = absurd (omega (arith, least, most))
+
+-- a claim is read beside the instance, but where no flow is to be feasible
+pub reads_two : (kind : CertifyKind) → kind ≢ certifies.Infeasible → certify_reads kind ≡ 2
+reads_two certifies.Infeasible other = absurd (other refl)
+reads_two kind other = refl
 
 -- ---- what stands after the files of a producer
 pub limited : (told : Option ℕ) (words : List (List ℕ)) (number : List ℕ) → words ≡ codes "--limit" ∷ number ∷ [] → IfSome told (IsLimit number) → IfSome told (TellLimit words)

@@ -1,0 +1,13 @@
+use Rattle.dimacs_runs.proofs.command.run_job.Goals as goal
+
+pub returns-in-Convert : goal.returns-in-Convert
+returns-in-Convert g c = record { runs = rw c.in-Convert.is c.tell_file.ensures.runs }
+
+pub returns-in-Show : goal.returns-in-Show
+returns-in-Show g c = record { runs = rw c.in-Show.is c.tell_file-in-Show.ensures.runs }
+
+pub returns-in-Certify : goal.returns-in-Certify
+returns-in-Certify g c = record { runs = rw c.in-Certify.is c.certify_files.ensures.runs }
+
+pub returns-in-Spread : goal.returns-in-Spread
+returns-in-Spread g c = record { runs = rw c.in-Spread.is c.spread_files.ensures.runs }
