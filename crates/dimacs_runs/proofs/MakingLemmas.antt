@@ -78,12 +78,15 @@ module _ {opened : List (List ℕ)} {holds : Contents} {makes : Making} {result 
       closings_read : (read : List ReadFile) → closings (map inl read) ≡ map Read read
       closings_read [] = refl
       closings_read (file ∷ read) = ap (λ (events : List FileEvent). Read file ∷ events) (closings_read read)
+
       before_read : (n : ℕ) (read : List ReadFile) → all_before n n (map inl read) ≡ map (λ (file : ReadFile). 0) read ++ n ∷ []
       before_read n [] = refl
       before_read n (file ∷ read) = ap (λ (all : List ℕ). 0 ∷ all) (before_read n read)
+
       after_read : (n : ℕ) (read : List ReadFile) → all_after n n (map inl read) ≡ map (λ (file : ReadFile). file.faults) read ++ n ∷ []
       after_read n [] = refl
       after_read n (file ∷ read) = ap (λ (all : List ℕ). file.faults ∷ all) (after_read n read)
+
       may_name : (texts : List (List ℕ)) (answer : Result Produced RunError) (failure : Option Failure) → MayMake makes texts answer → MayMake makes texts (named answer failure)
       may_name texts (Ok p) failure may = may
       may_name texts (Err Device) None may = tt
@@ -102,13 +105,13 @@ module _ (opened created : List (List ℕ)) {holds : Contents} {empty : Option (
     ends = elim answers.ends [
       | inl stops ↦ inl (inl (record { before = stops.0.before; name = stops.0.name; after = stops.0.after; error = stops.0.error; whole = stops.0.whole; happened = stops.0.happened }), refl, refl)
       | inr read ↦ inr (record {
-          read = read.read;
-          written = [];
-          all_read = read.all_read;
-          happened = read.happened ∙ sym (append-nil (map Opened opened ++ map Read read.read));
-          told = λ texts same. inl refl;
-          nothing_written = λ nothing. (refl, refl);
-        })
+        read = read.read;
+        written = [];
+        all_read = read.all_read;
+        happened = read.happened ∙ sym (append-nil (map Opened opened ++ map Read read.read));
+        told = λ texts same. inl refl;
+        nothing_written = λ nothing. (refl, refl);
+      })
     ];
   }
 
@@ -118,30 +121,34 @@ module _ (opened created : List (List ℕ)) {holds : Contents} {empty : Option (
   makes_of_files {c} {new} p answers puts = elim answers.ends [
     | inl stops ↦ let never = stops.1 in absurd cc
     | inr read ↦ record {
-        events = answers.events ++ puts.events;
-        seen = sees_then answers.events puts.events a b c answers.seen puts.seen;
-        failure = flat_map-append failures answers.events puts.events ∙ rw answers.failure puts.failure;
-        faults = puts.faults;
-        ends = elim puts.ends [
-          | inl nowhere ↦ inl (inr (record {
-              read = read.read;
-              name = nowhere.name;
-              error = nowhere.error;
-              all_read = read.all_read;
-              whole = nowhere.whole;
-              happened = rw (read.happened, nowhere.happened) refl;
-              made = λ texts same. (_, _, read.made texts same, nowhere.text);
-            }), nowhere.failed, nowhere.nothing_put)
-          | inr text ↦ inr (record {
-              read = read.read;
-              written = text.written;
-              all_read = read.all_read;
-              happened = rw (read.happened, text.happened) refl;
-              told = λ texts same. reports_all_told (IsPut p) _ result _ _ (λ s o is. (rw (is.0, is.1) (read.made texts same), rw is.1 text.all_written)) text.put;
-              nothing_written = λ nothing. absurd (text.something_put nothing);
-            })
-        ];
-      }
+      events = answers.events ++ puts.events;
+      seen = sees_then answers.events puts.events a b c answers.seen puts.seen;
+      failure = flat_map-append failures answers.events puts.events ∙ rw answers.failure puts.failure;
+      faults = puts.faults;
+      ends = elim puts.ends [
+        | inl nowhere ↦ inl (
+          inr (record {
+            read = read.read;
+            name = nowhere.name;
+            error = nowhere.error;
+            all_read = read.all_read;
+            whole = nowhere.whole;
+            happened = rw (read.happened, nowhere.happened) refl;
+            made = λ texts same. (_, _, read.made texts same, nowhere.text);
+          }),
+          nowhere.failed,
+          nowhere.nothing_put,
+        )
+        | inr text ↦ inr (record {
+          read = read.read;
+          written = text.written;
+          all_read = read.all_read;
+          happened = rw (read.happened, text.happened) refl;
+          told = λ texts same. reports_all_told (IsPut p) _ result _ _ (λ s o is. (rw (is.0, is.1) (read.made texts same), rw is.1 text.all_written)) text.put;
+          nothing_written = λ nothing. absurd (text.something_put nothing);
+        })
+      ];
+    }
   ]
 
 -- ---- whether there is a text

@@ -51,10 +51,7 @@ fn put_into<'a, F: Files, K: Sink>(
 }
 
 /// Puts the report alone.
-fn put_report<'a, K: Sink>(
-    produced: Produced,
-    output: &mut K,
-) -> Result<Status, CommandError<'a>>
+fn put_report<'a, K: Sink>(produced: Produced, output: &mut K) -> Result<Status, CommandError<'a>>
     ensures puts { PutsReport produced result (K.seen output.old) (K.seen output.new) }
 {
     let ended = put_produced(Ok(produced), &mut Discard, &mut Discard, output);
