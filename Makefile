@@ -73,7 +73,7 @@ proved-by-ci:
 install: $(if $(UNPROVED),quick,all) $(MAN)
 	install -d $(IN)/bin $(IN)/include $(IN)/lib/pkgconfig $(IN)/lib/cmake/dimacs
 	install -m 755 $(FROM)/dimacs $(wildcard tools/dimacs-batch) $(IN)/bin
-	install -m 644 lib/include/dimacs.h $(IN)/include
+	install -m 644 lib/include/dimacs.h lib/include/dimacs.hpp $(IN)/include
 	install -m 644 $(FROM)/libdimacs.a $(IN)/lib
 	install -m 644 $(FROM)/libdimacs.so.0 $(IN)/lib/libdimacs.so.$(VERSION)
 	ln -sf libdimacs.so.$(VERSION) $(IN)/lib/libdimacs.so.0
@@ -82,6 +82,9 @@ install: $(if $(UNPROVED),quick,all) $(MAN)
 	install -m 644 lib/package/dimacsConfig.cmake $(IN)/lib/cmake/dimacs
 	sed 's/@VERSION@/$(VERSION)/' lib/package/dimacsConfigVersion.cmake.in \
 	    >$(IN)/lib/cmake/dimacs/dimacsConfigVersion.cmake
+	install -d $(IN)/share/dimacs/rust/src
+	install -m 644 $(addprefix lib/rust/,Cargo.toml Cargo.lock build.rs) $(IN)/share/dimacs/rust
+	install -m 644 lib/rust/src/*.rs $(IN)/share/dimacs/rust/src
 	for it in build/man/*.[15]; do \
 	    [ ! -e $$it ] || install -D -m 644 -t $(IN)/share/man/man$${it##*.} $$it || exit; done
 	[ ! -e completion ] || install -D -m 644 completion/dimacs.bash $(IN)/share/bash-completion/completions/dimacs

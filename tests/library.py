@@ -4,10 +4,11 @@
 FOLDER is where `make` built the library and the program: build, or build/quick for those that aren't proved. It runs
 what stands in lib/test: in C, under sanitizers where they fit and by valgrind, the calls over texts and arrays with
 room and without, in eight threads, with each growth of memory refused in turn, over texts of 100 MB, and over arrays of
-a million arcs; in C++, what LEMON answers; and in Python, by each of `python3` and /usr/bin/python3, also networkx' own
-tests of what the backend of it answers. N random small instances in arrays are compared with the texts that are printed
-from them, M of which go through the program: `--runs 20000` has all of them do so, which takes some minutes. Then it
-installs the wheel and calls it, and builds and runs what docs/LIBRARY.md shows.
+a million arcs; in C++, by each of `c++` and `clang++` under sanitizers, dimacs.hpp, and over it what LEMON and Boost
+answer; the crate for Cargo; and in Python, by each of `python3` and /usr/bin/python3, also networkx' own tests of what
+the backend of it answers. N random small instances in arrays are compared with the texts that are printed from them, M
+of which go through the program: `--runs 20000` has all of them do so, which takes some minutes. Then it installs the
+wheel and calls it, and builds and runs what docs/LIBRARY.md shows.
 
 What needs a tool that isn't there is left out, and named. The last line counts what passed and what failed.
 """
@@ -39,6 +40,16 @@ C_TESTS = [
     ("large_arrays", "nothing", []),
 ]
 
+# Each test in C++: its file, the standard of the language, and a library's header that it needs. What LEMON and Boost have
+# in templates takes long to compile with -O1, and gets warnings then.
+CPP_WARN = ["-O0", "-g", "-Wall", "-Wextra", "-Wpedantic", "-Werror", f"-I{LIB}/include"]
+CPP_TESTS = [
+    ("hpp", "c++17", None),
+    ("hpp", "c++20", None),
+    ("lemon", "c++17", ("LEMON", "lemon/core.h")),
+    ("boost", "c++17", ("Boost", "boost/graph/adjacency_list.hpp")),
+]
+
 
 def by_count(name, ran):
     """What passed and what failed by the last line of a program: `N passed, M failed`."""
@@ -58,6 +69,12 @@ def by_unittest(name, ran):
     left_out = [f"{count} tests of {name}: {reason}" for reason, count in reasons.items() if count]
     passed = int(tests[-1]) - failed - skipped if tests else 0
     return max(0, passed), failed, left_out
+
+
+def by_cargo(name, ran):
+    """The same by the lines of cargo test."""
+    counted = re.findall(r"^test result: \w+\. (\d+) passed; (\d+) failed", ran.stdout, re.M)
+    return sum(int(it[0]) for it in counted), sum(int(it[1]) for it in counted), []
 
 
 def by_status(name, ran):
@@ -118,15 +135,60 @@ def test_c(counts, build, place):
             counts.add(" ".join([*by[:1], f"{name}.c"]), ran, by_count)
 
 
-def test_lemon(counts, build, place):
-    """What LEMON answers. One of its headers gets a warning."""
-    made = os.path.join(place, "lemon")
-    if not shutil.which(CXX) or run(CXX, "-E", "-x", "c++", "-", input="#include <lemon/core.h>").returncode:
-        counts.leave_out("lemon.cpp", "LEMON")
+def cpp_compilers():
+    """Each compiler for C++ that is there, once."""
+    found = [shutil.which(it) for it in (CXX, "clang++")]
+    return list({os.path.realpath(it): it for it in found if it}.values())
+
+
+def compiles(compiler, flags, text, place):
+    """Whether a compiler takes this text with these flags."""
+    words = [*flags, "-x", "c++", "-", "-o", os.path.join(place, "compiled")]
+    return run(compiler, *words, input=text).returncode == 0
+
+
+def test_cpp(counts, build, place):
+    """The tests in C++, by each compiler."""
+    if not cpp_compilers():
+        counts.leave_out("the tests in C++", CXX)
+    for compiler in cpp_compilers():
+        flags = [*CPP_WARN, *SANITIZERS]
+        if not compiles(compiler, flags, "int main() {}", place):
+            counts.leave_out(f"the reads and writes of the tests by {compiler}", "sanitizers")
+            flags = CPP_WARN
+        for name, standard, needs in CPP_TESTS:
+            test_cpp_file(counts, [compiler, *flags, f"-std={standard}"], name, needs, build, place)
+
+
+def test_cpp_file(counts, words, name, needs, build, place):
+    """One of them, if the library is there that it needs."""
+    if needs and not compiles(words[0], ["-E"], f"#include <{needs[1]}>", place):
+        counts.leave_out(f"{name}.cpp by {words[0]}", needs[0])
         return
-    flags = [*WARN, "-Wno-maybe-uninitialized", "-std=c++17"]
-    built = run(CXX, *flags, "-o", made, f"{TEST}/lemon.cpp", f"{build}/libdimacs.a")
-    counts.add("lemon.cpp", run(made) if built.returncode == 0 else built, by_count)
+    made = os.path.join(place, f"{name}_cpp")
+    built = run(*words, "-o", made, f"{TEST}/{name}.cpp", f"{build}/libdimacs.a")
+    counts.add(f"{name}.cpp by {words[0]}, {words[-1]}", run(made) if built.returncode == 0 else built, by_count)
+
+
+def cargo_environment(build, place):
+    """How cargo finds the library, and a folder that it writes to."""
+    return {"DIMACS_LIB_DIR": build, "CARGO_TARGET_DIR": os.path.join(place, "cargo")}
+
+
+def test_cargo(counts, build, place):
+    """The crate for Cargo, without the network: its tests, those in its documentation too, its form, and what clippy says."""
+    if not shutil.which("cargo"):
+        counts.leave_out("the crate for Cargo", "cargo")
+        return
+    environment = {**os.environ, **cargo_environment(build, place)}
+    manifest = ["--manifest-path", f"{LIB}/rust/Cargo.toml"]
+    ran = run("cargo", "test", "--offline", "--locked", *manifest, env=environment)
+    counts.add("cargo test", ran, by_cargo)
+    for tool, words in (("fmt", ["--check"]), ("clippy", ["--offline", "--all-targets", "--", "-D", "warnings"])):
+        if run("cargo", tool, "--version").returncode:
+            counts.leave_out(f"cargo {tool}", f"cargo {tool}")
+        else:
+            counts.add(f"cargo {tool}", run("cargo", tool, *manifest, *words, env=environment), by_status)
 
 
 def test_exports(counts, build):
@@ -227,7 +289,7 @@ def test_page(counts, build, place):
     """The commands of docs/LIBRARY.md, in a folder that has lib and examples, and as build the one that is tested."""
     for name, at in (("lib", LIB), ("examples", f"{TOP}/examples"), ("build", build)):
         os.symlink(at, os.path.join(place, name))
-    commands, environment = list(shown()), package(build)
+    commands, environment = list(shown()), package(build) | cargo_environment(build, place)
     if not commands:
         counts.add("docs/LIBRARY.md", subprocess.CompletedProcess([], 1, "it shows no command", ""), by_status)
     lacks = {}  # by the programs that commands make
@@ -266,7 +328,8 @@ def main():
     counts, build = Counts(), os.path.abspath(asked.build)
     with tempfile.TemporaryDirectory() as place:
         test_c(counts, build, place)
-        test_lemon(counts, build, place)
+        test_cpp(counts, build, place)
+        test_cargo(counts, build, place)
         test_exports(counts, build)
         test_python(counts, build, place)
         test_agreement(counts, build, asked.instances, asked.runs)

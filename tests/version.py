@@ -35,6 +35,8 @@ def found(build, wanted):
     yield "dimacs.h", header, {"": f'"{wanted}"', **parts}
     python = re.findall(r'^__version__ = "(.*)"$', read("lib/python/dimacs/__init__.py"), re.MULTILINE)
     yield "dimacs.__version__", python, [wanted]
+    crate = [re.findall(r'^version = "(.*)"$', read(f"lib/rust/Cargo.{it}"), re.MULTILINE) for it in ("toml", "lock")]
+    yield "the crate for Cargo", crate, [[wanted], [wanted]]
     if os.path.exists(f"{TOP}/CHANGELOG.md"):
         yield "CHANGELOG.md", re.findall(r"^## \D*([\d.]+\d)", read("CHANGELOG.md"), re.MULTILINE)[:1], [wanted]
 

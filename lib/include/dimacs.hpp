@@ -196,6 +196,12 @@ struct CertifiedMin {
     Potentials potentials;
 };
 
+// No flow is feasible, as the set shows: nodes, or the text of a set.
+template <class Set>
+struct CertifiedInfeasible {
+    Set inside;
+};
+
 // The distances are right, as the predecessors show.
 template <class Predecessors>
 struct CertifiedPaths {
@@ -230,6 +236,12 @@ struct CertifiedText {
     std::string certificate;
 };
 
+// So many blocks of distances are right, as the text of labels shows.
+struct CertifiedPathsText {
+    std::uint64_t sources = 0;
+    std::string labels;
+};
+
 // The texts of a solution and of what shows it.
 struct SolvedText {
     Value value;
@@ -260,8 +272,8 @@ struct SolvedPathsText {
 
 // ---- What is answered: a no ----
 
-// Where a text has a fault: its name ("instance", "query", "solution", "certificate"), and its line and field from 1. The
-// field 0 is the whole line, and the line 0 the whole text.
+// Where a text has a fault: its name ("instance", "query", "solution", "distances", "certificate"), and its line and field
+// from 1. The field 0 is the whole line, and the line 0 the whole text.
 struct InText {
     std::string text;
     std::uint64_t line = 0, field = 0;
@@ -306,6 +318,17 @@ struct Infeasible {
 
     std::string message() const { return "v infeasible"; }
 };
+
+// The instance that was claimed to have no feasible flow has this one.
+template <class Flow>
+struct Feasible {
+    Flow flow;
+
+    std::string message() const { return "x instance 0 0 Feasible"; }
+};
+
+// The same as the text of a solution; none where its cost is out of the range of such texts.
+using FeasibleText = Feasible<std::optional<std::string>>;
 
 // A limit was reached, the least cost is out of range, or what was found doesn't fit in 64 bits.
 struct GaveUp {
@@ -463,12 +486,18 @@ inline Pair pair_of(std::string_view line) {
     return it;
 }
 
+// The number of `v sp ss COUNT` and `v sp distances COUNT`.
+inline std::uint64_t sources_of(std::string_view line) {
+    const auto words = words_of(line);
+    return words.size() == 4 ? number_of(words[3]) : 0;
+}
+
 // What the lines of `judge-paths` say.
 inline JudgedPaths paths_of(std::string_view lines) {
     JudgedPaths it;
     const auto words = words_of(lines);
     if (words.size() == 4 && words[1] == "sp") {
-        it.sources = number_of(words[3]);
+        it.sources = sources_of(lines);
         return it;
     }
     while (!lines.empty()) {
@@ -705,6 +734,24 @@ inline Answer<CertifiedText, NotOptimalText, Refused> certify_min(std::string_vi
     return detail::certify_flow(DIMACS_MIN, instance, solution);
 }
 
+// Decides whether an instance has no feasible flow: the text of a set; FeasibleText, which has a solution with a feasible
+// flow, where there is one; Refused where the text has a fault.
+inline Answer<CertifiedInfeasible<std::string>, FeasibleText, Refused> certify_infeasible(std::string_view instance) {
+    auto [is_yes, line, shown] = detail::certify(DIMACS_INFEASIBLE, instance, {});
+    if (is_yes) return CertifiedInfeasible<std::string>{std::move(shown)};
+    Refused no = detail::refused(line);
+    if (no.reason != "Feasible") return no;
+    return FeasibleText{shown.empty() ? std::nullopt : std::optional(std::move(shown))};
+}
+
+// Decides whether distances are those of their nodes, and the nodes without one unreachable, block by block: the text of
+// labels. Refused where a text has a fault, or for the first test that fails.
+inline Answer<CertifiedPathsText, Refused> certify_paths(std::string_view graph, std::string_view distances) {
+    auto [is_yes, line, shown] = detail::certify(DIMACS_PATHS, graph, distances);
+    if (!is_yes) return detail::refused(line);
+    return CertifiedPathsText{detail::sources_of(line), std::move(shown)};
+}
+
 // Makes a maximum flow: the texts of a solution and of a cut. GaveUp after `limit` flows that aren't maximum; Refused where
 // the text has a fault.
 inline Answer<SolvedText, GaveUp, Refused> solve_max(std::string_view instance, std::uint64_t limit = default_limit) {
@@ -831,6 +878,19 @@ inline Answer<CertifiedMin<Potentials>, NotOptimal<Flows>, GaveUp, Refused> cert
     Refused no = detail::refused(line.text());
     if (detail::is_not_optimal(no)) return NotOptimal<Flows>{no.line, better.take()};
     return no;
+}
+
+// Decides whether an instance has no feasible flow: a set by which judge_infeasible says yes; Feasible, which has a feasible
+// flow, where there is one. The time that it takes isn't bounded by the number of arcs.
+inline Answer<CertifiedInfeasible<Inside>, Feasible<Flows>> certify_infeasible(const MinInstance &instance) {
+    const dimacs_min arrays = detail::arrays(instance);
+    detail::TextRoom line;
+    detail::Room<std::uint8_t> inside(detail::room_for(instance.nodes));
+    detail::Room<std::int64_t> flows(instance.tails.size());
+    const auto call = [&](auto... rooms) { return dimacs_certify_infeasible_arrays(&arrays, rooms...); };
+    const std::uint32_t status = detail::call_for_items(call, line, inside, flows);
+    if (status == DIMACS_DONE) return CertifiedInfeasible<Inside>{inside.take()};
+    return Feasible<Flows>{flows.take()};
 }
 
 // Decides whether the distances from the source, by node, are the least weights of walks, in time by the number of arcs and
@@ -964,6 +1024,16 @@ CertifiedMinOver<Index> certify_min_over(const Index &index, const MinInstance &
     }
     if (answer.template get_if<GaveUp>()) return GaveUp{};
     return refused_over(index, *answer.template get_if<Refused>());
+}
+
+template <class Index>
+using CertifiedInfeasibleOver = Answer<CertifiedInfeasible<typename Index::Marked>, Feasible<typename Index::Flow>>;
+
+template <class Index>
+CertifiedInfeasibleOver<Index> certify_infeasible_over(const Index &index, const MinInstance &instance) {
+    const auto answer = over(index, [&] { return certify_infeasible(instance); });
+    if (answer) return CertifiedInfeasible<typename Index::Marked>{index.marked(answer->inside)};
+    return Feasible<typename Index::Flow>{index.flow(answer.template get_if<Feasible<Flows>>()->flow)};
 }
 
 template <class Index>
@@ -1143,6 +1213,19 @@ detail::CertifiedMinOver<Index<G>> certify_min(const G &graph, const Lower &lowe
     return detail::certify_min_over(arrays.index, arrays.instance(), flows);
 }
 
+// Decides whether no flow is feasible, as NetworkSimplex answers INFEASIBLE: a set of nodes whose supply can't be met, true in
+// the map; Feasible, which has a feasible flow.
+template <class G, class Lower, class Upper, class Supply>
+detail::CertifiedInfeasibleOver<Index<G>> certify_infeasible(const G &graph, const Lower &lower, const Upper &upper,
+                                                             const Supply &supply) {
+    const Index<G> index(graph);
+    const auto lows = index.of(index.arcs(), lower), caps = index.of(index.arcs(), upper);
+    const auto supplies = index.of(index.nodes(), supply);
+    const std::vector<std::int64_t> costs(index.arcs().size());
+    const MinInstance instance{index.size(), index.tails(), index.heads(), lows, caps, costs, supplies};
+    return detail::certify_infeasible_over(index, instance);
+}
+
 // Judges that a flow costs least, as LEMON's potentials show: an arc's reduced cost is its cost, with the potential of its
 // source, less that of its target. Throws std::out_of_range for potentials that don't fit in 64 bits with the other sign.
 template <class G, class Lower, class Upper, class Cost, class Supply, class Flow, class Potential>
@@ -1307,27 +1390,24 @@ namespace detail {
 
 __extension__ typedef __int128 Wide;
 
-// What a flow of Boost's leaves on each edge: its capacity less its residual capacity, where that is above 0. An edge and its
-// reverse have to say the same flow; the number of the first edge that doesn't is handed out in place of flows.
-template <class G, class Capacity, class Residual, class Reverse>
-std::variant<std::vector<std::int64_t>, std::size_t> flows_of(const G &graph, const Index<G> &index,
-                                                              const Capacity &capacity, const Residual &residual,
-                                                              const Reverse &reverse) {
-    std::vector<std::int64_t> flows;
-    for (const auto &arc : index.arcs()) {
-        const auto back = value_at(reverse, arc);
-        const Wide amount = Wide(whole_at(capacity, arc)) - whole_at(residual, arc);
-        const Wide other = Wide(whole_at(capacity, back)) - whole_at(residual, back);
-        const bool is_reverse = source(back, graph) == target(arc, graph) && target(back, graph) == source(arc, graph);
-        if (!is_reverse || amount + other != 0) return flows.size();
-        flows.push_back(amount > 0 ? static_cast<std::int64_t>(amount) : 0);
-    }
-    return flows;
+// A number that fits in 64 bits, or std::out_of_range.
+inline std::int64_t narrow(Wide number) {
+    const auto it = static_cast<std::int64_t>(number);
+    if (it != number) throw std::out_of_range("a flow takes more than 64 bits");
+    return it;
 }
 
-template <class G>
-dimacs::detail::RefusedOver<Index<G>> differs(const Index<G> &index, std::size_t place) {
-    return {"ReverseDiffers", std::nullopt, index.arcs()[place]};
+// What each edge carries: its capacity less its residual capacity, and nothing where that is below 0, as it is on the reverse
+// of an edge that carries some. The residual capacity of a reverse edge isn't compared with that of its edge: Boost has
+// searches that leave some as they were.
+template <class G, class Capacity, class Residual>
+std::vector<std::int64_t> flows_of(const Index<G> &index, const Capacity &capacity, const Residual &residual) {
+    std::vector<std::int64_t> flows;
+    flows.reserve(index.arcs().size());
+    for (const auto &arc : index.arcs()) {
+        flows.push_back(std::max<std::int64_t>(0, narrow(Wide(whole_at(capacity, arc)) - whole_at(residual, arc))));
+    }
+    return flows;
 }
 
 // What flows out of a node, less what flows in.
@@ -1338,46 +1418,40 @@ std::int64_t net(const Index<G> &index, std::uint32_t node, const std::vector<st
         if (index.tails()[k] == node) sum += flows[k];
         if (index.heads()[k] == node) sum -= flows[k];
     }
-    if (sum != static_cast<std::int64_t>(sum)) throw std::out_of_range("the value of the flow takes more than 64 bits");
-    return static_cast<std::int64_t>(sum);
+    return narrow(sum);
 }
 
 }  // namespace detail
 
 // Decides whether the flow that a search left in `residual` is maximum, as push_relabel_max_flow and its like do, whose maps
-// these are: a cut; NotOptimal, which has a better flow, by edge; RefusedAt an edge that carries more than its capacity, or a
-// vertex that keeps or loses some. ReverseDiffers where `reverse` leads to no edge back, or the two edges say different flows.
-template <class G, class Vertex, class Capacity, class Residual, class Reverse>
-dimacs::detail::CertifiedMaxOver<Index<G>> certify_max(const G &graph, const Vertex &source_vertex,
-                                                       const Vertex &target_vertex, const Capacity &capacity,
-                                                       const Residual &residual, const Reverse &reverse) {
+// these are: an edge carries its capacity less its residual capacity, or nothing where that is below 0. A cut; NotOptimal,
+// which has a better flow, by edge; RefusedAt an edge that carries more than its capacity, or a vertex that keeps or loses
+// some. Throws std::out_of_range where an edge would carry more than 64 bits.
+template <class G, class Capacity, class Residual>
+dimacs::detail::CertifiedMaxOver<Index<G>> certify_max(const G &graph, const typename Index<G>::Node &source_vertex,
+                                                       const typename Index<G>::Node &target_vertex, const Capacity &capacity,
+                                                       const Residual &residual) {
     const Index<G> index(graph);
-    const auto found = detail::flows_of(graph, index, capacity, residual, reverse);
-    if (auto *place = std::get_if<std::size_t>(&found)) return detail::differs(index, *place);
-    const auto caps = index.of(capacity);
+    const auto caps = index.of(capacity), flows = detail::flows_of(index, capacity, residual);
     const auto from = index.number(source_vertex), to = index.number(target_vertex);
-    return dimacs::detail::certify_max_over(index, dimacs::detail::max_over(index, from, to, caps),
-                                            std::get<std::vector<std::int64_t>>(found));
+    return dimacs::detail::certify_max_over(index, dimacs::detail::max_over(index, from, to, caps), flows);
 }
 
 // Decides whether that flow costs least of all flows of its value, as successive_shortest_path_nonnegative_weights and
 // cycle_canceling are to make one: potentials, by which the reduced cost of an edge is its weight, less the potential of its
 // source, and with that of its target; else as certify_max.
-template <class G, class Vertex, class Capacity, class Residual, class Weight, class Reverse>
-dimacs::detail::CertifiedMinOver<Index<G>> certify_min(const G &graph, const Vertex &source_vertex,
-                                                       const Vertex &target_vertex, const Capacity &capacity,
-                                                       const Residual &residual, const Weight &weight,
-                                                       const Reverse &reverse) {
+template <class G, class Capacity, class Residual, class Weight>
+dimacs::detail::CertifiedMinOver<Index<G>> certify_min(const G &graph, const typename Index<G>::Node &source_vertex,
+                                                       const typename Index<G>::Node &target_vertex, const Capacity &capacity,
+                                                       const Residual &residual, const Weight &weight) {
     const Index<G> index(graph);
-    const auto found = detail::flows_of(graph, index, capacity, residual, reverse);
-    if (auto *place = std::get_if<std::size_t>(&found)) return detail::differs(index, *place);
-    const auto &flows = std::get<std::vector<std::int64_t>>(found);
-    const auto caps = index.of(capacity), costs = index.of(weight);
+    const auto caps = index.of(capacity), costs = index.of(weight), flows = detail::flows_of(index, capacity, residual);
     const std::vector<std::int64_t> lows(flows.size());
     std::vector<std::int64_t> supplies(index.size());
-    const std::int64_t value = detail::net(index, index.number(source_vertex), flows);
-    supplies[index.number(source_vertex) - 1] += value;
-    supplies[index.number(target_vertex) - 1] -= value;
+    const auto from = index.number(source_vertex), to = index.number(target_vertex);
+    const std::int64_t value = detail::net(index, from, flows);
+    supplies[from - 1] += value;
+    supplies[to - 1] -= value;
     const MinInstance instance{index.size(), index.tails(), index.heads(), lows, caps, costs, supplies};
     return dimacs::detail::certify_min_over(index, instance, flows);
 }
@@ -1385,8 +1459,8 @@ dimacs::detail::CertifiedMinOver<Index<G>> certify_min(const G &graph, const Ver
 // Decides whether distances, as dijkstra_shortest_paths and bellman_ford_shortest_paths leave them in a map, are right. The
 // greatest number of its type is the distance of a vertex that isn't reached. RefusedAt the edge or the vertex that shows
 // that they aren't.
-template <class G, class Vertex, class Weight, class Distance>
-dimacs::detail::CertifiedPathsOver<Index<G>> certify_paths(const G &graph, const Vertex &source_vertex, const Weight &weight,
+template <class G, class Weight, class Distance>
+dimacs::detail::CertifiedPathsOver<Index<G>> certify_paths(const G &graph, const typename Index<G>::Node &source_vertex, const Weight &weight,
                                                            const Distance &distance) {
     const Index<G> index(graph);
     std::vector<std::int64_t> distances;

@@ -2,14 +2,13 @@
 #include "check.h"
 #include "dimacs.hpp"
 #include <boost/graph/adjacency_list.hpp>
-#include <boost/graph/bellman_ford_shortest_paths.hpp>
 #include <boost/graph/boykov_kolmogorov_max_flow.hpp>
 #include <boost/graph/compressed_sparse_row_graph.hpp>
 #include <boost/graph/cycle_canceling.hpp>
 #include <boost/graph/dijkstra_shortest_paths.hpp>
-#include <boost/graph/edmonds_karp_max_flow.hpp>
 #include <boost/graph/push_relabel_max_flow.hpp>
 #include <boost/graph/successive_shortest_path_nonnegative_weights.hpp>
+#include <climits>
 #include <random>
 
 using Traits = boost::adjacency_list_traits<boost::vecS, boost::vecS, boost::directedS>;
@@ -28,7 +27,7 @@ using Edge = Graph::edge_descriptor;
 using Better = dimacs::NotOptimal<std::vector<std::pair<Edge, std::int64_t>>>;
 using Refused = dimacs::RefusedAt<Vertex, Edge>;
 
-enum { NODES = 300, EDGES = 3000 };
+enum { NODES = 300, EDGES = 3000, FEW_NODES = 30, FEW_EDGES = 150 };
 
 /* An edge and its reverse, which carries nothing by itself. */
 static Edge add(Graph &graph, Vertex from, Vertex to, long capacity, long weight) {
@@ -41,22 +40,27 @@ static Edge add(Graph &graph, Vertex from, Vertex to, long capacity, long weight
     return edge;
 }
 
-static Graph make() {
-    Graph graph(NODES);
+/* A copy of a graph would have the reverse edges of the one that was copied. */
+static void make(Graph &graph, int edges) {
     std::mt19937 chance(7);
-    for (int k = 0; k < EDGES; k++) {
-        const Vertex from = chance() % NODES, to = chance() % NODES;
+    for (int k = 0; k < edges; k++) {
+        const Vertex from = chance() % num_vertices(graph), to = chance() % num_vertices(graph);
         if (from != to) add(graph, from, to, long(chance() % 1000), long(chance() % 100));
     }
-    return graph;
 }
 
 static auto certify_max(const Graph &graph, Vertex from, Vertex to) {
-    return dimacs::boost::certify_max(graph, from, to, get(&Street::capacity, graph), get(&Street::residual, graph),
-                                      get(&Street::reverse, graph));
+    return dimacs::boost::certify_max(graph, from, to, get(&Street::capacity, graph), get(&Street::residual, graph));
 }
 
-static void maximum_flow(Graph graph) {
+static long send_by_augmenting(Graph &graph, Vertex from, Vertex to) {
+    return boost::boykov_kolmogorov_max_flow(graph, get(&Street::capacity, graph), get(&Street::residual, graph),
+                                             get(&Street::reverse, graph), get(&Place::before, graph),
+                                             get(&Place::color, graph), get(&Place::far, graph),
+                                             get(boost::vertex_index, graph), from, to);
+}
+
+static void maximum_flow(Graph &graph) {
     const Vertex from = 0, to = NODES / 2;
     const long value = boost::push_relabel_max_flow(
         graph, from, to, get(&Street::capacity, graph), get(&Street::residual, graph), get(&Street::reverse, graph),
@@ -64,28 +68,34 @@ static void maximum_flow(Graph graph) {
     const auto yes = certify_max(graph, from, to);
     check_that("push_relabel_max_flow's flow", yes && yes->value == value && value > 0);
     check_that("by a cut", yes->inside[from] && !get(yes->inside, to));
-    const long again = boost::boykov_kolmogorov_max_flow(
-        graph, get(&Street::capacity, graph), get(&Street::residual, graph), get(&Street::reverse, graph),
-        get(&Place::before, graph), get(&Place::color, graph), get(&Place::far, graph), get(boost::vertex_index, graph),
-        from, to);
+    const long again = send_by_augmenting(graph, from, to);
     check_that("boykov_kolmogorov_max_flow's flow", certify_max(graph, from, to)->value == again && again == value);
 
     Edge full = *edges(graph).first;
     for (auto range = edges(graph); range.first != range.second; ++range.first) {
         if (graph[*range.first].capacity > graph[*range.first].residual) full = *range.first;
     }
-    const Street kept = graph[full], back = graph[kept.reverse];
     graph[full].residual = -1;
-    check_that("the reverse of an edge says another flow", certify_max(graph, from, to).message() == "arc: ReverseDiffers");
-    graph[kept.reverse].residual = kept.capacity + 1;
     const auto refused = certify_max(graph, from, to);
     check_that("too much on an edge", refused.message() == "arc: AboveCap" && refused.get_if<Refused>()->arc == full);
-    graph[full].residual = kept.capacity;
-    graph[kept.reverse].residual = back.capacity;
+    graph[full].residual = graph[full].capacity;
     check_that("a vertex that keeps some", certify_max(graph, from, to).message() == "node: Balance");
-    graph[full].reverse = full;
-    check_that("no reverse", certify_max(graph, from, to).message() == "arc: ReverseDiffers");
-    graph[full].reverse = kept.reverse;
+    graph[full].residual = LONG_MIN;
+    try {
+        (void)certify_max(graph, from, to);
+        check_that("an amount past 64 bits", 0);
+    } catch (const std::out_of_range &) {
+        check_that("an amount past 64 bits", 1);
+    }
+    graph[full].capacity = -1;
+    graph[full].residual = -1;
+    try {
+        (void)certify_max(graph, from, to);
+        check_that("a capacity below 0", 0);
+    } catch (const dimacs::PastLimitAt<Vertex, Edge> &it) {
+        check_that("a capacity below 0", it.at().arc == full && it.at().reason == "BoundOrder");
+    }
+    graph[full].capacity = 5;
 
     for (auto range = edges(graph); range.first != range.second; ++range.first) {
         graph[*range.first].residual = graph[*range.first].capacity;
@@ -105,20 +115,18 @@ static void edges_both_ways() {
     Graph graph(2);
     const Edge edge = add(graph, 0, 1, 5, 0);
     graph[graph[edge].reverse].capacity = 3;  // an edge of its own too
-    const long value = boost::push_relabel_max_flow(
-        graph, 1, 0, get(&Street::capacity, graph), get(&Street::residual, graph), get(&Street::reverse, graph),
-        get(boost::vertex_index, graph));
+    const long value = send_by_augmenting(graph, 1, 0);
     check_that("a flow along a reverse edge", value == 3 && certify_max(graph, 1, 0)->value == 3);
-    check_that("the other way it is one of -3", !certify_max(graph, 0, 1));
+    check_that("the other way it isn't maximum", certify_max(graph, 0, 1).get_if<Better>() != nullptr);
 }
 
 static auto certify_min(const Graph &graph, Vertex from, Vertex to) {
     return dimacs::boost::certify_min(graph, from, to, get(&Street::capacity, graph), get(&Street::residual, graph),
-                                      get(&Street::weight, graph), get(&Street::reverse, graph));
+                                      get(&Street::weight, graph));
 }
 
-static void least_cost(Graph graph) {
-    const Vertex from = 0, to = NODES / 2;
+static void least_cost(Graph &graph) {
+    const Vertex from = 0, to = FEW_NODES / 2;
     boost::successive_shortest_path_nonnegative_weights(
         graph, from, to,
         boost::capacity_map(get(&Street::capacity, graph))
@@ -187,10 +195,13 @@ static void other_graphs() {
 }
 
 int main() {
-    const Graph graph = make();
+    Graph graph(NODES);
+    make(graph, EDGES);
     maximum_flow(graph);
     edges_both_ways();
-    least_cost(graph);
+    Graph small(FEW_NODES);
+    make(small, FEW_EDGES);
+    least_cost(small);
     distances(graph);
     other_graphs();
     return count();

@@ -103,6 +103,21 @@ static void certifies_texts() {
        "x arc 1 CostRange");
 }
 
+static void certifies_whole_claims() {
+    const auto none = dimacs::certify_infeasible(surplus);
+    check_that("no feasible flow in a text", none && none->inside == both && dimacs::judge_infeasible(surplus, none->inside));
+    const auto one = dimacs::certify_infeasible(min);
+    const auto *flow_of = one.get_if<dimacs::FeasibleText>();
+    check_that("a feasible flow in a text", flow_of && flow_of->flow && one.message() == "x instance 0 0 Feasible");
+    check_that("which is feasible", !dimacs::certify_min(min, *flow_of->flow).get_if<Refused>());
+    is("a fault", dimacs::certify_infeasible(max).message(), "x instance 1 2 BadWord");
+    const auto far = dimacs::certify_paths(graph, "p distances 4 1\nt 1 1\nd 2 5\n");
+    check_that("distances in a text", far && far->sources == 1 && far->labels == dist);
+    is("a distance less 1", dimacs::certify_paths(graph, "p distances 4 1\nt 1 1\nd 2 4\n").message(), "x node 2 NoTightArc");
+    is("a fault of distances", dimacs::certify_paths(graph, "p distances 4 1\nt 1 x\n").message(),
+       "x distances 2 3 BadNumber");
+}
+
 static void solves_texts() {
     const auto most = dimacs::solve_max(max);
     check_that("a maximum flow", most && most->value == 6 && dimacs::judge_max(max, most->solution, most->certificate));
@@ -192,6 +207,11 @@ static void least_costs() {
     const auto none = dimacs::solve_min(short_of);
     const auto *set = none.get_if<dimacs::Infeasible<Inside>>();
     check_that("no feasible flow", set && dimacs::judge_infeasible(short_of, set->inside));
+    const auto certified = dimacs::certify_infeasible(short_of);
+    check_that("certified to have none", certified && dimacs::judge_infeasible(short_of, certified->inside));
+    const auto other = dimacs::certify_infeasible(shipping);
+    const auto *feasible = other.get_if<dimacs::Feasible<Flows>>();
+    check_that("a feasible flow", feasible && !dimacs::certify_min(shipping, feasible->flow).get_if<Refused>());
     is("there is one", dimacs::judge_infeasible(shipping, Inside{1, 0, 0, 0}).message(), "x certificate 0 0 NotViolated");
     check_that("given up", dimacs::solve_min(shipping, 0).get_if<dimacs::GaveUp>() != nullptr);
     const Ids chain{1, 2, 3}, next{2, 3, 4};
@@ -238,6 +258,7 @@ static void takes_what_has_items() {
 int main() {
     judges_texts();
     certifies_texts();
+    certifies_whole_claims();
     solves_texts();
     makes_texts();
     maximum_flows();

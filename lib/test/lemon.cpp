@@ -94,7 +94,11 @@ static void least_cost(const Graph &graph, const Numbers &capacity, const Number
     check_that("a unit more round the ring", no.get_if<Better>() && no.message() == "x solution 0 0 NotLeast");
     lemon::mapCopy(graph, no.get_if<Better>()->better, flow);
     check_that("a flow that costs less", !dimacs::lemon::certify_min(graph, lower, capacity, cost, supply, flow).get_if<Refused>());
+    const auto some = dimacs::lemon::certify_infeasible(graph, lower, capacity, supply);
+    check_that("a feasible flow", some.get_if<dimacs::Feasible<dimacs::lemon::Map<Graph, Arc, std::int64_t>>>() != nullptr);
     supply[graph.nodeFromId(3)] += 1;
+    const auto none = dimacs::lemon::certify_infeasible(graph, lower, capacity, supply);
+    check_that("supplies of 1 in all", none && none->inside[graph.nodeFromId(0)]);
     const auto refused = dimacs::lemon::certify_min(graph, lower, capacity, cost, supply, flow);
     check_that("another supply", refused.get_if<Refused>() && refused.get_if<Refused>()->node == graph.nodeFromId(3));
 

@@ -7,7 +7,7 @@
 
 use crate::ffi::{self, Array, Graph as RawGraph, Max, Min, DONE, GAVE_UP, MISUSED, NO_MEMORY, REFUSED};
 use crate::rooms::{room_for, Room, LINE};
-use crate::words::{is_infeasible, is_not_optimal, refused, value};
+use crate::words::{is_feasible, is_infeasible, is_not_optimal, refused, value};
 
 /// Why a call over slices doesn't say yes: a better flow is an amount for each arc, and a set says for each node whether it
 /// is inside.
@@ -351,6 +351,42 @@ pub fn certify_min(instance: &MinInstance, flows: &[i64]) -> Result<CertifiedMin
     };
     let line = line_or_better(status, line, better)?;
     Ok(CertifiedMin { cost: value(&line), potentials: potentials.take() })
+}
+
+/// Decides whether an instance has no feasible flow: a set by which [`judge_infeasible`] says yes. [`Error::Feasible`] with
+/// a feasible flow, where there is one. The time that it takes isn't bounded by the number of arcs.
+///
+/// ```
+/// # use dimacs::arrays::{certify_infeasible, Error, MinInstance};
+/// let mut road = MinInstance {
+///     nodes: 2, tails: &[1], heads: &[2], lows: &[0], caps: &[3], costs: &[1], supplies: &[5, -5],
+/// };
+/// assert_eq!(certify_infeasible(&road), Ok(vec![true, false]));
+/// road.supplies = &[2, -2];
+/// assert_eq!(certify_infeasible(&road), Err(Error::Feasible(vec![2])));
+/// ```
+pub fn certify_infeasible(instance: &MinInstance) -> Result<Vec<bool>, Error> {
+    let (mut line, mut inside) = (Room::new(LINE)?, Room::<u8>::new(room_for(instance.nodes))?);
+    let (mut flows, instance) = (Room::new(instance.tails.len())?, instance.raw());
+    let status = unsafe {
+        ffi::dimacs_certify_infeasible_arrays(
+            &instance,
+            line.at(),
+            line.room(),
+            line.told(),
+            inside.at(),
+            inside.room(),
+            inside.told(),
+            flows.at(),
+            flows.room(),
+            flows.told(),
+        )
+    };
+    match line_of(status, line) {
+        Ok(_) => Ok(inside.marks()),
+        Err(Error::Refused(it)) if is_feasible(&it) => Err(Error::Feasible(flows.take())),
+        Err(error) => Err(error),
+    }
 }
 
 /// Decides whether distances from the source, by node, are the least weights of walks, in time by the number of arcs and

@@ -5,8 +5,8 @@ use std::fmt;
 /// Where a refusal points.
 #[derive(Clone, Debug, PartialEq, Eq)]
 pub enum Place {
-    /// A line and a field of a text, from 1: "instance", "query", "solution" or "certificate". Field 0 is the whole line,
-    /// and line 0 the whole text.
+    /// A line and a field of a text, from 1: "instance", "query", "solution", "distances" or "certificate". Field 0 is the
+    /// whole line, and line 0 the whole text.
     Text {
         /// The text's name.
         text: String,
@@ -52,6 +52,8 @@ pub enum Error<Flow, Set> {
     NotOptimal(Flow),
     /// No flow is feasible, as this set of nodes shows.
     Infeasible(Set),
+    /// The instance that was claimed to have no feasible flow has this one.
+    Feasible(Flow),
     /// A limit was reached, the least cost is out of range, or what was found doesn't fit in 64 bits.
     GaveUp,
     /// A number of an instance in arrays is past its limit: the first one. Nothing was judged.
@@ -68,6 +70,7 @@ impl<Flow, Set> fmt::Display for Error<Flow, Set> {
             Error::Refused(refused) => refused.fmt(out),
             Error::NotOptimal(_) => out.write_str("there is a better flow"),
             Error::Infeasible(_) => out.write_str("no flow is feasible"),
+            Error::Feasible(_) => out.write_str("a flow is feasible"),
             Error::GaveUp => out.write_str("a limit was reached"),
             Error::PastLimit(refused) => write!(out, "a number is past its limit: {refused}"),
             Error::WrongLength => out.write_str("an array has another length than it has to have"),

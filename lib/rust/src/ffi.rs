@@ -180,6 +180,19 @@ extern "C" {
         better_told: *mut usize,
     ) -> u32;
 
+    pub fn dimacs_certify_infeasible_arrays(
+        instance: *const Min,
+        out: *mut u8,
+        room: usize,
+        told: *mut usize,
+        inside: *mut u8,
+        inside_room: usize,
+        inside_told: *mut usize,
+        flows: *mut i64,
+        flows_room: usize,
+        flows_told: *mut usize,
+    ) -> u32;
+
     pub fn dimacs_certify_paths_arrays(
         graph: *const Graph,
         source: u32,

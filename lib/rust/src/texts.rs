@@ -6,7 +6,7 @@
 use crate::error::NoMemory;
 use crate::ffi::{self, DONE, GAVE_UP, NO_MEMORY, REFUSED};
 use crate::rooms::{Room, LINE};
-use crate::words::{is_infeasible, is_not_optimal, refused, value};
+use crate::words::{is_feasible, is_infeasible, is_not_optimal, refused, value};
 
 /// Why a call over texts doesn't say yes: a better flow is the text of a solution, or `None` where its cost is out of the
 /// range of such texts; a set is a text too.
@@ -299,6 +299,38 @@ pub fn certify_max(instance: impl AsRef<[u8]>, solution: impl AsRef<[u8]>) -> Re
 /// ```
 pub fn certify_min(instance: impl AsRef<[u8]>, solution: impl AsRef<[u8]>) -> Result<Certified, Error> {
     certify_flow(MIN, instance.as_ref(), solution.as_ref())
+}
+
+/// Decides whether an instance has no feasible flow: the text of a set with which [`judge_infeasible`] says yes.
+/// [`Error::Feasible`] with a solution that has a feasible flow, where there is one.
+///
+/// ```
+/// # use dimacs::texts::{certify_infeasible, Error};
+/// assert_eq!(certify_infeasible("p min 1 0\nn 1 3\n").unwrap(), "p cut 1 1\nu 1\n");
+/// assert_eq!(certify_infeasible("p min 1 0\n"), Err(Error::Feasible(Some("s 0\n".to_owned()))));
+/// ```
+pub fn certify_infeasible(instance: impl AsRef<[u8]>) -> Result<String, Error> {
+    match certify(INFEASIBLE, instance.as_ref(), &[])? {
+        (Ok(_), set) => Ok(set),
+        (Err(Error::Refused(it)), flow) if is_feasible(&it) => {
+            Err(Error::Feasible(Some(flow).filter(|it| !it.is_empty())))
+        }
+        (Err(error), _) => Err(error),
+    }
+}
+
+/// Decides whether distances are those of their nodes, and the nodes without one unreachable, block by block: the text of
+/// labels with which [`judge_paths`] says yes for each source.
+///
+/// ```
+/// # use dimacs::texts::certify_paths;
+/// let graph = "p sp 2 1\na 1 2 7\n";
+/// assert_eq!(certify_paths(graph, "p distances 2 1\nt 1 1\nd 2 7\n").unwrap(), "p dist 2 1\nt 1 1\nd 2 7 1\n");
+/// assert_eq!(certify_paths(graph, "p distances 2 1\nt 1 0\n").unwrap_err().to_string(), "x arc 1 Escapes");
+/// ```
+pub fn certify_paths(graph: impl AsRef<[u8]>, distances: impl AsRef<[u8]>) -> Result<String, Error> {
+    let (line, labels) = certify(PATHS, graph.as_ref(), distances.as_ref())?;
+    line.map(|_| labels)
 }
 
 /// Makes a maximum flow: the texts of a solution and of a cut. [`Error::GaveUp`] after `limit` flows that aren't maximum.
