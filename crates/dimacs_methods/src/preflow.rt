@@ -1,5 +1,6 @@
 //! Preflows: excess is pushed to deficits, highest label first, with global relabelling and gaps, as Goldberg and
-//! Cherkassky describe it.
+//! Cherkassky describe it. It is pushed along paths of two arcs, as Goldberg describes partial augmentation: only to nodes
+//! from which it can be pushed on.
 
 mod levels;
 mod residual;
@@ -87,7 +88,7 @@ impl Preflow {
             levels: Levels::new(alloc, nodes)?,
             waiting: Waiting::new(alloc, nodes)?,
             work: 0,
-            enough: 6 * u64::from(nodes) + u64::from(network.arcs()),
+            enough: 24 * u64::from(nodes) + u64::from(network.arcs()),
         })
     }
 
@@ -128,7 +129,7 @@ impl Preflow {
             let Some(node) = self.waiting.pop() else {
                 return;
             };
-            self.discharge(node);
+            self.serve(node);
             if self.work > self.enough {
                 self.measure();
             }
@@ -180,6 +181,19 @@ impl Preflow {
         }
     }
 
+    /// Discharges a node that waited, unless it was lifted since, and has to wait for higher ones.
+    fn serve(&mut self, node: u32) {
+        if self.surplus(node) <= 0 {
+            return;
+        }
+        let height = self.height(node);
+        if height == self.waiting.highest() {
+            self.discharge(node);
+        } else if height != CUT_OFF {
+            self.waiting.push(node, height);
+        }
+    }
+
     /// Pushes the excess of a node down, and lifts the node as often as it has to be, until there is no excess or the
     /// node is cut off.
     fn discharge(&mut self, node: u32) {
@@ -191,13 +205,14 @@ impl Preflow {
         }
     }
 
-    /// Pushes excess along the halves that lead one level down, as long as there is some.
+    /// Pushes excess along the halves that lead one level down, as long as there is some, and from there on.
     fn push_down(&mut self, node: u32) {
         let height = self.height(node);
         for place in member(&self.cursor, node, 0)..self.residual.end(node) {
             let half = self.residual.half(place);
-            if half.room > 0 && self.height(half.to).wrapping_add(1) == height {
+            if self.leads_down(half, height) && self.leads_on(half.to) {
                 self.push(node, place, half);
+                self.push_on(half.to);
                 if self.surplus(node) <= 0 {
                     set_member(&mut self.cursor, node, place);
                     return;
@@ -206,15 +221,59 @@ impl Preflow {
         }
     }
 
-    /// Pushes as much as there is excess and room. A node that had none waits from now on.
+    /// Whether a half at a node of some height has room, and leads one level down.
+    #[inline(always)]
+    fn leads_down(&self, half: Half, height: u32) -> bool {
+        half.room > 0 && self.height(half.to).wrapping_add(1) == height
+    }
+
+    /// Whether a node has a deficit, or a half leads down from it: its cursor then stands there. Else it is lifted.
+    #[inline(always)]
+    fn leads_on(&mut self, node: u32) -> bool {
+        if self.surplus(node) < 0 {
+            return true;
+        }
+        let height = self.height(node);
+        for place in member(&self.cursor, node, 0)..self.residual.end(node) {
+            if self.leads_down(self.residual.half(place), height) {
+                set_member(&mut self.cursor, node, place);
+                return true;
+            }
+        }
+        self.lift(node);
+        false
+    }
+
+    /// Pushes excess along the half at a node's cursor, if it leads down. Nodes where some stays wait.
+    #[inline(always)]
+    fn push_on(&mut self, node: u32) {
+        if self.surplus(node) <= 0 {
+            return;
+        }
+        let height = self.height(node);
+        let place = member(&self.cursor, node, 0);
+        let half = self.residual.half(place);
+        if self.leads_down(half, height) {
+            self.push(node, place, half);
+            self.wait(half.to);
+        }
+        self.wait(node);
+    }
+
+    /// Lets a node wait that has excess.
+    #[inline(always)]
+    fn wait(&mut self, node: u32) {
+        if self.surplus(node) > 0 {
+            let height = self.height(node);
+            self.waiting.push(node, height);
+        }
+    }
+
+    /// Pushes as much as there is excess and room.
+    #[inline(always)]
     fn push(&mut self, from: u32, place: u32, half: Half) {
         let amount = least(half.room, self.surplus(from));
-        let had = self.surplus(half.to);
         self.move_along(from, place, half, amount);
-        if had <= 0 && self.surplus(half.to) > 0 {
-            let height = self.height(half.to);
-            self.waiting.push(half.to, height);
-        }
     }
 
     #[inline(always)]
@@ -228,6 +287,9 @@ impl Preflow {
     /// it is cut off: `false`.
     fn lift(&mut self, node: u32) -> bool {
         let old = self.height(node);
+        if old == CUT_OFF {
+            return false;
+        }
         self.levels.remove(node, old);
         if self.levels.first(old) == 0 {
             self.cut_off_above(old);

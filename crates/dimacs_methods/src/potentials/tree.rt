@@ -123,17 +123,21 @@ impl<V: Number> Tree<V> {
         let start = self.distance(from);
         let links = links.of(from);
         self.looked = self.looked.wrapping_add(links.len() as u64);
-        for link in links {
-            let distance = start.plus(link.cost);
-            let old = member(&self.distances, link.to, distance);
-            if distance.is_below(old) && !self.lower(link.to, from, distance.minus(old)) {
+        let mut at = 0usize;
+        for _ in 0..links.len() {
+            at = next_lowering(links, &self.distances, start, at);
+            let link = links.get(at)?;
+            let change = start.plus(link.cost).minus(self.distance(link.to));
+            if !self.lower(link.to, from, change) {
                 return Some(link.to);
             }
+            at = at.wrapping_add(1);
         }
         None
     }
 
     /// Lowers a group by a change below 0, and hangs it on another. False where that one hangs on it.
+    #[inline(never)]
     fn lower(&mut self, group: u32, parent: u32, change: V) -> bool {
         let node = self.node(group);
         if node.children == OUT {
@@ -248,4 +252,21 @@ impl<V: Number> Tree<V> {
         };
         member(&self.nodes, group, past)
     }
+}
+
+/// The place of the first link that lowers, from a place on; else the end.
+#[inline(never)]
+fn next_lowering<V: Number>(links: &[Link<V>], distances: &[V], start: V, from: usize) -> usize {
+    let mut at = from;
+    for _ in 0..links.len() {
+        let Some(link) = links.get(at) else {
+            break;
+        };
+        let distance = start.plus(link.cost);
+        if distance.is_below(member(distances, link.to, distance)) {
+            break;
+        }
+        at = at.wrapping_add(1);
+    }
+    at
 }

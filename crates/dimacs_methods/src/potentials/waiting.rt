@@ -1,67 +1,55 @@
-//! Groups that wait.
+//! Groups that wait to have their links looked at.
 
 use crate::tables::{count_of, member, set_member};
 use dimacs_lines::Memory;
 use std::alloc::Global;
 
-/// Groups in the order in which they began to wait, each at most once.
+/// Groups that wait, each at most once. They are taken in the order of their numbers, 64 by 64, round and round.
 #[derive(Drop)]
 pub(crate) struct Waiting {
-    /// A ring: those that wait stand side by side, and go on at the beginning after the end.
-    ring: Vec<u32>,
-    waits: Vec<bool>,
-    /// The place of the first that waits.
-    first: u32,
-    /// How many wait.
-    count: u32,
+    /// A bit for each group, 64 in a word.
+    words: Vec<u64>,
+    /// The word from which groups are taken.
+    at: u32,
 }
 
 impl Waiting {
     /// None of so many groups waits.
     pub(crate) fn new(alloc: Global, groups: u32) -> Result<Waiting, Memory> {
-        let ring = vec![in alloc; 0u32; groups as usize]?;
-        let waits = vec![in alloc; false; groups as usize]?;
-        Ok(Waiting {
-            ring,
-            waits,
-            first: 0,
-            count: 0,
-        })
+        let words = vec![in alloc; 0u64; groups as usize / 64 + 1]?;
+        Ok(Waiting { words, at: 0 })
     }
 
-    /// Lets a group wait, after the others; one that waits keeps its place.
+    /// Lets a group wait.
     #[inline(always)]
     pub(crate) fn push(&mut self, group: u32) {
-        if member(&self.waits, group, true) {
-            return;
+        if let Some(word) = self.words.get_mut(group as usize / 64) {
+            *word |= 1u64.wrapping_shl(group);
         }
-        set_member(&mut self.waits, group, true);
-        let place = self.around(self.first.wrapping_add(self.count));
-        set_member(&mut self.ring, place, group);
-        self.count = self.count.wrapping_add(1);
     }
 
-    /// The group that waits longest. It waits no longer.
+    /// The next group that waits. It waits no longer.
     #[inline(always)]
     pub(crate) fn pop(&mut self) -> Option<u32> {
-        if self.count == 0 {
+        self.advance();
+        let word = member(&self.words, self.at, 0);
+        if word == 0 {
             return None;
         }
-        let group = member(&self.ring, self.first, 0);
-        set_member(&mut self.waits, group, false);
-        self.first = self.around(self.first.wrapping_add(1));
-        self.count = self.count.wrapping_sub(1);
-        Some(group)
+        set_member(&mut self.words, self.at, word & word.wrapping_sub(1));
+        Some(self.at.wrapping_mul(64).wrapping_add(word.trailing_zeros()))
     }
 
-    /// A place that may be past the end, counted on from the beginning.
+    /// Goes on to a word of which a group waits, once round at most.
     #[inline(always)]
-    fn around(&self, place: u32) -> u32 {
-        let size = count_of(&self.ring);
-        if place < size {
-            place
-        } else {
-            place.wrapping_sub(size)
+    fn advance(&mut self) {
+        let count = count_of(&self.words);
+        for _ in 0..count {
+            if member(&self.words, self.at, 0) != 0 {
+                return;
+            }
+            let next = self.at.wrapping_add(1);
+            self.at = if next < count { next } else { 0 };
         }
     }
 }

@@ -1,6 +1,6 @@
 //! Nodes that wait, the highest first.
 
-use crate::tables::{member, set_member};
+use crate::tables::{count_of, member, set_member};
 use dimacs_lines::Memory;
 use std::alloc::Global;
 
@@ -9,26 +9,39 @@ use std::alloc::Global;
 pub(crate) struct Waiting {
     first: Vec<u32>,
     after: Vec<u32>,
+    waits: Vec<bool>,
     highest: u32,
 }
 
 impl Waiting {
-    /// Takes 8 bytes for each node.
+    /// Takes 9 bytes for each node.
     pub(crate) fn new(alloc: Global, nodes: u32) -> Result<Waiting, Memory> {
         let size = nodes as usize + 1;
         Ok(Waiting {
             first: vec![in alloc; 0u32; size]?,
             after: vec![in alloc; 0u32; size]?,
+            waits: vec![in alloc; false; size]?,
             highest: 0,
         })
     }
 
     pub(crate) fn clear(&mut self) {
         self.first.fill(0);
+        self.waits.fill(false);
         self.highest = 0;
     }
 
+    /// The greatest height at which a node waits, after one was taken out.
+    pub(crate) fn highest(&self) -> u32 {
+        self.highest
+    }
+
+    /// Lets a node wait at a height that the table has; one that waits keeps its place.
     pub(crate) fn push(&mut self, node: u32, height: u32) {
+        if member(&self.waits, node, true) || height >= count_of(&self.first) {
+            return;
+        }
+        set_member(&mut self.waits, node, true);
         set_member(&mut self.after, node, member(&self.first, height, 0));
         set_member(&mut self.first, height, node);
         self.highest = self.highest.max(height);
@@ -42,6 +55,7 @@ impl Waiting {
             return None;
         }
         set_member(&mut self.first, self.highest, member(&self.after, node, 0));
+        set_member(&mut self.waits, node, false);
         Some(node)
     }
 
