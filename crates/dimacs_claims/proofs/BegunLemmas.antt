@@ -1,4 +1,4 @@
--- Records after those of labels that were begun.
+-- One more record of labels while their text is read.
 use Rattle.std.proofs.Common.{◌≡◌, ◌≢◌, ℕ, zero, suc, ◌<◌, ◌≤◌, ◌+◌, ◌-◌, ◌∷◌, ◌++◌, [], List, Bool, true, false, inl, inr, Option, Some, None, length, map, refl, ap, ap₂, sym, ◌∙◌, subst, arith, append_assoc}
 use Rattle.std.specs.Prelude.{ℤ, IfSome, ◌||◌, not, pos, is_some, is_none, nat_le, slice_get, slice_index_or, slice_set, ◌==◌}
 use Rattle.std.specs.List.{All, list_any}
@@ -30,7 +30,7 @@ use Rattle.dimacs_claims.specs.LabelsReading.{LabelsBegun, AreLabelled, AreLabel
 use Rattle.dimacs_claims.proofs.BlockLemmas.{label_id, near_radius, is_some-label, is_some-push, some_if, block_empty, block_push, each_after_nil, each_after_push}
 use Rattle.dimacs_claims.proofs.LabelRecords.{source_of, opened_with, last_after, last_cases, last_is, say_taken, short_told, list_any-has_source, lines_of_blocks-push_block, lines_of_blocks-push_label, lines_of_blocks-zero, new_source, push_same}
 
--- what is told of the records is so
+-- what the tests know follows from the records
 pub lines_told : (b : LabelsBegun) → after_lines b ≡ after_records (labels_begun_records b)
 lines_told b = ap (earlier_of (after_lines b).problem) (sym ((say_taken b).counted ∙ length-map b.blocks source_of))
 
@@ -46,7 +46,7 @@ tells b r of_kind = absurd (cc)
 pub end_tells : (b : LabelsBegun) → before_end b ≡ told_at_end Labels (labels_begun_records b)
 end_tells b = ap (λ (e : Earlier). record (before_end b) { problem = e.problem; counted = e.counted }) (lines_told b)
 
--- what was begun and is whole gives its labels
+-- a complete state gives its labels
 pub gives_labels : (b : LabelsBegun) → AreLabelsBegun b → PassesEnd Labels (before_end b) → (rs : List LineRecord) → records_of rs ≡ labels_begun_records b → GivesLabels rs (record { nodes = b.nodes; blocks = b.blocks })
 gives_labels begun are passes rs is =
     let parts = or_parts (is_short_block (block_in (labels_begun_records begun))) (is_short (after_lines begun).problem (length begun.blocks)) passes.finished in
@@ -59,7 +59,7 @@ gives_labels begun are passes rs is =
 pub passes_of : (b c : LabelsBegun) (r : Record) → b ≡ c → Passes (before c r) r → Passes (before b r) r
 passes_of b c r same passes = subst (λ (t : LabelsBegun). Passes (before t r) r) (sym same) passes
 
--- one block more, which passes the tests and lacks all of its labels
+-- one more block, which passes the tests and has no labels yet
 module _ (begun : LabelsBegun) (are : AreLabelsBegun begun) (source count : ℕ) (radius : Option ℤ) (passes : Passes (before begun (LabelsBlock source count radius)) (LabelsBlock source count radius)) where
   abbrev pub opened_block : BlockValue
   opened_block = record { source = source; radius = radius; labels = [] }
@@ -88,7 +88,7 @@ module _ (begun : LabelsBegun) (are : AreLabelsBegun begun) (source count : ℕ)
       let none : begun.missing ≡ 0 = omega (arith, ltb-false _ _ (sym (short_told begun are.none_lack) ∙ passes.full_block)) in
       ap (λ rs. LabelsProblem begun.nodes begun.declared ∷ rs) (lines_of_blocks-push_block begun.blocks source count radius ∙ ap (λ m. lines_of_blocks m begun.blocks ++ LabelsBlock source count radius ∷ []) (sym none))
 
--- after these blocks, of which b is the last
+-- if b is the last block
 module _ (begun : LabelsBegun) (front : List BlockValue) (b : BlockValue) (is : begun.blocks ≡ front ++ b ∷ []) (l : Label) where
   pub in_last : block_in (labels_begun_records begun) ≡ Some (opened_with begun.missing b)
   in_last = (say_taken begun).block ∙ last_is begun.blocks begun.missing (front, b, is)
@@ -100,7 +100,7 @@ module _ (begun : LabelsBegun) (front : List BlockValue) (b : BlockValue) (is : 
       full n zero k same = le-leb (n + 0) k (omega (arith, same))
       full n (suc m) k same = lt-leb (n + suc m) k (omega (arith, same)) ∙ sym (ne_eqb (suc m) 0 (λ e. absurd (omega (arith, e))))
 
--- a label that may come next: b is the last block
+-- a label may come next; b is the last block
 pub record Fits (begun : LabelsBegun) (l : Label) : Type 0 where
   pub front : List BlockValue
   pub b : BlockValue
@@ -131,7 +131,7 @@ fits begun l passes = elim (last_cases begun.blocks) [
       }
 ]
 
--- the same with the label
+-- the state with this label
 module _ (begun : LabelsBegun) (l : Label) (fit : Fits begun l) where
   abbrev pub kept : List BlockValue
   kept = fit.front ++ with_label fit.b l ∷ []
@@ -169,7 +169,7 @@ module _ (begun : LabelsBegun) (l : Label) (fit : Fits begun l) where
       before_last : {X : Type 0} (P : List X → X → Type 0) (xs : List X) (x : X) → EachAfter P (xs ++ x ∷ []) → EachAfter P xs
       before_last P xs x each before after y e = each before (after ++ x ∷ []) y (ap (λ ys. ys ++ x ∷ []) e ∙ append_assoc before (y ∷ after) (x ∷ []))
 
--- the last block, as a look-up gives it
+-- the last block, as found by its place
 pub last_got : {X : Type 0} (xs : List X) (x : X) → Some x ≡ slice_get xs (length xs - 1) → (front : List X) × (xs ≡ front ++ x ∷ [])
 last_got [] x e = absurd (cc)
 last_got (y ∷ []) x e = let same : y ≡ x = cc in ([], ap (λ z. z ∷ []) same)
@@ -195,7 +195,7 @@ set_at [] x y (suc k) e = absurd (omega (arith, e))
 set_at (f ∷ front) x y zero e = absurd (omega (arith, e))
 set_at (f ∷ front) x y (suc k) e = ap (λ t. f ∷ t) (set_at front x y k (omega (arith, e)))
 
--- the last block was put back with one label more
+-- the last block was replaced by itself with one more label
 pub added_last : (items : List BlockValue) (new now : BlockValue) (n : ℕ) (l : Label) → n ≡ length items → now ≡ slice_index_or items (n - 1) now → new ≡ with_label now l
     → (front : List BlockValue) (b : BlockValue) → items ≡ front ++ b ∷ [] → slice_set items (n - 1) new ≡ front ++ with_label b l ∷ []
 added_last items new now n l len got is front b e =
@@ -203,7 +203,7 @@ added_last items new now n l len got is front b e =
     let same : now ≡ b = got ∙ (ap₂ (λ xs k. slice_index_or xs k now) e at ∙ get_or-append_seam front b [] now) in
     ap (λ xs. slice_set xs (n - 1) new) e ∙ (set_at front b new (n - 1) at ∙ ap (λ x. front ++ x ∷ []) (is ∙ ap (λ x. with_label x l) same))
 
--- ---- the numbers of the blocks that labelled the nodes
+-- ---- the number of the last block with a label of a node
 pub labelled_none : (labelled : NodeTable ℕ) → ((id : ℕ) → value_of labelled id ≡ 0) → AreLabelled labelled []
 labelled_none labelled none = record {
   few = λ id. omega (arith, none id);
@@ -235,7 +235,7 @@ or_false false = refl
 apart_ids : (a b : ℕ) → a ≢ b → (b == a) ≡ false
 apart_ids a b off = elim (eqb_tells b a) [ inl same ↦ absurd (off (sym same.1)) | inr told ↦ told.0 ]
 
--- the last block has one label more
+-- the last block has one more label
 pub labelled_more : (old new : NodeTable ℕ) (blocks front : List BlockValue) (b : BlockValue) (l : Label) → blocks ≡ front ++ b ∷ [] → AreLabelled old blocks → value_of new l.id ≡ length blocks → ((id : ℕ) → id ≢ l.id → value_of new id ≡ value_of old id) → AreLabelled new (front ++ with_label b l ∷ [])
 labelled_more old new blocks front b l is are here others =
     let size : length (front ++ with_label b l ∷ []) ≡ length blocks = omega (arith, ap length is, length-append front (b ∷ []), length-append front (with_label b l ∷ [])) in

@@ -1,4 +1,4 @@
--- One label more in a block.
+-- One more label in a block.
 use Rattle.std.proofs.Common.{◌≡◌, ℕ, zero, suc, ◌<◌, ◌∷◌, ◌++◌, [], List, Bool, true, false, cond, Option, Some, None, length, slice_index_or, refl, ap, sym, ◌∙◌, subst, arith, inl, inr, ◌⊎◌}
 use Rattle.std.specs.Prelude.{ℤ, pos, int_lt, IfSome, is_some, if◌then◌else◌, ◌==◌, ◌||◌, map}
 use Rattle.std.specs.List.{All, Contains, list_any}
@@ -33,16 +33,16 @@ or_else-none : (x : Option ℤ) → or_else x None ≡ x
 or_else-none None = refl
 or_else-none (Some d) = refl
 
--- at the new label's node there was none
+-- the new label's node had no distance before
 one_more_at : (c : Bool) (d : ℤ) (x : Option ℤ) → (c ≡ true → x ≡ None) → cond c (Some d) x ≡ or_else x (if c then Some d else None)
 one_more_at true d x h = sym (ap (λ y. or_else y (Some d)) (h refl))
 one_more_at false d x h = sym (or_else-none x)
 
--- the labels of a block with one more
+-- the claimed distances with one more label
 pub label-with_label : (b : BlockValue) (l : Label) → label b l.id ≡ None → (v : ℕ) → label (with_label b l) v ≡ (if l.id == v then Some l.dist else label b v)
 label-with_label b l fresh v = label-push b l v ∙ sym (one_more_at (l.id == v) l.dist (label b v) (λ e. subst (λ w. label b w ≡ None) (eqb-true l.id v e) fresh))
 
--- what is after each other stays, and the last is after all others
+-- the properties of earlier items stay, and the last item comes after all others
 pub each_after_nil : {X : Type 0} (P : List X → X → Type 0) → EachAfter P []
 each_after_nil P before after x e = absurd (omega (arith, ap length e, length-append before (x ∷ after)))
 
@@ -64,7 +64,7 @@ is_some-distance_in : (ls : List Label) (v : ℕ) → is_some (distance_in ls v)
 is_some-distance_in [] v = refl
 is_some-distance_in (l ∷ ls) v = some_if (l.id == v) l.dist (distance_in ls v) ∙ ap (λ t. (l.id == v) || t) (is_some-distance_in ls v)
 
--- a node has a distance where it had one, or is that of the last label
+-- a node has a distance if it had one or is the node of the last label
 some_either : (x : Option ℤ) (c : Bool) (d : ℤ) → is_some (or_else x (if c then Some d else None)) ≡ (is_some x || c)
 some_either None true d = refl
 some_either None false d = refl
@@ -74,7 +74,7 @@ some_either (Some e) false d = refl
 pub is_some-push : (ls : List Label) (l : Label) (v : ℕ) → is_some (distance_in (ls ++ l ∷ []) v) ≡ (is_some (distance_in ls v) || (l.id == v))
 is_some-push ls l v = ap is_some (distance_in-push ls l v) ∙ some_either (distance_in ls v) (l.id == v) l.dist
 
--- a node has a label where the block's source or an ID of its labels is its own
+-- a node has a label if it is the source or the node of a label
 pub is_some-label : (b : BlockValue) (v : ℕ) → is_some (label b v) ≡ list_any (λ other. other == v) (b.source ∷ map label_id b.labels)
 is_some-label b v = some_if (b.source == v) (pos 0) (distance_in b.labels v) ∙ ap (λ t. (b.source == v) || t) (is_some-distance_in b.labels v)
 
@@ -133,7 +133,7 @@ fresh_has_none b l h = false_from_ne_true _ (λ t. by_test (b.source == l.id) re
     by_test true e t = h.0 (sym (eqb-true b.source l.id e))
     by_test false e t = let m = label_found b.labels l.id t in h.1 m.0 m.1 m.2
 
--- a block with one label more
+-- a block with one more label
 pub block_push : (nodes : ℕ) (b : BlockValue) (l : Label) → IsBlock nodes b → IsLabel nodes l → length b.labels < most_count → is_some (label b l.id) ≡ false → is_some (label b l.pred) ≡ true → IsNear b.radius l.dist → IsBlock nodes (with_label b l)
 block_push nodes b l is label_is room fresh pred near = record {
   source_within = is.source_within;
@@ -157,7 +157,7 @@ block_empty nodes source radius within radius_within = record {
   preds = each_after_nil (HasPred source);
 }
 
--- a distance that is not past a radius
+-- a distance that isn't beyond the radius
 pub near_radius : (radius : Option ℤ) (dist : ℤ) → is_past radius dist ≡ false → IsNear radius dist
 near_radius None dist h = tt
 near_radius (Some r) dist h = omega (arith, ints, h)
@@ -166,7 +166,7 @@ pub not_past : (radius : Option ℤ) (dist : ℤ) → IsNear radius dist → is_
 not_past None dist near = refl
 not_past (Some r) dist near = false_from_ne_true (int_lt r dist) (λ past. omega (arith, ints, past, near))
 
--- ---- labels, with a block more
+-- ---- labels with one more block
 pub labels_push : (nodes : ℕ) (blocks : List BlockValue) (b : BlockValue) → AreLabels (record { nodes = nodes; blocks = blocks }) → IsBlock nodes b → IsNewSource blocks b → length blocks < most_count → AreLabels (record { nodes = nodes; blocks = blocks ++ b ∷ [] })
 labels_push nodes blocks b are lawful new few = record {
   nodes_few = are.nodes_few;
@@ -175,7 +175,7 @@ labels_push nodes blocks b are lawful new few = record {
   sources = each_after_push IsNewSource blocks b are.sources new;
 }
 
--- ---- claimed distances lie in their range
+-- ---- claimed distances are in their range
 either_wide : (c : Bool) (d : ℤ) (x : Option ℤ) → IsWide d → IfSome x IsWide → IfSome (if c then Some d else x) IsWide
 either_wide true d x here rest = here
 either_wide false d x here rest = rest

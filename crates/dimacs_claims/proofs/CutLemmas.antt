@@ -1,4 +1,4 @@
--- Sets of nodes, and records after those of a set that was begun.
+-- Sets of nodes, and one more record of a set while its text is read.
 use Rattle.std.proofs.Common.{◌≡◌, ℕ, suc, ◌<◌, ◌≤◌, ◌∷◌, ◌++◌, [], List, Bool, true, false, Some, length, map, ◌+◌, ◌==◌, ◌||◌, refl, ap, ap₂, sym, ◌∙◌, subst, arith}
 use Rattle.std.specs.Prelude.{codes, nat_lt, nat_le, count_by}
 use Rattle.std.specs.List.{All, list_any, range_with_len}
@@ -59,14 +59,14 @@ module _ (nodes declared : ℕ) (named : List ℕ) where
 allows_problem : (n k : ℕ) → IsAllowed [] (CutProblem n k)
 allows_problem n k = is_allowed [] (CutProblem n k) refl
 
--- one line more that names a new node
+-- one more line, with a new node
 pub named_more : (nodes : ℕ) (named : List ℕ) (id : ℕ) → AreNamed nodes named → IsNode nodes id → list_any (is_id id) named ≡ false → AreNamed nodes (named ++ id ∷ [])
 named_more nodes named id are node new = record {
   within = All-push (IsNode nodes) named id are.within node;
   once = once_more is_id named id (λ other same. ap (λ n. list_any (is_id n) named) (sym (eqb-true id other same)) ∙ new) are.once;
 }
 
--- the set of what is named
+-- the set of the named nodes
 contains_named : (ids : FinSet nat_cmp) (named : List ℕ) (id : ℕ) → ids ≡ from_list named → contains ids id ≡ list_any (is_id id) named
 contains_named ids named id is = ap (λ s. contains s id) is ∙ contains-from_list_nat named id
 
@@ -87,7 +87,7 @@ law_with_node c id law node = record { nodes_few = law.nodes_few; within = λ ot
     by_test other true same e = let is : other ≡ id = eqb-true other id same in rw is node
     by_test other false apart e = law.within other (sym (ap (λ b. b || contains c.ids other) apart) ∙ e)
 
--- what is told of the records is so
+-- what the tests know follows from the records
 pub lines_told : (b : CutBegun) (rs : List Record) → IsCutBegunBy b rs → after_lines b ≡ after_records rs
 lines_told b rs h = rw h.records (ap (earlier_of (after_lines b).problem) (h.count ∙ sym (counted h.named)))
 
@@ -99,7 +99,7 @@ tells b (CutProblem n k) of_kind rs h = lines_told b rs h
 tells b (CutNode id) of_kind rs h = ap₂ (λ (e : Earlier) t. record e { named = t }) (lines_told b rs h) (sym (named_told b rs id h))
 tells b r of_kind rs h = absurd (cc)
 
--- a problem line begins a set
+-- the state after a problem line
 pub begins : (n k : ℕ) → n ≤ most_nodes → IsCutBegunBy (record { declared = k; cut = empty_cut n }) (CutProblem n k ∷ [])
 begins n k few = record {
   named = [];
@@ -111,7 +111,7 @@ begins n k few = record {
   records = refl;
 }
 
--- a node that passes the tests is one more
+-- one more node, which passes the tests
 pub more : (b : CutBegun) (id : ℕ) → 1 ≤ id → Passes (before b (CutNode id)) (CutNode id) → (rs : List Record) → IsCutBegunBy b rs
     → IsCutBegunBy (record b { cut = with_node b.cut id }) (rs ++ CutNode id ∷ [])
 more b id least p rs h =
@@ -128,7 +128,7 @@ more b id least p rs h =
       records = ap (λ rs. rs ++ CutNode id ∷ []) h.records ∙ ap (λ rs. CutProblem b.cut.nodes b.declared ∷ rs) (sym (map-append CutNode h.named (id ∷ [])));
     }
 
--- the lines of a set are refused for nothing
+-- the lines of a set have no fault
 lines_allowed : (nodes : ℕ) (named : List ℕ) → AreNamed nodes named → (before after : List Record) (r : Record) → cut_records nodes (length named) named ≡ before ++ r ∷ after → IsAllowed before r
 lines_allowed nodes named are [] after r e = let first : r ≡ CutProblem nodes (length named) = cc in rw first (allows_problem nodes (length named))
 lines_allowed nodes named are (b ∷ bs) after r e =
@@ -144,7 +144,7 @@ pub cut_faultless : (rs : List LineRecord) (c : CutValue) → GivesCut rs c → 
 cut_faultless rs c h =
     rw h.records (record { allowed = lines_allowed c.nodes h.named h.are_named; complete = all_lines c.nodes (length h.named) h.named (omega arith) })
 
--- the set that records give
+-- records give only one set
 id_of : Record → ℕ
 id_of (CutNode id) = id
 id_of r = 0
@@ -181,7 +181,7 @@ set_of_ids : (c : CutValue) → IsCut c → c.ids ≡ from_list (ids_in c)
 set_of_ids c law =
     same_set nat_cmp_total nat_cmp-IsAntisymmetric c.ids (from_list (ids_in c)) (λ id. sym (contains-from_list_nat (ids_in c) id ∙ passing_listed (contains c.ids) c.nodes id (law.within id)))
 
--- a node that was in the set changes nothing
+-- adding a node of the set changes nothing
 pub again_same : (s : FinSet nat_cmp) (id : ℕ) → contains s id ≡ true → set.insert s id ≡ s
 again_same s id h = same_set nat_cmp_total nat_cmp-IsAntisymmetric (set.insert s id) s (λ other. contains-insert s id other ∙ by_test other (other == id) refl)
   where

@@ -1,4 +1,4 @@
--- The records of distances have no fault, are those of no others, and can be spelled: all this as those of labels.
+-- The records of distances have no fault, give only one value, and can be spelled: all as those of labels.
 use Rattle.std.proofs.Common.{◌≡◌, ℕ, ◌==◌, suc, ◌∷◌, ◌++◌, [], List, Bool, true, false, Option, Some, None, length, map, refl, ap, ap₂, sym, ◌∙◌, subst, arith}
 use Rattle.std.specs.Prelude.{IsTrue, ◌||◌, codes, if◌then◌else◌, is_none}
 use Rattle.std.specs.List.{All, flat_map, fold, filter, list_any}
@@ -26,7 +26,7 @@ use Rattle.dimacs_claims.specs.Labels.{AreLabels, BlockValue, LabelsValue}
 use Rattle.dimacs_claims.specs.LabelTexts.{FitText, block_lines, label_line, label_records}
 use Rattle.dimacs_claims.proofs.LabelLaws.{AllAllowed, allowed_at, labels_of, labels_of-label_records, records_fit, whole_records}
 
--- ---- what the bare lines say is what the lines of labels say, but for the radius
+-- ---- lines of distances contribute what lines of labels do, except for the radius
 bare_problem : (r : Record) → problem_of (bare r) ≡ problem_of r
 bare_problem (LabelsProblem nodes blocks) = refl
 bare_problem (LabelsBlock source count radius) = refl
@@ -111,7 +111,7 @@ bare_short rs = ap is_short_block (bare_block_in rs) ∙ same (block_in rs)
     same None = refl
     same (Some b) = refl
 
--- ---- where a bare line is refused, so is that of labels
+-- ---- if a line of distances is refused, so is the line of labels
 above_second : (p : Option Declared) (id pred f : ℕ) (second : Bool) → (f == 2) ≡ second → IsTrue (if second then is_above p id else false) → IsTrue (if second then is_above p id else (if f == 4 then is_above p pred else false))
 above_second p id pred f true e h = h
 above_second p id pred f false e h = absurd (cc)
@@ -162,7 +162,7 @@ distances_faultless rs d h =
       complete = λ reason t. whole.complete reason (bare_at_end (label_records d) reason t);
     })
 
--- ---- the bare lines tell the lines of labels, where the sources are the predecessors
+-- ---- lines of distances determine the lines of labels, whose predecessors are the sources
 told_whole : ℕ → List Record → List Record
 told_whole source [] = []
 told_whole source (DistancesProblem nodes blocks ∷ rs) = LabelsProblem nodes blocks ∷ told_whole source rs
@@ -192,11 +192,11 @@ records_told d are = ap (λ more. LabelsProblem d.nodes (length d.blocks) ∷ mo
 value_told : (rs : List Record) (d : LabelsValue) → rs ≡ distance_records d → AreBare d → d ≡ labels_of (told_whole 0 rs)
 value_told rs d is are = sym (ap labels_of (ap (told_whole 0) is ∙ records_told d are) ∙ labels_of-label_records d)
 
--- the records of distances are those of no others
+-- the records of distances give only one value
 pub one_distances : (rs : List LineRecord) (d others : LabelsValue) → GivesDistances rs d → GivesDistances rs others → d ≡ others
 one_distances rs d others a b = value_told (records_of rs) d a.0 a.2 ∙ sym (value_told (records_of rs) others b.0 b.2)
 
--- ---- bare lines can be spelled
+-- ---- lines of distances can be spelled
 bare_spelled : (r : Record) → CanBeSpelled Labels r → CanBeSpelled Distances (bare r)
 bare_spelled (LabelsProblem nodes blocks) can =
     let fit = fits_spelled Labels (LabelsProblem nodes blocks) (Word (codes "dist") ∷ Nodes ∷ Count ∷ []) can refl in

@@ -1,4 +1,4 @@
--- Records after those of distances that were begun.
+-- One more record of distances while their text is read.
 use Rattle.std.proofs.Common.{◌≡◌, ℕ, ◌==◌, ◌≤◌, ◌∷◌, ◌++◌, [], List, Bool, true, false, inl, inr, Some, None, map, refl, ap, sym, ◌∙◌, subst, arith}
 use Rattle.std.specs.Prelude.{ℤ, ◌||◌, is_none, not, Result, Ok, Err, OnOk, OnErr}
 use Rattle.std.specs.List.{All}
@@ -22,7 +22,7 @@ use Rattle.dimacs_claims.proofs.BegunLemmas.{end_tells, in_last, lines_told, tel
 use Rattle.dimacs_claims.proofs.DistanceLaws.{bare_counted_in, bare_full, bare_labelled, bare_misplaced, bare_named, bare_problem_in, bare_short}
 use Rattle.dimacs_claims.proofs.LabelRecords.{HasLast, last_after, last_cases, say_taken}
 
--- what is told of the records is so
+-- what the tests know follows from the records
 pub tells_bare : (b : LabelsBegun) (r : Record) → kind_of r ≡ Distances → before_bare b r ≡ told_of (map bare (labels_begun_records b)) r
 tells_bare b (DistancesProblem nodes blocks) is =
     let rs = labels_begun_records b in
@@ -40,7 +40,7 @@ end_tells_bare b =
     let rs = labels_begun_records b in
     rw (bare_problem_in rs, bare_counted_in rs, bare_short rs) (end_tells b)
 
--- what passes the tests of the end as distances passes them as labels
+-- distances that pass the tests at the end pass them as labels
 pub whole_passes : (e : Earlier) → PassesEnd Distances e → PassesEnd Labels e
 whole_passes e p = record { problem = p.problem; ends = p.ends; finished = p.finished; value = refl }
 
@@ -51,8 +51,8 @@ gives_distances begun labels gives are rs is =
     let given = gives (numbered 1 (map (λ (r : Record). Some r) taken)) (numbered_all taken) in
     (is ∙ ap (map bare) (sym (numbered_all taken) ∙ given.0), given.1, are)
 
--- ---- one node more
--- the last block, after which a node's line stands
+-- ---- one more node
+-- the last block, after which the line of a node comes
 pub has_last : (begun : LabelsBegun) → is_none (block_in (labels_begun_records begun)) ≡ false → HasLast begun.blocks
 has_last begun placed = elim (last_cases begun.blocks) [
   | inl none ↦ absurd (cc (placed, ap is_none ((say_taken begun).block ∙ ap (last_after begun.missing None) none)))
@@ -65,13 +65,13 @@ Split P front b = All P front × P b
 pub split_last : (P : BlockValue → Type 0) (blocks front : List BlockValue) (b : BlockValue) → blocks ≡ front ++ b ∷ [] → All P blocks → Split P front b
 split_last P blocks front b is all = All-pop P (front ++ b ∷ []) front (Some b) refl (subst (All P) is all)
 
--- the bare lines stay so
+-- the blocks still have the form of distances
 pub bare_more : (blocks front : List BlockValue) (b : BlockValue) (l : Label) → blocks ≡ front ++ b ∷ [] → All IsBare blocks → l.pred ≡ b.source → All IsBare (front ++ with_label b l ∷ [])
 bare_more blocks front b l is all same =
     let parts = split_last IsBare blocks front b is all in
     All-push IsBare front (with_label b l) parts.0 (record { whole = parts.1.whole; preds = All-push (λ (m : Label). m.pred ≡ b.source) b.labels l parts.1.preds same })
 
--- a node of distances that passes the tests passes those of a label whose predecessor is the source
+-- a line of distances that passes the tests passes them as a label whose predecessor is the source
 pub label_passes : (begun : LabelsBegun) (id : ℕ) (dist : ℤ) (pred : ℕ) → AreLabelsBegun begun → All IsBare begun.blocks → ((front : List BlockValue) (b : BlockValue) → begun.blocks ≡ front ++ b ∷ [] → pred ≡ b.source)
     → Passes (before_bare begun (DistancesNode id dist)) (DistancesNode id dist) → Passes (before begun (LabelsNode id dist pred)) (LabelsNode id dist pred)
 label_passes begun id dist pred are bare_ones last p =
@@ -104,13 +104,13 @@ label_passes begun id dist pred are bare_ones last p =
     known true y e = refl
     known false y e = absurd (cc)
 
--- that source is a node
+-- the source is a node
 pub source_least : (begun : LabelsBegun) (pred : ℕ) → AreLabelsBegun begun → ((front : List BlockValue) (b : BlockValue) → begun.blocks ≡ front ++ b ∷ [] → pred ≡ b.source) → is_none (block_in (labels_begun_records begun)) ≡ false → 1 ≤ pred
 source_least begun pred are last placed =
     let h = has_last begun placed in
     omega (arith, last h.0 h.1 h.2, (split_last (IsBlock begun.nodes) begun.blocks h.0 h.1 h.2 are.blocks).1.source_within.0)
 
--- ---- the blocks stay bare, whether they were changed or not
+-- ---- the blocks keep the form of distances, changed or not
 pub bare_kept : {E : Type 0} (old new : LabelsBegun) (l : Label) (r : Result Unit E) → OnOk r ((front : List BlockValue) (b : BlockValue) → old.blocks ≡ front ++ b ∷ [] → new.blocks ≡ front ++ with_label b l ∷ []) → OnErr r (new ≡ old)
     → HasLast old.blocks → ((front : List BlockValue) (b : BlockValue) → old.blocks ≡ front ++ b ∷ [] → l.pred ≡ b.source) → All IsBare old.blocks → All IsBare new.blocks
 bare_kept old new l (Ok done) kept same h last are = subst (All IsBare) (sym (kept h.0 h.1 h.2)) (bare_more old.blocks h.0 h.1 l h.2 are (last h.0 h.1 h.2))

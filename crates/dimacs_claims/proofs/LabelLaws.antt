@@ -1,4 +1,4 @@
--- The records of labels have no fault, are those of no others, and can be spelled.
+-- The records of labels have no fault, give only one value, and can be spelled.
 use Rattle.std.proofs.Common.{◌≡◌, ℕ, suc, ◌<◌, ◌≤◌, ◌+◌, ◌∷◌, ◌++◌, [], List, false, Option, Some, None, length, map, refl, ap, sym, ◌∙◌, subst, arith, append_assoc}
 use Rattle.std.specs.Prelude.{ℤ, IfOk, IfSome, Result, Ok, Err, codes, nat_le}
 use Rattle.std.specs.List.{All, list_any, flat_map}
@@ -47,7 +47,7 @@ allowed_at (b ∷ before) (x ∷ xs) after earlier r a e =
     let first : x ≡ b = cc in
     subst (λ t. IsAllowed t r) (append_assoc earlier (b ∷ []) before) (subst (λ y. IsAllowed ((earlier ++ y ∷ []) ++ before) r) first (allowed_at before xs after (earlier ++ x ∷ []) r a.1 (cc)))
 
--- where each element has something after the ones before it
+-- the item at this place has its property after the items before it
 each_here : {X : Type 0} (P : List X → X → Type 0) (done more : List X) (x : X) → EachAfter P (done ++ x ∷ more) → P done x
 each_here P done more x each = each done more x refl
 
@@ -60,7 +60,7 @@ with_labels source radius ls = record { source = source; radius = radius; labels
 pub not_full : (count n : ℕ) → n < count → nat_le count n ≡ false
 not_full count n room = grind (arith, nat_tests, room)
 
--- labels of a block that is begun are allowed
+-- the labels of a block are allowed after its line
 labels_allowed : (ls done : List Label) (earlier : List Record) (nodes declared : ℕ) (sources : List ℕ) (source count : ℕ) (radius : Option ℤ) → Say earlier nodes declared sources (Some (opened source count radius (map label_id done)))
     → length done + length ls ≡ count → All (IsLabel nodes) ls → All (λ (l : Label). IsNear radius l.dist) ls → EachAfter (IsFresh source) (done ++ ls) → EachAfter (HasPred source) (done ++ ls) → AllAllowed earlier (map label_line ls)
 unfolding AllAllowed
@@ -86,7 +86,7 @@ other_sources (d ∷ done) b new =
 full_is_not_short : (source count : ℕ) (radius : Option ℤ) (ids : List ℕ) → length ids ≡ count → is_short_block (Some (opened source count radius ids)) ≡ false
 full_is_not_short source count radius ids full = le-ltb (length ids) count (omega (arith, full))
 
--- after other blocks, blocks are allowed, and with them the text is complete
+-- after other blocks, these blocks are allowed, and the text is complete with them
 record BlocksFit (earlier : List Record) (rs : List Record) : Type 0 where
   allowed : AllAllowed earlier rs
   complete : IsComplete Labels (earlier ++ rs)
@@ -137,7 +137,7 @@ labels_faultless rs labels h =
       complete = whole.complete;
     })
 
--- the labels before the first block line, and the blocks
+-- the labels before the first line of a block, then the blocks
 abbrev Parts : Type 0
 Parts = List Label × List BlockValue
 
@@ -171,7 +171,7 @@ pub labels_of-label_records : (labels : LabelsValue) → labels_of (label_record
 unfolding labels_of
 labels_of-label_records labels = ap (λ (p : Parts). record { nodes = labels.nodes; blocks = p.1 }) (parts_of-blocks labels.blocks)
 
--- the records of labels are those of no others
+-- the records of labels give only one value
 pub one_labels : (rs : List LineRecord) (labels others : LabelsValue) → GivesLabels rs labels → GivesLabels rs others → labels ≡ others
 one_labels rs labels others a b = sym (labels_of-label_records labels) ∙ (ap labels_of (sym a.0 ∙ b.0) ∙ labels_of-label_records others)
 
@@ -233,7 +233,7 @@ labels_round_trip labels are few =
       given = (numbered_all rs, are);
     }
 
--- the labels of a text have no more lines than it, whichever of the two kinds it has
+-- a text has at least as many lines as the labels that it spells, in either kind
 pub fit_read : (kind : TextKind) (gives : List LineRecord → LabelsValue → Type 0) → ((rs : List LineRecord) (labels : LabelsValue) → gives rs labels → length (records_of rs) ≡ length (label_records labels))
     → (all : List (List ℕ)) (told : Result LabelsValue ReadError) → Reads (SpellsValue kind gives all) (Fault kind all) told → IfOk told FitText
 fit_read kind gives as_many all (Ok labels) h =

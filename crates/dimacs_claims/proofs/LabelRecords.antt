@@ -21,7 +21,7 @@ use Rattle.dimacs_claims.proofs.LabelStates.{Say, opened, is_source, say_problem
 abbrev pub source_of : BlockValue → ℕ
 source_of b = b.source
 
--- what a text says after these labels
+-- what is known of the earlier records after these labels
 pub say_labels : (ls : List Label) (earlier : List Record) (nodes declared : ℕ) (sources : List ℕ) (source count : ℕ) (radius : Option ℤ) (ids : List ℕ) → Say earlier nodes declared sources (Some (opened source count radius ids))
     → Say (earlier ++ map label_line ls) nodes declared sources (Some (opened source count radius (ids ++ map label_id ls)))
 say_labels [] earlier nodes declared sources source count radius ids say = rw (append-nil earlier, append-nil ids) say
@@ -29,7 +29,7 @@ say_labels (l ∷ ls) earlier nodes declared sources source count radius ids say
     rw (← append_assoc earlier (label_line l ∷ []) (map label_line ls), ← append_assoc ids (l.id ∷ []) (map label_id ls))
     (say_labels ls (earlier ++ label_line l ∷ []) nodes declared sources source count radius (ids ++ l.id ∷ []) (say_label earlier nodes declared sources source count radius ids say l.id l.dist l.pred))
 
--- a block that lacks this many labels, as its records say
+-- the block as its records give it, lacking so many labels
 abbrev pub opened_with : ℕ → BlockValue → Block
 opened_with missing b = opened b.source (length b.labels + missing) b.radius (map label_id b.labels)
 
@@ -56,7 +56,7 @@ last_after-push : (front : List BlockValue) (b : BlockValue) (missing : ℕ) (la
 last_after-push [] b missing last = refl
 last_after-push (f ∷ front) b missing last = last_after-push front b missing (Some (opened_with (lacking missing (front ++ b ∷ [])) f))
 
--- blocks without a gap
+-- blocks that lack no labels
 lacking-zero : (blocks : List BlockValue) → lacking 0 blocks ≡ 0
 lacking-zero [] = refl
 lacking-zero (b ∷ more) = refl
@@ -68,7 +68,7 @@ pub lines_of_blocks-zero : (blocks : List BlockValue) → lines_of_blocks 0 bloc
 lines_of_blocks-zero [] = refl
 lines_of_blocks-zero (b ∷ more) = ap₂ (λ xs ys. xs ++ ys) (lines_of_short-zero b (lacking 0 more) (lacking-zero more)) (lines_of_blocks-zero more)
 
--- one label more in the last block
+-- one more label in the last block
 pub lines_of_blocks-push_label : (front : List BlockValue) (source : ℕ) (radius : Option ℤ) (ls : List Label) (l : Label) (missing : ℕ)
     → lines_of_blocks missing (front ++ record { source = source; radius = radius; labels = ls ++ l ∷ [] } ∷ []) ≡ lines_of_blocks (suc missing) (front ++ record { source = source; radius = radius; labels = ls } ∷ []) ++ label_line l ∷ []
 lines_of_blocks-push_label [] source radius ls l missing =
@@ -81,7 +81,7 @@ lines_of_blocks-push_label (f ∷ front) source radius ls l missing =
     lacking-push [] b c m n = refl
     lacking-push (a ∷ bs) b c m n = refl
 
--- one block more after those that lack nothing
+-- one more block after complete ones
 pub lines_of_blocks-push_block : (blocks : List BlockValue) (source count : ℕ) (radius : Option ℤ)
     → lines_of_blocks count (blocks ++ record { source = source; radius = radius; labels = [] } ∷ []) ≡ lines_of_blocks 0 blocks ++ LabelsBlock source count radius ∷ []
 lines_of_blocks-push_block [] source count radius = let same : 0 + count ≡ count = omega arith in ap (λ n. LabelsBlock source n radius ∷ []) same
@@ -92,7 +92,7 @@ lines_of_blocks-push_block (f ∷ blocks) source count radius =
     lacking-both [] b n = refl
     lacking-both (a ∷ bs) b n = refl
 
--- after what was taken
+-- what is known after the records so far
 pub say_taken : (begun : LabelsBegun) → Say (labels_begun_records begun) begun.nodes begun.declared (map source_of begun.blocks) (last_after begun.missing None begun.blocks)
 say_taken begun = say_blocks begun.blocks begun.missing (LabelsProblem begun.nodes begun.declared ∷ []) begun.nodes begun.declared [] None (say_problem begun.nodes begun.declared)
 
@@ -109,7 +109,7 @@ last_cases (b ∷ more) = elim (last_cases more) [
 pub last_is : (blocks : List BlockValue) (missing : ℕ) (h : HasLast blocks) → last_after missing None blocks ≡ Some (opened_with missing h.1)
 last_is blocks missing h = ap (last_after missing None) h.2 ∙ last_after-push h.0 h.1 missing None
 
--- the last block lacks as many labels as were left out of it
+-- the last block is short if it lacks labels
 pub short_told : (begun : LabelsBegun) → (begun.blocks ≡ [] → begun.missing ≡ 0) → is_short_block (block_in (labels_begun_records begun)) ≡ nat_lt 0 begun.missing
 short_told begun only = ap is_short_block (say_taken begun).block ∙ (elim (last_cases begun.blocks) [
   | inl none ↦ ap (λ bs. is_short_block (last_after begun.missing None bs)) none ∙ sym (ap (nat_lt 0) (only none))
@@ -130,13 +130,13 @@ or_after true false c same = ap (λ t. t || false) same
 or_after false true c same = refl
 or_after false false c same = ap (λ t. t || false) same
 
--- the source of one block more
+-- one more block adds its source
 pub are_sources_more : (sources : set.FinSet nat_cmp) (blocks : List BlockValue) (b : BlockValue) → AreSources sources blocks → AreSources (set.insert sources b.source) (blocks ++ b ∷ [])
 are_sources_more sources blocks b are id =
     set.contains-insert nat_cmp_total sources b.source id ∙ (ap (λ t. eq_by_cmp nat_cmp id b.source || t) (are id)
     ∙ (or_after (eq_by_cmp nat_cmp id b.source) (list_any (has_source id) blocks) (b.source == id) (unsigned_tied id b.source ∙ nat_eq_equiv.symm id b.source) ∙ sym (list_any-append (has_source id) blocks (b ∷ []))))
 
--- a source that is none of those of the blocks
+-- a source that no block has
 pub new_source : (blocks : List BlockValue) (b : BlockValue) → list_any (has_source b.source) blocks ≡ false → IsNewSource blocks b
 new_source [] b none other among same = absurd (omega (arith, among.1))
 new_source (d ∷ blocks) b none other (zero, below, is) same = let first = eq-eqb other.source b.source same in absurd (first_not (d.source == b.source) _ (ap (λ (o : BlockValue). o.source == b.source) is ∙ first) none)

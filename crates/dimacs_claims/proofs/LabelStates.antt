@@ -1,4 +1,4 @@
--- What the earlier records of a text of labels say, and which records are allowed after them.
+-- What is known of the earlier records of labels, and which records are allowed after them.
 use Rattle.std.proofs.Common.{◌≡◌, ℕ, ◌<◌, ◌≤◌, ◌+◌, ◌∷◌, ◌++◌, [], List, Bool, true, false, Option, Some, None, length, refl, ap, sym, ◌∙◌, arith}
 use Rattle.std.specs.Prelude.{ℤ, is_none, nat_le, ◌==◌, ◌||◌}
 use Rattle.std.specs.List.{list_any}
@@ -48,7 +48,7 @@ block_in-push rs r = fold-append block_after None rs (r ∷ [])
 pub say_problem : (nodes declared : ℕ) → Say (LabelsProblem nodes declared ∷ []) nodes declared [] None
 say_problem nodes declared = record { problem = refl; counted = refl; named = λ id. refl; block = refl }
 
--- what is said about earlier records
+-- what follows from that
 module _ (earlier : List Record) (nodes declared : ℕ) (sources : List ℕ) (last : Option Block) (say : Say earlier nodes declared sources last) where
   pub say_block : (source count : ℕ) (radius : Option ℤ) → Say (earlier ++ LabelsBlock source count radius ∷ []) nodes declared (sources ++ source ∷ []) (Some (opened source count radius []))
   say_block source count radius = record {
@@ -70,7 +70,7 @@ module _ (earlier : List Record) (nodes declared : ℕ) (sources : List ℕ) (la
   pub all_there : declared ≤ length sources → is_short_block last ≡ false → IsComplete Labels earlier
   all_there full short = is_complete Labels earlier (rw (say.problem, say.counted, say.block, le-ltb (length sources) declared full, short) refl)
 
--- one label more
+-- one more label
 pub say_label : (earlier : List Record) (nodes declared : ℕ) (sources : List ℕ) (source count : ℕ) (radius : Option ℤ) (ids : List ℕ) → Say earlier nodes declared sources (Some (opened source count radius ids))
     → (id : ℕ) (dist : ℤ) (pred : ℕ) → Say (earlier ++ LabelsNode id dist pred ∷ []) nodes declared sources (Some (opened source count radius (ids ++ id ∷ [])))
 say_label earlier nodes declared sources source count radius ids say id dist pred = record {
@@ -84,6 +84,6 @@ say_label earlier nodes declared sources source count radius ids say id dist pre
     or_false true = refl
     or_false false = refl
 
--- after nothing
+-- before the first record
 pub first_problem : (nodes blocks : ℕ) → IsAllowed [] (LabelsProblem nodes blocks)
 first_problem nodes blocks = is_allowed [] (LabelsProblem nodes blocks) refl

@@ -1,4 +1,4 @@
--- Lists of IDs, and those of a test from 1 on.
+-- Lists of IDs, and the IDs from 1 on that pass a test.
 use Rattle.std.proofs.Common.{◌≡◌, inl, inr, ℕ, zero, suc, ◌<◌, ◌≤◌, ◌+◌, ◌-◌, ◌==◌, ◌||◌, ◌&&◌, List, [], ◌∷◌, ◌++◌, length, map, Option, Some, None, Bool, true, false, cond, refl, sym, ◌∙◌, ap, arith, rules}
 use Rattle.std.specs.Prelude.{count_by}
 use Rattle.std.specs.List.{All, filter, list_any, range_with_len}
@@ -47,7 +47,7 @@ pub count_map : {A B : Type 0} (p : B → Bool) (f : A → B) (xs : List A) → 
 count_map p f [] = refl
 count_map p f (x ∷ xs) = count_by-cons p (f x) (map f xs) ∙ ap (λ n. cond (p (f x)) 1 0 + n) (count_map p f xs) ∙ sym (count_by-cons (λ x. p (f x)) x xs)
 
--- no more of what passes are counted than of all
+-- a filtered list doesn't have more items that pass
 count_filter : (p q : ℕ → Bool) (xs : List ℕ) → count_by q (filter p xs) ≤ count_by q xs
 count_filter p q [] = omega arith
 count_filter p q (x ∷ xs) = by_test (p x) (count_filter p q xs)
@@ -63,7 +63,7 @@ passing p n = filter p (range_with_len 1 n)
 pub passing_once : (p : ℕ → Bool) (n id : ℕ) → count_by (is_id id) (passing p n) ≤ 1
 passing_once p n id = omega (arith, count_filter p (is_id id) (range_with_len 1 n), range_at_most_once id n)
 
--- the IDs below one, and those up to it
+-- the passing IDs below one and up to it
 pub passing_below : (p : ℕ → Bool) (id : ℕ) → 1 ≤ id → passing p (id + 1 - 1) ≡ passing p (id - 1) ++ filter p (id ∷ [])
 passing_below p id least =
     let after : id + 1 - 1 ≡ suc (id - 1) = omega (arith, least) in
@@ -108,7 +108,7 @@ All-passing P p (x ∷ xs) h = by_test (p x) refl (All-passing P p xs h)
     by_test true e rest = All-cons P x (filter p xs) (h x e) rest
     by_test false e rest = rest
 
--- an ID is listed that passes and is in the list
+-- an ID is in the filtered list if it passes and is in the list
 listed_passing : (p : ℕ → Bool) (id : ℕ) (xs : List ℕ) → list_any (is_id id) (filter p xs) ≡ (p id && list_any (is_id id) xs)
 listed_passing p id [] = and_false (p id)
   where
@@ -133,7 +133,7 @@ some_listed id xs one = by_test (list_any (is_id id) xs) refl
     by_test true e = refl
     by_test false e = absurd (omega (arith, one, none_counted (is_id id) xs e))
 
--- where none passes but IDs from 1 to n, those listed are those that pass
+-- if only IDs from 1 to n pass, the list has exactly those that pass
 pub passing_listed : (p : ℕ → Bool) (n id : ℕ) → (p id ≡ true → (1 ≤ id) × (id ≤ n)) → list_any (is_id id) (passing p n) ≡ p id
 passing_listed p n id within = listed_passing p id (range_with_len 1 n) ∙ by_test (p id) refl
   where
@@ -141,7 +141,7 @@ passing_listed p n id within = listed_passing p id (range_with_len 1 n) ∙ by_t
     by_test true e = let node = within e in some_listed id (range_with_len 1 n) (range_once id 1 n node.0 (omega (arith, node.1)))
     by_test false e = refl
 
--- one ID more passes
+-- one more ID passes
 one_passing : (p q : ℕ → Bool) (id : ℕ) (xs : List ℕ) → p id ≡ false → ((x : ℕ) → q x ≡ ((x == id) || p x)) → length (filter q xs) ≡ length (filter p xs) + count_by (is_id id) xs
 one_passing p q id [] new is = refl
 one_passing p q id (x ∷ xs) new is = ap (λ b. length (cond b (x ∷ filter q xs) (filter q xs))) (is x) ∙ by_tests (x == id) (p x) refl refl (one_passing p q id xs new is)

@@ -1,4 +1,4 @@
--- Potentials, and records after those of potentials that were begun.
+-- Potentials, and one more record of potentials while their text is read.
 use Rattle.std.proofs.Common.{◌≡◌, ◌≢◌, ℕ, suc, ◌<◌, ◌≤◌, ◌∷◌, ◌++◌, [], List, Bool, true, false, Option, Some, None, length, map, cond, ◌+◌, ◌-◌, ◌==◌, ◌||◌, refl, ap, ap₂, sym, ◌∙◌, subst, arith}
 use Rattle.std.specs.Prelude.{ℤ, pos, codes, is_some, nat_lt, nat_le, not, count_by, unwrap_or}
 use Rattle.std.specs.List.{All, filter, list_any, range_with_len}
@@ -63,7 +63,7 @@ module _ (nodes declared : ℕ) (named : List (ℕ × ℤ)) where
 allows_problem : (n k : ℕ) → IsAllowed [] (PotentialsProblem n k)
 allows_problem n k = is_allowed [] (PotentialsProblem n k) refl
 
--- what is told of the records is so
+-- what the tests know follows from the records
 pub lines_told : (b : PotentialsBegun) (rs : List Record) → ArePotentialsBegunBy b rs → after_lines b ≡ after_records rs
 lines_told b rs h = rw h.records (ap (earlier_of (after_lines b).problem) (h.count ∙ sym (counted h.named)))
 
@@ -78,7 +78,7 @@ tells b (PotentialsProblem n k) of_kind rs h = lines_told b rs h
 tells b (PotentialsNode id v) of_kind rs h = ap₂ (λ (e : Earlier) t. record e { named = t }) (lines_told b rs h) (sym (named_told b rs id h))
 tells b r of_kind rs h = absurd (cc)
 
--- a problem line begins potentials
+-- the state after a problem line
 pub begins : (n k : ℕ) → ArePotentialsBegunBy (record { nodes = n; declared = k; taken = 0; values = empty }) (PotentialsProblem n k ∷ [])
 begins n k = record {
   named = [];
@@ -89,7 +89,7 @@ begins n k = record {
   records = refl;
 }
 
--- a node that passes the tests is one more
+-- one more node, which passes the tests
 module _ (b : PotentialsBegun) (id : ℕ) (v : ℤ) (least : 1 ≤ id) (told : Passes (before b (PotentialsNode id v)) (PotentialsNode id v)) where
   pub node : IsNode b.nodes id
   node = (least, grind (arith, nat_tests, told.second_within))
@@ -109,14 +109,14 @@ module _ (b : PotentialsBegun) (id : ℕ) (v : ℤ) (least : 1 ≤ id) (told : P
         records = ap (λ rs. rs ++ PotentialsNode id v ∷ []) h.records ∙ ap (λ rs. PotentialsProblem b.nodes b.declared ∷ rs) (sym (map-append node_line h.named ((id, v) ∷ [])));
       }
 
--- potentials that were begun and are whole are given
+-- a complete state gives its potentials
 pub gives_potentials : (b : PotentialsBegun) → ArePotentials (potentials_begun b) → PassesEnd kinds.Potentials (after_lines b) → (rs : List LineRecord) → ArePotentialsBegunBy b (records_of rs)
     → GivesPotentials rs (potentials_begun b)
 gives_potentials b law p rs h =
     let full : b.declared ≡ length h.named = grind (arith, nat_tests, p.finished, h.count, h.no_more) in
     record { named = h.named; name_nodes = h.name_nodes; values = ap without_zeros h.values ∙ without_zeros-named h.named b.nodes h.name_nodes; records = h.records ∙ ap (λ k. potentials_records b.nodes k h.named) full; are_potentials = law }
 
--- the lines of potentials are refused for nothing
+-- the lines of potentials have no fault
 lines_allowed : (nodes : ℕ) (named : List (ℕ × ℤ)) → NameNodes nodes named → (before after : List Record) (r : Record) → potentials_records nodes (length named) named ≡ before ++ r ∷ after → IsAllowed before r
 lines_allowed nodes named are [] after r e = let first : r ≡ PotentialsProblem nodes (length named) = cc in rw first (allows_problem nodes (length named))
 lines_allowed nodes named are (b ∷ bs) after r e =
@@ -132,7 +132,7 @@ pub potentials_faultless : (rs : List LineRecord) (p : PotentialsValue) → Give
 potentials_faultless rs p h =
     rw h.records (record { allowed = lines_allowed p.nodes h.named h.name_nodes; complete = all_lines p.nodes (length h.named) h.named (omega arith) })
 
--- the potentials that records give
+-- records give only one set of potentials
 value_of : Record → ℕ × ℤ
 value_of (PotentialsNode id v) = (id, v)
 value_of r = (0, pos 0)
@@ -157,7 +157,7 @@ potentials_given rs p h =
 pub one_potentials : (rs : List LineRecord) (p q : PotentialsValue) → GivesPotentials rs p → GivesPotentials rs q → p ≡ q
 one_potentials rs p q a b = sym (potentials_given rs p a) ∙ potentials_given rs q b
 
--- the nodes whose potential isn't 0
+-- the nodes with a potential other than 0
 abbrev pub nonzero_at : PotentialsValue → ℕ → Bool
 nonzero_at p id = is_nonzero (potential_of p id)
 
@@ -181,7 +181,7 @@ nonzero_named p law = record {
   once = λ id. omega (arith, count_named p id (nonzero_ids p), passing_once (nonzero_at p) p.nodes id);
 }
 
--- none of them is left out
+-- none of them has potential 0
 all_have_values : (p : PotentialsValue) (ids : List ℕ) → filter has_value (with_values p (filter (nonzero_at p) ids)) ≡ with_values p (filter (nonzero_at p) ids)
 all_have_values p [] = refl
 all_have_values p (id ∷ ids) = by_test (nonzero_at p id) refl (all_have_values p ids)
@@ -269,7 +269,7 @@ potentials_round_trip p law =
       };
     }
 
--- a line for each node whose potential isn't 0
+-- a line for each node with a potential other than 0
 pub potential_lines : (p : PotentialsValue) (says : ℕ → Option Record → Type 0) (n : ℕ)
     → ((i : ℕ) (said : Option Record) → i < n → says i said → said ≡ cond (nonzero_at p (i + 1)) (Some (PotentialsNode (i + 1) (potential_of p (i + 1)))) None)
     → AreLines says n (λ i. map node_line (with_values p (passing (nonzero_at p) i)))
@@ -282,7 +282,7 @@ potential_lines p says n each =
           map-map node_line value (passing (nonzero_at p) (i + 1)) ∙ h.more i said within e ∙ ap (λ rs. rs ++ said_lines said) (sym (map-map node_line value (passing (nonzero_at p) i)));
     }
 
--- the number of nodes below this ID whose potential isn't 0
+-- the number of nodes below this ID with a potential other than 0
 pub count_below_in : (p : PotentialsValue) (id : ℕ) → 1 ≤ id → potential_of p id ≢ pos 0 → length (passing (nonzero_at p) (id - 1)) + 1 ≡ length (passing (nonzero_at p) (id + 1 - 1))
 count_below_in p id least some =
     let one : filter (nonzero_at p) (id ∷ []) ≡ id ∷ [] = ap (λ b. cond (not b) (id ∷ []) []) (not_zero (potential_of p id) some) in

@@ -41,12 +41,12 @@ IsSolutionLine r = IsOfKind kinds.Solution r.says
 abbrev value_record : ℤ → Record
 value_record value = records.SolutionValue value
 
--- the records of entries alone
+-- the records of entries
 records_of-entries : (es : List Entry) → records_of (map entry_line es) ≡ map entry_record es
 records_of-entries [] = refl
 records_of-entries (e ∷ es) = ap (λ rs. entry_record e ∷ rs) (records_of-entries es)
 
--- no problem line and no line that one counts; and whether a value is among them
+-- there is no problem line and no line that one counts; the flag is whether a value is among the records
 abbrev Say : Bool → List Record → Type 0
 Say valued rs = (problem_in rs ≡ None) × ((counted_in rs ≡ 0) × (list_any is_value rs ≡ valued))
 
@@ -54,7 +54,7 @@ entries_say : (es : List Entry) → Say false (records_of (map entry_line es))
 entries_say [] = (refl, (refl, refl))
 entries_say (e ∷ es) = entries_say es
 
--- the records of entries, and among them that of a value
+-- the records of entries with a value among them
 value_says : (es : List Entry) (before after : List LineRecord) (line : ℕ) (value : ℤ) → map entry_line es ≡ before ++ after
     → Say true (records_of (before ++ on_line line (value_record value) ∷ after))
 value_says es [] after line value e = let says = rw e at (entries_say es) in (says.0, (says.1.0, refl))
@@ -63,11 +63,11 @@ value_says (x ∷ es) (b ∷ before) after line value e =
     rw first (value_says es before after line value (cc))
 value_says [] (b ∷ before) after line value e = absurd (cc)
 
--- an entry is taken after any records
+-- an entry is allowed after any records
 entry_allowed : (earlier : List Record) (e : Entry) → IsAllowed earlier (entry_record e)
 entry_allowed earlier e = is_allowed earlier (entry_record e) refl
 
--- a record among those of a solution is an entry's, or that of a value after entries alone
+-- a record of a solution is an entry, or a value after entries
 data Place (before : List Record) (r : Record) : Type 0 where
   of_entry : (e : Entry) → r ≡ entry_record e → Place before r
   of_value : (value : ℤ) → r ≡ value_record value → list_any is_value before ≡ false → Place before r
@@ -97,7 +97,7 @@ allowed_at : (before : List Record) (r : Record) → Place before r → IsAllowe
 allowed_at before r (of_entry e r_is) = rw r_is (entry_allowed before e)
 allowed_at before r (of_value value r_is none) = rw r_is (is_allowed before (value_record value) (rw none refl))
 
--- the records of a solution are refused for nothing
+-- the records of a solution have no fault
 pub solution_faultless : (rs : List LineRecord) (s : SolutionValue) → GivesSolution rs s → AreFaultless kinds.Solution (records_of rs)
 solution_faultless rs s h =
     let says : Say true (records_of rs) = rw h.all_are (value_says s.entries h.before h.after s.value_line s.value h.others_are) in
@@ -106,7 +106,7 @@ solution_faultless rs s h =
       complete = is_complete kinds.Solution (records_of rs) (rw (says.0, says.1.1) refl);
     }
 
--- the solution that records give
+-- records give only one solution
 with_line : ℕ → Record → SolutionValue → SolutionValue
 with_line line (records.SolutionValue value) s = record { value = value; value_line = line; entries = s.entries }
 with_line line (records.SolutionEntry tail head flow) s = record { value = s.value; value_line = s.value_line; entries = record { tail = tail; head = head; flow = flow; line = line } ∷ s.entries }
@@ -116,7 +116,7 @@ solution_in : List LineRecord → SolutionValue
 solution_in [] = record { value = pos 0; value_line = 0; entries = [] }
 solution_in (r ∷ rs) = with_line r.line r.says (solution_in rs)
 
--- a solution with one entry more in front
+-- a solution with one more entry in front
 abbrev after_entry : Entry → SolutionValue → SolutionValue
 after_entry e s = record { value = s.value; value_line = s.value_line; entries = e ∷ s.entries }
 
@@ -137,7 +137,7 @@ solution_in-among [] (b ∷ before) after line value e = absurd (cc)
 solution_in-given : (rs : List LineRecord) (s : SolutionValue) → GivesSolution rs s → solution_in rs ≡ s
 solution_in-given rs s h = ap solution_in h.all_are ∙ solution_in-among s.entries h.before h.after s.value_line s.value h.others_are
 
--- the records of a solution are those of no other
+-- the records of a solution are those of no other solution
 pub one_solution : (rs : List LineRecord) (s t : SolutionValue) → GivesSolution rs s → GivesSolution rs t → s ≡ t
 one_solution rs s t a b = sym (solution_in-given rs s a) ∙ solution_in-given rs t b
 
@@ -168,7 +168,7 @@ numbered-entries : (line : ℕ) (es : List Entry) → numbered line (map (λ (r 
 numbered-entries line [] = refl
 numbered-entries line (e ∷ es) = ap (λ rs. on_line line (entry_record e) ∷ rs) (numbered-entries (suc line) es)
 
--- the canonical text of a lawful solution spells it on lines of its own
+-- the canonical text of a lawful solution spells it, with new line numbers
 pub solution_round_trip : (s : SolutionValue) → IsLawful s → SpellsSolution (canonical_solution s) (renumbered s)
 solution_round_trip s is =
     let fit : All (CanBeSpelled kinds.Solution) (solution_records s) = All-cons (CanBeSpelled kinds.Solution) (value_record s.value) (map entry_record s.entries) (value_fits s is) (entries_fit s.entries is.entries) in
@@ -187,11 +187,11 @@ records-on_lines_from : (line : ℕ) (es : List Entry) → map entry_record (on_
 records-on_lines_from line [] = refl
 records-on_lines_from line (e ∷ es) = ap (λ rs. entry_record e ∷ rs) (records-on_lines_from (suc line) es)
 
--- the lines are not written
+-- canonical texts don't depend on line numbers
 pub canonical-renumbered : (s : SolutionValue) → canonical_solution (renumbered s) ≡ canonical_solution s
 canonical-renumbered s = ap (λ rs. canonical_text (value_record s.value ∷ rs)) (records-on_lines_from 2 s.entries)
 
--- the records of spelled lines are of the kind, one a line at most
+-- the records of spelled lines are of this kind, at most one a line
 all_of_kind : (all : List (List ℕ)) (said : List (Option Record)) (line : ℕ) → Spell kinds.Solution all said → All IsSolutionLine (numbered line said)
 all_of_kind [] [] line h = All-nil IsSolutionLine
 all_of_kind (text ∷ all) (None ∷ said) line h = all_of_kind all said (suc line) h.1
@@ -218,14 +218,14 @@ spelled_entries [] are = All-nil IsLawfulEntry
 spelled_entries (e ∷ es) are =
     All-cons IsLawfulEntry e es (spelled_entry e (All-head IsSolutionLine (entry_line e) (map entry_line es) are)) (spelled_entries es (All-tail IsSolutionLine (entry_line e) (map entry_line es) are))
 
--- all of a list but one of them
+-- a list without one of its items
 all_others : (before after : List LineRecord) (r : LineRecord) → All IsSolutionLine (before ++ r ∷ after) → IsSolutionLine r × All IsSolutionLine (before ++ after)
 all_others [] after r are = (All-head IsSolutionLine r after are, All-tail IsSolutionLine r after are)
 all_others (b ∷ before) after r are =
     let rest = all_others before after r (All-tail IsSolutionLine b (before ++ r ∷ after) are) in
     (rest.0, All-cons IsSolutionLine b (before ++ after) (All-head IsSolutionLine b (before ++ r ∷ after) are) rest.1)
 
--- a solution that such records give is lawful
+-- the solution of such records is lawful
 lawful_of_records : (rs : List LineRecord) (s : SolutionValue) → All IsSolutionLine rs → length rs ≤ most_lines → GivesSolution rs s → IsLawful s
 lawful_of_records rs s are few h =
     let r = on_line s.value_line (value_record s.value) in
@@ -234,7 +234,7 @@ lawful_of_records rs s are few h =
     let count : length rs ≡ length s.entries + 1 = omega (arith, ap length h.all_are, length-append h.before (r ∷ h.after), ap length h.others_are, length-append h.before h.after, length-map s.entries entry_line) in
     record { value = spelled_value s.value parted.0; entries = spelled_entries s.entries entries; few = omega (arith, count, few) }
 
--- a solution that lines spell is lawful
+-- the solution of spelled lines is lawful
 lawful_given : (all : List (List ℕ)) (said : List (Option Record)) (s : SolutionValue) → AreSpelled kinds.Solution all said → GivesSolution (numbered 1 said) s → IsLawful s
 lawful_given all said s spelled h =
     lawful_of_records (numbered 1 said) s (all_of_kind all said 1 spelled.spell) (omega (arith, one_a_line all said 1 spelled.spell, spelled.few)) h
@@ -243,12 +243,12 @@ lawful_read : (all : List (List ℕ)) (told : Result SolutionValue ReadError) �
 lawful_read all (Ok s) h = lawful_given all h.said s (spelled_of_faultless kinds.Solution all h.said h.faultless) h.given
 lawful_read all (Err error) h = tt
 
--- ---- what is read into a place
+-- ---- reading into a place
 module _ {W : Type 0} (value : W → ℤ) (value_line : W → ℕ) (holds : W → List Entry → Type 0) where
   abbrev like : SolutionValue → W → Type 0
   like s w = IsPlaced (value w) (value_line w) (holds w) s
 
-  -- the lines of a text and the solution that they give are what a reader of solutions would answer
+  -- the result for the lines and the solution that they give is that of a reader of solutions
   read_as : (text : List ℕ) (result : Result W ReadError) (told : Result SolutionValue ReadError) → ReadsLines kinds.Solution GivesSolution (lines text) told → AnswersAlike like told result → ReadsLike like text result
   read_as text result told reads alike = record {
     told = told;
@@ -265,18 +265,18 @@ module _ {W : Type 0} (value : W → ℤ) (value_line : W → ℕ) (holds : W �
   reads_placed text (Err read_errors.Device) h = read_as text (Err read_errors.Device) (Err read_errors.Device) tt refl
   reads_placed text (Err read_errors.Memory) h = read_as text (Err read_errors.Memory) (Err read_errors.Memory) tt refl
 
--- what was placed of records that lines may spell
+-- entries that were placed from records that lines can spell
 pub placed_lawful : (value : ℤ) (value_line : ℕ) (holds : List Entry → Type 0) (rs : List LineRecord) → GivesPlaced value value_line holds rs → AreSpelledBefore kinds.Solution (most_lines + 1) rs → IsPlacedLawful value value_line holds
 placed_lawful value value_line holds rs given are =
     let s : SolutionValue = record { value = value; value_line = value_line; entries = given.0 } in
     (s, record { value_is = refl; line_is = refl; entries = given.1 }, lawful_of_records rs s are.of_kind (omega (arith, are.few)) given.2)
 
--- ---- what a reading that places entries stands for
+-- ---- the records that a reading with a place stands for
 module _ (holds : List Entry → Type 0) (rs : List LineRecord) where
   pub none_taken : (entries : List Entry) → holds entries → StandsForSolution None holds (map entry_line entries)
   none_taken entries stands = (entries, stands, refl)
 
-  -- what is told of the records is so
+  -- what the tests know follows from the records
   say : (value : Option ValueLine) → StandsForSolution value holds rs → Say (is_some value) (records_of rs)
   say None h = rw h.2 (entries_say h.0)
   say (Some v) h = rw h.2.all_are (value_says h.0 h.2.before h.2.after v.line v.value h.2.others_are)
@@ -305,7 +305,7 @@ module _ (holds : List Entry → Type 0) (rs : List LineRecord) where
         all_are = ap (λ t. t ++ entry_line e ∷ []) among.all_are ∙ append_assoc among.before (on_line v.line (value_record v.value) ∷ among.after) (entry_line e ∷ []);
       }
 
-  -- where the place stands for the same, so does the reading
+  -- if two places stand for the same entries, so do their readings
   pub same_placed : (value : Option ValueLine) (other : List Entry → Type 0) → ((es : List Entry) → holds es ↔ other es) → StandsForSolution value holds rs ↔ StandsForSolution value other rs
   same_placed value other same = ((λ h. (h.0, (same h.0).0 h.1, h.2)), (λ h. (h.0, (same h.0).1 h.1, h.2)))
 
@@ -318,7 +318,7 @@ kept_solution value value_line entries (Err e) w alike = absurd alike
 pub kept_lawful : (value : ℤ) (line : ℕ) (entries : List Entry) → IsPlacedLawful value line (λ kept. entries ≡ kept) → IsLawful (record { value = value; value_line = line; entries = entries })
 kept_lawful value line entries (s, is, lawful) = rw (is.value_is, is.line_is, is.entries) lawful
 
--- and where none was read
+-- the same after an error
 pub error_kept : {W : Type 0} (like : SolutionValue → W → Type 0) (told : Result SolutionValue ReadError) (e : ReadError) (result : Result Solution ReadError) → AnswersAlike like told (Err e) → IsErrAnd result (λ f. f ≡ e) → told ≡ result_map_both claimed (λ f. f) result
 error_kept like (Err f) e (Err h) alike is = ap Err (alike ∙ sym is)
 error_kept like (Ok s) e result alike is = absurd alike

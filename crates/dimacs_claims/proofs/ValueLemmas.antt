@@ -1,4 +1,4 @@
--- The laws of potentials.
+-- Lemmas about potentials.
 use Rattle.std.proofs.Common.{◌≡◌, ◌≤◌, ℕ, ◌==◌, Bool, true, false, Option, Some, None, cond, refl, sym, ◌∙◌, ap, arith}
 use Rattle.std.specs.Prelude.{ℤ, pos, unwrap_or, if◌then◌else◌, Result, Ok, Err, OnOk, OnErr}
 use Rattle.std.specs.Ordering.{nat_cmp, int_eq}
@@ -34,7 +34,7 @@ law_with_potential p id n law node wide = record { nodes_few = law.nodes_few; wi
     by_value true e other w is = removed other w (other == id) (sym (get-removed p.values id other) ∙ is)
     by_value false e other w is = inserted other w (other == id) e refl (sym (get-insert p.values id other n) ∙ is)
 
--- where a value was set, or not
+-- after a value was set, or not
 pub law_after_set : {E : Type 0} (nodes : ℕ) (old new : FinMap nat_cmp ℤ) (id : ℕ) (n : ℤ) (r : Result Unit E) → OnOk r (new ≡ insert old id n) → OnErr r (new ≡ old)
     → ArePotentials (record { nodes = nodes; values = without_zeros old }) → IsNode nodes id → IsWide n → ArePotentials (record { nodes = nodes; values = without_zeros new })
 law_after_set nodes old new id n (Ok done) set unset law node wide =

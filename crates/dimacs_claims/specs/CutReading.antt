@@ -1,4 +1,4 @@
--- How far a set of nodes has been read, and how such values are stored.
+-- A set of nodes while its text is read, and how such values are stored.
 use Rattle.std.specs.Prelude.{ℕ, ◌≡◌, ◌≤◌, List, length, refl, Some}
 use Rattle.std.specs.Coded.{Coded, code_by, coded×, coded_ℕ}
 use Rattle.std.specs.Ordering.{nat_cmp}
@@ -10,7 +10,7 @@ use Rattle.dimacs_records.specs.declared.order.Earlier.{Earlier}
 use Rattle.dimacs_records.specs.declared.records.Record.TheVariants.{CutNode}
 use Rattle.dimacs_records.specs.Tests.{earlier_of}
 
--- what the problem line declares, and the nodes after it
+-- the declared count, and the nodes so far
 pub record CutBegun : Type 0 where
   pub declared : ℕ
   pub cut : CutValue
@@ -31,11 +31,11 @@ cut_code = code_by (ℕ × FinSet nat_cmp) (coded× coded_ℕ (set.code coded_�
 abbrev pub begun_code : Coded CutBegun
 begun_code = code_by (ℕ × CutValue) (coded× coded_ℕ cut_code) (λ b. (b.declared, b.cut)) (λ p. record { declared = p.0; cut = p.1 }) (λ _. refl)
 
--- after the problem line and the nodes so far
+-- what the tests have to know, after the problem line and these nodes
 abbrev pub after_lines : CutBegun → Earlier
 after_lines begun = earlier_of (Some (record { nodes = Some begun.cut.nodes; count = begun.declared })) (length (ids_in begun.cut))
 
--- what the records taken say of one more
+-- the same for one more record
 abbrev pub before : CutBegun → Record → Earlier
 before begun (CutNode id) = record (after_lines begun) { named = contains begun.cut.ids id }
 before begun r = after_lines begun

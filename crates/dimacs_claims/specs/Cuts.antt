@@ -14,12 +14,12 @@ use Rattle.dimacs_records.specs.Printed.{shown}
 use Rattle.dimacs_records.specs.Readings.{LineRecord, records_of}
 use Rattle.dimacs_records.specs.Texts.{SpellsValue}
 
--- a number of nodes, and some of them
+-- a number of nodes, and a set of them
 pub record CutValue : Type 0 where
   pub nodes : ℕ
   pub ids : FinSet nat_cmp
 
--- the IDs are those of nodes
+-- each ID in the set is a node
 pub record IsCut (c : CutValue) : Type 0 where
   pub nodes_few : c.nodes ≤ most_nodes
   pub within : (id : ℕ) → contains c.ids id ≡ true → IsNode c.nodes id
@@ -27,7 +27,7 @@ pub record IsCut (c : CutValue) : Type 0 where
 abbrev pub empty_cut : ℕ → CutValue
 empty_cut nodes = record { nodes = nodes; ids = empty }
 
--- with this node, which may be in the set already
+-- the set with one more node, which may be in it already
 abbrev pub with_node : CutValue → ℕ → CutValue
 with_node c id = record c { ids = insert c.ids id }
 
@@ -38,16 +38,16 @@ ids_in c = filter (contains c.ids) (range_with_len 1 c.nodes)
 abbrev pub is_id : ℕ → ℕ → Bool
 is_id id other = other == id
 
--- the lines name nodes, and no node twice
+-- the lines name nodes, each at most once
 pub record AreNamed (nodes : ℕ) (named : List ℕ) : Type 0 where
   pub within : All (IsNode nodes) named
   pub once : (id : ℕ) → count_by (is_id id) named ≤ 1
 
--- the problem line, and then the nodes
+-- the problem line, then the nodes
 abbrev pub cut_records : ℕ → ℕ → List ℕ → List Record
 cut_records nodes count named = CutProblem nodes count ∷ map CutNode named
 
--- the records name the nodes of the set, in any order
+-- the records name exactly the nodes of the set, in any order
 pub record GivesCut (rs : List LineRecord) (c : CutValue) : Type 0 where
   pub named : List ℕ
   pub are_named : AreNamed c.nodes named
@@ -59,7 +59,7 @@ pub record GivesCut (rs : List LineRecord) (c : CutValue) : Type 0 where
 abbrev pub SpellsCut : List ℕ → CutValue → Type 0
 SpellsCut text c = SpellsValue kinds.Cut GivesCut (lines text) c
 
--- the nodes stand by ID
+-- the canonical text has the nodes in the order of their IDs
 abbrev pub canonical_cut : CutValue → List ℕ
 canonical_cut c = canonical_text (cut_records c.nodes (length (ids_in c)) (ids_in c))
 

@@ -1,4 +1,4 @@
--- The texts of distances: labels whose predecessors are the sources, written without them.
+-- The texts of distances: labels whose predecessors are their sources, without PRED and RADIUS.
 use Rattle.std.specs.Prelude.{ℕ, ◌≡◌, List, ◌∷◌, None, map, length, [], codes}
 use Rattle.std.specs.Fmt.{decimal}
 use Rattle.std.specs.List.{All}
@@ -14,7 +14,7 @@ use Rattle.dimacs_claims.specs.declared.block.Label.{Label}
 use Rattle.dimacs_claims.specs.Labels.{BlockValue, LabelsValue, AreLabels}
 use Rattle.dimacs_claims.specs.LabelTexts.{label_records}
 
--- the block has no radius, and all its predecessors are the source
+-- the block has no radius, and the source is the predecessor of each label
 pub record IsBare (b : BlockValue) : Type 0 where
   pub whole : b.radius ≡ None
   pub preds : All (λ (l : Label). l.pred ≡ b.source) b.labels
@@ -22,14 +22,14 @@ pub record IsBare (b : BlockValue) : Type 0 where
 abbrev pub AreBare : LabelsValue → Type 0
 AreBare d = All IsBare d.blocks
 
--- a line of labels without PRED and RADIUS
+-- a line of labels as a line of distances
 abbrev pub bare : Record → Record
 bare (LabelsProblem nodes blocks) = DistancesProblem nodes blocks
 bare (LabelsBlock source count radius) = DistancesBlock source count
 bare (LabelsNode id dist pred) = DistancesNode id dist
 bare r = r
 
--- the problem line, and then the blocks
+-- the problem line, then the blocks
 abbrev pub distance_records : LabelsValue → List Record
 distance_records d = map bare (label_records d)
 

@@ -1,9 +1,9 @@
--- The labels of a block as they are kept.
+-- The labels of a block as they are stored.
 use Rattle.dimacs_claims.specs.declared.block.Label.{Label}
 use Rattle.dimacs_claims.specs.declared.far_list.ShortLabel.{ShortLabel}
 use Rattle.dimacs_claims.specs.declared.label_list.NearLabel.{NearLabel}
 
--- the same label
+-- a label with a distance of 32 bits
 abbrev pub widened : NearLabel → Label
 widened l = record { dist = l.dist; id = l.id; pred = l.pred }
 

@@ -17,11 +17,11 @@ use Rattle.dimacs_claims.specs.Labels.{BlockValue, LabelsValue, AreLabels}
 abbrev pub label_line : Label → Record
 label_line l = LabelsNode l.id l.dist l.pred
 
--- the line of the block, and then its labels
+-- the line of the block, then its labels
 abbrev pub block_lines : BlockValue → List Record
 block_lines b = LabelsBlock b.source (length b.labels) b.radius ∷ map label_line b.labels
 
--- the problem line, and then the blocks
+-- the problem line, then the blocks
 abbrev pub label_records : LabelsValue → List Record
 label_records labels = LabelsProblem labels.nodes (length labels.blocks) ∷ flat_map block_lines labels.blocks
 
@@ -38,6 +38,6 @@ canonical_labels labels = canonical_text (label_records labels)
 abbrev pub shown_labels : LabelsValue → List ℕ
 shown_labels l = shown (codes "dist" ∷ decimal l.nodes ∷ decimal (length l.blocks) ∷ [])
 
--- no more lines than a text may have
+-- the canonical text has no more lines than a text may have
 abbrev pub FitText : LabelsValue → Type 0
 FitText labels = length (label_records labels) ≤ most_lines

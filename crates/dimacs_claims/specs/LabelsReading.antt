@@ -1,4 +1,4 @@
--- How far labels have been read.
+-- Labels while their text is read.
 use Rattle.std.specs.Prelude.{ℕ, ◌≡◌, ◌≤◌, ◌+◌, List, [], ◌∷◌, ◌++◌, map, length, is_some, ◌==◌, Some, None, false, is_none, not}
 use Rattle.std.specs.List.{All, list_any}
 use Rattle.dimacs_lines.specs.Limits.{most_count, most_nodes}
@@ -13,36 +13,36 @@ use Rattle.dimacs_records.specs.Blocks.{block_in, is_full_block, is_labelled, is
 use Rattle.dimacs_records.specs.Earlier.{names}
 use Rattle.dimacs_records.specs.Tests.{earlier_of}
 
--- what the problem line declares, the blocks after it, and how many labels the last one lacks
+-- the declared numbers, the blocks so far, and how many labels the last block still lacks
 pub record LabelsBegun : Type 0 where
   pub nodes : ℕ
   pub declared : ℕ
   pub missing : ℕ
   pub blocks : List BlockValue
 
--- the lines of a block that lacks some of its labels
+-- the lines so far of a block that lacks so many labels
 abbrev pub lines_of_short : ℕ → BlockValue → List Record
 lines_of_short missing b = LabelsBlock b.source (length b.labels + missing) b.radius ∷ map label_line b.labels
 
--- what a block lacks where the last of those from it on lacks this
+-- how many labels a block lacks if these blocks follow it: none, unless it is the last
 abbrev pub lacking : ℕ → List BlockValue → ℕ
 lacking missing [] = missing
 lacking missing (b ∷ more) = 0
 
--- the lines of blocks, the last of which lacks labels
+-- the lines so far of blocks, the last of which lacks labels
 abbrev pub lines_of_blocks : ℕ → List BlockValue → List Record
 lines_of_blocks missing [] = []
 lines_of_blocks missing (b ∷ more) = lines_of_short (lacking missing more) b ++ lines_of_blocks missing more
 
--- the records that were taken
+-- the records so far
 abbrev pub labels_begun_records : LabelsBegun → List Record
 labels_begun_records begun = LabelsProblem begun.nodes begun.declared ∷ lines_of_blocks begun.missing begun.blocks
 
--- the last block declared no more labels than may be
+-- the last block declares no more labels than a text may have
 abbrev pub LastIsFew : LabelsBegun → Type 0
 LastIsFew begun = (front : List BlockValue) (b : BlockValue) → begun.blocks ≡ front ++ b ∷ [] → length b.labels + begun.missing ≤ most_count
 
--- a beginning of labels
+-- a lawful state
 pub record AreLabelsBegun (begun : LabelsBegun) : Type 0 where
   pub nodes_few : begun.nodes ≤ most_nodes
   pub blocks_few : begun.declared ≤ most_count
@@ -52,20 +52,20 @@ pub record AreLabelsBegun (begun : LabelsBegun) : Type 0 where
   pub blocks : All (IsBlock begun.nodes) begun.blocks
   pub sources : EachAfter IsNewSource begun.blocks
 
--- the table has, by node, the number of the last block that has a label of it, from 1
+-- the table has for each node the number of the last block with a label of it, from 1
 pub record AreLabelled (labelled : NodeTable ℕ) (blocks : List BlockValue) : Type 0 where
   pub few : (id : ℕ) → value_of labelled id ≤ length blocks
   pub last : (front : List BlockValue) (b : BlockValue) → blocks ≡ front ++ b ∷ [] → (id : ℕ) → (value_of labelled id == length blocks) ≡ is_some (distance_in b.labels id)
 
--- after the problem line and the blocks so far, for a record that asks for no block
+-- what the tests have to know for a record that concerns no block
 abbrev pub after_lines : LabelsBegun → Earlier
 after_lines begun = earlier_of (Some (record { nodes = Some begun.nodes; count = begun.declared })) (length begun.blocks)
 
--- what the records taken say of the end
+-- the same at the end
 abbrev pub before_end : LabelsBegun → Earlier
 before_end begun = record (after_lines begun) { block_short = is_short_block (block_in (labels_begun_records begun)) }
 
--- what they say of one more
+-- the same for one more record
 abbrev pub before : LabelsBegun → Record → Earlier
 before begun (LabelsBlock source count radius) = record (before_end begun) { named = list_any (names source) (labels_begun_records begun) }
 before begun (LabelsNode id dist pred) =
@@ -79,7 +79,7 @@ before begun (LabelsNode id dist pred) =
     }
 before begun r = after_lines begun
 
--- what they say of one more line of distances: what they say of that of labels, but for PRED and RADIUS
+-- the same for a line of distances: as for a line of labels, without PRED and RADIUS
 abbrev pub before_bare : LabelsBegun → Record → Earlier
 before_bare begun (DistancesBlock source count) = before begun (LabelsBlock source count None)
 before_bare begun (DistancesNode id dist) = record (before begun (LabelsNode id dist id)) { pred_unknown = false; past_radius = false }

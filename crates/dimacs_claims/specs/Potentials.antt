@@ -1,4 +1,4 @@
--- Potentials of nodes, and the texts that spell them.
+-- Node potentials, and the texts that spell them.
 use Rattle.std.specs.Prelude.{ℕ, ℤ, ◌≡◌, ◌≢◌, ◌≤◌, List, ◌∷◌, Some, map, length, if◌then◌else◌, pos, unwrap_or, [], codes}
 use Rattle.std.specs.Fmt.{decimal}
 use Rattle.std.specs.List.{filter, range_with_len}
@@ -16,16 +16,16 @@ use Rattle.dimacs_records.specs.Texts.{SpellsValue}
 use Rattle.dimacs_records.specs.Ranges.{IsWide}
 use Rattle.dimacs_records.specs.NodeValues.{NameNodes, has_value, is_nonzero}
 
--- a number of nodes, and the potentials that aren't 0
+-- a number of nodes, and the potentials other than 0
 pub record PotentialsValue : Type 0 where
   pub nodes : ℕ
   pub values : FinMap nat_cmp ℤ
 
--- the potential of a node; 0 where the map has none
+-- the potential of a node; 0 if the map has none
 abbrev pub potential_of : PotentialsValue → ℕ → ℤ
 potential_of p id = unwrap_or (get p.values id) (pos 0)
 
--- a node, and a potential that isn't 0
+-- a node with a potential other than 0
 abbrev pub IsPotential : ℕ → ℕ → ℤ → Type 0
 IsPotential nodes id value = IsNode nodes id × (value ≢ pos 0) × IsWide value
 
@@ -36,11 +36,11 @@ pub record ArePotentials (p : PotentialsValue) : Type 0 where
 abbrev pub zero_potentials : ℕ → PotentialsValue
 zero_potentials nodes = record { nodes = nodes; values = empty }
 
--- with another potential of this node
+-- the potentials with another one at this node
 abbrev pub with_potential : PotentialsValue → ℕ → ℤ → PotentialsValue
 with_potential p id value = record p { values = if int_eq value (pos 0) then remove p.values id else insert p.values id value }
 
--- the nodes whose potential isn't 0, by ID
+-- the nodes with a potential other than 0, by ID
 abbrev pub nonzero_ids : PotentialsValue → List ℕ
 nonzero_ids p = filter (λ id. is_nonzero (potential_of p id)) (range_with_len 1 p.nodes)
 
@@ -52,11 +52,11 @@ with_values p ids = map (λ id. (id, potential_of p id)) ids
 abbrev pub node_line : ℕ × ℤ → Record
 node_line n = PotentialsNode n.0 n.1
 
--- the problem line, and then the nodes
+-- the problem line, then the nodes
 abbrev pub potentials_records : ℕ → ℕ → List (ℕ × ℤ) → List Record
 potentials_records nodes count named = PotentialsProblem nodes count ∷ map node_line named
 
--- the records name each node whose potential isn't 0, and may name others
+-- the records name each node with a potential other than 0, and perhaps others
 pub record GivesPotentials (rs : List LineRecord) (p : PotentialsValue) : Type 0 where
   pub named : List (ℕ × ℤ)
   pub name_nodes : NameNodes p.nodes named
@@ -68,10 +68,10 @@ pub record GivesPotentials (rs : List LineRecord) (p : PotentialsValue) : Type 0
 abbrev pub SpellsPotentials : List ℕ → PotentialsValue → Type 0
 SpellsPotentials text p = SpellsValue kinds.Potentials GivesPotentials (lines text) p
 
--- the nodes stand by ID, and those of potential 0 are left out
+-- the canonical text: by ID, without nodes of potential 0
 abbrev pub canonical_potentials : PotentialsValue → List ℕ
 canonical_potentials p = canonical_text (potentials_records p.nodes (length (nonzero_ids p)) (with_values p (nonzero_ids p)))
 
--- the potentials that aren't 0
+-- `show` counts the potentials other than 0
 abbrev pub shown_potentials : PotentialsValue → List ℕ
 shown_potentials p = shown (codes "pot" ∷ decimal p.nodes ∷ decimal (length (nonzero_ids p)) ∷ [])

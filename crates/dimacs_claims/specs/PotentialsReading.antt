@@ -1,4 +1,4 @@
--- How far potentials have been read, and how such values are stored.
+-- Potentials while their text is read, and how such values are stored.
 use Rattle.std.specs.Prelude.{ℕ, ℤ, ◌≡◌, ◌≤◌, List, length, refl, Bool, Some, is_some}
 use Rattle.std.specs.Coded.{Coded, code_by, coded×, coded_ℕ, coded_ℤ}
 use Rattle.std.specs.Ordering.{nat_cmp}
@@ -11,14 +11,14 @@ use Rattle.dimacs_records.specs.declared.order.Earlier.{Earlier}
 use Rattle.dimacs_records.specs.declared.records.Record.TheVariants.{PotentialsNode}
 use Rattle.dimacs_records.specs.Tests.{earlier_of}
 
--- what the problem line declares, how many lines came after it, and the potentials of the nodes that they name
+-- the declared numbers, how many lines came, and the potentials on them
 pub record PotentialsBegun : Type 0 where
   pub nodes : ℕ
   pub declared : ℕ
   pub taken : ℕ
   pub values : FinMap nat_cmp ℤ
 
--- the potentials so far; those that are 0 are left out
+-- the potentials so far, without zeros
 abbrev pub potentials_begun : PotentialsBegun → PotentialsValue
 potentials_begun begun = record { nodes = begun.nodes; values = without_zeros begun.values }
 
@@ -42,11 +42,11 @@ begun_code =
 abbrev pub has_line : PotentialsBegun → ℕ → Bool
 has_line begun id = is_some (get begun.values id)
 
--- after the problem line and the lines so far
+-- what the tests have to know, after the problem line and these lines
 abbrev pub after_lines : PotentialsBegun → Earlier
 after_lines begun = earlier_of (Some (record { nodes = Some begun.nodes; count = begun.declared })) begun.taken
 
--- what the records taken say of one more
+-- the same for one more record
 abbrev pub before : PotentialsBegun → Record → Earlier
 before begun (PotentialsNode id value) = record (after_lines begun) { named = has_line begun id }
 before begun r = after_lines begun

@@ -1,4 +1,4 @@
--- How far a solution has been read.
+-- A solution while its text is read.
 use Rattle.std.specs.Prelude.{ℕ, ℤ, ◌≡◌, List, map, Option, None, Some, Result, Ok, Err, IfOk}
 use Rattle.dimacs_lines.specs.Lines.{lines}
 use Rattle.dimacs_records.specs.declared.faults.ReadError.{ReadError}
@@ -12,16 +12,16 @@ use Rattle.dimacs_claims.specs.declared.solution.ValueLine.{ValueLine}
 use Rattle.dimacs_claims.specs.SolutionTexts.{StandsAmong, GivesSolution, SpellsSolution, IsLawful, entry_line}
 use Rattle.dimacs_claims.specs.SolutionTexts as texts
 
--- these are the records of the entries, and somewhere among them that of the value
+-- the records of these entries, and among them the record of the value, if there is one
 abbrev pub AreTaken : Option ValueLine → List Entry → List LineRecord → Type 0
 AreTaken None entries rs = rs ≡ map entry_line entries
 AreTaken (Some v) entries rs = StandsAmong (on_line v.line (SolutionValue v.value)) (map entry_line entries) rs
 
--- these are the records of the value, once it came, and of entries for which the place stands
+-- the records of the value, if there is one, and of some entries that the place stands for
 abbrev pub StandsForSolution : Option ValueLine → (List Entry → Type 0) → List LineRecord → Type 0
 StandsForSolution value holds rs = (entries : List Entry) × holds entries × AreTaken value entries rs
 
--- the records give a solution of this value, with entries for which the place stands
+-- the records give a solution with this value, and with entries that the place stands for
 abbrev pub GivesPlaced : ℤ → ℕ → (List Entry → Type 0) → List LineRecord → Type 0
 GivesPlaced value value_line holds rs = (entries : List Entry) × holds entries × GivesSolution rs (record { value = value; value_line = value_line; entries = entries })
 
@@ -31,17 +31,17 @@ pub record IsPlaced (value : ℤ) (value_line : ℕ) (holds : List Entry → Typ
   pub line_is : value_line ≡ s.value_line
   pub entries : holds s.entries
 
--- so it is of some lawful solution
+-- some lawful solution is like this
 abbrev pub IsPlacedLawful : ℤ → ℕ → (List Entry → Type 0) → Type 0
 IsPlacedLawful value value_line holds = (s : texts.SolutionValue) × IsPlaced value value_line holds s × IsLawful s
 
--- one answers what the other does, with values that are related
+-- two results are alike: related values, or the same error
 abbrev pub AnswersAlike : {V W : Type 0} → (V → W → Type 0) → Result V ReadError → Result W ReadError → Type 0
 AnswersAlike like (Ok v) (Ok w) = like v w
 AnswersAlike like (Err e) (Err f) = e ≡ f
 AnswersAlike like told other = ⊥
 
--- what a reader of solutions answers, with a value that is related to the solution
+-- the result of reading a solution, with a related value in place of the solution
 pub record ReadsLike {W : Type 0} (like : texts.SolutionValue → W → Type 0) (text : List ℕ) (result : Result W ReadError) : Type 0 where
   pub told : Result texts.SolutionValue ReadError
   pub reads : Reads (SpellsSolution text) (Fault kinds.Solution (lines text)) told

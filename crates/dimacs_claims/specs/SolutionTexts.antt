@@ -15,13 +15,13 @@ use Rattle.dimacs_records.specs.Texts.{SpellsValue}
 use Rattle.dimacs_claims.specs.declared.solution.Entry.{Entry}
 use Rattle.dimacs_claims.specs.declared.solution.Solution.{Solution}
 
--- a value and the flows of arcs, each with the number of its line
+-- a value or cost, and the flows of arcs, each with its line
 pub record SolutionValue : Type 0 where
   pub value : ℤ
   pub value_line : ℕ
   pub entries : List Entry
 
--- what is claimed, in any room
+-- the mathematical value of a solution
 abbrev pub claimed : Solution → SolutionValue
 claimed s = record { value = s.value; value_line = s.value_line; entries = s.entries.items }
 
@@ -31,14 +31,14 @@ entry_record e = records.SolutionEntry e.tail e.head e.flow
 abbrev pub entry_line : Entry → LineRecord
 entry_line e = on_line e.line (entry_record e)
 
--- one record stands somewhere among others
+-- a record is at some position among others
 pub record StandsAmong (r : LineRecord) (others all : List LineRecord) : Type 0 where
   pub before : List LineRecord
   pub after : List LineRecord
   pub others_are : others ≡ before ++ after
   pub all_are : all ≡ before ++ r ∷ after
 
--- the value stands somewhere among the entries
+-- the value is at some position among the entries
 abbrev pub GivesSolution : List LineRecord → SolutionValue → Type 0
 GivesSolution rs s = StandsAmong (on_line s.value_line (records.SolutionValue s.value)) (map entry_line s.entries) rs
 
@@ -46,19 +46,19 @@ GivesSolution rs s = StandsAmong (on_line s.value_line (records.SolutionValue s.
 abbrev pub SpellsSolution : List ℕ → SolutionValue → Type 0
 SpellsSolution text s = SpellsValue kinds.Solution GivesSolution (lines text) s
 
--- the numbers of an entry lie in their ranges
+-- the numbers of an entry are in their ranges
 pub record IsLawfulEntry (e : Entry) : Type 0 where
   pub tail : IsId e.tail
   pub head : IsId e.head
   pub flow : IsWhole e.flow
 
--- the numbers lie in their ranges, and a text has room for the lines
+-- all numbers are in their ranges, and there are no more lines than a text may have
 pub record IsLawful (s : SolutionValue) : Type 0 where
   pub value : IsWide s.value
   pub entries : All IsLawfulEntry s.entries
   pub few : length s.entries + 1 ≤ most_lines
 
--- the value, and then the entries
+-- the value, then the entries
 abbrev pub solution_records : SolutionValue → List Record
 solution_records s = records.SolutionValue s.value ∷ map entry_record s.entries
 
@@ -68,7 +68,7 @@ canonical_solution s = canonical_text (solution_records s)
 abbrev pub shown_solution : SolutionValue → List ℕ
 shown_solution s = shown (codes "solution" ∷ signed_decimal s.value ∷ decimal (length s.entries) ∷ [])
 
--- the entries on one line after another from this one on
+-- the entries on successive lines, from this one on
 abbrev pub on_lines_from : ℕ → List Entry → List Entry
 on_lines_from line [] = []
 on_lines_from line (e ∷ es) = record e { line = line } ∷ on_lines_from (suc line) es

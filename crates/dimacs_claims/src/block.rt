@@ -11,7 +11,8 @@ use dimacs_lines::Memory;
 use std::alloc::Global;
 use std::marker::Model;
 
-/// A claimed distance: `id` is reached at `dist`, by an arc from `pred`.
+/// A claimed distance: node `id` is at distance `dist` from the source, and `pred` is the node before it on a walk of
+/// this weight.
 #[derive(Clone, Copy, Debug, PartialEq, Eq)]
 pub struct Label {
     pub dist: i128,
@@ -19,7 +20,8 @@ pub struct Label {
     pub pred: u32,
 }
 
-/// The labels of the nodes that are claimed to be reached from a source; where there is a radius, of those up to it.
+/// The labels from one source. A node without a label is claimed to be unreachable or, if there is a radius, farther
+/// than it.
 #[derive(Drop)]
 pub struct Block {
     source: u32,
@@ -36,7 +38,7 @@ impl Model for Block {
 }
 
 impl Block {
-    /// The block of a source, without labels and without a radius. Takes no memory.
+    /// The block of a source, without labels and radius. Allocates nothing.
     pub fn new(alloc: Global, source: u32) -> Block
         ensures made { result ≡ record { source = source; radius = None; labels = [] } }
         ensures lawful { (nodes : ℕ) → IsNode nodes source → IsBlock nodes result }
@@ -44,7 +46,7 @@ impl Block {
         Block::within(alloc, source, None)
     }
 
-    /// The block of a source up to a radius, or without one.
+    /// The block of a source with this radius, if any, and without labels.
     pub(crate) fn within(alloc: Global, source: u32, radius: Option<i128>) -> Block
         ensures { result ≡ record { source = source; radius = radius; labels = [] } }
     {
@@ -55,7 +57,7 @@ impl Block {
         }
     }
 
-    /// Adds a label of a node that has none.
+    /// Adds a label of a node that has none in the block.
     #[inline(always)]
     pub fn add(&mut self, label: Label) -> Result<(), Memory>
         requires { claims.label self.old label.id ≡ None }
@@ -70,13 +72,15 @@ impl Block {
         Ok(())
     }
 
+    /// The node from which the distances count. Its own label, 0, isn't in the list.
     pub fn source(&self) -> u32
         ensures { result ≡ self.now.source }
     {
         self.source
     }
 
-    /// Up to which distance the block goes; past it nothing is claimed.
+    /// The greatest distance that the block labels; beyond it nothing is claimed. None if the block claims all
+    /// distances.
     pub fn radius(&self) -> Option<i128>
         ensures { result ≡ self.now.radius }
     {
@@ -94,7 +98,7 @@ impl Block {
         }
     }
 
-    /// In the order of the text.
+    /// The labels in the order of the text.
     pub fn labels(&self) -> &LabelList
         ensures { result.now ≡ self.now.labels }
     {

@@ -21,7 +21,7 @@ use dimacs_records::{
 use std::alloc::Global;
 use std::marker::Model;
 
-/// A set of nodes, by their IDs.
+/// A set of nodes of an instance.
 #[derive(Drop)]
 pub struct Cut {
     nodes: u32,
@@ -44,7 +44,7 @@ impl Model for Cut {
 }
 
 impl Cut {
-    /// The empty set, of so many nodes. Takes no memory.
+    /// The empty set in an instance with so many nodes. Allocates nothing.
     pub fn new(alloc: Global, nodes: u32) -> Cut
         requires { nodes ≤ most_nodes }
         ensures { result ≡ empty_cut nodes }
@@ -56,6 +56,7 @@ impl Cut {
         }
     }
 
+    /// The number of nodes of the instance, NODES of the text.
     #[inline]
     pub fn nodes(&self) -> u32
         ensures { result ≡ self.now.nodes }
@@ -72,7 +73,7 @@ impl Cut {
         self.len
     }
 
-    /// Whether the node of this ID is in the set; an ID of no node isn't. Takes no memory.
+    /// Whether the set has this node. An ID above the number of nodes isn't in it. Allocates nothing.
     #[inline]
     pub fn contains(&self, id: u32) -> bool
         ensures { result ≡ set.contains self.now.ids id }
@@ -80,7 +81,7 @@ impl Cut {
         self.ids.contains(id)
     }
 
-    /// Puts in a node, which may be in the set already.
+    /// Adds a node, which may be in the set already.
     pub fn add(&mut self, id: u32) -> Result<(), Memory>
         requires { IsNode self.old.nodes id }
         ensures added { OnOk result (self.new ≡ with_node self.old id) }
@@ -95,10 +96,10 @@ impl Cut {
     }
 }
 
-/// Makes a set of nodes of the records of a text.
+/// Reads a set of nodes from the records of a text.
 pub type CutReading = CountedReading<BegunCut>;
 
-/// The nodes that came after the problem line.
+/// A set of nodes while its text is read: the nodes after the problem line.
 #[derive(Drop)]
 pub struct BegunCut {
     declared: u32,

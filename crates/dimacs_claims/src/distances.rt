@@ -22,7 +22,8 @@ use dimacs_records::{Begun, CountedReading, Earlier, ReadError, Record, TextKind
 use std::alloc::Global;
 use std::marker::Model;
 
-/// Claimed distances from sources, in blocks: labels each of whose predecessors is the source, since none is claimed.
+/// Claimed distances in blocks, one for each source. They are stored as labels whose predecessors are all the source,
+/// since no predecessors are claimed.
 #[derive(Drop)]
 pub struct Distances {
     labels: Labels,
@@ -40,7 +41,7 @@ impl Model for Distances {
 }
 
 impl Distances {
-    /// Distances of so many nodes, without blocks. Takes no memory.
+    /// Distances in a graph with so many nodes, without blocks. Allocates nothing.
     pub fn new(alloc: Global, nodes: u32) -> Distances
         requires { nodes ≤ most_nodes }
         ensures { result ≡ record { nodes = nodes; blocks = [] } }
@@ -50,7 +51,8 @@ impl Distances {
         }
     }
 
-    /// Adds a block of a source that none of the others has. It has no radius, and the source is its one predecessor.
+    /// Adds a block of a source that has none yet. The block has no radius, and the source is the predecessor of each
+    /// label.
     pub fn push(&mut self, block: Block) -> Result<(), Memory>
         requires lawful { IsBlock self.old.nodes block }
         requires bare { IsBare block }
@@ -62,20 +64,21 @@ impl Distances {
         self.labels.push(block)
     }
 
-    /// Puts the distances of each block in the order of IDs, as [`Labels::index`] does with labels.
+    /// Indexes the distances of each block by ID, as [`Labels::index`] does.
     pub fn index(&mut self) -> Result<(), Memory>
         ensures { self.new ≡ self.old }
     {
         self.labels.index()
     }
 
+    /// The number of nodes of the graph, NODES of the text.
     pub fn nodes(&self) -> u32
         ensures { result ≡ self.now.nodes }
     {
         self.labels.nodes()
     }
 
-    /// In the order of the text.
+    /// The blocks in the order of the text.
     pub fn blocks(&self) -> &[Block]
         ensures blocks { result.now ≡ self.now.blocks }
         ensures lawful { AreLabels self.now × AreBare self.now }
@@ -83,8 +86,8 @@ impl Distances {
         self.labels.blocks()
     }
 
-    /// The distance that a block claims of a node: 0 at its source, none where the node is claimed to be unreachable, as
-    /// [`Labels::label`] gives it.
+    /// The distance that a block claims for a node, as [`Labels::label`]: 0 at its source, none if the node is claimed
+    /// to be unreachable.
     #[inline]
     pub fn distance(&self, block: usize, id: u32) -> Option<i128>
         ensures distance { result ≡ label_at self.now.blocks block id }
@@ -93,7 +96,7 @@ impl Distances {
         self.labels.label(block, id)
     }
 
-    /// The same claim as labels.
+    /// The same claims as labels.
     pub fn labels(&self) -> &Labels
         ensures labels { result.now ≡ self.now }
         ensures bare { AreBare self.now }
@@ -102,10 +105,10 @@ impl Distances {
     }
 }
 
-/// Makes distances of the records of a text.
+/// Reads distances from the records of a text.
 pub type DistancesReading = CountedReading<BegunDistances>;
 
-/// The blocks that came after the problem line.
+/// Distances while their text is read: the blocks after the problem line.
 #[derive(Drop)]
 pub struct BegunDistances {
     labels: BegunLabels,
@@ -188,7 +191,7 @@ impl Begun for BegunDistances {
     ghost has_problem = { refl };
 }
 
-/// Reads a text of distances, and builds no index of them.
+/// Reads a text of distances, without an index of them.
 pub fn read_distances<S: Source>(alloc: Global, source: &mut S) -> Result<Distances, ReadError>
     ensures reads { (text : List ℕ) → S.coming source.old ≡ Some text → Reads (SpellsDistances text) (Fault kinds.Distances (lines text)) result }
     ensures fits { (text : List ℕ) → S.coming source.old ≡ Some text → IfOk result (λ distances. FitText distances) }

@@ -1,4 +1,4 @@
-//! Labels whose distances take more than 32 bits.
+//! Labels with distances of more than 32 bits.
 
 ghost use Rattle.std.specs.Prelude.{◌≡◌, ◌<◌, ◌++◌, ◌∷◌, [], length, map, slice_index_or, IsTrue, ◌↔◌, IfOk, OnOk, OnErr};
 ghost use Rattle.dimacs_claims.specs.Labels.{no_label};
@@ -9,11 +9,12 @@ use dimacs_lines::Memory;
 use std::alloc::Global;
 use std::marker::Model;
 
-/// Labels in the order in which they were added. As long as 64 bits take all distances a label takes 16 bytes, else 32.
+/// Labels in the order in which they were added. A label takes 16 bytes while all distances fit into 64 bits, otherwise
+/// 32.
 #[derive(Drop)]
 pub(crate) struct FarList {
     short: Vec<ShortLabel>,
-    /// All labels, where 64 bits don't take all distances.
+    /// All labels, once some distance doesn't fit into 64 bits.
     long: Vec<Label>,
 }
 
@@ -29,7 +30,7 @@ impl Model for FarList {
     ghost invariant = { λ l. (l.short.items ≡ []) ⊎ (l.long.items ≡ []) };
 }
 
-/// A label whose distance takes 64 bits at most.
+/// A label whose distance fits into 64 bits.
 #[derive(Clone, Copy)]
 pub(crate) struct ShortLabel {
     dist: i64,
@@ -51,7 +52,7 @@ impl ShortLabel {
 }
 
 impl FarList {
-    /// No labels. Takes no memory.
+    /// The empty list. Allocates nothing.
     pub(crate) fn new(alloc: Global) -> FarList
         ensures { result ≡ [] }
     {
@@ -61,7 +62,7 @@ impl FarList {
         }
     }
 
-    /// Adds a label after the others.
+    /// Appends a label. The first distance of more than 64 bits copies all labels.
     #[inline]
     pub(crate) fn push(&mut self, label: Label) -> Result<(), Memory>
         ensures pushed { OnOk result (self.new ≡ self.old ++ label ∷ []) }
@@ -98,7 +99,7 @@ impl FarList {
         }
     }
 
-    /// The label at this place, which counts from 0.
+    /// The label at this place, from 0.
     #[inline(always)]
     pub(crate) fn at(&self, place: usize) -> Label
         requires { place < length self.now }
@@ -112,7 +113,7 @@ impl FarList {
     }
 }
 
-/// The same labels, in more memory.
+/// Copies the labels to their longer form.
 #[cold]
 #[inline(never)]
 fn long_labels(alloc: Global, short: &[ShortLabel]) -> Result<Vec<Label>, Memory>

@@ -1,4 +1,4 @@
-//! The labels of a list, one after another.
+//! Iterating over the labels of a list.
 
 ghost use Rattle.std.specs.Prelude.{◌≡◌};
 ghost use Rattle.dimacs_claims.specs.LabelIters.{labels_left};
@@ -7,7 +7,7 @@ use crate::block::Label;
 use crate::label_list::LabelList;
 
 impl LabelList {
-    /// In order.
+    /// Iterates over the labels in order.
     pub fn iter(&self) -> LabelIter<'_>
         ensures { labels_left result ≡ self.now }
     {
@@ -18,11 +18,11 @@ impl LabelList {
     }
 }
 
-/// The labels of a list, in order.
+/// The remaining labels of a list, in order.
 #[derive(Clone, Copy)]
 pub struct LabelIter<'a> {
     list: &'a LabelList,
-    /// Where the next one stands, from 0.
+    /// The place of the next label, from 0.
     next: usize,
 }
 

@@ -1,4 +1,4 @@
-//! The labels of a block, in little memory.
+//! The labels of a block, stored compactly.
 
 ghost use Rattle.std.specs.Prelude.{◌≡◌, ◌↔◌, ◌<◌, ◌++◌, ◌∷◌, [], IsTrue, length, map, slice_get, slice_index_or, IfOk, OnOk, OnErr};
 ghost use Rattle.dimacs_claims.specs.Labels.{distance_in, no_label};
@@ -10,11 +10,11 @@ use dimacs_lines::Memory;
 use std::alloc::Global;
 use std::marker::Model;
 
-/// Labels in the order in which they were added. As long as 32 bits take all distances a label takes 12 bytes.
+/// Labels in the order in which they were added. A label takes 12 bytes while all distances fit into 32 bits.
 #[derive(Drop)]
 pub struct LabelList {
     near: Vec<NearLabel>,
-    /// All labels, where 32 bits don't take all distances.
+    /// All labels, once some distance doesn't fit into 32 bits.
     far: FarList,
 }
 
@@ -30,7 +30,7 @@ impl Model for LabelList {
     ghost invariant = { λ l. (l.near.items ≡ []) ⊎ (l.far ≡ []) };
 }
 
-/// A label whose distance takes 32 bits at most.
+/// A label whose distance fits into 32 bits.
 #[derive(Clone, Copy)]
 pub(crate) struct NearLabel {
     dist: i32,
@@ -52,7 +52,7 @@ impl NearLabel {
 }
 
 impl LabelList {
-    /// No labels. Takes no memory.
+    /// The empty list. Allocates nothing.
     pub(crate) fn new(alloc: Global) -> LabelList
         ensures { result ≡ [] }
     {
@@ -62,7 +62,7 @@ impl LabelList {
         }
     }
 
-    /// Adds a label after the others.
+    /// Appends a label. The first distance of more than 32 bits copies all labels.
     #[inline(always)]
     pub(crate) fn push(&mut self, label: Label) -> Result<(), Memory>
         ensures pushed { OnOk result (self.new ≡ self.old ++ label ∷ []) }
@@ -81,6 +81,7 @@ impl LabelList {
         self.far.push(label)
     }
 
+    /// The number of labels.
     pub fn len(&self) -> usize
         ensures { result ≡ length self.now }
     {
@@ -91,19 +92,21 @@ impl LabelList {
         }
     }
 
+    /// Whether there is no label.
     pub fn is_empty(&self) -> bool
         ensures { IsTrue result ↔ (self.now ≡ []) }
     {
         self.near.is_empty() && self.far.is_empty()
     }
 
+    /// The label that was added first; none in an empty list.
     pub fn first(&self) -> Option<Label>
         ensures { result ≡ slice_get self.now 0 }
     {
         self.get(0)
     }
 
-    /// The label at this place, which counts from 0; none past the last.
+    /// The label at this place, from 0; none past the last.
     pub fn get(&self, place: usize) -> Option<Label>
         ensures { result ≡ slice_get self.now place }
     {
@@ -114,7 +117,7 @@ impl LabelList {
         }
     }
 
-    /// The label at this place, which counts from 0.
+    /// The label at this place, from 0.
     #[inline(always)]
     pub fn at(&self, place: usize) -> Label
         requires { place < length self.now }
@@ -127,7 +130,7 @@ impl LabelList {
         }
     }
 
-    /// The distance of a node; none where it has no label. Goes over the labels in order.
+    /// The distance of a node; none if it has no label. Goes over all labels before it.
     pub(crate) fn distance(&self, id: u32) -> Option<i128>
         ensures { result ≡ distance_in self.now id }
     {
@@ -141,7 +144,7 @@ impl LabelList {
     }
 }
 
-/// The same labels, in more memory.
+/// Copies the labels to their longer form.
 #[cold]
 #[inline(never)]
 fn far_labels(alloc: Global, near: &[NearLabel]) -> Result<FarList, Memory>

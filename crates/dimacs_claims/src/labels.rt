@@ -1,4 +1,4 @@
-//! Labels: claimed distances from sources.
+//! Labels: claimed distances with predecessors.
 
 ghost use Rattle.std.specs.Prelude.{◌≡◌, ◌<◌, ◌≤◌, ◌++◌, ◌∷◌, [], ℕ, ℤ, List, Option, Some, None, OnOk, OnErr, IfOk, IfSome, is_some, length, map, option_map, refl, slice_get};
 ghost use Rattle.dimacs_lines.specs.Limits.{most_count, most_nodes};
@@ -35,12 +35,13 @@ use dimacs_records::{
 use std::alloc::Global;
 use std::marker::Model;
 
-/// Claimed distances from sources, in blocks. In a block each label stands after that of its predecessor.
+/// Claimed distances in blocks, one for each source. In a block the label of a node comes after the label of its
+/// predecessor.
 #[derive(Drop)]
 pub struct Labels {
     nodes: u32,
     blocks: Vec<Block>,
-    /// Of the blocks that there were when the index was built last.
+    /// The indices of the blocks that there were at the last call of `index`.
     indices: Vec<ById>,
 }
 
@@ -56,7 +57,7 @@ impl Model for Labels {
 }
 
 impl Labels {
-    /// Labels of so many nodes, without blocks. Takes no memory.
+    /// Labels in a graph with so many nodes, without blocks. Allocates nothing.
     pub fn new(alloc: Global, nodes: u32) -> Labels
         requires { nodes ≤ most_nodes }
         ensures made { result ≡ record { nodes = nodes; blocks = [] } }
@@ -69,7 +70,7 @@ impl Labels {
         }
     }
 
-    /// Adds a block of a source that none of the others has. `index` doesn't reach it until it is called again.
+    /// Adds a block of a source that has none yet. Call `index` again to index it.
     pub fn push(&mut self, block: Block) -> Result<(), Memory>
         requires lawful { IsBlock self.old.nodes block }
         requires source { IsNewSource self.old.blocks block }
@@ -83,21 +84,22 @@ impl Labels {
         Ok(self.blocks.push(block)?)
     }
 
-    /// Puts the labels of each block in the order of IDs, which takes 4 bytes a label, so that `label` takes logarithmic
-    /// time. Blocks for which that was done are left as they are.
+    /// Indexes the labels of each block by ID, so that `label` takes logarithmic time. Takes 4 bytes a label. Blocks
+    /// that are indexed already are skipped. After an error the labels are the same, some with an index.
     pub fn index(&mut self) -> Result<(), Memory>
         ensures { self.new ≡ self.old }
     {
         index_others(&self.blocks, &mut self.indices)
     }
 
+    /// The number of nodes of the graph, NODES of the text.
     pub fn nodes(&self) -> u32
         ensures { result ≡ self.now.nodes }
     {
         self.nodes
     }
 
-    /// In the order of the text.
+    /// The blocks in the order of the text.
     pub fn blocks(&self) -> &[Block]
         ensures blocks { result.now ≡ self.now.blocks }
         ensures lawful { AreLabels self.now }
@@ -105,9 +107,9 @@ impl Labels {
         &self.blocks
     }
 
-    /// The distance that a block claims of a node: 0 at its source, none where it has no label. Blocks count from 0;
-    /// past the last one, and above the number of nodes, there is none. Takes no memory; logarithmic time after `index`,
-    /// else time by the number of labels in the block.
+    /// The distance that a block claims for a node: 0 at its source, none if the node has no label. Blocks count from
+    /// 0; a block or a node that doesn't exist has none. Allocates nothing. Takes logarithmic time in an indexed block,
+    /// otherwise time in proportion to its labels.
     #[inline]
     pub fn label(&self, block: usize, id: u32) -> Option<i128>
         ensures label { result ≡ label_at self.now.blocks block id }
@@ -121,7 +123,7 @@ impl Labels {
     }
 }
 
-/// Adds the indices of the blocks that have none.
+/// Adds an index for each block that has none.
 fn index_others(blocks: &[Block], indices: &mut Vec<ById>) -> Result<(), Memory>
     requires lawful { (nodes : ℕ) × All (IsBlock nodes) blocks.now }
     requires begun { AreIndexed blocks.now indices.old.items }
@@ -134,18 +136,18 @@ fn index_others(blocks: &[Block], indices: &mut Vec<ById>) -> Result<(), Memory>
     Ok(())
 }
 
-/// Makes labels of the records of a text, without an index of them.
+/// Reads labels from the records of a text, without an index of them.
 pub type LabelsReading = CountedReading<BegunLabels>;
 
-/// The blocks that came after the problem line.
+/// Labels while their text is read: the blocks after the problem line.
 #[derive(Drop)]
 pub struct BegunLabels {
     nodes: u32,
     declared: u32,
-    /// How many labels the last block lacks.
+    /// How many labels the last block still lacks.
     missing: u32,
     sources: NodeSet,
-    /// By node, the number of the last block that has a label of it, from 1.
+    /// For each node, the number of the last block with a label of it, from 1; 0 for none.
     labelled: NodeTable<u32>,
     blocks: Vec<Block>,
 }
@@ -164,7 +166,7 @@ impl Model for BegunLabels {
 }
 
 impl BegunLabels {
-    /// After a problem line that declares so many nodes and blocks.
+    /// The state after a problem line that declares so many nodes and blocks.
     pub(crate) fn new(alloc: Global, nodes: u32, declared: u32) -> BegunLabels
         requires nodes { nodes ≤ most_nodes }
         requires declared { declared ≤ most_count }
@@ -180,7 +182,7 @@ impl BegunLabels {
         }
     }
 
-    /// The labels that came, which are whole.
+    /// The labels, after the end of the text has passed its tests.
     pub(crate) fn labels(self, alloc: Global) -> Labels
         requires { PassesEnd kinds.Labels (before_end self) }
         ensures labels { result ≡ record { nodes = self.nodes; blocks = self.blocks } }
@@ -201,7 +203,7 @@ impl BegunLabels {
         self.blocks.len() as u32
     }
 
-    /// Whether the last block, which has this source, has a label of a node.
+    /// Whether the last block, whose source is given, has a label of this node.
     #[inline(always)]
     fn has_label(&self, source: u32, id: u32) -> bool
         ensures { (front : List BlockValue) (b : BlockValue) → self.now.blocks ≡ front ++ b ∷ [] → b.source ≡ source → result ≡ is_some (claims.label b id) }
@@ -209,7 +211,7 @@ impl BegunLabels {
         source == id || self.labelled.get(id) == self.len()
     }
 
-    /// The source of the last block; 0 where there is none.
+    /// The source of the last block; 0 without blocks.
     #[inline(always)]
     pub(crate) fn last_source(&self) -> u32
         ensures last { (front : List BlockValue) (b : BlockValue) → self.now.blocks ≡ front ++ b ∷ [] → result ≡ b.source }
@@ -221,7 +223,7 @@ impl BegunLabels {
         }
     }
 
-    /// What is told of a record that asks for no block.
+    /// What the tests have to know for a record that concerns no block.
     #[inline(always)]
     pub(crate) fn lines(&self) -> Earlier
         ensures { result ≡ after_lines self.now }
@@ -231,7 +233,7 @@ impl BegunLabels {
         Earlier::of(Some(Declared { nodes, count }), self.len())
     }
 
-    /// What the records that were taken say of a block of this source.
+    /// What the tests have to know for a new block of this source.
     #[inline(always)]
     pub(crate) fn before_block(&self, source: u32) -> Earlier
         ensures { (count : ℕ) (radius : Option ℤ) → result ≡ before self.now (LabelsBlock source count radius) }
@@ -242,7 +244,7 @@ impl BegunLabels {
         }
     }
 
-    /// What the records that were taken say of a label.
+    /// What the tests have to know for one more label.
     #[inline(always)]
     pub(crate) fn before_label(&self, label: Label) -> Earlier
         ensures { result ≡ before self.now (label_line label) }
@@ -264,7 +266,7 @@ impl BegunLabels {
         }
     }
 
-    /// Opens a block after the others.
+    /// Adds a block, for the labels that follow.
     pub(crate) fn open(
         &mut self,
         source: u32,
@@ -289,7 +291,7 @@ impl BegunLabels {
         Ok(())
     }
 
-    /// Keeps a label of the last block.
+    /// Adds a label to the last block.
     #[inline(always)]
     pub(crate) fn keep_label(&mut self, label: Label) -> Result<(), Memory>
         requires id { 1 ≤ label.id }
@@ -310,6 +312,7 @@ impl BegunLabels {
     }
 }
 
+/// Adds a label to the last block, of which there is one.
 #[inline(always)]
 fn add_to_last(blocks: &mut Vec<Block>, label: Label) -> Result<(), Memory>
     requires { (front : List BlockValue) × (b : BlockValue) × (blocks.old.items ≡ front ++ b ∷ []) × (claims.label b label.id ≡ None) }
@@ -383,7 +386,7 @@ impl Begun for BegunLabels {
     ghost has_problem = { refl };
 }
 
-/// Reads a text of labels, and builds their index.
+/// Reads a text of labels and indexes them.
 pub fn read_labels<S: Source>(alloc: Global, source: &mut S) -> Result<Labels, ReadError>
     ensures reads { (text : List ℕ) → S.coming source.old ≡ Some text → Reads (SpellsLabels text) (Fault kinds.Labels (lines text)) result }
     ensures fits { (text : List ℕ) → S.coming source.old ≡ Some text → IfOk result (λ labels. FitText labels) }
@@ -394,7 +397,7 @@ pub fn read_labels<S: Source>(alloc: Global, source: &mut S) -> Result<Labels, R
     Ok(labels)
 }
 
-/// Reads a text of labels, and builds no index of them.
+/// Reads a text of labels, without an index of them.
 pub fn read_plain_labels<S: Source>(alloc: Global, source: &mut S) -> Result<Labels, ReadError>
     ensures reads { (text : List ℕ) → S.coming source.old ≡ Some text → Reads (SpellsLabels text) (Fault kinds.Labels (lines text)) result }
     ensures fits { (text : List ℕ) → S.coming source.old ≡ Some text → IfOk result (λ labels. FitText labels) }
@@ -413,7 +416,7 @@ pub fn write_labels<S: Sink>(labels: &Labels, sink: &mut S) -> Result<(), Device
     write_in_kind(TextKind::Labels, labels, sink)
 }
 
-/// Writes labels in a text of this kind. The kind is constant in each copy of it.
+/// Writes labels as a text of this kind: labels or distances. Inlined, so that the kind is a constant in each copy.
 #[inline(always)]
 pub(crate) fn write_in_kind<S: Sink>(
     kind: TextKind,
@@ -438,7 +441,7 @@ pub(crate) fn write_in_kind<S: Sink>(
     page.finish(sink)
 }
 
-/// Writes the line of a block and those of its labels.
+/// Writes the line of a block and the lines of its labels.
 #[inline(always)]
 fn write_block<S: Sink>(page: &mut Page, sink: &mut S, kind: TextKind, block: &Block)
     requires { length block.now.labels ≤ most_count }
@@ -465,7 +468,7 @@ fn write_block<S: Sink>(page: &mut Page, sink: &mut S, kind: TextKind, block: &B
     );
 }
 
-/// What a text of the kind has of a line of labels.
+/// A line of labels as a text of this kind has it.
 #[inline(always)]
 fn in_kind(kind: TextKind, said: Record) -> Record
     ensures { result ≡ in_kind kind said }
@@ -476,7 +479,7 @@ fn in_kind(kind: TextKind, said: Record) -> Record
     }
 }
 
-/// A line of labels without PRED and RADIUS.
+/// A line of labels as a line of distances: without PRED and RADIUS.
 #[inline(always)]
 fn bare(said: Record) -> Record
     ensures { result ≡ bare said }

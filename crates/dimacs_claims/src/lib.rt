@@ -1,4 +1,5 @@
-//! Claims and certificates: solutions, cuts, potentials, labels and distances, read from texts and written in the canonical form.
+//! Claims and certificates: solutions, cuts, potentials, labels and distances. They are read from texts, and written in
+//! the canonical form.
 #![tactic(auto)]
 
 mod block;

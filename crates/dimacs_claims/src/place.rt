@@ -1,4 +1,4 @@
-//! Places, where the entries of a solution go as they are read.
+//! Where the entries of a solution go while they are read.
 
 ghost use Rattle.std.specs.Prelude.{◌≡◌, ◌↔◌, ◌++◌, ◌∷◌, [], List, OnOk, OnErr};
 ghost use Rattle.dimacs_claims.specs.declared.solution.Entry.{Entry};
@@ -6,26 +6,26 @@ ghost use Rattle.dimacs_claims.specs.declared.solution.Entry.{Entry};
 use crate::solution::Entry;
 use dimacs_lines::Memory;
 
-/// Where entries are put, one after another.
+/// Receives the entries of a solution one after another.
 ///
-/// A place stands for lists of entries. That is a relation, since it need not keep the entries: a place may keep what
-/// follows from them alone.
+/// The specification relates a place to lists of entries. It is a relation, not a function, since a place needn't keep
+/// the entries: it may keep only what follows from them.
 pub trait Place: Drop {
     ghost stands_for: { Self → List Entry → Type 0 };
 
     ghost Fixed: { Type 0 };
 
-    /// What no entry changes.
+    /// The part of the state that no entry changes.
     ghost fixed: { Self → Fixed };
 
-    /// Puts one more entry after the others. After an error the place is unchanged: it stands for the same lists.
+    /// Adds an entry after the others. After an error the place stands for the same entries as before.
     fn place(&mut self, entry: Entry) -> Result<(), Memory>
         ensures placed { OnOk result ((entries : List Entry) → stands_for self.old entries → stands_for self.new (entries ++ entry ∷ [])) }
         ensures unchanged { OnErr result ((entries : List Entry) → stands_for self.new entries ↔ stands_for self.old entries) }
         ensures fixed { fixed self.new ≡ fixed self.old };
 }
 
-/// Entries that are kept stand for themselves.
+/// A list of entries keeps all of them.
 impl Place for Vec<Entry> {
     ghost stands_for = { λ kept entries. kept.items ≡ entries };
 
@@ -40,11 +40,11 @@ impl Place for Vec<Entry> {
     }
 }
 
-/// A solution whose entries were put in a place: its value or its cost, and the place.
+/// A solution whose entries went to a place: its value or cost, and the place.
 #[derive(Drop)]
 pub struct Placed<P: Place> {
     pub value: i128,
-    /// The line of the text that says the value.
+    /// The line of the text that has the value.
     pub value_line: u64,
     pub place: P,
 }

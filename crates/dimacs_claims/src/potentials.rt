@@ -1,4 +1,4 @@
-//! Potentials of nodes.
+//! Node potentials.
 
 ghost use Rattle.std.specs.Prelude.{◌≡◌, ◌≤◌, ◌<◌, ◌+◌, ◌++◌, ◌∷◌, [], ℕ, List, None, Some, OnOk, OnErr, if◌then◌else◌, length, refl};
 ghost use Rattle.dimacs_lines.specs.Limits.{most_nodes, IsNode};
@@ -22,11 +22,11 @@ use dimacs_records::{
 use std::alloc::Global;
 use std::marker::Model;
 
-/// A potential for each node, which is 0 unless another is set.
+/// A potential for each node of an instance: 0 unless it is set.
 #[derive(Drop)]
 pub struct Potentials {
     nodes: u32,
-    /// Those that were set, also to 0.
+    /// The potentials that were set, some of them perhaps to 0.
     values: WideMap,
 }
 
@@ -45,7 +45,7 @@ impl Model for Potentials {
 }
 
 impl Potentials {
-    /// The potential 0 for each of so many nodes. Takes no memory.
+    /// The potential 0 at each of so many nodes. Allocates nothing.
     pub fn new(alloc: Global, nodes: u32) -> Potentials
         requires { nodes ≤ most_nodes }
         ensures { result ≡ zero_potentials nodes }
@@ -56,6 +56,7 @@ impl Potentials {
         }
     }
 
+    /// The number of nodes of the instance, NODES of the text.
     #[inline]
     pub fn nodes(&self) -> u32
         ensures nodes { result ≡ self.now.nodes }
@@ -64,7 +65,7 @@ impl Potentials {
         self.nodes
     }
 
-    /// The potential of the node of this ID, and 0 of an ID of no node. Takes no memory.
+    /// The potential of a node; 0 for an ID above the number of nodes. Allocates nothing.
     #[inline]
     pub fn of(&self, id: u32) -> i128
         ensures value { result ≡ potential_of self.now id }
@@ -73,7 +74,7 @@ impl Potentials {
         self.values.get(id).unwrap_or(0)
     }
 
-    /// Gives a node another potential.
+    /// Sets the potential of a node.
     pub fn set(&mut self, id: u32, value: i128) -> Result<(), Memory>
         requires node { IsNode self.old.nodes id }
         requires wide { IsWide value }
@@ -97,17 +98,17 @@ impl Potentials {
     }
 }
 
-/// Makes potentials of the records of a text.
+/// Reads potentials from the records of a text.
 pub type PotentialsReading = CountedReading<BegunPotentials>;
 
-/// The potentials that came after the problem line.
+/// Potentials while their text is read: the lines after the problem line.
 #[derive(Drop)]
 pub struct BegunPotentials {
     nodes: u32,
     declared: u32,
-    /// The number of lines that came.
+    /// The number of lines after the problem line.
     taken: u32,
-    /// Those of the nodes that were named, also with 0.
+    /// The potentials of the nodes on these lines, some of them perhaps 0.
     values: WideMap,
 }
 

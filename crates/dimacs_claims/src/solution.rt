@@ -1,4 +1,4 @@
-//! Solutions: a value, and the flows of arcs.
+//! Solutions: a value or cost, and the flows of arcs.
 
 ghost use Rattle.std.specs.Prelude.{◌≡◌, ◌<◌, ℕ, List, [], Some, IfOk, length, map, option_map, slice_get};
 ghost use Rattle.dimacs_claims.specs.declared.solution.Entry.{Entry};
@@ -21,24 +21,24 @@ use dimacs_records::{
 };
 use std::alloc::Global;
 
-/// A claimed flow: its value or its cost, and what arcs carry. The fields are open: what was read is lawful, and
-/// `read_solution` says so.
+/// A claimed flow: its value or cost, and the flows of arcs. The fields are public and may hold anything;
+/// `read_solution` promises that what it reads is lawful.
 #[derive(Debug, PartialEq, Eq, Drop)]
 pub struct Solution {
     pub value: i128,
-    /// The line of the text that says the value.
+    /// The line of the text that has the value.
     pub value_line: u64,
     /// The entries in the order of the text.
     pub entries: Vec<Entry>,
 }
 
-/// The flow of the arc from one node to another.
+/// The claimed flow of an arc between two nodes.
 #[derive(Clone, Copy, Debug, PartialEq, Eq)]
 pub struct Entry {
     pub tail: u32,
     pub head: u32,
     pub flow: i64,
-    /// The line of the text that says so.
+    /// The line of the text that has this entry.
     pub line: u64,
 }
 
@@ -56,14 +56,15 @@ impl Entry {
     }
 }
 
-/// A value, and the line that says it.
+/// A value and its line.
 #[derive(Clone, Copy)]
 pub(crate) struct ValueLine {
     value: i128,
     line: u64,
 }
 
-/// Puts the entries of a text's records in a place, and keeps the value, which may come anywhere.
+/// Reads a solution from the records of a text: passes the entries to a place, and keeps the value, which may come at
+/// any position.
 #[derive(Drop)]
 pub struct SolutionReading<P: Place> {
     value: Option<ValueLine>,
@@ -71,6 +72,7 @@ pub struct SolutionReading<P: Place> {
 }
 
 impl<P: Place> SolutionReading<P> {
+    /// A reading before the first record; `place` has no entries yet.
     pub fn new(place: P) -> SolutionReading<P>
         ensures begins { (entries : List Entry) → P.stands_for place entries
             → StandsForSolution result.value (P.stands_for result.place) (map entry_line entries) }
@@ -79,7 +81,7 @@ impl<P: Place> SolutionReading<P> {
         SolutionReading { value: None, place }
     }
 
-    /// What the earlier records say of a value, or of the end.
+    /// What the tests have to know for a value, or for the end.
     #[inline(always)]
     fn earlier(&self) -> Earlier
         ensures { result ≡ earlier_value self.now.value }
@@ -135,7 +137,7 @@ impl<P: Place> Reading for SolutionReading<P> {
     }
 }
 
-/// Reads a text of a solution.
+/// Reads a text of a solution. Arcs aren't compared with an instance here.
 pub fn read_solution<S: Source>(alloc: Global, source: &mut S) -> Result<Solution, ReadError>
     ensures reads { (text : List ℕ) → S.coming source.old ≡ Some text
         → Reads (SpellsSolution text) (Fault kinds.Solution (lines text)) (result_map_both claimed (λ e. e) result) }
@@ -150,8 +152,8 @@ pub fn read_solution<S: Source>(alloc: Global, source: &mut S) -> Result<Solutio
     })
 }
 
-/// Reads a text of a solution, and puts each entry in the place as it is read. Answers what `read_solution` would, with
-/// the entries in the place.
+/// Reads a text of a solution, and passes each entry to the place as soon as it is read. The result is that of
+/// `read_solution`, with the place instead of the entries.
 pub fn read_solution_into<P: Place, S: Source>(
     alloc: Global,
     place: P,
@@ -173,8 +175,7 @@ pub fn read_solution_into<P: Place, S: Source>(
     )
 }
 
-/// Writes the canonical text of a solution. Read again, its value stands on line 1 and its entries on the lines
-/// after it.
+/// Writes the canonical text of a solution. It has the value on line 1 and the entries on the lines after it.
 pub fn write_solution<S: Sink>(solution: &Solution, sink: &mut S) -> Result<(), DeviceFault>
     ensures puts { Puts result (S.seen sink.old) (canonical_solution (claimed solution.now)) (S.seen sink.new) }
     ensures round_trip { IsLawful (claimed solution.now) → SpellsSolution (canonical_solution (claimed solution.now)) (renumbered (claimed solution.now)) }

@@ -1,4 +1,4 @@
-//! The kinds of text of claims and certificates: how each is read, written and shown.
+//! How each kind of claim and certificate is read, written and shown.
 
 ghost use Rattle.std.specs.Prelude.{◌≡◌, ℕ, List};
 ghost use Rattle.dimacs_records.specs.declared.kinds.TextKind.TheVariants as kinds;

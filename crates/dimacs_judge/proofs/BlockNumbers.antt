@@ -1,4 +1,4 @@
--- Blocks by their sources, and their numbers.
+-- The numbers of blocks, by source.
 use Rattle.std.proofs.Common.{◌≡◌, inl, inr, ℕ, ◌+◌, ◌<◌, ◌==◌, ◌↔◌, IsTrue, Bool, true, false, List, ◌∷◌, [], ◌++◌, length, get_or, take, drop, not, cond, Option, Some, None, is_some, refl, sym, ◌∙◌, ap, arith}
 use Rattle.std.specs.List.{find, position, position_or_len, slice_get}
 use Rattle.std.specs.Option.{option_and_then}
@@ -31,7 +31,7 @@ module _ {X : Type 0} (p : X → Bool) where
     | inr past ↦ omega (arith, inside, past)
   ])
 
-  -- one more that fails, after the others
+  -- one more item at the end, which fails
   position-push : (xs : List X) (x : X) → p x ≡ false → position p (xs ++ x ∷ []) ≡ position p xs
   position-push xs x off =
       let more = position_or_len_push p xs x in
@@ -65,7 +65,7 @@ no_block blocks source none has =
     let on = eq-eqb b.source source same in
     cc
 
--- the block of a source that has a number
+-- the block of a source with this number
 pub block_numbered : (blocks : List BlockValue) (source i : ℕ) (b : BlockValue) → position (has_source source) blocks ≡ Some i → b ≡ get_or blocks i b → block_of blocks source ≡ Some b
 block_numbered blocks source i b is at =
     find-position (has_source source) blocks ∙ (ap (option_and_then (slice_get blocks)) is ∙ (slice_get-get_or blocks i b (position-Some (has_source source) blocks i b is).0 ∙ ap (λ (d : BlockValue). Some d) (sym at)))
@@ -94,7 +94,7 @@ radius_some blocks source i b is at = ap radius_in (sym (block_numbered blocks s
 pub radius_none : (blocks : List BlockValue) (source : ℕ) → position (has_source source) blocks ≡ None → None ≡ radius_from blocks source
 radius_none blocks source none = ap radius_in (sym (block_unnumbered blocks source none))
 
--- and whether it has a number tells
+-- a source has a block exactly if it has a number
 pub numbered_tells : (blocks : List BlockValue) (source : ℕ) (number : Option ℕ) (told : Bool) → told ≡ is_some number → number ≡ position (has_source source) blocks → IsTrue told ↔ HasBlock blocks source
 numbered_tells blocks source None told e is = (λ t. absurd (let f : true ≡ false = sym t ∙ e in cc), λ has. absurd (no_block blocks source (sym is) has))
 numbered_tells blocks source (Some i) told e is = (λ t. has_block blocks source i (sym is), λ has. e)
@@ -114,14 +114,14 @@ numbers_more blocks numbers i b inside is new are source =
       | inr other ↦ get-insert_other numbers b.source source i other ∙ are source ∙ sym (position-push (has_source source) (take i blocks) b (ne_eqb b.source source (λ e. other (sym e)))) ∙ ap (position (has_source source)) (sym step)
     ]
 
--- ---- what they lead to
+-- ---- distances and radii by number
 pub distance_none : (blocks : List BlockValue) (from to : ℕ) → position (has_source from) blocks ≡ None → None ≡ distance_from blocks from to
 distance_none blocks from to none = rw (find-position (has_source from) blocks, none) refl
 
 pub distance_some : (blocks : List BlockValue) (from to i : ℕ) → position (has_source from) blocks ≡ Some i → label_at blocks i to ≡ distance_from blocks from to
 distance_some blocks from to i is = rw (find-position (has_source from) blocks, is) refl
 
--- the block of a source that has one
+-- a source with a block
 pub block_found : (blocks : List BlockValue) (source : ℕ) → HasBlock blocks source → (i : ℕ) × (b : BlockValue) × (i < length blocks) × (get_or blocks i b ≡ b) × (block_of blocks source ≡ Some b) × (b.source ≡ source)
 block_found blocks source has = by_number (position (has_source source) blocks) refl
   where

@@ -1,4 +1,4 @@
--- Entries that carry a flow, and the tests of the entries.
+-- The flow of entries, and the tests of the entries.
 use Rattle.std.proofs.Common.{◌≡◌, inl, inr, ℕ, ◌<◌, List, length, take, count_by, ℤ, refl, sym, ap, ◌∙◌, arith}
 use Rattle.std.proofs.lemmas.Bool.{cases_lt}
 use Rattle.std.proofs.lemmas.List.FromFn.{length-map-range_with_len}
@@ -13,7 +13,7 @@ use Rattle.dimacs_judge.specs.Claims.{is_between, claimed_of, claimed_flow, HasA
 use Rattle.dimacs_judge.specs.Tests.{Clear, FirstOfRow}
 use Rattle.dimacs_judge.proofs.Firsts.{OneWay}
 
--- ---- the flow that entries carry
+-- ---- the flow of entries
 pub length-claimed_flow : (arcs : List ArcView) (entries : List Entry) → length (claimed_flow arcs entries) ≡ length arcs
 length-claimed_flow arcs entries = length-map-range_with_len (claimed_of arcs entries) 0 (length arcs)
 
@@ -39,17 +39,17 @@ module _ (arcs : List ArcView) (entries : List Entry) (clear : Clear (entry_row 
   pub clear_carries : Carries arcs entries (claimed_flow arcs entries)
   clear_carries = claims_carried (claimed_flow arcs entries) refl
 
--- ---- and those that carry one pass
+-- ---- entries that carry a flow pass
 pub carries_clear : (arcs : List ArcView) (entries : List Entry) (x : List ℤ) → Carries arcs entries x → Clear (entry_row arcs entries)
 carries_clear arcs entries x carries k place reason f =
     let fewer = carries.each_has_arc k f.0 in
     elim f.2 [ inl u ↦ u.1 (omega (arith, fewer)) | inr t ↦ absurd (omega (arith, fewer, t.2)) ]
 
--- where an entry fails first they carry no flow
+-- if some entry fails, the entries carry no flow
 pub none_carried : (arcs : List ArcView) (entries : List Entry) (place : Where) (reason : Reason) → FirstOfRow (entry_row arcs entries) place reason → (x : List ℤ) → ¬ Carries arcs entries x
 none_carried arcs entries place reason f x carries = carries_clear arcs entries x carries f.number place reason f.fails
 
--- ---- an entry fails in one way
+-- ---- an entry fails for only one reason
 one_entry : (arcs : List ArcView) (before : List Entry) (e : Entry) (r s : Reason) → EntryFails arcs before e r → EntryFails arcs before e s → r ≡ s
 one_entry arcs before e r s (inl f) (inl g) = f.0 ∙ sym g.0
 one_entry arcs before e r s (inl f) (inr g) = absurd (f.1 g.1)

@@ -1,4 +1,4 @@
--- What crosses a set of nodes.
+-- What can flow out of a set of nodes.
 use Rattle.std.proofs.Common.{◌≡◌, ℕ, ◌+◌, ◌-◌, ◌*◌, ◌^◌, ◌≤◌, suc, zero, Bool, true, false, List, take, slice_get, Some, ℤ, ◌+ℤ◌, ◌-ℤ◌, refl, ◌∙◌, arith, w64, SFits, to_z, of_z}
 use Rattle.std.specs.Int.{w128}
 use Rattle.std.proofs.lemmas.Int.{ints, to_z-of_z}
@@ -10,7 +10,7 @@ use Rattle.dimacs_judge.specs.Cuts.{leaves, enters}
 use Rattle.dimacs_judge.specs.ViolatedSets.{sum_where, supply_in}
 use Rattle.dimacs_judge.proofs.StepLemmas.{sum_where_more}
 
--- sums of numbers of this size stay in their range
+-- adding numbers of this size doesn't overflow
 pub sum_stays : (sum x : ℤ) → IsOfSize (2 ^ 120) sum → IsOfSize (2 ^ 63) x → to_z w128 (of_z w128 (to_z w128 (of_z w128 sum) +ℤ to_z w128 (of_z w128 x))) ≡ sum +ℤ x
 sum_stays sum x s t =
     let fits_sum : SFits w128 sum = omega (arith, ints) in
@@ -25,14 +25,14 @@ difference_stays sum x s t =
     let fits : SFits w128 (sum -ℤ x) = omega (arith, ints) in
     rw (to_z-of_z w128 sum fits_sum, to_z-of_z w128 x fits_x, to_z-of_z w128 (sum -ℤ x) fits) refl
 
--- an arc that leaves adds the one bound
+-- an arc that leaves the set adds one of its bounds
 pub leaving_sum : (set : ℕ → Bool) (a : ArcView) (sum x out back : ℤ) → IsOfSize (2 ^ 120) sum → IsOfSize (2 ^ 63) out → x ≡ to_z w64 (of_z w64 out) → SFits w64 out → true ≡ set a.tail → false ≡ set a.head
     → to_z w128 (of_z w128 (to_z w128 (of_z w128 sum) +ℤ to_z w128 (of_z w128 x))) ≡ (sum +ℤ when (leaves set a) out) -ℤ when (enters set a) back
 leaving_sum set a sum x out back s t is fits tail head =
     let x_is : x ≡ out = is ∙ to_z-of_z w64 out fits in
     rw (← tail, ← head, x_is) (sum_stays sum out s t ∙ omega (arith, ints))
 
--- and one that enters takes the other
+-- an arc that enters the set subtracts the other
 pub entering_sum : (set : ℕ → Bool) (a : ArcView) (sum x out back : ℤ) → IsOfSize (2 ^ 120) sum → IsOfSize (2 ^ 63) back → x ≡ to_z w64 (of_z w64 back) → SFits w64 back → false ≡ set a.tail → true ≡ set a.head
     → to_z w128 (of_z w128 (to_z w128 (of_z w128 sum) -ℤ to_z w128 (of_z w128 x))) ≡ (sum +ℤ when (leaves set a) out) -ℤ when (enters set a) back
 entering_sum set a sum x out back s t is fits tail head =
@@ -45,7 +45,7 @@ two_shares true false h z x y s t u = omega (arith, ints)
 two_shares false true h z x y s t u = omega (arith, ints)
 two_shares false false h z x y s t u = omega (arith, ints)
 
--- a bound of what crosses the set, over the arcs so far
+-- one of the bounds, over the arcs so far
 abbrev pub IsBoundOf : (ArcView → ℤ) → (ArcView → ℤ) → List ArcView → (ℕ → Bool) → ℕ → ℤ → Type 0
 IsBoundOf out back arcs set i sum = (sum ≡ sum_where (leaves set) out (take i arcs) -ℤ sum_where (enters set) back (take i arcs)) × IsOfSize (i * 2 ^ 64) sum
 

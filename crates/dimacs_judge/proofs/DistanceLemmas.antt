@@ -1,14 +1,14 @@
--- Differences of distances, told by numbers of a width.
+-- Comparing differences of distances in numbers of a fixed width.
 use Rattle.std.proofs.Common.{IsTrue, ◌≡◌, ◌↔◌, true, ℤ, ◌+ℤ◌, ◌-ℤ◌, ◌<ℤ◌, SFits, of_z, to_z, eqb, eqb-true, eq-eqb, sym, ap, ◌∙◌, arith}
 use Rattle.std.specs.Prelude.{int_lt}
 use Rattle.std.specs.Int.{Width}
 use Rattle.std.proofs.lemmas.Int.{ints, to_z-of_z}
 
--- two numbers are equal where their bits are
+-- two numbers are equal if their bits are
 same_bits : (w : Width) (x y : ℤ) → SFits w x → SFits w y → of_z w x ≡ of_z w y → x ≡ y
 same_bits w x y fits_x fits_y same = sym (to_z-of_z w x fits_x) ∙ ap (to_z w) same ∙ to_z-of_z w y fits_y
 
--- the difference, and the weight
+-- comparing the difference with the weight
 module _ (w : Width) (to from weight : ℤ) (fits_to : SFits w to) (fits_from : SFits w from) (fits_weight : SFits w weight) (fits_step : SFits w (to -ℤ from)) where
   pub less_tells : IsTrue (int_lt (to_z w (of_z w weight)) (to_z w (of_z w (to_z w (of_z w to) -ℤ to_z w (of_z w from))))) ↔ ((from +ℤ weight) <ℤ to)
   less_tells = rw (to_z-of_z w weight fits_weight, to_z-of_z w to fits_to, to_z-of_z w from fits_from, to_z-of_z w (to -ℤ from) fits_step) (by from to weight)

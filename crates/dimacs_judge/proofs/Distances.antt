@@ -1,4 +1,4 @@
--- What labels prove of all walks.
+-- Labels that pass are distances over all walks.
 use Rattle.std.proofs.Common.{◌≡◌, ◌≢◌, ◌⊎◌, inl, inr, ℕ, ◌==◌, ℤ, pos, ◌+ℤ◌, ◌≤ℤ◌, ◌<ℤ◌, Bool, true, false, cond, List, [], ◌∷◌, ◌++◌, All, Contains, Option, Some, None, refl, sym, subst, eq-eqb, ◌∙◌, arith}
 use Rattle.std.proofs.lemmas.Int.{ints, by_lt_z}
 use Rattle.std.proofs.lemmas.List.{append_assoc, append-nil}
@@ -11,7 +11,7 @@ use Rattle.dimacs_claims.specs.Labels.{BlockValue, IsNear, distance_in, label, P
 use Rattle.dimacs_judge.specs.Labels.{HasTightArc, HasWeights, IsReached, IsRelaxed, LabelsOk, StaysNear}
 
 -- ---- no walk weighs less
--- a length is past the radius that there is
+-- there is a radius, and the length is beyond it
 abbrev pub IsPast : Option ℤ → ℤ → Type 0
 IsPast radius length = (r : ℤ) × (radius ≡ Some r) × (r <ℤ length)
 
@@ -19,7 +19,7 @@ past_where_not_near : (radius : Option ℤ) (length : ℤ) → (¬ IsNear radius
 past_where_not_near None length off = absurd (off tt)
 past_where_not_near (Some r) length off = (r, refl, by_lt_z r length (λ l. l) (λ le. absurd (off le)))
 
--- a node has a label of no more than this length, or the length is past the radius
+-- the node has a label no greater than this length, or the length is beyond the radius
 abbrev IsBound : BlockValue → ℕ → ℤ → Type 0
 IsBound b t length = ((e : ℤ) × (label b t ≡ Some e) × (e ≤ℤ length)) ⊎ IsPast b.radius length
 
@@ -54,7 +54,7 @@ weight_more : (walk : List ArcView) (a : ArcView) → weight (walk ++ a ∷ []) 
 weight_more [] a = omega (arith, ints)
 weight_more (b ∷ walk) a = omega (arith, ints, weight_more walk a)
 
--- the block with these labels alone
+-- the block with exactly these labels
 abbrev with_labels : ℕ → List Label → BlockValue
 with_labels s labels = record { source = s; radius = None; labels = labels }
 
@@ -84,7 +84,7 @@ distance_in-push (m ∷ earlier) l v d e = under_or (m.id == v) _ _ _ d _ (dista
 label-push : (s : ℕ) (earlier : List Label) (l : Label) (v : ℕ) (d : ℤ) → label (with_labels s (earlier ++ l ∷ [])) v ≡ Some d → (label (with_labels s earlier) v ≡ Some d) ⊎ ((l.id ≡ v) × (l.dist ≡ d))
 label-push s earlier l v d e = under_or (s == v) _ _ _ d _ (distance_in-push earlier l v d) e
 
--- each of the labels is the first of its node, or after one of it
+-- each label is the first of its node, or comes after one of the same node
 abbrev IsListed : List Label → Label → Type 0
 IsListed labels m = (d : ℤ) × (distance_in labels m.id ≡ Some d)
 
@@ -105,7 +105,7 @@ all_listed (l ∷ labels) = All-cons (IsListed (l ∷ labels)) l labels (listed_
 own_label : (b : BlockValue) → label b b.source ≡ Some (pos 0)
 own_label b = let same : (b.source == b.source) ≡ true = eq-eqb b.source b.source refl in rw same refl
 
--- what stands earlier in a block is labelled
+-- a node named earlier in the block has a label
 labelled : (s : ℕ) (earlier : List Label) (v : ℕ) → (v ≡ s) ⊎ ((m : Label) × Contains earlier m × (m.id ≡ v)) → (d : ℤ) × (label (with_labels s earlier) v ≡ Some d)
 labelled s earlier v (inl e) = rw e (pos 0, own_label (with_labels s earlier))
 labelled s earlier v (inr (m, has, e)) = go (s == v)
@@ -127,7 +127,7 @@ no_labels g s v d e = go (eqb_tells s v)
     go (inl h) = ([], h.1, let f = rw h.0 at e in cc)
     go (inr h) = absurd (let f = rw h.0 at e in cc)
 
--- one label more
+-- one more label
 one_more : (g : List ArcView) (s : ℕ) (earlier rest : List Label) (l : Label) → HasTightArc g (with_labels s (earlier ++ l ∷ rest)) l → (l.pred ≡ s) ⊎ ((m : Label) × Contains earlier m × (m.id ≡ l.pred)) → Walks g s earlier → Walks g s (earlier ++ l ∷ [])
 one_more g s earlier rest l tight known w v d at = go (label-push s earlier l v d at)
   where
@@ -151,7 +151,7 @@ walks g s labels known tight earlier (l ∷ rest) e w =
     let here = rw e at (All-contains (HasTightArc g (with_labels s labels)) labels l tight has) in
     walks g s labels known tight (earlier ++ l ∷ []) rest (e ∙ sym (append_assoc earlier (l ∷ []) rest)) (one_more g s earlier rest l here (known earlier rest l e) w)
 
--- the labels of a block near its radius
+-- no label of the block is beyond its radius
 pub near_label : (b : BlockValue) → StaysNear b → (v : ℕ) (d : ℤ) → label b v ≡ Some d → IsNear b.radius d
 near_label b near v d at = elim (eqb_tells b.source v) [
   | inl same ↦ (let own : Some (pos 0) ≡ Some d = (rw same.0 at at) in let e : pos 0 ≡ d = cc in subst (IsNear b.radius) e near.source)

@@ -1,4 +1,4 @@
--- What tight cuts, slack potentials and violated sets prove.
+-- What tight cuts, slack potentials and violated sets show.
 use Rattle.std.proofs.Common.{◌≡◌, ◌≢◌, inl, inr, ℕ, ℤ, pos, ◌+ℤ◌, ◌-ℤ◌, ◌*ℤ◌, ◌≤ℤ◌, ◌<ℤ◌, Bool, true, false, true≢false, not, ◌&&◌, List, [], ◌∷◌, refl, sym, ap, ◌∙◌, arith}
 use Rattle.std.proofs.lemmas.Int.{ints, by_lt_z}
 use Rattle.std.specs.List.{All, AllZip}
@@ -16,15 +16,15 @@ use Rattle.dimacs_judge.specs.ViolatedSets.{supply_in, most_out, least_out, Viol
 use Rattle.dimacs_judge.proofs.Products.{mul_add, mul_sub, mul_comm, mul_le, mul_ge}
 use Rattle.dimacs_judge.proofs.Sums.{sum_arcs-add, sum_arcs-same, sum_arcs-le, sum_nodes-same, sum_nodes-one, sums_exchange}
 
--- 1 inside the set, 0 outside
+-- 1 for nodes in the set, 0 for others
 abbrev pub one_in : (ℕ → Bool) → ℕ → ℤ
 one_in c v = when (c v) (pos 1)
 
--- what crosses the set, out less in
+-- the flow out of the set less the flow into it
 abbrev pub across : (ℕ → Bool) → List ArcView → List ℤ → ℤ
 across c arcs y = sum_arcs (λ a x. x *ℤ (one_in c a.tail -ℤ one_in c a.head)) arcs y
 
--- a node's share in the sum over the set
+-- the term of one node in the sum over the set
 inside : (b : Bool) (z : ℤ) → when b (pos 1) *ℤ z ≡ when b z
 inside true z = omega (arith, ints)
 inside false z = omega (arith, ints)
@@ -33,7 +33,7 @@ pub across_is : (c : ℕ → Bool) (n : ℕ) (arcs : List ArcView) (y : List ℤ
 across_is c n arcs y ends =
     sum_nodes-same (λ v. when (c v) (net arcs y v)) (λ v. one_in c v *ℤ net arcs y v) n (λ v h. sym (inside (c v) _)) ∙ sums_exchange (one_in c) n arcs y ends
 
--- the value is what crosses a set with the source and not the sink
+-- the value of a flow is its net flow out of any set with the source and without the sink
 pub value_across : (i : MaxValue) (c : ℕ → Bool) (y : List ℤ) → All (JoinsNodes i.nodes) i.arcs → IsNode i.nodes i.source → c i.source ≡ true → c i.sink ≡ false → FeasibleMax i y → value i y ≡ across c i.arcs y
 value_across i c y ends source here there f =
     sym (rw here at (sum_nodes-one (λ v. when (c v) (net i.arcs y v)) i.source i.nodes source (λ v h ne. go v h ne (c v) refl))) ∙ across_is c i.nodes i.arcs y ends

@@ -1,4 +1,4 @@
--- One more entry: what is claimed then, and the tests.
+-- One more entry: the claimed flow, and the tests.
 use Rattle.std.proofs.Common.{◌≡◌, ◌≢◌, inl, inr, ℕ, ◌+◌, ◌<◌, true, false, ◌==◌, List, [], ◌∷◌, ◌++◌, length, take, get_or, set, replicate, count_by, ℤ, pos, Some, refl, sym, ap, ap₂, ◌∙◌, arith}
 use Rattle.std.proofs.lemmas.Bool.{cases_Bool, cases_eq, cases_lt, cases_order, and_from, and_parts, eqb-true, eq-eqb}
 use Rattle.std.proofs.lemmas.Option.{slice_get-get_or}
@@ -56,7 +56,7 @@ module _ (tail head : ℕ) (before : List Entry) (e : Entry) where
   pub counted_same : is_between tail head e ≡ false → count_by (is_between tail head) (before ++ e ∷ []) ≡ count_by (is_between tail head) before
   counted_same off = omega (arith, count_by-append (is_between tail head) before (e ∷ []), count_no (is_between tail head) e [] off)
 
--- ---- what is claimed
+-- ---- claimed amounts
 abbrev flow_at : List Entry → ℕ → ℤ
 flow_at entries k = (get_or entries k no_entry).flow
 
@@ -64,7 +64,7 @@ pub none_claimed : (arcs : List ArcView) (n : ℕ) → n ≡ length arcs → rep
 none_claimed arcs n one_each =
     rw one_each (fill_by_all (claimed_of arcs []) (replicate (length arcs) (pos 0)) (length arcs) (pos 0) (length-replicate (length arcs) (pos 0)) (λ k inside. get_or-replicate (length arcs) k (pos 0) (pos 0) inside))
 
--- the entry after others, and the arc to which it belongs
+-- an entry after others, and the arc to which it belongs
 module _ (arcs : List ArcView) (before : List Entry) (e : Entry) (i : ℕ) (found : IsKthBetween arcs e.tail e.head (count_by (is_between e.tail e.head) before) (Some i)) where
   own_flow : claimed_of arcs (before ++ e ∷ []) i ≡ e.flow
   own_flow =
@@ -76,7 +76,7 @@ module _ (arcs : List ArcView) (before : List Entry) (e : Entry) (i : ℕ) (foun
       ∙ (ap (λ es. flow_at es k) (more_between e.tail e.head before e (between_own e))
       ∙ ap (λ (b : Entry). b.flow) (get_or_push (entries_between before e.tail e.head) e no_entry k (length-filter (is_between e.tail e.head) before))))
 
-  -- a list with the entry after it has the same elsewhere
+  -- the longer list has the same flows elsewhere
   elsewhere : (entries : List Entry) (k : ℕ) → k ≢ length entries → flow_at (entries ++ e ∷ []) k ≡ flow_at entries k
   elsewhere entries k other = elim (cases_order k (length entries)) [
     | inl same ↦ absurd (other same)
@@ -104,7 +104,7 @@ module _ (arcs : List ArcView) (before : List Entry) (e : Entry) (i : ℕ) (foun
             same ∙ length-filter (is_between (arc_at arcs j).tail (arc_at arcs j).head) before,
           )
 
-  -- its flow is put on its arc, and nothing else changes
+  -- the entry's flow is put on its arc, and nothing else changes
   pub claimed_more : claimed_flow arcs (before ++ e ∷ []) ≡ set (claimed_flow arcs before) i e.flow
   claimed_more = sym (fill_by_all (claimed_of arcs (before ++ e ∷ [])) (set (claimed_flow arcs before) i e.flow) (length arcs) (pos 0) (length-set (claimed_flow arcs before) i e.flow ∙ length-claimed_flow arcs before) each)
     where

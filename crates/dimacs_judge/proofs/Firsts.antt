@@ -1,4 +1,4 @@
--- At most one test is the first that fails, and none where all pass.
+-- At most one test is the first that fails, and none if all pass.
 use Rattle.std.proofs.Common.{◌≡◌, inl, inr, ℕ, List, [], ◌∷◌, subst, sym, ◌∙◌}
 use Rattle.std.proofs.lemmas.Bool.{cases_order}
 use Rattle.dimacs_network.specs.declared.network.ArcView.{ArcView}
@@ -7,7 +7,7 @@ use Rattle.dimacs_judge.specs.declared.verdict.Where.{Where}
 use Rattle.dimacs_judge.specs.Tests.{Row, AllClear, FirstOfRow, First}
 use Rattle.dimacs_judge.specs.Rows.{arc_row, node_row, one_test}
 
--- a test of the row fails in one way
+-- each test of the row fails in only one way
 abbrev pub OneWay : Row → Type 0
 OneWay row = (k : ℕ) (p q : Where) (r s : Reason) → row k p r → row k q s → (p ≡ q) × (r ≡ s)
 
@@ -21,7 +21,7 @@ one_of_row row p q r s one f g = elim (cases_order f.number g.number) [
   | inr m ↦ elim m [ inl l ↦ absurd (g.earlier f.number l p r f.fails) | inr l ↦ absurd (f.earlier g.number l q s g.fails) ]
 ]
 
--- at most one test of rows is the first
+-- at most one test is the first
 pub one_first : (rows : List Row) (p q : Where) (r s : Reason) → AllOneWay rows → First rows p r → First rows q s → (p ≡ q) × (r ≡ s)
 one_first [] p q r s one f g = absurd f
 one_first (row ∷ rows) p q r s one (inl f) (inl g) = one_of_row row p q r s one.0 f g
@@ -29,7 +29,7 @@ one_first (row ∷ rows) p q r s one (inl f) (inr g) = absurd (g.0 f.number p r 
 one_first (row ∷ rows) p q r s one (inr f) (inl g) = absurd (f.0 g.number q s g.fails)
 one_first (row ∷ rows) p q r s one (inr f) (inr g) = one_first rows p q r s one.1 f.1 g.1
 
--- and none is where all pass
+-- if all tests pass, none is the first that fails
 pub none_first : (rows : List Row) (p : Where) (r : Reason) → AllClear rows → ¬ First rows p r
 none_first [] p r clear f = f
 none_first (row ∷ rows) p r clear (inl f) = clear.0 f.number p r f.fails

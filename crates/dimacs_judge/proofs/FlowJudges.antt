@@ -1,4 +1,4 @@
--- Flows that pass their tests, and the first test that they fail.
+-- Flows that pass their tests, and the first test that fails.
 use Rattle.std.proofs.Common.{◌≡◌, inl, inr, ℕ, Bool, List, [], ◌∷◌, Result, ℤ, length}
 use Rattle.std.specs.Prelude.{IsErrAnd}
 use Rattle.dimacs_instance.specs.MaxFlows.{MaxValue, IsMax}
@@ -42,7 +42,7 @@ module _ (i : MaxValue) (law : IsMax i) (x : List ℤ) (set : ℕ → Bool) wher
       → Judges (max_flow_rows i x set) (ShowsMaxFlow i x set) (λ verdict. verdict ≡ Max (value i x)) result
   max_infeasible error told = max_judged error (refused_in_front (feasible_max_rows i x) (cut_rows i set x) error told)
 
-  -- after the tests of the flow, which pass
+  -- after the tests of the flow have passed
   module _ (long : length x ≡ length i.arcs) (flow_clear : AllClear (feasible_max_rows i x)) where
     pub max_untight : (place : Where) (reason : Reason) → First (cut_rows i set x) place reason → (result : Result Verdict JudgeError) → IsErrAnd result (λ e. e ≡ Refused place reason)
         → Judges (max_flow_rows i x set) (ShowsMaxFlow i x set) (λ verdict. verdict ≡ Max (value i x)) result
@@ -76,7 +76,7 @@ module _ (i : MinValue) (x : List ℤ) (p : ℕ → ℤ) where
       → Judges (min_flow_rows i x p) (ShowsMinFlow i x p) (λ verdict. verdict ≡ Min (cost i.arcs x)) result
   min_infeasible error told = min_judged error (refused_in_front (feasible_min_rows i x) cost_tests error told)
 
-  -- after the tests of the flow, which pass
+  -- after the tests of the flow have passed
   module _ (long : length x ≡ length i.arcs) (flow_clear : AllClear (feasible_min_rows i x)) where
     after_feasible : (place : Where) (reason : Reason) → First cost_tests place reason → First (min_flow_rows i x p) place reason
     after_feasible place reason first = first_after (feasible_min_rows i x) cost_tests place reason flow_clear first

@@ -1,4 +1,4 @@
--- A set that passes its tests, and the first test that it fails.
+-- Sets that pass their tests, and the first test that fails.
 use Rattle.std.proofs.Common.{◌≡◌, Result}
 use Rattle.std.specs.Prelude.{IsErrAnd}
 use Rattle.dimacs_claims.specs.Cuts.{CutValue}

@@ -27,7 +27,7 @@ all_from P (x ∷ xs) d each = All-cons P x xs (each zero (omega arith)) (all_fr
 all_at : {A : Type 0} (P : A → Type 0) (xs : List A) (d : A) (k : ℕ) → k < length xs → All P xs → P (get_or xs k d)
 all_at P xs d k h all = All-contains P xs (get_or xs k d) all (Contains-get_or xs k d h)
 
--- ---- whether an arc makes a label can be told
+-- ---- it is decidable whether an arc is tight for a label
 same_or_not : (a b : ℤ) → (a ≡ b) ⊎ (a ≢ b)
 same_or_not a b = by_lt_z a b
     (λ l. inr (λ e. <ℤ_irrefl (subst (λ (z : ℤ). z <ℤ b) e l)))
@@ -37,7 +37,7 @@ the_only : {A : Type 0} (x y : A) → Contains (x ∷ []) y → x ≡ y
 the_only x y (zero, inside, is) = is
 the_only x y (suc k, inside, is) = absurd (omega (arith, inside))
 
--- what can be told of each can be told of some
+-- a property that is decidable for each item is decidable for some item
 some_or_none : {A : Type 0} (P : A → Type 0) → ((x : A) → P x ⊎ (¬ P x)) → (xs : List A) → ((x : A) × Contains xs x × P x) ⊎ (¬ ((x : A) × Contains xs x × P x))
 some_or_none P tell [] = inr (λ has. let (x, (k, inside, is), p) = has in absurd (omega (arith, inside)))
 some_or_none {A} P tell (x ∷ xs) = elim (tell x) [
@@ -66,7 +66,7 @@ makes_or_not l base a = elim (eqb_tells a.tail l.pred) [
 abbrev as_record : (arcs : List ArcView) (l : Label) (base : ℤ) → ((a : ArcView) × Contains arcs a × Makes l base a) → HasArcOfWeight arcs l base
 as_record arcs l base m = record { arc = m.0; present = m.1; from = m.2.0; to = m.2.1; adds = m.2.2 }
 
--- what cannot fail has an arc
+-- the double negation of having a tight arc gives one
 arc_where_not_none : (arcs : List ArcView) (l : Label) (pred : Option ℤ) → (¬ (¬ ((base : ℤ) × (pred ≡ Some base) × HasArcOfWeight arcs l base))) → (base : ℤ) × (pred ≡ Some base) × HasArcOfWeight arcs l base
 arc_where_not_none arcs l None h = absurd (h (λ has. let f = has.1 in cc))
 arc_where_not_none arcs l (Some base) h = elim (some_or_none (Makes l base) (makes_or_not l base) arcs) [

@@ -38,7 +38,7 @@ less_sum d x y less = omega (arith, ints, less)
 same_sum : (d x y e : ℤ) → x ≤ℤ y → (d +ℤ y) ≡ e → (¬ ((d +ℤ x) <ℤ e)) → (d +ℤ x) ≡ e
 same_sum d x y e less sum near = by_lt_z (d +ℤ x) e (λ l. absurd (near l)) (λ m. omega (arith, ints, m, less, sum))
 
--- an arc that this arc covers
+-- an arc that a relaxed arc covers
 pub passed_covered : (arcs : List ArcView) (b : BlockValue) (at : ℕ → Known) (one other : ArcView) → IsKnown arcs b at → Covers one other → IsPassed b at one → IsPassed b at other
 passed_covered arcs b at one other are covers is = record {
   holds = λ reason fails.
@@ -60,7 +60,7 @@ passed_covered arcs b at one other are covers is = record {
       });
 }
 
--- an arc that leads past the radius
+-- an arc that leads beyond the radius
 pub passed_beyond : (nodes : ℕ) (arcs : List ArcView) (b : BlockValue) (at : ℕ → Known) (a : ArcView) (d : ℤ) → IsBlock nodes b → IsKnown arcs b at → label b a.tail ≡ Some d → (¬ IsNear b.radius (d +ℤ a.cost)) → IsPassed b at a
 passed_beyond nodes arcs b at a d is are tail beyond = record {
   holds = λ reason fails.
@@ -82,12 +82,12 @@ passed_beyond nodes arcs b at a d is are tail beyond = record {
     below : (to : ℤ) → (d +ℤ a.cost) <ℤ to → (d +ℤ a.cost) ≤ℤ to
     below to less = omega (arith, ints, less)
 
--- a test without a reason to fail
+-- a test that reports no reason doesn't fail
 pub no_reason : {X : Type 0} (fails : Reason → Type 0) (told : Result X Reason) → is_err told ≡ false → TellsReason fails (result_err told) → (reason : Reason) → ¬ fails reason
 no_reason fails (Ok x) none tells = tells
 no_reason fails (Err why) none tells = absurd (cc)
 
--- after an arc
+-- after relaxing an arc
 module _ (a : ArcView) (old new : ℕ → Known) (b : BlockValue) (passes : MarksArc a old new) where
   pub passed_still : (c : ArcView) → IsPassed b old c → IsPassed b new c
   passed_still c is = record { holds = is.holds; marked = marks_still a old new b passes c is.marked }
@@ -103,7 +103,7 @@ pub at_place : (arcs : List ArcView) (order : List ℕ) (p : ℕ) → p < length
 at_place arcs order p inside = get_or-map (arc_at arcs) order p 0 no_arc inside
 
 module _ (arcs : List ArcView) (order : List ℕ) (b : BlockValue) (at : ℕ → Known) (node : ℕ) where
-  -- the arcs at the places from this one on, so far as they leave the node
+  -- the arcs from this place on, as far as they leave the node, are relaxed
   abbrev pub ArePassedOn : ℕ → Type 0
   ArePassedOn next = (p : ℕ) → next ≤ p → p < length order → (arc_at (arcs_in arcs order) p).tail ≡ node → IsPassed b at (arc_at (arcs_in arcs order) p)
 
@@ -149,7 +149,7 @@ labels_more arcs b old new n still passed this k below = elim (cases_lt k n) [
   | inr last ↦ (let same : k ≡ n = omega (arith, below, last) in subst (λ j. ArePassedFrom arcs b new (get_or b.labels j no_label).id) (sym same) this)
 ]
 
--- the arcs that leave the source and the nodes of the first n labels are passed
+-- the arcs that leave the source and the nodes of the first n labels are relaxed
 pub record ArePassedFirst (arcs : List ArcView) (b : BlockValue) (n : ℕ) (at : ℕ → Known) : Type 0 where
   pub known : IsKnown arcs b at
   pub source : ArePassedFrom arcs b at b.source

@@ -1,4 +1,4 @@
--- Tests of the nodes of a list, one after another.
+-- Tests of the nodes of a list, node by node.
 use Rattle.std.proofs.Common.{◌≡◌, ℕ, zero, suc, ◌+◌, ◌*◌, ◌<◌, ◌≤◌, List, [], ◌∷◌, length, get_or, refl, arith, below_more}
 use Rattle.std.specs.List.{flat_map}
 use Rattle.std.proofs.lemmas.List.{length-map}
@@ -21,7 +21,7 @@ module _ (ids : List ℕ) (why : Reason) (fails : ℕ → Type 0) where
     pub listed_first : k < length ids → ClearBelow (listed_row ids why fails) k → fails id → FirstOfRow (listed_row ids why fails) (Node id) why
     listed_first inside below at = record { number = k; fails = (inside, rw here refl, refl, rw here at); earlier = below }
 
--- ---- the ends of pairs: FROM at the even places, TO after it
+-- ---- the nodes of pairs: FROM at even places, TO after it
 pub length-ends : (pairs : List (ℕ × ℕ)) → length (flat_map ends_of pairs) ≡ 2 * length pairs
 length-ends [] = refl
 length-ends (p ∷ pairs) = omega (arith, length-ends pairs)
@@ -36,7 +36,7 @@ to_at [] i d inside = absurd (omega (arith, inside))
 to_at (p ∷ pairs) zero d inside = refl
 to_at (p ∷ pairs) (suc i) d inside = let e : 2 * suc i + 1 ≡ suc (suc (2 * i + 1)) = omega arith in rw e (to_at pairs i d (omega (arith, inside)))
 
--- ---- the sources, one for each query
+-- ---- sources, one for each query
 pub length-sources : (queries : QueriesValue) → length (sources_asked queries) ≡ length (query_lines queries)
 length-sources (Sources ids) = omega (arith, length-map ids SourceQuery)
 length-sources (Pairs pairs) = omega (arith, length-map pairs (λ pair. pair.0), length-map pairs pair_query)

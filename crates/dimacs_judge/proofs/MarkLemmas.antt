@@ -1,4 +1,4 @@
--- Marks of the nodes that a block labels, and the arcs that make its labels.
+-- The table with a block's labels, and the tight arcs for them.
 use Rattle.std.proofs.Common.{IsTrue, ◌^◌, cond, count_by, is_some, ◌≡◌, ◌≢◌, ◌⊎◌, ◌↔◌, inl, inr, ℕ, suc, zero, ◌+◌, ◌<◌, ◌≤◌, Bool, true, false, List, [], ◌∷◌, ◌++◌, Contains, length, take, drop, get_or, slice_get, Option, Some, None, IfSome, ℤ, pos, ◌+ℤ◌, refl, sym, ap, subst, ◌∙◌, arith}
 use Rattle.std.specs.Prelude.{◌==◌, ◌&&◌, if◌then◌else◌, nat_le, Result, Ok, Err}
 use Rattle.std.specs.Result.{result_and}
@@ -67,7 +67,7 @@ label_named nodes b is l (k, inside, at) =
 pub label_wide : (nodes : ℕ) (b : BlockValue) (v : ℕ) → IsBlock nodes b → IfSome (label b v) IsWide
 label_wide nodes b v is = label_at_wide nodes (b ∷ []) 0 v (All-cons (IsBlock nodes) b [] is (All-nil (IsBlock nodes)))
 
--- ---- marking
+-- ---- marking labels
 pub new_blank : {D : Type 0} (value : D → Option ℤ) (marks : NodeTable (Mark D)) (mark : Mark D) → ((v : ℕ) → value_of marks v ≡ mark) → blank_of marks ≡ mark → value mark.dist ≡ None → AreBlank value marks
 new_blank value marks mark values blank none = record { blank = ap (λ m. value m.dist) blank ∙ none; all = λ v. ap (λ m. value m.dist) (values v) ∙ none }
 
@@ -143,8 +143,8 @@ all_marked nodes arcs b n at is all are =
 pub known_wide : (nodes : ℕ) (arcs : List ArcView) (b : BlockValue) (at : ℕ → Known) → IsBlock nodes b → IsKnown arcs b at → AreWide at
 known_wide nodes arcs b at is are v = subst (λ claimed. IfSome claimed IsWide) (sym (are.labels v)) (label_wide nodes b v is)
 
--- ---- and taking the marks away
--- no node is marked but those of the labels from the n-th on
+-- ---- clearing marks
+-- only the nodes of labels from the n-th on are marked
 abbrev pub AreBlankBut : BlockValue → ℕ → (ℕ → Known) → Type 0
 AreBlankBut b n at = (v : ℕ) → is_some (at v).dist ≡ true → (k : ℕ) × (n ≤ k) × (k < length b.labels) × ((label_of b k).id ≡ v)
 
@@ -179,13 +179,13 @@ blank_all b n at all are v = by (at v).dist refl
     by None is = is
     by (Some d) is = absurd (let (k, from, inside, same) = are v (ap is_some is) in omega (arith, from, inside, all))
 
--- ---- between two ends
+-- ---- one arc
 -- an arc that doesn't lead aside doesn't fail
 pub not_aside : (radius from to : Option ℤ) (weight : ℤ) → (¬ LeadsAside from to weight) → (reason : Reason) → ¬ RelaxFails radius from to weight reason
 not_aside radius from to weight holds reason (d, tail, inl out) = holds (d, tail, inl out.1)
 not_aside radius from to weight holds reason (d, tail, inr far) = holds (d, tail, inr far.1)
 
--- the arc leads to the label, which waits for its tail: by two tests, both of which are made in any case
+-- the arc is tight for a label without a tight arc, by two tests that are both evaluated
 pub tight_where : (a : ArcView) (at : ℕ → Known) (leads waits : Bool) → (IsTrue leads ↔ LeadsTo (at a.tail).dist (at a.head).dist a.cost) → (IsTrue waits ↔ (((at a.head).pred ≡ a.tail) × (is_made (at a.head) ≡ false))) → IsTrue (leads && waits) ↔ IsTight a at
 tight_where a at true waits leads_is waits_is = (
   λ yes. (let leads = leads_is.0 refl in let waiting = waits_is.0 yes in record { base = leads.0; tail = leads.1; head = leads.2; pred = waiting.0; unmade = waiting.1 }),
@@ -196,12 +196,12 @@ tight_where a at false waits leads_is waits_is = (λ yes. absurd (let no : IsTru
 pub head_unmarked : (a : ArcView) (at : ℕ → Known) → (at a.head).dist ≡ None → ¬ IsTight a at
 head_unmarked a at none tight = let e : None ≡ Some (tight.base +ℤ a.cost) = sym none ∙ tight.head in cc
 
--- what a test tells, by what its terms are
+-- the result of a test, with its terms replaced by equal ones
 pub told_between : (radius tail from head to : Option ℤ) (weight cost : ℤ) (fault : Option Reason) → tail ≡ from → head ≡ to → weight ≡ cost → TellsReason (RelaxFails radius tail head weight) fault → TellsReason (RelaxFails radius from to cost) fault
 told_between radius tail from head to weight cost fault tail_is head_is weight_is told =
     subst (λ t. TellsReason (RelaxFails radius t to cost) fault) tail_is (subst (λ h. TellsReason (RelaxFails radius tail h cost) fault) head_is (subst (λ w. TellsReason (RelaxFails radius tail head w) fault) weight_is told))
 
--- at the head, once the arc was passed
+-- the head after relaxing the arc
 module _ (a : ArcView) (old : ℕ → Known) where
   pub made_with_arc : (made : Bool) (new : Known) → (IsTrue made ↔ IsTight a old) → new.pred ≡ (old a.head).pred + (if made then 2 ^ 31 else 0) → (is_made new ≡ true) ↔ ((is_made (old a.head) ≡ true) ⊎ IsTight a old)
   made_with_arc true new is pred = (λ so. inr (is.0 refl), λ either. made_from new (omega (arith, pred)))
@@ -232,7 +232,7 @@ module _ (a : ArcView) (old : ℕ → Known) where
     made = made_with_arc made (new a.head) is pred;
   }
 
--- ---- the arc that makes a label
+-- ---- tight arcs
 pub makes_some : (arcs : List ArcView) (b : BlockValue) (k : ℕ) (l : Label) → k < length arcs → Makes b (arc_at arcs k) l → HasTightArc arcs b l
 makes_some arcs b k l inside makes = (makes.base, makes.known, record { arc = arc_at arcs k; present = Contains-get_or arcs k no_arc inside; from = makes.from; to = makes.to; adds = makes.adds })
 
@@ -272,7 +272,7 @@ count_all p xs all x has = by (p x) refl
     by true on = on
     by false off = absurd (omega (arith, all, count_more p (λ y. true) xs (λ y on. refl) x has off refl, count_by-le-length (λ y. true) xs))
 
--- ---- after an arc
+-- ---- after relaxing an arc
 pub same_dists : (a : ArcView) (old new : ℕ → Known) → MarksArc a old new → (v : ℕ) → (new v).dist ≡ (old v).dist
 same_dists a old new passes v = elim (cases_eq v a.head) [
   | inl same ↦ ap (λ w. (new w).dist) same ∙ (passes.head.dist ∙ ap (λ w. (old w).dist) (sym same))
@@ -310,7 +310,7 @@ module _ (a : ArcView) (old new : ℕ → Known) (b : BlockValue) (passes : Mark
   count_still = count_less (λ (l : Label). is_made (old l.id)) (λ (l : Label). is_made (new l.id)) b.labels (λ l. made_still l.id)
 
   module _ (arcs : List ArcView) (are : IsKnown arcs b old) where
-    -- a label of the head is made that was not
+    -- one more label has a tight arc
     count_after : IsTight a old → made_count b old + 1 ≤ made_count b new
     count_after tight =
         let some : label b a.head ≡ Some (tight.base +ℤ a.cost) = sym (are.labels a.head) ∙ tight.head in
@@ -397,7 +397,7 @@ made_all arcs b at alone all l has = (
   λ tight. (let (k, inside, makes) = some_makes arcs b l tight in all k inside l has makes),
 )
 
--- ---- the tests of labels, and those of arcs
+-- ---- the tests of labels, then those of arcs
 pub both_told : (arcs : List ArcView) (b : BlockValue) (labels relaxed : Result Unit (Where × Reason)) → TellsRow (support_row arcs b) labels → TellsRow (relax_row arcs b) relaxed → Tells (distance_rows arcs b) (result_and labels relaxed)
 both_told arcs b (Ok done) (Ok too) made passed = (made, (passed, tt))
 both_told arcs b (Ok done) (Err refusal) made first = inr (made, inl first)

@@ -1,4 +1,4 @@
--- A solution and a cut that pass their tests, and the first test that they fail.
+-- Solutions and cuts that pass their tests, and the first test that fails.
 use Rattle.std.proofs.Common.{◌≡◌, inl, inr, List, [], ◌∷◌, Result, ℤ, subst, sym, refl, ◌++◌}
 use Rattle.std.specs.Prelude.{IsErrAnd}
 use Rattle.dimacs_claims.specs.Cuts.{CutValue}
@@ -36,7 +36,7 @@ module _ (i : MaxValue) (s : SolutionValue) where
       let x = claimed_flow i.arcs s.entries in
       (entry_one_way i.arcs s.entries, (bound_one_way i.arcs x, (balance_one_way i.nodes i.arcs (max_demand i) x, (one_test_one_way (Solution s.value_line 2) ValueDiffers _, tt))))
 
-  -- the tests where this is the flow: of the flow, and of its value
+  -- the tests of this flow, and of its value
   abbrev flow_tests : List ℤ → List Row
   flow_tests x = entry_row i.arcs s.entries ∷ feasible_max_rows i x
 
@@ -46,7 +46,7 @@ module _ (i : MaxValue) (s : SolutionValue) where
   abbrev claim_tests : List ℤ → List Row
   claim_tests x = flow_tests x ++ value_test x ∷ []
 
-  -- where a flow is what is claimed all tests pass
+  -- if the flow is the claimed one, all tests pass
   pub claim_clear : IsMax i → (x : List ℤ) → IsMaxClaim i s x → AllClear (max_claim_rows i s)
   claim_clear law x claim =
       let feasible = feasible_max_clear i x law claim.feasible in
@@ -55,7 +55,7 @@ module _ (i : MaxValue) (s : SolutionValue) where
         (feasible.0, (feasible.1.0, (value_clear (value i x) s.value s.value_line (sym claim.value_is), tt))),
       )
 
-  -- the first test that fails, after those that pass, for the flow that the solution carries
+  -- the first test that fails after others that pass, for the flow of the solution
   module _ (x : List ℤ) (carries : Carries i.arcs s.entries x) where
     refused : (front rows more : List Row) → front ++ (rows ++ more) ≡ claim_tests x → (error : JudgeError) → AllClear front → Refuses (First rows) error → Refuses (First (max_claim_rows i s)) error
     refused = refused_among claim_tests x (claimed_flow i.arcs s.entries) carries.amounts
@@ -88,7 +88,7 @@ module _ (i : MaxValue) (s : SolutionValue) (c : CutValue) where
       let x = claimed_flow i.arcs s.entries in
       all_one_way-append (max_claim_rows i s) (certificate_tests x) (claim_one_way i s) (one_test_one_way Certificate NodesDiffer _, cut_one_way i (members c) x)
 
-  -- where a flow passes all tests do
+  -- if a flow passes, all tests pass
   max_clear : IsMax i → (x : List ℤ) → PassesMax i s c x → AllClear (max_rows i s c)
   max_clear law x passes =
       let y = claimed_flow i.arcs s.entries in
@@ -103,7 +103,7 @@ module _ (i : MaxValue) (s : SolutionValue) (c : CutValue) where
   pub claim_refused : (error : JudgeError) → Refuses (First (max_claim_rows i s)) error → Refuses (First (max_rows i s c)) error
   claim_refused error first = refused_in_front (max_claim_rows i s) (certificate_tests (claimed_flow i.arcs s.entries)) error first
 
-  -- after the tests of the claim, which pass
+  -- after the tests of the claim have passed
   module _ (law : IsMax i) (x : List ℤ) (claim : IsMaxClaim i s x) where
     certificate_refused : (place : Where) (reason : Reason) → First (certificate_tests x) place reason → Refuses (First (max_rows i s c)) (Refused place reason)
     certificate_refused place reason first =

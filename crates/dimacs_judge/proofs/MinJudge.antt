@@ -1,4 +1,4 @@
--- A solution and potentials that pass their tests, and the first test that they fail.
+-- Solutions and potentials that pass their tests, and the first test that fails.
 use Rattle.std.proofs.Common.{◌≡◌, inl, inr, List, [], ◌∷◌, Result, ℤ, subst, sym, refl, ◌++◌}
 use Rattle.std.specs.Prelude.{IsErrAnd}
 use Rattle.dimacs_claims.specs.Potentials.{PotentialsValue, potential_of}
@@ -36,7 +36,7 @@ module _ (i : MinValue) (s : SolutionValue) where
       let x = claimed_flow i.arcs s.entries in
       (entry_one_way i.arcs s.entries, (bound_one_way i.arcs x, (balance_one_way i.nodes i.arcs (min_demand i) x, (cost_one_way i.arcs x, (one_test_one_way (Solution s.value_line 2) ValueDiffers _, tt)))))
 
-  -- the tests where this is the flow: of the flow, of the range of its costs, and of its cost
+  -- the tests of this flow, of the range of its costs, and of its cost
   abbrev flow_tests : List ℤ → List Row
   flow_tests x = entry_row i.arcs s.entries ∷ feasible_min_rows i x
 
@@ -46,7 +46,7 @@ module _ (i : MinValue) (s : SolutionValue) where
   abbrev claim_tests : List ℤ → List Row
   claim_tests x = flow_tests x ++ cost_row i.arcs x ∷ value_test x ∷ []
 
-  -- where a flow is what is claimed all tests pass
+  -- if the flow is the claimed one, all tests pass
   pub claim_clear : (x : List ℤ) → IsMinClaim i s x → AllClear (min_claim_rows i s)
   claim_clear x claim =
       let feasible = feasible_min_clear i x claim.feasible in
@@ -55,7 +55,7 @@ module _ (i : MinValue) (s : SolutionValue) where
         (feasible.0, (feasible.1.0, (costs_clear i.arcs x claim.costs_wide, (value_clear (cost i.arcs x) s.value s.value_line (sym claim.cost_is), tt)))),
       )
 
-  -- the first test that fails, after those that pass, for the flow that the solution carries
+  -- the first test that fails after others that pass, for the flow of the solution
   module _ (x : List ℤ) (carries : Carries i.arcs s.entries x) where
     refused : (front rows more : List Row) → front ++ (rows ++ more) ≡ claim_tests x → (error : JudgeError) → AllClear front → Refuses (First rows) error → Refuses (First (min_claim_rows i s)) error
     refused = refused_among claim_tests x (claimed_flow i.arcs s.entries) carries.amounts
@@ -94,7 +94,7 @@ module _ (i : MinValue) (s : SolutionValue) (p : PotentialsValue) where
       let x = claimed_flow i.arcs s.entries in
       all_one_way-append (min_claim_rows i s) (certificate_tests x) (claim_one_way i s) (one_test_one_way Certificate NodesDiffer _, (slack_one_way i.arcs (potential_of p) x, tt))
 
-  -- where a flow passes all tests do
+  -- if a flow passes, all tests pass
   min_clear : (x : List ℤ) → PassesMin i s p x → AllClear (min_rows i s p)
   min_clear x passes =
       let y = claimed_flow i.arcs s.entries in
@@ -109,7 +109,7 @@ module _ (i : MinValue) (s : SolutionValue) (p : PotentialsValue) where
   pub claim_refused : (error : JudgeError) → Refuses (First (min_claim_rows i s)) error → Refuses (First (min_rows i s p)) error
   claim_refused error first = refused_in_front (min_claim_rows i s) (certificate_tests (claimed_flow i.arcs s.entries)) error first
 
-  -- after the tests of the claim, which pass
+  -- after the tests of the claim have passed
   module _ (x : List ℤ) (claim : IsMinClaim i s x) where
     certificate_refused : (place : Where) (reason : Reason) → First (certificate_tests x) place reason → Refuses (First (min_rows i s p)) (Refused place reason)
     certificate_refused place reason first =

@@ -1,4 +1,4 @@
--- Tests that all pass, and the properties that they test.
+-- If all tests pass, the properties that they test hold.
 use Rattle.std.proofs.Common.{◌≡◌, ◌≢◌, ◌==◌, ◌⊎◌, inl, inr, ℕ, suc, zero, ◌+◌, ◌^◌, ◌<◌, Bool, true, false, List, [], ◌∷◌, All, length, get_or, Option, Some, Result, Ok, Err, ℤ, pos, neg_ℤ, ◌≤ℤ◌, ◌<ℤ◌, refl, sym, subst, ◌∙◌, arith}
 use Rattle.std.specs.List.{AllZip}
 use Rattle.std.specs.Int.Signed.{<ℤ_irrefl}
@@ -29,7 +29,7 @@ use Rattle.dimacs_network.specs.Arcs.{no_arc, arc_at}
 use Rattle.dimacs_judge.specs.FlowTests.{BoundFails, bound_row, balance_row, cost_through, cost_row, feasible_max_rows, feasible_min_rows, max_demand, min_demand}
 use Rattle.dimacs_judge.specs.CertificateTests.{TightFails, tight_row, cut_rows, SlackFails, slack_row, violated_row}
 
--- numbers that cannot differ are equal
+-- numbers that can't differ are equal
 pub same_number : (a b : ℤ) → (¬ (a ≢ b)) → a ≡ b
 same_number a b h = by_lt_z a b
     (λ l. absurd (h (λ e. <ℤ_irrefl (subst (λ (z : ℤ). z <ℤ b) e l))))
@@ -49,7 +49,7 @@ is_false false h = refl
 not_both : (b : Bool) → b ≡ true → b ≡ false → ⊥
 not_both b h k = cc
 
--- ---- a property of each arc with the amount on it, by index
+-- ---- a property of each arc with its amount, by index
 pub pairs_from : {A B : Type 0} (R : A → B → Type 0) (xs : List A) (ys : List B) (d : A) (e : B) → length ys ≡ length xs → ((k : ℕ) → k < length xs → R (get_or xs k d) (get_or ys k e)) → AllZip R xs ys
 pairs_from R [] [] d e h each = tt
 pairs_from R [] (y ∷ ys) d e h each = absurd (omega (arith, h))
@@ -62,12 +62,12 @@ pair_at R (x ∷ xs) [] k d e all h = absurd all
 pair_at R (x ∷ xs) (y ∷ ys) zero d e all h = all.0
 pair_at R (x ∷ xs) (y ∷ ys) (suc k) d e all h = pair_at R xs ys k d e all.1 (omega (arith, h))
 
--- where no arc fails the property holds of each
+-- if no arc fails, each has the property
 pub flow_row_holds : (R : ArcView → ℤ → Type 0) (fails : ArcView → ℤ → Reason → Type 0) → ((a : ArcView) (x : ℤ) → ((reason : Reason) → ¬ fails a x reason) → R a x)
     → (arcs : List ArcView) (x : List ℤ) → length x ≡ length arcs → Clear (flow_row fails arcs x) → AllZip R arcs x
 flow_row_holds R fails tells arcs x long clear = pairs_from R arcs x no_arc (pos 0) long (λ k h. tells (arc_at arcs k) (amount_at x k) (λ reason f. clear k (places.Arc (k + 1)) reason (h, refl, f)))
 
--- and where it holds of each no arc fails
+-- if each arc has the property, none fails
 pub flow_row_clear : (R : ArcView → ℤ → Type 0) (fails : ArcView → ℤ → Reason → Type 0) → ((a : ArcView) (x : ℤ) (reason : Reason) → R a x → ¬ fails a x reason)
     → (arcs : List ArcView) (x : List ℤ) → AllZip R arcs x → Clear (flow_row fails arcs x)
 flow_row_clear R fails tells arcs x all k place reason f = tells (arc_at arcs k) (amount_at x k) reason (pair_at R arcs x k no_arc (pos 0) all f.0) f.2
@@ -99,7 +99,7 @@ pub balances_clear : (nodes : ℕ) (arcs : List ArcView) (demand : ℕ → Optio
 balances_clear nodes arcs demand x hold v place reason f = let (d, is, off) = f.2.1 in off (hold v d f.0 is)
 
 -- ---- costs
--- a number that cannot be off its range is in it
+-- a number that can't be out of range is in it
 is_of_size : (h : ℕ) (z : ℤ) → (¬ (¬ IsOfSize h z)) → IsOfSize h z
 is_of_size h z inside =
     (not_below z (neg_ℤ (pos h)) (λ l. inside (λ is. omega (arith, ints, l, is.0))), not_below (pos h) z (λ l. inside (λ is. omega (arith, ints, l, is.1))))
@@ -173,7 +173,7 @@ demands_zero i v d is = elim (eqb_tells v i.source) [
   | inr s ↦ elim (eqb_tells v i.sink) [ inl t ↦ absurd (let f = rw (s.0, t.0) at is in cc) | inr t ↦ (s.1, t.1, let f = rw (s.0, t.0) at is in cc) ]
 ]
 
--- an arc of a problem of maximum flow has no lower bound
+-- an arc of a maximum flow has no lower bound
 abbrev pub HasNoLow : ArcView → Type 0
 HasNoLow a = a.low ≡ pos 0
 

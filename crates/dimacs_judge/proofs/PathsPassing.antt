@@ -1,4 +1,4 @@
--- Labels and queries whose tests all pass, and the distances that they then tell.
+-- If labels and queries pass all tests, the answers are distances.
 use Rattle.std.proofs.Common.{◌≡◌, ℕ, List, [], ◌∷◌, All, map, Option, Some, None, ℤ, Result, Err, inl, inr, subst}
 use Rattle.std.specs.Prelude.{IsErrAnd, if◌then◌else◌, is_some}
 use Rattle.std.proofs.lemmas.List.Elements.{All-nil, All-cons, All-head, All-tail}
@@ -45,11 +45,11 @@ paths_one_way : (g : NetworkValue) (q : QueriesValue) (l : LabelsValue) → AllO
 paths_one_way g q l = (one_test_one_way places.Certificate reasons.NodesDiffer _, (query_node_one_way g.nodes q, (block_one_way l.blocks q, labels_one_way g.arcs l.blocks)))
 
 -- ---- distances
--- what the labels answer is the distance
+-- the answer of the labels is the distance
 abbrev HasDistance : List ArcView → List BlockValue → ℕ × ℕ → Type 0
 HasDistance arcs blocks pair = IsDistance arcs pair.0 pair.1 (distance_from blocks pair.0 pair.1) (beyond_from blocks pair.0 pair.1)
 
--- where a label is told no radius needs to be
+-- an answer with a distance needs no radius
 told_beyond : (arcs : List ArcView) (s t : ℕ) (told radius : Option ℤ) → IsDistance arcs s t told radius → IsDistance arcs s t told (if is_some told then None else radius)
 told_beyond arcs s t (Some d) radius is = is
 told_beyond arcs s t None radius is = is

@@ -1,4 +1,4 @@
--- Places of entries: in the order of the arcs, and by search.
+-- Putting entries on arcs: in the order of the arcs, and by search.
 use Rattle.std.proofs.Common.{◌≡◌, ◌≢◌, inl, inr, ℕ, zero, suc, ◌+◌, ◌<◌, ◌≤◌, Bool, true, false, cond, List, [], ◌∷◌, ◌++◌, length, take, get_or, set, replicate, count_by, ℤ, pos, Option, None, Some, refl, sym, ap, ◌∙◌, arith}
 use Rattle.std.specs.Prelude.{is_some}
 use Rattle.std.proofs.lemmas.Bool.{cases_Bool, cases_lt}
@@ -36,14 +36,14 @@ no_more_below p arcs n =
     let all = sum_by-take-le (λ b. cond (p b) 1 0) arcs n in
     (all, omega (arith, all, count_by-le-length p arcs))
 
--- below an index after the k-th arc between two nodes there are more than k
+-- before an index after the k-th arc between two nodes there are more than k such arcs
 pub one_more_below : (arcs : List ArcView) (tail head k i n : ℕ) → IsKthBetween arcs tail head k (Some i) → i < n → k + 1 ≤ count_by (joins tail head) (take n arcs)
 one_more_below arcs tail head k i n found after =
     let more = counted_before (joins tail head) arcs i n (arc_at arcs i) (slice_get-get_or arcs i no_arc found.0) (joined_at arcs tail head k i found) after in
     omega (arith, more, found.2)
 
 module _ (arcs : List ArcView) (tail head first : ℕ) (found : IsKthBetween arcs tail head 0 (Some first)) where
-  -- below the first arc between two nodes there is none, and after it there is one
+  -- before the first arc between two nodes there is none, after it there is one
   pub none_below : (n : ℕ) → n ≤ first → count_by (joins tail head) (take n arcs) ≡ 0
   none_below n before = omega (arith, found.2, fewer_below (joins tail head) arcs n first before)
 
@@ -94,7 +94,7 @@ placed_carry p entries (Some refusal) none held = absurd (cc)
 
 -- ---- one more entry
 module _ (p : PlacesValue) (before : List Entry) (e : Entry) (placed : HavePlaced p before) where
-  -- which may have any ends from now on
+  -- from now on entries may come in any order
   pub placed_in_any_order : HavePlaced (record p { out_of_order = true }) before
   placed_in_any_order = record {
     clear = placed.clear;
@@ -127,7 +127,7 @@ module _ (p : PlacesValue) (before : List Entry) (e : Entry) (placed : HavePlace
       ordered = λ still tail head. next_ordered tail head;
     }
 
-  -- none of its arcs is left
+  -- no arc is left for the entry
   pub none_left : (first k : ℕ) → IsKthBetween p.arcs e.tail e.head 0 (Some first) → k ≡ came_between p e.tail e.head first → IsKthBetween p.arcs e.tail e.head k None → EntryFails p.arcs before e ArcTwice
   none_left first k found_first counted none = twice_fails p.arcs before e first found_first (rw (counted ∙ placed.counted e.tail e.head first found_first) at none)
 

@@ -1,4 +1,4 @@
--- Products of whole numbers, which `omega` alone does not multiply out.
+-- Products of whole numbers, which `omega` doesn't multiply out.
 use Rattle.std.proofs.Common.{◌≡◌, ℕ, suc, ◌+◌, ◌*◌, ◌≤◌, ℤ, pos, negsuc, ◌+ℤ◌, ◌-ℤ◌, ◌*ℤ◌, neg_ℤ, ◌≤ℤ◌, ap, arith}
 use Rattle.std.proofs.lemmas.Int.{ints}
 use Rattle.std.proofs.Math.Nat.{mul-le-mul, mul-le-mul_left}
@@ -35,7 +35,7 @@ mul_zero a = omega (arith, ints)
 pub mul_comm : (a b : ℤ) → a *ℤ b ≡ b *ℤ a
 mul_comm a b = omega (arith, ints)
 
--- a product is not less, where one factor is not and the other is not negative
+-- a product with a nonnegative factor grows with the other factor
 pub mul_le : (r x y : ℤ) → pos 0 ≤ℤ r → x ≤ℤ y → (r *ℤ x) ≤ℤ (r *ℤ y)
 mul_le (pos n) x y h k =
     let le : up x + down y ≤ up y + down x = omega (arith, ints) in

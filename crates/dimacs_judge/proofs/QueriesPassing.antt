@@ -1,4 +1,4 @@
--- Queries whose tests all pass.
+-- If queries pass all tests, they have blocks that answer them.
 use Rattle.std.proofs.Common.{◌≡◌, ◌⊎◌, inl, inr, ℕ, ◌<◌, ◌≤◌, List, All, get_or, Option, Some, None, ℤ, refl, sym, ap, ◌∙◌, arith}
 use Rattle.std.specs.List.{position}
 use Rattle.std.proofs.lemmas.Bool.{cases_lt}
@@ -24,7 +24,7 @@ query_node_one_way nodes queries = listed_one_way (nodes_asked queries) reasons.
 pub block_one_way : (blocks : List BlockValue) (queries : QueriesValue) → OneWay (block_row blocks queries)
 block_one_way blocks queries = listed_one_way (sources_asked queries) reasons.BlockMissing (λ source. ¬ IsServed blocks queries source)
 
--- where no test of a list fails each node has the property, and where each has it none fails
+-- if no test of a list fails, each node has the property; if each has it, none fails
 listed_hold : (ids : List ℕ) (why : Reason) (fails holds : ℕ → Type 0) → ((id : ℕ) → (¬ fails id) → holds id) → Clear (listed_row ids why fails) → All holds ids
 listed_hold ids why fails holds not_failed clear = All-from_get_or holds ids 0 (λ k inside. not_failed (get_or ids k 0) (λ off. clear k (places.Node (get_or ids k 0)) why (inside, refl, refl, off)))
 

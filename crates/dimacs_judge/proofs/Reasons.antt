@@ -1,4 +1,4 @@
--- Each test fails for one reason.
+-- Each test fails for only one reason.
 use Rattle.std.proofs.Common.{◌≡◌, inl, inr, ℕ, Bool, true, false, not, ◌&&◌, List, [], ◌∷◌, Option, Some, None, ℤ, sym, ◌∙◌, arith}
 use Rattle.std.proofs.lemmas.Int.{ints}
 use Rattle.dimacs_network.specs.declared.network.ArcView.{ArcView}

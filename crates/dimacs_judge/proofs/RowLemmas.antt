@@ -1,4 +1,4 @@
--- Rows of tests, one test after another.
+-- Rows of tests, test by test.
 use Rattle.std.proofs.Common.{◌≡◌, true, false, ℕ, ◌+◌, ◌<◌, ◌≤◌, List, length, get_or, slice_get, Some, None, Result, Ok, Err, IsSome, subst, ℤ, pos, refl, arith, below_more}
 use Rattle.std.proofs.lemmas.Option.{get_or_from_slice_get, slice_get_within}
 use Rattle.dimacs_network.specs.declared.network.ArcView.{ArcView}
@@ -27,7 +27,7 @@ arc_clear_end arcs fails n all below k place reason f = below k (omega (arith, f
 pub arc_first : (arcs : List ArcView) (fails : ℕ → Reason → Type 0) (i : ℕ) (reason : Reason) → i < length arcs → ClearBelow (arc_row arcs fails) i → fails i reason → FirstOfRow (arc_row arcs fails) (Arc (i + 1)) reason
 arc_first arcs fails i reason inside below at = record { number = i; fails = (inside, refl, at); earlier = below }
 
--- ---- arcs with the amounts on them
+-- ---- arcs with their amounts
 module _ (fails : ArcView → ℤ → Reason → Type 0) (arcs : List ArcView) (x : List ℤ) (i : ℕ) (a : ArcView) (z : ℤ) (here : slice_get arcs i ≡ Some a) (carries : slice_get x i ≡ Some z) where
   same_arc : arc_at arcs i ≡ a
   same_arc = get_or_from_slice_get arcs i a no_arc here

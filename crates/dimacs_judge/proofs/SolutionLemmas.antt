@@ -1,4 +1,4 @@
--- Entries for every arc, in order, carry their flows.
+-- Entries for every arc in order carry their flows.
 use Rattle.std.proofs.Common.{inl, inr, ◌≡◌, ℕ, suc, zero, ◌+◌, ◌<◌, ◌==◌, Bool, true, pos, List, [], ◌∷◌, ◌++◌, length, map, take, get_or, count_by, refl, sym, ap, ◌∙◌, arith, subst, eq-eqb, below_more}
 use Rattle.std.specs.List.{filter}
 use Rattle.std.proofs.Math.ListN.{get_or-map}
@@ -14,7 +14,7 @@ use Rattle.dimacs_judge.specs.Claims.{is_between, entry_at, no_entry, claimed_of
 use Rattle.dimacs_judge.specs.Rows.{amount_at}
 use Rattle.dimacs_judge.specs.Entries.{IsEntryOf, AreEntriesOf}
 
--- ---- an entry of the next arc after those of the arcs before it
+-- ---- one more entry, for the next arc
 pub entries_more : (arcs : List ArcView) (es : List Entry) (e : Entry) (i : ℕ) → length es ≡ i → ((k : ℕ) → k < i → IsEntryOf (arc_at arcs k) (k + 2) (entry_at es k)) → IsEntryOf (arc_at arcs i) (i + 2) e → (k : ℕ) → k < i + 1 → IsEntryOf (arc_at arcs k) (k + 2) (entry_at (es ++ e ∷ []) k)
 entries_more arcs es e i so_many before last =
     let at : get_or (es ++ e ∷ []) i no_entry ≡ e = rw (← so_many) (get_or-append_seam es e [] no_entry) in
@@ -39,7 +39,7 @@ same_count tail head (a ∷ arcs) (e ∷ es) (suc k) same ends =
     count_by-cons (is_between tail head) e (take k es)
     ∙ (rw (alike, same_count tail head arcs es k (omega (arith, same)) (λ j h. ends (suc j) (omega arith))) refl ∙ sym (count_by-cons (joins tail head) a (take k arcs)))
 
--- ---- what passes a test is counted, and found by its count
+-- ---- an item that passes a test, found by its count
 fewer_before : {A : Type 0} (p : A → Bool) (xs : List A) (k : ℕ) (d : A) → k < length xs → p (get_or xs k d) ≡ true → count_by p (take k xs) < count_by p xs
 fewer_before p [] k d h is = absurd (omega arith)
 fewer_before p (x ∷ xs) zero d h is = omega (arith, count_yes p x xs is)
@@ -56,7 +56,7 @@ kth_passing p (x ∷ xs) (suc k) d h is =
       | inr fails ↦ let e : count_by p (x ∷ take k xs) ≡ n = count_no p x (take k xs) fails in rw (e, fails) rest
     ]
 
--- ---- so each entry belongs to its arc
+-- ---- each entry belongs to its arc
 joins_own : (a : ArcView) → joins a.tail a.head a ≡ true
 joins_own a = and_from (a.tail == a.tail) (a.head == a.head) (eq-eqb a.tail a.tail refl) (eq-eqb a.head a.head refl)
 

@@ -1,4 +1,4 @@
--- Sums over the arcs so far, and one more arc.
+-- Sums over the arcs so far and one more arc.
 use Rattle.std.proofs.Common.{◌≡◌, ℕ, suc, zero, ◌+◌, ◌*◌, ◌^◌, ◌<◌, ◌==◌, ℤ, ◌+ℤ◌, ◌-ℤ◌, ◌*ℤ◌, Bool, true, false, List, [], ◌∷◌, length, take, get_or, slice_get, Some, refl, ap₂, ◌∙◌, ◌≤◌, pos, add-one, arith}
 use Rattle.std.proofs.lemmas.List.{take_all}
 use Rattle.std.proofs.lemmas.Int.{ints}
@@ -31,7 +31,7 @@ pub sum_where_more : (test : ArcView → Bool) (f : ArcView → ℤ) (arcs : Lis
     → sum_where test f (take (i + 1) arcs) ≡ sum_where test f (take i arcs) +ℤ when (test a) (f a)
 sum_where_more test f arcs i a here = rw (add-one, sum_where-take_suc test f arcs i a (slice_get_within arcs i a here), get_or_from_slice_get arcs i a a here) refl
 
--- ---- one more arc with the amount on it
+-- ---- one more arc with its amount
 module _ (arcs : List ArcView) (y : List ℤ) (i : ℕ) (a : ArcView) (x : ℤ) (here : slice_get arcs i ≡ Some a) (carries : slice_get y i ≡ Some x) where
   pub sum_arcs_more : (f : ArcView → ℤ → ℤ) → sum_arcs f (take (i + 1) arcs) (take (i + 1) y) ≡ sum_arcs f (take i arcs) (take i y) +ℤ f a x
   sum_arcs_more f = rw (add-one, sum_arcs-take_suc f arcs y i a x (slice_get_within arcs i a here) (slice_get_within y i x carries), get_or_from_slice_get arcs i a a here, get_or_from_slice_get y i x x carries) refl
@@ -45,11 +45,11 @@ module _ (arcs : List ArcView) (y : List ℤ) (i : ℕ) (a : ArcView) (x : ℤ) 
 pub cost_step : (arcs : List ArcView) (y : List ℤ) (i : ℕ) (a : ArcView) (x old new : ℤ) → slice_get arcs i ≡ Some a → slice_get y i ≡ Some x → old ≡ cost (take i arcs) (take i y) → new ≡ old +ℤ a.cost *ℤ x → new ≡ cost_through arcs y i
 cost_step arcs y i a x old new here carries was is = omega (arith, ints, cost_more arcs y i a x here carries, was, is)
 
--- the costs so far stay in their range
+-- the sums of the costs stay in range
 pub cost_clear_more : (arcs : List ArcView) (y : List ℤ) (i : ℕ) (sum : ℤ) → ClearBelow (cost_row arcs y) i → sum ≡ cost_through arcs y i → IsWide sum → ClearBelow (cost_row arcs y) (i + 1)
 cost_clear_more arcs y i sum below is wide = arc_clear_more arcs _ i below (λ reason f. f.1 (rw (← is) wide))
 
--- or leave it
+-- or they leave it
 pub cost_first : (arcs : List ArcView) (y : List ℤ) (i : ℕ) (sum : ℤ) → i < length arcs → ClearBelow (cost_row arcs y) i → sum ≡ cost_through arcs y i → (¬ IsWide sum) → FirstOfRow (cost_row arcs y) (Arc (i + 1)) CostRange
 cost_first arcs y i sum inside below is off = arc_first arcs _ i CostRange inside below (refl, λ wide. off (rw is wide))
 
@@ -59,7 +59,7 @@ when_within true false h k z x s t = omega (arith, ints)
 when_within false true h k z x s t = omega (arith, ints)
 when_within false false h k z x s t = omega (arith, ints)
 
--- a balance of the arcs so far, and its size
+-- a balance over the arcs so far, and its size
 abbrev pub IsBalanceOf : List ArcView → List ℤ → ℕ → ℕ → ℤ → Type 0
 IsBalanceOf arcs y i v sum = (sum ≡ net (take i arcs) (take i y) v) × IsOfSize (i * 2 ^ 64) sum
 

@@ -1,4 +1,4 @@
--- Sums over arcs and over nodes, and their exchange.
+-- Sums over arcs and over nodes, and the exchange between them.
 use Rattle.std.proofs.Common.{◌≡◌, ◌≢◌, ◌⊎◌, inl, inr, ℕ, suc, zero, ◌==◌, ℤ, pos, ◌+ℤ◌, ◌-ℤ◌, ◌*ℤ◌, ◌≤ℤ◌, true, false, List, [], ◌∷◌, refl, sym, eq-eqb, ◌∙◌, arith}
 use Rattle.std.proofs.lemmas.Int.{ints}
 use Rattle.std.proofs.lemmas.Bool.{cases_eq, ne_eqb}
@@ -20,7 +20,7 @@ sum_arcs-same f g same [] y = refl
 sum_arcs-same f g same (a ∷ arcs) [] = refl
 sum_arcs-same f g same (a ∷ arcs) (x ∷ y) = let here = same a x in omega (arith, ints, here, sum_arcs-same f g same arcs y)
 
--- a sum is not less, where no term is
+-- a sum is no less if no term is
 pub sum_arcs-le : (f : ArcView → ℤ → ℤ) (Q R : ArcView → ℤ → Type 0)
     → ((a : ArcView) (x z : ℤ) → Q a x → R a z → f a x ≤ℤ f a z)
     → (arcs : List ArcView) (y z : List ℤ) → AllZip Q arcs y → AllZip R arcs z → sum_arcs f arcs y ≤ℤ sum_arcs f arcs z
@@ -53,7 +53,7 @@ sum_nodes-zero g (suc n) none =
     let here = none (suc n) (omega arith) in
     omega (arith, ints, here, sum_nodes-zero g n (λ v h. none v (omega arith)))
 
--- one node's term, where all others are 0
+-- a single term, if all others are 0
 pub sum_nodes-one : (g : ℕ → ℤ) (s n : ℕ) → IsNode n s → ((v : ℕ) → IsNode n v → v ≢ s → g v ≡ pos 0) → sum_nodes g n ≡ g s
 sum_nodes-one g s zero h none = absurd (omega arith)
 sum_nodes-one g s (suc n) h none = go (cases_eq s (suc n)) (λ k. sum_nodes-one g s n k (λ v m d. none v (omega arith) d))

@@ -1,4 +1,4 @@
--- The arcs between two ends, one after another.
+-- The arcs between two nodes, arc by arc.
 use Rattle.std.proofs.Common.{◌≡◌, inl, inr, ℕ, ◌+◌, ◌<◌, ◌≤◌, Bool, true, cond, List, length, take, slice_get, count_by, Some, ℤ, ◌+ℤ◌, sym, ap, ◌∙◌, arith}
 use Rattle.std.proofs.lemmas.Bool.{cases_order}
 use Rattle.std.proofs.lemmas.Bool.Decides.{eqb_tells}
@@ -17,7 +17,7 @@ ends_joined tail head a e = elim (eqb_tells a.tail tail) [
   | inr p ↦ absurd (let f = rw p.0 at e in cc)
 ]
 
--- fewer arcs pass before one that passes than before a later one
+-- fewer arcs pass before a passing arc than before a later one
 pub counted_before : (p : ArcView → Bool) (arcs : List ArcView) (i j : ℕ) (a : ArcView) → slice_get arcs i ≡ Some a → p a ≡ true → i < j → count_by p (take i arcs) < count_by p (take j arcs)
 counted_before p arcs i j a here passes before =
     let next = count_by_more_yes p arcs i a (slice_get_within arcs i a here) (rw (get_or_from_slice_get arcs i a a here) passes) in
@@ -30,11 +30,11 @@ counted_in_all p arcs i a here passes =
     omega (arith, next, sum_by-take-le (λ b. cond (p b) 1 0) arcs (i + 1))
 
 module _ (arcs : List ArcView) (l : Label) (base : ℤ) where
-  -- of the arcs between the label's ends, the first k do not make it
+  -- none of the first k arcs between the label's ends is tight for it
   abbrev pub NoneBelow : ℕ → Type 0
   NoneBelow k = (i : ℕ) (a : ArcView) → slice_get arcs i ≡ Some a → joins l.pred l.id a ≡ true → count_by (joins l.pred l.id) (take i arcs) < k → ¬ ((base +ℤ a.cost) ≡ l.dist)
 
-  -- the k-th of them is the one found
+  -- the next of them was found and isn't tight
   pub none_more : (k i : ℕ) (a : ArcView) → slice_get arcs i ≡ Some a → IsKthBetween arcs l.pred l.id k (Some i) → (¬ ((base +ℤ a.cost) ≡ l.dist)) → NoneBelow k → NoneBelow (k + 1)
   none_more k i a here found off below j b there passes few = elim (cases_order (count_by (joins l.pred l.id) (take j arcs)) k) [
     | inl is ↦ elim (cases_order j i) [

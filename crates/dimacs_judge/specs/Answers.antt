@@ -1,4 +1,4 @@
--- What labels answer to queries.
+-- The answers that labels give to queries.
 use Rattle.std.specs.Prelude.{ℕ, ◌≡◌, if◌then◌else◌, List, map, is_some, length, Option, Some, None, ℤ}
 use Rattle.std.specs.List.{find}
 use Rattle.dimacs_instance.specs.QueryTexts.{QueriesValue}
@@ -8,11 +8,11 @@ use Rattle.dimacs_judge.specs.declared.verdict.Answer.{Answer}
 use Rattle.dimacs_judge.specs.declared.verdict.Verdict.{Verdict}
 use Rattle.dimacs_judge.specs.declared.verdict.Verdict.TheVariants as verdicts
 
--- the first block of this source
+-- the first block with this source
 abbrev pub block_of : List BlockValue → ℕ → Option BlockValue
 block_of blocks source = find (has_source source) blocks
 
--- the label of one node in the block of another; none where it has no label, and where there is no block
+-- the label of a node in the block of another; none without a label or without a block
 abbrev pub distance_from : List BlockValue → ℕ → ℕ → Option ℤ
 distance_from blocks from to = label_in (block_of blocks from) to
 
@@ -20,11 +20,11 @@ abbrev pub radius_in : Option BlockValue → Option ℤ
 radius_in None = None
 radius_in (Some b) = b.radius
 
--- the radius of the block of a node; none where it has none, and where there is no block
+-- the radius of a node's block; none without a radius or without a block
 abbrev pub radius_from : List BlockValue → ℕ → Option ℤ
 radius_from blocks from = radius_in (block_of blocks from)
 
--- the radius of the block of one node, where the other has no label in it
+-- the radius of a node's block, if the other node has no label in it
 abbrev pub beyond_from : List BlockValue → ℕ → ℕ → Option ℤ
 beyond_from blocks from to = if is_some (distance_from blocks from to) then None else radius_from blocks from
 
@@ -36,7 +36,7 @@ answer_to blocks pair = record {
   beyond = beyond_from blocks pair.0 pair.1;
 }
 
--- the verdict tells the number of sources, or the answer to each pair in order
+-- the verdict has the number of sources, or the answer to each pair in order
 abbrev pub AnswersQueries : List BlockValue → QueriesValue → Verdict → Type 0
 AnswersQueries blocks (queries.Sources ids) (verdicts.Sources count) = count ≡ length ids
 AnswersQueries blocks (queries.Pairs pairs) (verdicts.Pairs answers) = answers.items ≡ map (answer_to blocks) pairs

@@ -1,4 +1,4 @@
--- The tests of cuts, of potentials and of labels.
+-- The tests of cuts, potentials, sets and labels.
 use Rattle.std.specs.Prelude.{ℕ, ◌≡◌, ◌≢◌, ◌<◌, ◌⊎◌, Bool, true, false, List, [], ◌∷◌, length, get_or, Option, Some, None, IsSome, ℤ, pos, ◌+ℤ◌, ◌<ℤ◌}
 use Rattle.dimacs_network.specs.declared.network.ArcView.{ArcView}
 use Rattle.dimacs_records.specs.declared.reasons.Reason.{Reason}
@@ -15,21 +15,21 @@ use Rattle.dimacs_judge.specs.Rows.{arc_row, flow_row, one_test}
 use Rattle.dimacs_network.specs.Arcs.{arc_at}
 use Rattle.dimacs_judge.specs.Tests.{Row}
 
--- an arc that leaves the set is not full, or one that enters it is not empty
+-- an arc leaves the set and carries less than its capacity, or enters it and carries flow
 abbrev pub TightFails : (ℕ → Bool) → ArcView → ℤ → Reason → Type 0
 TightFails set a x reason = ((reason ≡ NotSaturated) × (leaves set a ≡ true) × (x ≢ a.cap)) ⊎ ((reason ≡ BackFlow) × (enters set a ≡ true) × (x ≢ pos 0))
 
 abbrev pub tight_row : List ArcView → (ℕ → Bool) → List ℤ → Row
 tight_row arcs set x = flow_row (TightFails set) arcs x
 
--- the tests of a cut
+-- the tests of a cut, in order
 abbrev pub cut_rows : MaxValue → (ℕ → Bool) → List ℤ → List Row
 cut_rows i set x =
     one_test (Node i.source) SourceOutside (set i.source ≡ false)
     ∷ one_test (Node i.sink) SinkInside (set i.sink ≡ true)
     ∷ tight_row i.arcs set x ∷ []
 
--- a positive reduced cost beside more than the lower bound, or a negative one beside less than the capacity
+-- the reduced cost is positive and x isn't the lower bound, or it is negative and x isn't the capacity
 abbrev pub SlackFails : ℤ → ArcView → ℤ → Reason → Type 0
 SlackFails reduced a x reason = (reason ≡ NotTight) × (((pos 0 <ℤ reduced) × (x ≢ a.low)) ⊎ ((reduced <ℤ pos 0) × (x ≢ a.cap)))
 
@@ -48,13 +48,13 @@ negative_row arcs = arc_row arcs (λ k reason. (reason ≡ NegativeWeight) × ((
 abbrev pub weight_row : List ArcView → BlockValue → Row
 weight_row arcs b k place reason = IsSome b.radius × negative_row arcs k place reason
 
--- no arc makes the label
+-- a label has no tight arc
 abbrev pub support_row : List ArcView → BlockValue → Row
 support_row arcs b k place reason =
     (k < length b.labels) × (place ≡ Node (get_or b.labels k no_label).id) × (reason ≡ NoTightArc) × (¬ HasTightArc arcs b (get_or b.labels k no_label))
 
--- between these labels of its ends, the arc leads to a node without a label, and not past the radius, or to a node whose
--- label is too great
+-- an arc whose ends have these labels leads from a labelled node to one without a label within the radius, or to a node
+-- with too great a label
 abbrev pub RelaxFails : Option ℤ → Option ℤ → Option ℤ → ℤ → Reason → Type 0
 RelaxFails radius tail head weight reason =
     (d : ℤ) × (tail ≡ Some d) × (((reason ≡ Escapes) × (head ≡ None) × IsNear radius (d +ℤ weight)) ⊎ ((reason ≡ NotShortest) × ((e : ℤ) × (head ≡ Some e) × ((d +ℤ weight) <ℤ e))))
@@ -62,7 +62,7 @@ RelaxFails radius tail head weight reason =
 abbrev pub relax_row : List ArcView → BlockValue → Row
 relax_row arcs b = arc_row arcs (λ k reason. RelaxFails b.radius (label b (arc_at arcs k).tail) (label b (arc_at arcs k).head) (arc_at arcs k).cost reason)
 
--- the tests of all blocks, one block after another
+-- the tests of all blocks, block by block
 abbrev pub label_rows : List ArcView → List BlockValue → List Row
 label_rows arcs [] = []
 label_rows arcs (b ∷ blocks) = weight_row arcs b ∷ support_row arcs b ∷ relax_row arcs b ∷ label_rows arcs blocks

@@ -1,4 +1,4 @@
--- Entries of solutions, and the flows that they claim.
+-- The flows that the entries of solutions claim.
 use Rattle.std.specs.Prelude.{ℕ, ◌≡◌, ◌==◌, ◌<◌, ◌≤◌, ◌&&◌, ◌⊎◌, Bool, List, length, map, take, get_or, count_by, ℤ, pos}
 use Rattle.std.specs.List.{filter, range_with_len}
 use Rattle.dimacs_network.specs.declared.network.ArcView.{ArcView}
@@ -16,7 +16,7 @@ is_between tail head e = (e.tail == tail) && (e.head == head)
 abbrev pub no_entry : Entry
 no_entry = record { tail = 0; head = 0; flow = pos 0; line = 0 }
 
--- the entry of this index
+-- the entry with this index
 abbrev pub entry_at : List Entry → ℕ → Entry
 entry_at entries k = get_or entries k no_entry
 
@@ -24,15 +24,15 @@ entry_at entries k = get_or entries k no_entry
 abbrev pub entries_between : List Entry → ℕ → ℕ → List Entry
 entries_between entries tail head = filter (is_between tail head) entries
 
--- how many arcs before the arc of this index have its ends
+-- how many arcs before the arc with this index have its ends
 abbrev pub parallels_before : List ArcView → ℕ → ℕ
 parallels_before arcs i = count_by (joins (arc_at arcs i).tail (arc_at arcs i).head) (take i arcs)
 
--- what the entries claim of the arc of this index: where it is the k-th with its ends, the flow of the k-th entry with them; 0 where there is none
+-- the claimed amount of an arc: after k arcs with its ends, that of the entry after k such entries; 0 without one
 abbrev pub claimed_of : List ArcView → List Entry → ℕ → ℤ
 claimed_of arcs entries i = (get_or (entries_between entries (arc_at arcs i).tail (arc_at arcs i).head) (parallels_before arcs i) no_entry).flow
 
--- what the entries claim of each arc
+-- the claimed amount of each arc
 abbrev pub claimed_flow : List ArcView → List Entry → List ℤ
 claimed_flow arcs entries = map (claimed_of arcs entries) (range_with_len 0 (length arcs))
 
@@ -40,20 +40,20 @@ claimed_flow arcs entries = map (claimed_of arcs entries) (range_with_len 0 (len
 abbrev pub IsKnown : List ArcView → Entry → Type 0
 IsKnown arcs e = 1 ≤ count_by (joins e.tail e.head) arcs
 
--- the entry has an arc of its own: fewer earlier entries than arcs have its ends
+-- fewer earlier entries than arcs have the ends of this entry
 abbrev pub HasArc : List ArcView → List Entry → Entry → Type 0
 HasArc arcs before e = count_by (is_between e.tail e.head) before < count_by (joins e.tail e.head) arcs
 
--- the k-th entry with given ends belongs to the k-th arc with them: every entry has its arc, and the flow is what they claim
+-- every entry has its arc, and x is the claimed flow: the k-th entry with given ends belongs to the k-th arc with them
 pub record Carries (arcs : List ArcView) (entries : List Entry) (x : List ℤ) : Type 0 where
   pub each_has_arc : (k : ℕ) → k < length entries → HasArc arcs (take k entries) (entry_at entries k)
   pub amounts : x ≡ claimed_flow arcs entries
 
--- no arc has the ends of the entry; else as many earlier entries as arcs have them
+-- no arc has the ends of the entry; or some do, but as many earlier entries have them
 abbrev pub EntryFails : List ArcView → List Entry → Entry → Reason → Type 0
 EntryFails arcs before e reason =
     ((reason ≡ UnknownArc) × (¬ IsKnown arcs e)) ⊎ ((reason ≡ ArcTwice) × IsKnown arcs e × (count_by (joins e.tail e.head) arcs ≤ count_by (is_between e.tail e.head) before))
 
--- the tests of the entries, each named by its line
+-- the tests of the entries; each names the entry's line
 abbrev pub entry_row : List ArcView → List Entry → Row
 entry_row arcs entries k place reason = (k < length entries) × (place ≡ Solution (entry_at entries k).line 0) × EntryFails arcs (take k entries) (entry_at entries k) reason

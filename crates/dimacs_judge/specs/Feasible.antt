@@ -1,4 +1,4 @@
--- The flows that an instance allows.
+-- Feasible flows.
 use Rattle.std.specs.Prelude.{ℕ, ◌≡◌, ◌≢◌, List, ℤ, pos, ◌≤ℤ◌}
 use Rattle.std.specs.List.{AllZip}
 use Rattle.dimacs_instance.specs.MaxFlows.{MaxValue}
@@ -6,7 +6,7 @@ use Rattle.dimacs_lines.specs.Limits.{IsNode}
 use Rattle.dimacs_instance.specs.MinFlows.{MinValue, supply_of}
 use Rattle.dimacs_judge.specs.Flows.{net}
 
--- every arc carries from 0 to its capacity, and every node but source and sink is in balance
+-- every arc carries from 0 to its capacity, and the balance of every node but source and sink is 0
 pub record FeasibleMax (i : MaxValue) (y : List ℤ) : Type 0 where
   pub within : AllZip (λ a x. (pos 0 ≤ℤ x) × (x ≤ℤ a.cap)) i.arcs y
   pub balanced : (v : ℕ) → IsNode i.nodes v → v ≢ i.source → v ≢ i.sink → net i.arcs y v ≡ pos 0

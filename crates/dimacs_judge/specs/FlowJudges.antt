@@ -1,4 +1,4 @@
--- Judging flows as they are, without a solution that claims them and their value.
+-- Judging a flow itself, without a solution and its claimed value.
 use Rattle.std.specs.Prelude.{ℕ, ◌<◌, Bool, List, [], ◌∷◌, ◌++◌, length, ℤ}
 use Rattle.dimacs_instance.specs.MaxFlows.{MaxValue}
 use Rattle.dimacs_instance.specs.MinFlows.{MinValue}
@@ -20,7 +20,7 @@ pub record PassesMaxFlow (i : MaxValue) (x : List ℤ) (set : ℕ → Bool) : Ty
   pub feasible : FeasibleMax i x
   pub tight : CutTight i x set
 
--- the flow passes, and so it is maximum
+-- the flow passes, and it is maximum
 abbrev pub ShowsMaxFlow : MaxValue → List ℤ → (ℕ → Bool) → Type 0
 ShowsMaxFlow i x set = PassesMaxFlow i x set × Maximum i x
 
@@ -28,12 +28,12 @@ ShowsMaxFlow i x set = PassesMaxFlow i x set × Maximum i x
 abbrev pub min_flow_rows : MinValue → List ℤ → (ℕ → ℤ) → List Row
 min_flow_rows i x p = feasible_min_rows i x ++ cost_row i.arcs x ∷ slack_row i.arcs p x ∷ []
 
--- the flow is feasible, its cost stays in its range arc by arc, and the potentials are slack for it
+-- the flow is feasible, the sums of its costs stay in range, and the potentials are slack
 pub record PassesMinFlow (i : MinValue) (x : List ℤ) (p : ℕ → ℤ) : Type 0 where
   pub feasible : FeasibleMin i x
   pub costs_wide : (k : ℕ) → k < length i.arcs → IsWide (cost_through i.arcs x k)
   pub slack : Slack i.arcs x p
 
--- the flow passes, and so it is least
+-- the flow passes, and it costs least
 abbrev pub ShowsMinFlow : MinValue → List ℤ → (ℕ → ℤ) → Type 0
 ShowsMinFlow i x p = PassesMinFlow i x p × Least i x

@@ -13,7 +13,7 @@ use Rattle.dimacs_judge.specs.ViolatedSets.{Violated}
 abbrev pub infeasible_rows : MinValue → CutValue → List Row
 infeasible_rows i c = nodes_row i.nodes c.nodes ∷ violated_row i (members c) ∷ []
 
--- the set is of the instance's nodes, and its supply cannot be met
+-- the set is one of the instance's nodes, and its supply can't be met
 pub record PassesInfeasible (i : MinValue) (c : CutValue) : Type 0 where
   pub nodes_are : c.nodes ≡ i.nodes
   pub violated : Violated i (members c)

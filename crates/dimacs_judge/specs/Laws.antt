@@ -1,4 +1,4 @@
--- What certificates prove of flows and of walks.
+-- The theorems: what certificates show of flows and of walks.
 use Rattle.std.specs.Prelude.{ℕ, ◌≡◌, Bool, List, All, ℤ, ◌-ℤ◌, ◌*ℤ◌}
 use Rattle.dimacs_network.specs.declared.network.ArcView.{ArcView}
 use Rattle.dimacs_network.specs.Arcs.{JoinsNodes, NetworkValue}
@@ -17,7 +17,7 @@ use Rattle.dimacs_claims.specs.Labels.{AreLabels, BlockValue, LabelsValue, Preds
 use Rattle.dimacs_judge.specs.Labels.{LabelsOk, StaysNear}
 use Rattle.dimacs_judge.specs.PathsJudge.{PassesPaths, ShowsDistances}
 
--- for every flow and every weighting of the nodes: the balances by their weights are the amounts by the differences of the weights
+-- the sum exchange: balances times node weights, over the nodes, are amounts times weight differences, over the arcs
 abbrev pub ExchangeLaw : Type 0
 ExchangeLaw =
     (nodes : ℕ) (arcs : List ArcView) → All (JoinsNodes nodes) arcs → (y : List ℤ) (p : ℕ → ℤ)
@@ -28,18 +28,18 @@ abbrev pub TightCutLaw : Type 0
 TightCutLaw =
     (i : MaxValue) → All (JoinsNodes i.nodes) i.arcs → IsNode i.nodes i.source → (x : List ℤ) (set : ℕ → Bool) → FeasibleMax i x → CutTight i x set → Maximum i x
 
--- a feasible flow with slack potentials is least
+-- a feasible flow with slack potentials costs least
 abbrev pub SlacknessLaw : Type 0
 SlacknessLaw = (i : MinValue) → All (JoinsNodes i.nodes) i.arcs → (x : List ℤ) (p : ℕ → ℤ) → FeasibleMin i x → Slack i.arcs x p → Least i x
 
--- where a set is violated there is no feasible flow
+-- if a set is violated, no flow is feasible
 abbrev pub ViolatedSetLaw : Type 0
 ViolatedSetLaw = (i : MinValue) → All (JoinsNodes i.nodes) i.arcs → (set : ℕ → Bool) → Violated i set → NoFlow i
 
--- labels that pass are distances, and nodes without a label are unreachable, or beyond the radius where there is one
+-- labels that pass are distances; nodes without a label are unreachable, or beyond the radius if there is one
 abbrev pub LabelsLaw : Type 0
 LabelsLaw = (g : List ArcView) (b : BlockValue) → PredsAreEarlier b → StaysNear b → LabelsOk g b → (v : ℕ) → IsDistance g b.source v (label b v) b.radius
 
--- labels and queries that pass show distances
+-- if labels and queries pass, the answers are distances
 abbrev pub PassingShowsLaw : Type 0
 PassingShowsLaw = (g : NetworkValue) (q : QueriesValue) (l : LabelsValue) → AreLabels l → PassesPaths g q l → ShowsDistances g q l

@@ -26,18 +26,18 @@ max_claim_rows i s =
 abbrev pub max_rows : MaxValue → SolutionValue → CutValue → List Row
 max_rows i s c = max_claim_rows i s ++ nodes_row i.nodes c.nodes ∷ cut_rows i (members c) (claimed_flow i.arcs s.entries)
 
--- the flow that the solution carries is feasible and has the claimed value
+-- the flow of the solution is feasible and has the claimed value
 pub record IsMaxClaim (i : MaxValue) (s : SolutionValue) (x : List ℤ) : Type 0 where
   pub carries : Carries i.arcs s.entries x
   pub feasible : FeasibleMax i x
   pub value_is : value i x ≡ s.value
 
--- the flow is what is claimed, and the cut is tight for it
+-- the flow is the claimed one, and the cut is tight for it
 pub record PassesMax (i : MaxValue) (s : SolutionValue) (c : CutValue) (x : List ℤ) : Type 0 where
   pub claim : IsMaxClaim i s x
   pub nodes_are : c.nodes ≡ i.nodes
   pub tight : CutTight i x (members c)
 
--- a flow passes, and so it is maximum
+-- a flow passes, and it is maximum
 abbrev pub ShowsMaximum : MaxValue → SolutionValue → CutValue → Type 0
 ShowsMaximum i s c = (x : List ℤ) × PassesMax i s c x × Maximum i x

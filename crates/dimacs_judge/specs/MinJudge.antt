@@ -1,4 +1,4 @@
--- Judging that a flow is least.
+-- Judging that a flow costs least.
 use Rattle.std.specs.Prelude.{ℕ, ◌≡◌, ◌<◌, List, [], ◌∷◌, ◌++◌, length, ℤ}
 use Rattle.dimacs_claims.specs.Potentials.{PotentialsValue, potential_of}
 use Rattle.dimacs_claims.specs.SolutionTexts.{SolutionValue}
@@ -29,19 +29,19 @@ min_claim_rows i s =
 abbrev pub min_rows : MinValue → SolutionValue → PotentialsValue → List Row
 min_rows i s p = min_claim_rows i s ++ nodes_row i.nodes p.nodes ∷ slack_row i.arcs (potential_of p) (claimed_flow i.arcs s.entries) ∷ []
 
--- the flow that the solution carries is feasible and has the claimed cost, which stays in its range arc by arc
+-- the flow of the solution is feasible and has the claimed cost; the sums of the costs stay in range
 pub record IsMinClaim (i : MinValue) (s : SolutionValue) (x : List ℤ) : Type 0 where
   pub carries : Carries i.arcs s.entries x
   pub feasible : FeasibleMin i x
   pub costs_wide : (k : ℕ) → k < length i.arcs → IsWide (cost_through i.arcs x k)
   pub cost_is : cost i.arcs x ≡ s.value
 
--- the flow is what is claimed, and the potentials are slack for it
+-- the flow is the claimed one, and the potentials are slack for it
 pub record PassesMin (i : MinValue) (s : SolutionValue) (p : PotentialsValue) (x : List ℤ) : Type 0 where
   pub claim : IsMinClaim i s x
   pub nodes_are : p.nodes ≡ i.nodes
   pub slack : Slack i.arcs x (potential_of p)
 
--- a flow passes, and so it is least
+-- a flow passes, and it costs least
 abbrev pub ShowsLeast : MinValue → SolutionValue → PotentialsValue → Type 0
 ShowsLeast i s p = (x : List ℤ) × PassesMin i s p x × Least i x

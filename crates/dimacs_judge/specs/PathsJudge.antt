@@ -1,4 +1,4 @@
--- The tests of distances, what passes them, and what then holds.
+-- Judging that labels are distances: the tests, what passes them, and what that shows.
 use Rattle.std.specs.Prelude.{◌≡◌, ◌≤◌, List, ◌∷◌, All}
 use Rattle.dimacs_network.specs.declared.network.ArcView.{ArcView}
 use Rattle.dimacs_network.specs.Arcs.{NetworkValue}
@@ -12,11 +12,11 @@ use Rattle.dimacs_judge.specs.QueryTests.{IsServed, nodes_asked, sources_asked, 
 use Rattle.dimacs_judge.specs.Tests.{Row}
 use Rattle.dimacs_judge.specs.Walks.{IsDistance}
 
--- the tests of queries and of labels
+-- the tests of queries and labels, in order
 abbrev pub paths_rows : NetworkValue → QueriesValue → LabelsValue → List Row
 paths_rows g q l = nodes_row g.nodes l.nodes ∷ query_node_row g.nodes q ∷ block_row l.blocks q ∷ label_rows g.arcs l.blocks
 
--- the labels are of as many nodes as the graph, the queries name its nodes and are served by blocks, and the labels of
+-- labels and graph have the same nodes, the queries name its nodes and have blocks that answer them, and the labels of
 -- every block pass
 pub record PassesPaths (g : NetworkValue) (q : QueriesValue) (l : LabelsValue) : Type 0 where
   pub nodes : l.nodes ≡ g.nodes
@@ -24,8 +24,8 @@ pub record PassesPaths (g : NetworkValue) (q : QueriesValue) (l : LabelsValue) :
   pub blocks : All (IsServed l.blocks q) (sources_asked q)
   pub labels : All (LabelsOk g.arcs) l.blocks
 
--- the answer to each pair is the distance between its nodes; where none is told there is no walk, or none up to the radius
--- that is told
+-- the answer to each pair is the distance between its nodes; without a distance there is no walk, or none within the
+-- radius of the answer
 abbrev pub AnswersAreDistances : List ArcView → List BlockValue → QueriesValue → Type 0
 AnswersAreDistances arcs blocks (Sources ids) = Unit {0}
 AnswersAreDistances arcs blocks (Pairs pairs) = All (λ pair. IsDistance arcs pair.0 pair.1 (distance_from blocks pair.0 pair.1) (beyond_from blocks pair.0 pair.1)) pairs

@@ -1,4 +1,4 @@
--- A flow while entries are put on their arcs, one after another.
+-- A flow while entries are put on their arcs, entry by entry.
 use Rattle.std.specs.Prelude.{ℕ, zero, suc, ◌≡◌, ◌<◌, ◌≤◌, ◌^◌, Bool, true, false, List, length, take, get_or, count_by, ℤ, Option, None, Some}
 use Rattle.dimacs_network.specs.declared.network.ArcView.{ArcView}
 use Rattle.dimacs_network.specs.declared.arc_index.ArcIndex.{ArcIndex}
@@ -10,7 +10,7 @@ use Rattle.dimacs_judge.specs.declared.verdict.Where.{Where}
 use Rattle.dimacs_judge.specs.Claims.{is_between, claimed_flow, entry_row}
 use Rattle.dimacs_judge.specs.Tests.{Clear, FirstOfRow}
 
--- the arcs, what they carry, a count for each, how many entries came in the order of the arcs, whether another came, and the first entry that fails
+-- the arcs, their amounts and counts, how many entries came in order, whether another came, and the first that fails
 pub record PlacesValue : Type 0 where
   pub arcs : List ArcView
   pub flow : List ℤ
@@ -26,16 +26,16 @@ pub record HaveRoom (p : PlacesValue) : Type 0 where
   pub in_order : p.in_order ≤ length p.arcs
   pub few : length p.arcs < 2 ^ 32
 
--- a count, or another number where nothing was counted
+-- k, or n if k is 0
 abbrev pub counted_or : ℕ → ℕ → ℕ
 counted_or zero n = n
 counted_or (suc k) n = suc k
 
--- how many entries came of these ends: the count at their first arc, or where nothing was counted there, the arcs of these ends among those whose entries came in order
+-- how many entries with these ends came: the count at their first arc, or, if it is 0, such arcs below `in_order`
 abbrev pub came_between : PlacesValue → ℕ → ℕ → ℕ → ℕ
 came_between p tail head first = counted_or (get_or p.counts first 0) (count_by (joins tail head) (take p.in_order p.arcs))
 
--- the entries pass, and their flow was put on the arcs
+-- the entries pass, and their flow is on the arcs
 pub record HavePlaced (p : PlacesValue) (entries : List Entry) : Type 0 where
   pub clear : Clear (entry_row p.arcs entries)
   pub amounts : p.flow ≡ claimed_flow p.arcs entries
@@ -43,12 +43,12 @@ pub record HavePlaced (p : PlacesValue) (entries : List Entry) : Type 0 where
   pub uncounted : p.out_of_order ≡ false → (k : ℕ) → get_or p.counts k 0 ≡ 0
   pub ordered : p.out_of_order ≡ false → (tail head : ℕ) → count_by (joins tail head) (take p.in_order p.arcs) ≡ count_by (is_between tail head) entries
 
--- what the places hold of a first refusal, or of the flow where there is none
+-- the first entry that fails, or the flow if none does
 abbrev pub Hold : PlacesValue → List Entry → Option (Where × Reason) → Type 0
 Hold p entries None = HavePlaced p entries
 Hold p entries (Some refusal) = FirstOfRow (entry_row p.arcs entries) refusal.0 refusal.1
 
--- these entries were placed
+-- these entries were put
 abbrev pub ArePlaced : PlacesValue → List Entry → Type 0
 ArePlaced p entries = Hold p entries p.refusal
 

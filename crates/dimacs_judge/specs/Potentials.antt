@@ -3,7 +3,7 @@ use Rattle.std.specs.Prelude.{ℕ, ◌≡◌, List, ℤ, pos, ◌+ℤ◌, ◌-�
 use Rattle.std.specs.List.{AllZip}
 use Rattle.dimacs_network.specs.declared.network.ArcView.{ArcView}
 
--- the arc's cost, less the potential of its tail, and with that of its head
+-- the arc's cost, minus the potential of its tail, plus the potential of its head
 abbrev pub reduced_cost : (ℕ → ℤ) → ArcView → ℤ
 reduced_cost p a = a.cost -ℤ p a.tail +ℤ p a.head
 

@@ -21,11 +21,11 @@ pub record Dist (g : List ArcView) (s t : ℕ) (d : ℤ) : Type 0 where
 abbrev pub Unreachable : List ArcView → ℕ → ℕ → Type 0
 Unreachable g s t = (walk : List ArcView) → ¬ IsWalk g s t walk
 
--- every walk from s to t weighs more than r, or there is none
+-- every walk from s to t weighs more than r; there may be none
 abbrev pub Beyond : List ArcView → ℕ → ℕ → ℤ → Type 0
 Beyond g s t r = (walk : List ArcView) → IsWalk g s t walk → r <ℤ weight walk
 
--- the distance from s to t; none where there is no walk, or where t lies beyond the radius, if there is one
+-- the distance from s to t; without one there is no walk, or none within the radius if there is a radius
 abbrev pub IsDistance : List ArcView → ℕ → ℕ → Option ℤ → Option ℤ → Type 0
 IsDistance g s t (Some d) radius = Dist g s t d
 IsDistance g s t None None = Unreachable g s t

@@ -1,4 +1,4 @@
-//! Whether what a claim says of itself agrees with the instance.
+//! Tests of a claim's own numbers against the instance.
 
 ghost use Rattle.dimacs_judge.specs.Agreement.{value_row, nodes_row};
 ghost use Rattle.dimacs_judge.specs.Tests.{TellsRow};
@@ -7,7 +7,7 @@ use crate::verdict::Where;
 use dimacs_claims::{Place, Placed};
 use dimacs_records::Reason;
 
-/// Whether the solution claims this value, or this cost.
+/// Tests that the claimed value or cost is this one.
 pub(crate) fn value_agrees<P: Place>(value: i128, placed: &Placed<P>) -> Result<(), (Where, Reason)>
     ensures { TellsRow (value_row value placed.now.value placed.now.value_line) result }
 {
@@ -21,7 +21,7 @@ pub(crate) fn value_agrees<P: Place>(value: i128, placed: &Placed<P>) -> Result<
     Err((place, Reason::ValueDiffers))
 }
 
-/// Whether the certificate is of as many nodes as the instance.
+/// Tests that the certificate has as many nodes as the instance.
 pub(crate) fn nodes_agree(nodes: u32, claimed: u32) -> Result<(), (Where, Reason)>
     ensures { TellsRow (nodes_row nodes claimed) result }
 {

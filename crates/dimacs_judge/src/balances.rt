@@ -1,4 +1,4 @@
-//! The balance of each node: what leaves it less what enters it.
+//! The balance of each node: its outflow less its inflow.
 
 ghost use Rattle.std.specs.Prelude.{◌≡◌, ◌≤◌, ◌^◌, ◌==◌, ℕ, ◌+ℤ◌, ◌-ℤ◌, length, IfOk, OnOk, FitsSigned};
 ghost use Rattle.std.specs.Int.{w128};
@@ -21,7 +21,7 @@ pub struct Balances {
 }
 
 impl Balances {
-    /// Adds up the balances that a flow gives the nodes. Takes memory for the ends of arcs alone.
+    /// Computes the balances under a flow. Allocates a table of the nodes that are ends of arcs.
     pub fn new<N: Network>(alloc: Global, network: &N, flow: &Flow) -> Result<Balances, Memory>
         requires few_arcs { length (N.list network.now) ≤ most_count }
         requires one_each { length flow.now ≡ length (N.list network.now) }
@@ -34,7 +34,7 @@ impl Balances {
         Ok(Balances { sums })
     }
 
-    /// The balance of a node; 0 where no arc ends.
+    /// The balance of a node; 0 for a node without arcs.
     #[inline(always)]
     pub fn of(&self, node: u32) -> i128
         ensures { result ≡ value_of self.now.sums node }
@@ -43,7 +43,7 @@ impl Balances {
     }
 }
 
-/// Adds the amount to the balance of the arc's tail, and takes it from that of its head.
+/// Adds the amount to the balance of the arc's tail, and subtracts it from that of its head.
 #[inline(always)]
 fn transfer(sums: &mut NodeTable<i128>, arc: ArcView, amount: i64) -> Result<(), Memory>
     requires { (v : ℕ) → IsOfSize (2 ^ 120) (value_of sums.old v) }
@@ -55,7 +55,8 @@ fn transfer(sums: &mut NodeTable<i128>, arc: ArcView, amount: i64) -> Result<(),
     Ok(())
 }
 
-/// Adds the amount to the balance of a node. Nearly always its page was taken, and is looked up once.
+/// Adds the amount to the balance of a node. In the common case the node's page is allocated, and one look-up is
+/// enough.
 #[inline(always)]
 fn add_at(sums: &mut NodeTable<i128>, node: u32, amount: i128) -> Result<(), Memory>
     requires { FitsSigned w128 (value_of sums.old node +ℤ amount) }

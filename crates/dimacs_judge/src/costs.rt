@@ -11,7 +11,8 @@ use dimacs_lines::WIDE;
 use dimacs_network::Network;
 use dimacs_records::Reason;
 
-/// The cost of the flow, or the first arc at which the costs so far leave the wide range.
+/// The cost of a flow. Adds up arc by arc; an error names the first arc, with `CostRange`, at which the sum leaves the
+/// range from -10^30 to 10^30.
 pub fn cost_within<N: Network>(network: &N, flow: &Flow) -> Result<i128, (Where, Reason)>
     requires one_each { length flow.now ≡ length (N.list network.now) }
     ensures { TellsCost (N.list network.now) flow.now result }
@@ -26,7 +27,7 @@ pub fn cost_within<N: Network>(network: &N, flow: &Flow) -> Result<i128, (Where,
     Ok(sum)
 }
 
-/// The sum with the cost of one more arc, where it stays in the wide range.
+/// The sum with the cost of one more arc; none if it leaves the range.
 fn add_cost(sum: i128, cost: i64, amount: i64) -> Option<i128>
     requires { IsWide sum }
     ensures { MatchOption result (¬ IsWide (sum +ℤ cost *ℤ amount)) (λ next. (next ≡ sum +ℤ cost *ℤ amount) × IsWide next) }
@@ -35,6 +36,7 @@ fn add_cost(sum: i128, cost: i64, amount: i64) -> Option<i128>
     if is_wide(next) { Some(next) } else { None }
 }
 
+/// The product as 128 bits, which always hold it.
 fn product(cost: i64, amount: i64) -> i128
     ensures value { result ≡ cost *ℤ amount }
     ensures size { IsOfSize (2 ^ 126) result }
@@ -42,6 +44,7 @@ fn product(cost: i64, amount: i64) -> i128
     i128::from(cost) * i128::from(amount)
 }
 
+/// Whether the sum is from -10^30 to 10^30.
 fn is_wide(sum: i128) -> bool
     ensures { IsTrue result ↔ IsWide sum }
 {

@@ -1,4 +1,4 @@
-//! Whether a set of nodes is violated.
+//! Whether a set of nodes is violated: its supply can't be met.
 
 ghost use Rattle.std.specs.Prelude.{◌≡◌, ◌≤◌, ◌^◌, ◌+ℤ◌, ◌-ℤ◌, ◌<ℤ◌, ◌⊎◌, ◌↔◌, IsTrue, length};
 ghost use Rattle.dimacs_lines.specs.Limits.{most_count};
@@ -17,14 +17,14 @@ use dimacs_instance::MinInstance;
 use dimacs_network::{ArcView, Network};
 use dimacs_records::Reason;
 
-/// The bounds of what leaves a set, less what enters it.
+/// The most and the least that can flow out of a set, less what flows into it.
 #[derive(Clone, Copy)]
 struct Crossing {
     most: i128,
     least: i128,
 }
 
-/// Whether more is supplied in the set than can leave it, or less than must.
+/// Tests whether the supply in the set is more than can flow out of it, or less than must. `NotViolated` if it isn't.
 pub(crate) fn set_is_violated<N: Network>(
     instance: &MinInstance<N>,
     set: &Cut,
@@ -40,7 +40,7 @@ pub(crate) fn set_is_violated<N: Network>(
     }
 }
 
-/// What the nodes of the set supply together.
+/// The sum of the supplies in the set.
 fn supply_in<N: Network>(instance: &MinInstance<N>, set: &Cut) -> i128
     ensures { result ≡ theory.supply_in instance.now.nodes (supply_of instance.now) (members set.now) }
 {
@@ -51,7 +51,7 @@ fn supply_in<N: Network>(instance: &MinInstance<N>, set: &Cut) -> i128
     sum
 }
 
-/// What the node supplies to the set.
+/// The supply of the node if it is in the set, otherwise 0.
 fn supply_at<N: Network>(node: u32, instance: &MinInstance<N>, set: &Cut) -> i64
     ensures { result ≡ when (members set.now node) (supply_of instance.now node) }
 {
@@ -62,6 +62,7 @@ fn supply_at<N: Network>(node: u32, instance: &MinInstance<N>, set: &Cut) -> i64
     }
 }
 
+/// The bounds of all arcs together.
 fn bounds_across<N: Network>(network: &N, set: &Cut) -> Crossing
     requires few_arcs { length (N.list network.now) ≤ most_count }
     ensures most { result.most ≡ most_out (N.list network.now) (members set.now) }
@@ -75,7 +76,7 @@ fn bounds_across<N: Network>(network: &N, set: &Cut) -> Crossing
 }
 
 impl Crossing {
-    /// Whether this supply is outside the bounds.
+    /// Whether this supply is above the most or below the least.
     fn excludes(self, supply: i128) -> bool
         ensures { IsTrue result ↔ (self.most <ℤ supply ⊎ supply <ℤ self.least) }
     {

@@ -1,4 +1,4 @@
-//! Whether a cut is tight.
+//! Whether a cut is tight for a flow.
 
 ghost use Rattle.std.specs.Prelude.{◌≡◌, length};
 ghost use Rattle.dimacs_judge.specs.CertificateTests.{TightFails, tight_row, cut_rows};
@@ -13,11 +13,11 @@ use dimacs_instance::MaxInstance;
 use dimacs_network::{ArcView, Network};
 use dimacs_records::Reason;
 
-/// Whether the cut is tight: the source is inside and the sink outside, each arc that leaves the cut carries its
-/// capacity, and each arc that enters it carries nothing. Takes no memory.
+/// Tests whether the cut is tight: the source is inside and the sink outside, each arc that leaves the cut carries its
+/// capacity, and each arc that enters it carries nothing. Allocates nothing.
 ///
-/// The tests in their order: `SourceOutside`, at the source; `SinkInside`, at the sink; then each arc, from 1:
-/// `NotSaturated` where it leaves, `BackFlow` where it enters.
+/// The tests in order: `SourceOutside`, at the source; `SinkInside`, at the sink; then for each arc, from 1,
+/// `NotSaturated` if it leaves the cut, `BackFlow` if it enters.
 pub fn cut_tests<N: Network>(
     instance: &MaxInstance<N>,
     flow: &Flow,
@@ -37,7 +37,7 @@ pub fn cut_tests<N: Network>(
     arcs_tight(instance.network(), flow, cut)
 }
 
-/// The first arc that leaves the cut and is not full, or enters it and is not empty.
+/// Tests each arc; the error names the first that leaves the cut with room, or enters it with flow.
 fn arcs_tight<N: Network>(network: &N, flow: &Flow, cut: &Cut) -> Result<(), (Where, Reason)>
     requires one_each { length flow.now ≡ length (N.list network.now) }
     ensures { TellsRow (tight_row (N.list network.now) (members cut.now) flow.now) result }
@@ -50,6 +50,7 @@ fn arcs_tight<N: Network>(network: &N, flow: &Flow, cut: &Cut) -> Result<(), (Wh
     Ok(())
 }
 
+/// The reason why an arc fails, if it does.
 fn tight_fault(arc: ArcView, amount: i64, cut: &Cut) -> Option<Reason>
     ensures { TellsReason (TightFails (members cut.now) arc amount) result }
 {

@@ -1,9 +1,9 @@
-//! Numbers that hold the distances in marks.
+//! Numbers of three widths for the distances in a judge's table of labels.
 
 ghost use Rattle.std.specs.Prelude.{◌≡◌, ◌↔◌, ◌+ℤ◌, ◌<ℤ◌, ℤ, Option, Some, None, pos, IsTrue, int_lt, if◌then◌else◌};
 ghost use Rattle.dimacs_judge.specs.inside.Distances.{Fits, LeadsAside, LeadsTo};
 
-/// A number that holds a distance, or that there is none, for which its greatest value stands.
+/// A number that holds a distance or, by its greatest value, that there is none.
 pub(crate) trait Distance: Copy {
     ghost value: { Self → Option ℤ };
 
@@ -13,27 +13,32 @@ pub(crate) trait Distance: Copy {
 
     ghost end: { ℤ };
 
+    /// No distance.
     fn none() -> Self
         ensures { value result ≡ None };
 
+    /// The distance 0.
     fn zero() -> Self
         ensures { value result ≡ Some (pos 0) };
 
+    /// This distance, which has to fit.
     fn of(dist: i128) -> Self
         requires { Fits low end dist }
         ensures { number result ≡ dist };
 
+    /// The number as 128 bits.
     fn wide(self) -> i128
         ensures { result ≡ number self };
 
+    /// Whether there is a distance.
     fn is_some(self) -> bool
         ensures { result ≡ int_lt (number self) end };
 
-    /// Whether the other number is greater than this and the weight.
+    /// Whether `to` is greater than `self + weight`, as numbers.
     fn is_less(self, to: Self, weight: i64) -> bool
         ensures { IsTrue result ↔ ((number self +ℤ weight) <ℤ number to) };
 
-    /// Whether the other number is this and the weight.
+    /// Whether `to` is `self + weight`, as numbers.
     fn is_equal(self, to: Self, weight: i64) -> bool
         ensures { IsTrue result ↔ ((number self +ℤ weight) ≡ number to) };
 
@@ -140,7 +145,7 @@ impl Distance for i64 {
     }
 }
 
-/// A difference past 128 bits is greater than each weight, or less, at either end too.
+/// If the difference of two 128-bit numbers overflows, it is beyond every weight; the answers are right all the same.
 impl Distance for i128 {
     ghost use Rattle.std.specs.Prelude.{◌^◌, ◌-◌, neg_ℤ, pos, refl};
     ghost use Rattle.dimacs_judge.specs.inside.Distances.{below};
@@ -191,7 +196,7 @@ impl Distance for i128 {
     }
 }
 
-/// The distance, where there is one.
+/// The distance, if there is one.
 #[inline(always)]
 pub(crate) fn distance_in<D: Distance>(dist: D) -> Option<i128>
     ensures { result ≡ D.value dist }
@@ -203,8 +208,8 @@ pub(crate) fn distance_in<D: Distance>(dist: D) -> Option<i128>
     }
 }
 
-/// Whether there is the one distance, and the other is none, or greater than that and the weight. All is looked at in any
-/// case here and in `leads_to`: branches would be foretold wrongly.
+/// Whether `from` is a distance, and `to` is none or greater than `from + weight`. It evaluates all terms, and so does
+/// `leads_to`: a processor would mispredict branches here.
 #[inline(always)]
 pub(crate) fn leads_aside<D: Distance>(from: D, to: D, weight: i64) -> bool
     ensures { IsTrue result ↔ LeadsAside (D.value from) (D.value to) weight }
@@ -212,7 +217,7 @@ pub(crate) fn leads_aside<D: Distance>(from: D, to: D, weight: i64) -> bool
     from.is_some() & (!to.is_some() | from.is_less(to, weight))
 }
 
-/// Whether there are both distances, and the other is the one and the weight.
+/// Whether both are distances, and `to` is `from + weight`.
 #[inline(always)]
 pub(crate) fn leads_to<D: Distance>(from: D, to: D, weight: i64) -> bool
     ensures { IsTrue result ↔ LeadsTo (D.value from) (D.value to) weight }

@@ -16,8 +16,9 @@ use dimacs_network::Network;
 use std::alloc::Global;
 
 /// The flow that a solution claims. The k-th entry with given ends, in the order of the solution, gives the flow of the
-/// k-th arc with these ends, in the order of the network, and an arc without an entry carries 0. `UnknownArc` at an
-/// entry whose ends no arc has; `ArcTwice` where as many earlier entries have them as there are arcs with them.
+/// k-th arc with these ends, in the order of the network; an arc without an entry carries 0. Errors name the line of
+/// the first entry that fails: `UnknownArc` if no arc has its ends, `ArcTwice` if as many earlier entries have them as
+/// there are arcs with them.
 pub fn flow_of<N: Network>(
     alloc: Global,
     network: &N,
@@ -30,7 +31,8 @@ pub fn flow_of<N: Network>(
     Ok(flow)
 }
 
-/// A solution whose entries are placed on the arcs of a network; the first that fails is kept there.
+/// Puts the entries of a solution on the arcs of a network. The first entry that fails is kept in the result, not
+/// returned as an error.
 pub fn placed<'a, N: Network>(
     alloc: Global,
     network: &'a N,
@@ -46,7 +48,7 @@ pub fn placed<'a, N: Network>(
     })
 }
 
-/// The places of a network, with these entries in them.
+/// The entries on the arcs of a network.
 fn places_of<'a, N: Network>(
     alloc: Global,
     network: &'a N,

@@ -1,4 +1,4 @@
-//! Whether a flow keeps its bounds, and whether the nodes are in balance.
+//! Whether a flow is feasible: its bounds, and the balances of the nodes.
 
 ghost use Rattle.std.specs.Prelude.{◌≡◌, ◌≤◌, ℕ, ℤ, List, Option, length};
 ghost use Rattle.dimacs_lines.specs.Limits.{most_count, most_nodes};
@@ -16,10 +16,11 @@ use dimacs_network::{ArcView, Network};
 use dimacs_records::Reason;
 use std::alloc::Global;
 
-/// Whether the flow is feasible: each arc carries from 0 to its capacity, and each node but source and sink is in
-/// balance. Takes a table of the nodes that have arcs.
+/// Tests whether a flow is feasible: each arc carries from 0 to its capacity, and each node but source and sink has
+/// balance 0. Allocates a table of the nodes that have arcs.
 ///
-/// Arcs are tested first, from 1: `BelowLow` below 0, else `AboveCap`. Then nodes, by ID: `Balance`.
+/// The tests in order: for each arc, from 1, `BelowLow` if it carries less than 0, otherwise `AboveCap`; then for each
+/// node, by ID, `Balance`.
 pub fn feasible_max<N: Network>(
     alloc: Global,
     instance: &MaxInstance<N>,
@@ -32,10 +33,10 @@ pub fn feasible_max<N: Network>(
     Ok(())
 }
 
-/// Whether the flow is feasible: each arc carries from its lower bound to its capacity, and the balance of each node
-/// is its supply. Takes a table of the nodes that have arcs.
+/// Tests whether a flow is feasible: each arc carries from its lower bound to its capacity, and the balance of each
+/// node is its supply. Allocates a table of the nodes that have arcs.
 ///
-/// Arcs are tested first, from 1: `BelowLow`, else `AboveCap`. Then nodes, by ID: `Balance`.
+/// The tests in order: for each arc, from 1, `BelowLow`, otherwise `AboveCap`; then for each node, by ID, `Balance`.
 pub fn feasible_min<N: Network>(
     alloc: Global,
     instance: &MinInstance<N>,
@@ -48,7 +49,7 @@ pub fn feasible_min<N: Network>(
     Ok(())
 }
 
-/// The balances of a feasible flow; else the first test that fails: of the bounds, and then of the balances.
+/// Tests the bounds, then the balances. Returns the balances, or the first test that fails.
 pub(crate) fn feasible<N: Network, D: Demands>(
     alloc: Global,
     network: &N,
@@ -66,7 +67,7 @@ pub(crate) fn feasible<N: Network, D: Demands>(
     Ok(balances)
 }
 
-/// The first arc that carries less than its lower bound or more than its capacity.
+/// Tests the bounds; the error names the first arc that carries less than its lower bound or more than its capacity.
 pub fn bounds_hold<N: Network>(network: &N, flow: &Flow) -> Result<(), (Where, Reason)>
     requires one_each { length flow.now ≡ length (N.list network.now) }
     ensures { TellsRow (bound_row (N.list network.now) flow.now) result }
@@ -79,6 +80,7 @@ pub fn bounds_hold<N: Network>(network: &N, flow: &Flow) -> Result<(), (Where, R
     Ok(())
 }
 
+/// The reason why an arc fails, if it does.
 fn bound_fault(arc: ArcView, amount: i64) -> Option<Reason>
     ensures { TellsReason (BoundFails arc amount) result }
 {
@@ -91,11 +93,11 @@ fn bound_fault(arc: ArcView, amount: i64) -> Option<Reason>
     }
 }
 
-/// The balances that a problem demands of its nodes.
+/// What balances an instance demands of its nodes.
 pub(crate) trait Demands {
     ghost demand: { Self → ℕ → Option ℤ };
 
-    /// The balance that the node must have; none where it may have any.
+    /// The balance that the node has to have; none if any will do.
     fn demand_at(&self, node: u32) -> Option<i64>
         ensures { result ≡ demand self.now node };
 }
@@ -120,7 +122,7 @@ impl<N: Network> Demands for MinInstance<N> {
     }
 }
 
-/// The first node that has another balance than is demanded, whatever flow gives these balances.
+/// Tests the balances; the error names the first node with another balance than is demanded.
 pub(crate) fn balances_hold<N: Network, D: Demands>(
     network: &N,
     balances: &Balances,
@@ -138,6 +140,7 @@ pub(crate) fn balances_hold<N: Network, D: Demands>(
     Ok(())
 }
 
+/// The reason why a node fails, if it does.
 fn balance_fault(demand: Option<i64>, balance: i128) -> Option<Reason>
     ensures { TellsReason (BalanceFails demand balance) result }
 {

@@ -6,7 +6,7 @@ use dimacs_lines::Memory;
 use std::alloc::Global;
 use std::marker::Model;
 
-/// An amount for each arc of a network, in the order of the arcs.
+/// A flow: an amount for each arc of a network, in the order of the arcs. Nothing is required of the amounts.
 #[derive(Drop)]
 pub struct Flow {
     amounts: Vec<i64>,
@@ -28,7 +28,7 @@ impl Flow {
         self.amounts.len()
     }
 
-    /// The amount on an arc, counted from 0.
+    /// The amount on the arc with this index, from 0.
     #[inline(always)]
     pub fn amount(&self, arc: u32) -> i64
         requires { arc < length self.now }
@@ -44,7 +44,7 @@ impl Flow {
         &self.amounts
     }
 
-    /// The flow that carries nothing.
+    /// The zero flow of a network with so many arcs.
     pub fn zero(alloc: Global, arcs: u32) -> Result<Flow, Memory>
         ensures { IfOk result (λ flow. flow ≡ replicate arcs (pos 0)) }
     {
@@ -53,7 +53,7 @@ impl Flow {
         })
     }
 
-    /// The flow that carries these amounts.
+    /// The flow with a copy of these amounts.
     pub fn of(alloc: Global, amounts: &[i64]) -> Result<Flow, Memory>
         ensures { IfOk result (λ flow. flow ≡ amounts.now) }
     {
@@ -62,14 +62,14 @@ impl Flow {
         })
     }
 
-    /// The flow that carries these amounts, which it takes over.
+    /// The flow with these amounts, which it takes over.
     pub fn from_vec(amounts: Vec<i64>) -> Flow
         ensures { result ≡ amounts.items }
     {
         Flow { amounts }
     }
 
-    /// Changes the amount on one arc.
+    /// Sets the amount on one arc.
     pub fn set(&mut self, arc: u32, amount: i64)
         requires { arc < length self.old }
         ensures { self.new ≡ slice_set self.old arc amount }
@@ -77,7 +77,7 @@ impl Flow {
         self.amounts[arc as usize] = amount;
     }
 
-    /// The same flow once more.
+    /// A copy of the flow.
     pub fn copy(&self, alloc: Global) -> Result<Flow, Memory>
         ensures { IfOk result (λ flow. flow ≡ self.now) }
     {

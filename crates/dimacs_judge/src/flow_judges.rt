@@ -1,4 +1,4 @@
-//! Judging flows as they are, without a solution that claims them and their value.
+//! Judging a flow itself, without a solution and its claimed value.
 
 ghost use Rattle.std.specs.Prelude.{◌≡◌, length};
 ghost use Rattle.dimacs_claims.specs.Potentials.{potential_of};
@@ -20,11 +20,11 @@ use dimacs_instance::{MaxInstance, MinInstance};
 use dimacs_network::Network;
 use std::alloc::Global;
 
-/// Whether the cut shows that the flow is maximum. A yes, `Max` with the flow's value, means that the flow is feasible,
-/// and that no feasible flow of whole numbers has a greater value. `Memory` where there is none for a table of the nodes
-/// that have arcs; it says nothing of the flow.
+/// Judges by a cut whether a flow is maximum. A yes, `Max` with the flow's value, means: the flow is feasible, and no
+/// feasible flow of whole numbers has a greater value. `Memory` comes if there is none for a table of the nodes that
+/// have arcs; it leaves open whether the flow is maximum.
 ///
-/// The tests in their order: those of `feasible_max`, and then those of `cut_tests`.
+/// The tests in order: those of `feasible_max`, then those of `cut_tests`.
 pub fn judge_max_flow<N: Network>(
     alloc: Global,
     instance: &MaxInstance<N>,
@@ -42,12 +42,12 @@ pub fn judge_max_flow<N: Network>(
     Ok(Verdict::Max(balances.of(instance.source())))
 }
 
-/// Whether the potentials show that the flow is least. A yes, `Min` with the flow's cost, means that the flow is feasible,
-/// and that no feasible flow of whole numbers costs less. `Memory` where there is none for a table of the nodes; it says
-/// nothing of the flow.
+/// Judges by potentials whether a flow costs least. A yes, `Min` with the flow's cost, means: the flow is feasible, and
+/// no feasible flow of whole numbers costs less. `Memory` comes if there is none for a table of the nodes; it leaves
+/// open whether the flow costs least.
 ///
-/// The tests in their order: those of `feasible_min`; each arc, from 1, `CostRange`, where the costs up to it leave the
-/// range of 10^30; and then those of `slack_tests`.
+/// The tests in order: those of `feasible_min`; for each arc, from 1, `CostRange` if the sum of the costs up to it is
+/// outside -10^30 to 10^30; then those of `slack_tests`.
 pub fn judge_min_flow<N: Network>(
     alloc: Global,
     instance: &MinInstance<N>,

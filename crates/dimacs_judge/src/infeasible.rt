@@ -13,11 +13,11 @@ use dimacs_claims::Cut;
 use dimacs_instance::MinInstance;
 use dimacs_network::Network;
 
-/// Whether the set shows that no flow is feasible. A yes, `Infeasible`, means that there is none, of whole numbers of
-/// any size and sign. Takes no memory, so it never answers `Memory`.
+/// Judges by a set of nodes whether no flow is feasible. A yes, `Infeasible`, means that there is none, of whole
+/// numbers of any size and sign. Allocates nothing, so `Memory` never comes.
 ///
-/// The tests in their order: `NodesDiffer`, where the set isn't of as many nodes as the instance; `NotViolated`, where
-/// what the set supplies could flow out of it.
+/// The tests in order: `NodesDiffer` if the set and the instance differ in the number of nodes; `NotViolated` if the
+/// bounds allow the supply of the set to flow out of it.
 pub fn judge_infeasible<N: Network>(
     instance: &MinInstance<N>,
     set: &Cut,

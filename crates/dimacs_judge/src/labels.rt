@@ -17,14 +17,16 @@ use dimacs_instance::Graph;
 use dimacs_network::{ArcView, Network};
 use dimacs_records::Reason;
 
-/// Whether all labels hold, in every block: an arc from the predecessor of each label makes it, and each arc with a
-/// labelled tail has a labelled head, whose label is at most the tail's and the weight. Then they are the distances over
-/// all walks from the block's source, and no walk leads to a node without a label. Where a block has a radius no weight is
-/// negative, and an arc may lead past the radius to a node without a label; then each walk to such a node weighs more than
-/// the radius. Takes no memory.
+/// Tests the labels of all blocks. If they pass, each label is the distance from the block's source, over all walks,
+/// and no walk leads to a node without a label. In a block with a radius all walks to a node without a label weigh more
+/// than the radius. Allocates nothing.
 ///
-/// The tests of each block, in their order: where it has a radius each arc, from 1, `NegativeWeight`; then each label,
-/// `NoTightArc` at its node; then each arc: `Escapes` where its head has no label, else `NotShortest`.
+/// A block passes if each of its labels has a tight arc from its predecessor, and each arc with a labelled tail has a
+/// labelled head, whose label is at most the tail's plus the weight. If the block has a radius, no weight may be
+/// negative, and an arc may lead beyond the radius to a node without a label.
+///
+/// The tests of each block in order: if it has a radius, for each arc, from 1, `NegativeWeight`; then for each label
+/// `NoTightArc`, at its node; then for each arc `Escapes` if its head has no label, otherwise `NotShortest`.
 pub fn label_tests<N: Network>(graph: &Graph<N>, labels: &Labels) -> Result<(), (Where, Reason)>
     ensures decides { Decides (All (LabelsOk graph.now.arcs) labels.now.blocks) (label_rows graph.now.arcs labels.now.blocks) result }
     ensures distances { OnOk result (AreDistances graph.now.arcs labels.now.blocks) }
@@ -32,7 +34,7 @@ pub fn label_tests<N: Network>(graph: &Graph<N>, labels: &Labels) -> Result<(), 
     blocks_hold(graph.network(), labels)
 }
 
-/// The first test that fails, block by block.
+/// Tests block by block; returns the first test that fails.
 fn blocks_hold<N: Network>(network: &N, labels: &Labels) -> Result<(), (Where, Reason)>
     ensures tests { Tells (label_rows (N.list network.now) labels.now.blocks) result }
     ensures lawful { AreLabels labels.now }
@@ -43,7 +45,7 @@ fn blocks_hold<N: Network>(network: &N, labels: &Labels) -> Result<(), (Where, R
     Ok(())
 }
 
-/// The tests of one block: first the weights, then its labels, then the arcs.
+/// Tests one block: first the weights, then its labels, then the arcs.
 fn block_holds<N: Network>(
     network: &N,
     labels: &Labels,
@@ -57,7 +59,7 @@ fn block_holds<N: Network>(
     arcs_relaxed(network, labels, block)
 }
 
-/// The first arc of negative weight, where the block has a radius.
+/// If the block has a radius, tests that no weight is negative; the error names the first that is.
 fn block_weights_hold<N: Network>(
     network: &N,
     labels: &Labels,
@@ -80,7 +82,7 @@ fn radius_in(labels: &Labels, block: usize) -> Option<i128>
     labels.blocks()[block].radius()
 }
 
-/// The first arc of negative weight.
+/// Tests that no weight is negative; the error names the first arc whose weight is.
 pub(crate) fn weights_hold<N: Network>(network: &N) -> Result<(), (Where, Reason)>
     ensures { TellsRow (negative_row (N.list network.now)) result }
 {
@@ -92,7 +94,7 @@ pub(crate) fn weights_hold<N: Network>(network: &N) -> Result<(), (Where, Reason
     Ok(())
 }
 
-/// The first label of the block that no arc makes.
+/// Tests that each label has a tight arc; the error names the first node whose label has none.
 fn labels_supported<N: Network>(
     network: &N,
     labels: &Labels,
@@ -119,7 +121,7 @@ fn labels_in(labels: &Labels, block: usize) -> &LabelList
     labels.blocks()[block].labels()
 }
 
-/// Whether an arc from the predecessor at this distance makes the label.
+/// Whether the label has a tight arc from its predecessor, which is at distance `pred`.
 fn is_supported<N: Network>(network: &N, label: Label, pred: Option<i128>) -> bool
     requires { IfSome pred IsWide }
     ensures { IsTrue result ↔ ((base : ℤ) × (pred ≡ Some base) × HasArcOfWeight (N.list network.now) label base) }
@@ -130,7 +132,7 @@ fn is_supported<N: Network>(network: &N, label: Label, pred: Option<i128>) -> bo
     }
 }
 
-/// Whether one of the arcs from the predecessor to the node leads from the one distance to the other.
+/// Whether some arc from the predecessor to the node has the weight `label.dist - base`.
 fn has_arc_of_weight<N: Network>(network: &N, label: Label, base: i128) -> bool
     requires { IsWide base }
     ensures { IsTrue result ↔ HasArcOfWeight (N.list network.now) label base }
@@ -146,7 +148,7 @@ fn has_arc_of_weight<N: Network>(network: &N, label: Label, base: i128) -> bool
     false
 }
 
-/// Whether the arc's weight leads from the one distance to the other.
+/// Whether the arc has the weight `label.dist - base`.
 fn is_made(label: Label, base: i128, arc: ArcView) -> bool
     requires { IsWide base }
     ensures { IsTrue result ↔ ((base +ℤ arc.cost) ≡ label.dist) }
@@ -154,7 +156,8 @@ fn is_made(label: Label, base: i128, arc: ArcView) -> bool
     base + i128::from(arc.cost) == label.dist
 }
 
-/// The first arc with a labelled tail whose head has no label, or a label that is too great.
+/// Tests that each arc with a labelled tail respects the labels; the error names the first whose head has no label, or
+/// a greater one than the tail's plus the weight.
 fn arcs_relaxed<N: Network>(
     network: &N,
     labels: &Labels,
@@ -172,7 +175,7 @@ fn arcs_relaxed<N: Network>(
     Ok(())
 }
 
-/// Looks the head up only where the tail has a label.
+/// The reason why an arc fails, if it does. It looks the head up only if the tail has a label.
 #[inline(always)]
 fn relax_fault(labels: &Labels, block: usize, radius: Option<i128>, arc: ArcView) -> Option<Reason>
     ensures { TellsReason (RelaxFails radius (label_at labels.now.blocks block arc.tail) (label_at labels.now.blocks block arc.head) arc.cost) result }
@@ -181,7 +184,7 @@ fn relax_fault(labels: &Labels, block: usize, radius: Option<i128>, arc: ArcView
     relax_fault_from(from, labels.label(block, arc.head), radius, arc.cost)
 }
 
-/// Why an arc of this weight fails that leads from the one distance to the other, or to a node without a label.
+/// The reason why an arc from distance `from` fails; `to` is the label of its head, if it has one.
 #[inline(always)]
 pub(crate) fn relax_fault_from(
     from: i128,
@@ -199,7 +202,7 @@ pub(crate) fn relax_fault_from(
     }
 }
 
-/// Whether an arc of this weight to a node without a label fails: unless there is a radius, and it leads past it.
+/// `Escapes`, for an arc to a node without a label, unless the arc leads beyond the radius.
 #[inline(always)]
 pub(crate) fn escape_fault(radius: Option<i128>, from: i128, weight: i64) -> Option<Reason>
     requires { IsWide from }
@@ -211,7 +214,7 @@ pub(crate) fn escape_fault(radius: Option<i128>, from: i128, weight: i64) -> Opt
     }
 }
 
-/// Whether `to` is further than the weight leads from `from`.
+/// Whether `to` is greater than `from + weight`.
 #[inline(always)]
 fn is_beyond(to: i128, from: i128, weight: i64) -> bool
     requires { IsWide from }

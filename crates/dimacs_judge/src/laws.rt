@@ -1,8 +1,11 @@
-//! What certificates prove of all flows and of all walks.
+//! Theorems: what certificates show of all flows and of all walks.
+//!
+//! A function here is a theorem. Its contract states it, and its body is empty on purpose: there is nothing to compute.
 
 ghost use Rattle.dimacs_judge.specs.Laws.{ExchangeLaw, TightCutLaw, SlacknessLaw, ViolatedSetLaw, LabelsLaw, PassingShowsLaw};
 
-/// Weak duality: weights at the nodes can be exchanged for differences of weights along the arcs.
+/// The sum exchange behind weak duality: balances times weights of nodes, summed over the nodes, are amounts times
+/// differences of these weights, summed over the arcs.
 pub fn exchange()
     ensures { ExchangeLaw }
 {}
@@ -12,22 +15,23 @@ pub fn tight_cut_is_maximum()
     ensures { TightCutLaw }
 {}
 
-/// A feasible flow with slack potentials has least cost.
+/// A feasible flow with slack potentials costs least.
 pub fn slack_is_least()
     ensures { SlacknessLaw }
 {}
 
-/// Where a set of nodes is violated, no flow is feasible.
+/// If a set of nodes is violated, no flow is feasible.
 pub fn violated_has_no_flow()
     ensures { ViolatedSetLaw }
 {}
 
-/// Labels that pass the tests are distances, and the nodes without a label are unreachable, or beyond the radius.
+/// Labels that pass the tests are distances. Nodes without a label are unreachable, or beyond the radius if there is
+/// one.
 pub fn labels_give_distances()
     ensures { LabelsLaw }
 {}
 
-/// Labels and queries that pass the tests show distances.
+/// If labels and queries pass the tests, the answers are distances.
 pub fn passing_shows()
     ensures { PassingShowsLaw }
 {}

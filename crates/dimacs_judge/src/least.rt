@@ -1,4 +1,4 @@
-//! Judging that a flow is least.
+//! Judging that a flow costs least.
 
 ghost use Rattle.std.specs.Prelude.{◌≡◌, IfErr, IfOk};
 ghost use Rattle.dimacs_claims.specs.SolutionReading.{IsPlaced};
@@ -22,14 +22,14 @@ use dimacs_instance::MinInstance;
 use dimacs_network::Network;
 use std::alloc::Global;
 
-/// Whether the potentials show that the solution's flow is least. A yes, `Min` with the claimed cost, means that the
-/// flow is feasible and costs this, and that no feasible flow of whole numbers costs less. `Memory` where there is none
-/// for a flow and a table of the nodes; it says nothing of the claim.
+/// Judges by potentials whether a solution's flow costs least. A yes, `Min` with the claimed cost, means: the flow is
+/// feasible and costs this, and no feasible flow of whole numbers costs less. `Memory` comes if there is none for a
+/// flow and a table of the nodes; it leaves the claim open.
 ///
-/// The tests in their order: each entry, `UnknownArc` or `ArcTwice` at its line; each arc, from 1, `BelowLow` or
-/// `AboveCap`; each node, by ID, `Balance`; each arc, `CostRange`, where the costs up to it leave the range of 10^30;
-/// the cost, `ValueDiffers` at the line of the value; `NodesDiffer`, where the potentials aren't of as many nodes as the
-/// instance; and then those of `slack_tests`.
+/// The tests in order: for each entry `UnknownArc` or `ArcTwice`, at its line; for each arc, from 1, `BelowLow` or
+/// `AboveCap`; for each node, by ID, `Balance`; for each arc `CostRange` if the sum of the costs up to it is outside
+/// -10^30 to 10^30; `ValueDiffers`, at the line of the value, if the cost is another; `NodesDiffer` if the potentials
+/// and the instance differ in the number of nodes; then those of `slack_tests`.
 pub fn judge_min<N: Network>(
     alloc: Global,
     instance: &MinInstance<N>,
@@ -44,8 +44,7 @@ pub fn judge_min<N: Network>(
     judge_min_placed(alloc, instance, &placed, potentials)
 }
 
-/// The same of a solution whose entries were placed on the arcs of the instance: what `judge_min` answers of any solution
-/// that the placed values stand for.
+/// As `judge_min`, for a solution whose entries were put on the arcs of the instance already.
 pub fn judge_min_placed<N: Network>(
     alloc: Global,
     instance: &MinInstance<N>,
@@ -63,8 +62,8 @@ pub fn judge_min_placed<N: Network>(
     Ok(Verdict::Min(placed.value))
 }
 
-/// The flow that a solution claims, where it passes the tests that `judge_min` makes before it looks at the potentials:
-/// those of the entries, of the bounds, of the balances, of the range of costs and of the cost; else the first that fails.
+/// Makes the tests of `judge_min` that come before the potentials: of the entries, the bounds, the balances, the range
+/// of the costs, and the cost. Returns the claimed flow, or the first test that fails.
 pub fn min_claim_tests<'a, N: Network>(
     alloc: Global,
     instance: &MinInstance<N>,

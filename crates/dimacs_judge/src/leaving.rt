@@ -1,4 +1,4 @@
-//! The arcs that leave the nodes of a block, where it labels few.
+//! Judging a block with few labels by the arcs that leave its nodes.
 
 ghost use Rattle.std.specs.Prelude.{◌≡◌, ◌≤◌, ◌+ℤ◌, ℕ, Some, IsTrue};
 ghost use Rattle.dimacs_network.specs.declared.network.ArcView.{ArcView};
@@ -18,16 +18,16 @@ use dimacs_claims::Block;
 use dimacs_network::Network;
 use dimacs_nodes::NodeTable;
 
-/// A block labels few nodes where there are more than this many arcs for each label.
+/// A block has few labels if there are more than this many arcs for each.
 const ARCS_A_LABEL: usize = 8;
 
-/// Whether the block labels so few nodes that it takes less time to go over the arcs that leave them than over all.
+/// Whether the block has so few labels that it is faster to relax only the arcs that leave labelled nodes.
 pub(crate) fn labels_few<N: Network>(block: &Block, network: &N) -> bool {
     block.labels().len() < network.arcs() as usize / ARCS_A_LABEL
 }
 
-/// Marks the labels that arcs make, and tells whether no arc fails, by the least arcs that leave labelled nodes alone:
-/// where none of them fails, no other does, or makes a label that they don't. Ends at one that fails.
+/// Relaxes the lightest arcs that leave labelled nodes, up to the first that fails. Returns whether none fails: then no
+/// other arc fails, or is tight for a label that these don't mark.
 pub(crate) fn leaving_passed<N: Network, D: Distance>(
     network: &N,
     block: &Block,
@@ -54,8 +54,8 @@ pub(crate) fn leaving_passed<N: Network, D: Distance>(
     true
 }
 
-/// Passes the least arcs that leave a node with this label, up to the first that fails. Those by rising weight only up to
-/// the radius: past it no arc fails, or makes a label.
+/// Relaxes the lightest arcs that leave a node with this label, up to the first that fails. If they come by rising
+/// weight, it stops at the radius: no arc beyond it fails or is tight.
 fn node_passed<N: Network, D: Distance>(
     network: &N,
     block: &Block,
@@ -88,7 +88,7 @@ fn node_passed<N: Network, D: Distance>(
     true
 }
 
-/// Whether an arc of this weight leads past the radius, where there is one.
+/// Whether an arc of this weight leads beyond the radius.
 #[inline(always)]
 fn leads_past(radius: Option<i128>, from: i128, weight: i64) -> bool
     requires { IsWide from }

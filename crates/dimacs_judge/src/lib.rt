@@ -1,8 +1,9 @@
-//! Judges of flows and distances: whether a claim with its certificate passes the tests, and what then holds.
+//! Judges of flows and distances: whether a claim with its certificate passes the tests, and what that shows.
 //!
-//! The optimality theory stands in `laws`: a tight cut proves a flow maximum, slack potentials prove it least, a
-//! violated set proves that there is none, and labels prove distances. Everything else tests, over any `Network`:
-//! `judge_max`, `judge_min`, `judge_infeasible` and `judge_paths` make all tests of a claim, the others some of them.
+//! The theory is in `laws`: a tight cut shows that a flow is maximum, slack potentials show that it costs least, a
+//! violated set shows that no flow is feasible, and labels show distances. All other code makes tests, over any
+//! `Network`. `judge_max`, `judge_min`, `judge_infeasible` and `judge_paths` make all tests of a claim, the other
+//! functions some of them.
 #![tactic(auto)]
 
 mod agreement;

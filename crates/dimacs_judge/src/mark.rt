@@ -1,21 +1,21 @@
-//! What a block of labels says of a node.
+//! The entry of a node in a judge's table of labels.
 
 ghost use Rattle.std.specs.Prelude.{◌≡◌, ◌+◌, ◌^◌};
 
 use crate::distance::Distance;
 use dimacs_claims::Label;
 
-/// What a block of labels says of a node: two marks are looked up for each arc, so the smaller they are, the more often the
-/// cache has them.
+/// The label of a node in the block that is judged. Relaxing an arc looks up two marks, so small ones keep more of the
+/// table in the processor's cache.
 #[derive(Clone, Copy)]
 pub(crate) struct Mark<D> {
-    /// None where the block has no label of the node.
+    /// None if the node has no label in the block.
     pub(crate) dist: D,
-    /// The predecessor, and `MADE` more once an arc was found that makes the label.
+    /// The predecessor, plus `MADE` once a tight arc from it was found.
     pred: u32,
 }
 
-/// Past all IDs.
+/// Greater than every ID.
 const MADE: u32 = 1 << 31;
 
 impl<D: Distance> Mark<D> {
@@ -23,7 +23,7 @@ impl<D: Distance> Mark<D> {
     ghost use Rattle.dimacs_judge.specs.inside.Distances.{Fits};
     ghost use Rattle.dimacs_judge.specs.inside.Marks.{is_made, known_by};
 
-    /// Of a node without a label.
+    /// The mark of a node without a label.
     pub(crate) fn none() -> Mark<D>
         ensures { D.value result.dist ≡ None }
     {
@@ -33,7 +33,7 @@ impl<D: Distance> Mark<D> {
         }
     }
 
-    /// Of the source, whose label no arc has to make.
+    /// The mark of the source, whose label needs no tight arc.
     pub(crate) fn of_source() -> Mark<D>
         ensures dist { D.value result.dist ≡ Some (pos 0) }
         ensures made { is_made (known_by D.value result) ≡ true }
@@ -44,7 +44,7 @@ impl<D: Distance> Mark<D> {
         }
     }
 
-    /// Of a label that no arc was found to make.
+    /// The mark of a label for which no tight arc was found yet.
     #[inline(always)]
     pub(crate) fn of(label: Label) -> Mark<D>
         requires { Fits D.low D.end label.dist }
@@ -57,7 +57,7 @@ impl<D: Distance> Mark<D> {
         }
     }
 
-    /// Whether an arc was found that makes the label.
+    /// Whether a tight arc for the label was found.
     #[inline(always)]
     pub(crate) fn is_made(self) -> bool
         ensures { result ≡ is_made (known_by D.value self) }
@@ -65,8 +65,8 @@ impl<D: Distance> Mark<D> {
         self.pred >= MADE
     }
 
-    /// The same, but made where this is so. An addition, since the compiler makes a branch of a choice between two numbers,
-    /// which is foretold wrongly for each second arc.
+    /// The same mark, with the tight arc found if `made`. It adds, since the compiler turns a choice between two
+    /// numbers into a branch, which would be mispredicted for every second arc.
     #[inline(always)]
     pub(crate) fn made_if(self, made: bool) -> Mark<D>
         requires { IsTrue made → is_made (known_by D.value self) ≡ false }
@@ -79,7 +79,7 @@ impl<D: Distance> Mark<D> {
         }
     }
 
-    /// Whether this node is the predecessor, and no arc was found yet that makes the label.
+    /// Whether this node is the predecessor, and no tight arc for the label was found yet.
     #[inline(always)]
     pub(crate) fn waits_for(self, node: u32) -> bool
         ensures { IsTrue result ↔ ((self.pred ≡ node) × (is_made (known_by D.value self) ≡ false)) }

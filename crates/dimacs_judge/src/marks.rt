@@ -1,5 +1,4 @@
-//! Whether the labels of blocks are distances, by one pass over the arcs for each block, or over those that leave its
-//! nodes.
+//! Judging labels with tables: one pass over the arcs for each block, or over the arcs that leave its nodes.
 
 ghost use Rattle.std.specs.Prelude.{◌≡◌, ◌<◌, ◌≤◌, ◌↔◌, ℕ, List, All, Option, IfOk, IfSome, OnOk, IsTrue, ℤ};
 ghost use Rattle.std.specs.Result.{result_err};
@@ -29,8 +28,8 @@ use dimacs_nodes::{NodeTable, Slot};
 use dimacs_records::Reason;
 use std::alloc::Global;
 
-/// Marks of the nodes, by three sorts of number. A block is judged by the narrowest that takes all its distances, and
-/// without a block no node is marked.
+/// Tables of marks for three widths of distances. A block is judged with the narrowest that holds all its distances.
+/// Between blocks no node is marked.
 #[derive(Drop)]
 pub(crate) struct Tables {
     near: NodeTable<Mark<i32>>,
@@ -39,7 +38,7 @@ pub(crate) struct Tables {
 }
 
 impl Tables {
-    /// Takes no memory.
+    /// Empty tables. Allocates nothing.
     fn new(alloc: Global) -> Tables
         ensures { AllBlank result }
     {
@@ -51,14 +50,14 @@ impl Tables {
     }
 }
 
-/// What is known of the weights of the arcs: nothing, or that none is negative.
+/// What is known of the weights: nothing yet, or that none is negative.
 #[derive(Clone, Copy)]
 pub(crate) enum Weights {
     Untested,
     NotNegative,
 }
 
-/// The first test that fails, block by block. The same tables of the nodes serve all blocks.
+/// Judges block by block; returns the first test that fails. All blocks use the same tables.
 pub(crate) fn marked_blocks_hold<N: Network>(
     alloc: Global,
     network: &N,
@@ -80,7 +79,7 @@ pub(crate) fn marked_blocks_hold<N: Network>(
     Ok(())
 }
 
-/// Tests the weights for the first block that has a radius.
+/// Tests the weights when the first block with a radius comes.
 fn test_weights_for<N: Network>(
     network: &N,
     block: &Block,
@@ -103,7 +102,7 @@ fn test_weights_for<N: Network>(
     }
 }
 
-/// Links the least arcs by their tails for the first block that labels few nodes.
+/// Builds the lists of lightest arcs when the first block with few labels comes.
 fn link_for<N: Network>(
     alloc: Global,
     network: &N,
@@ -120,7 +119,7 @@ fn link_for<N: Network>(
     Ok(())
 }
 
-/// How many nodes all blocks label, their sources among them.
+/// How many labels all blocks have, counting one more for each source.
 fn count(labels: &Labels) -> usize {
     let mut count = 0usize;
     for block in labels.blocks() {
@@ -129,7 +128,7 @@ fn count(labels: &Labels) -> usize {
     count
 }
 
-/// The tests of one block but that of the weights.
+/// Makes the tests of one block, except those of the weights.
 fn marked_block_holds<N: Network>(
     network: &N,
     block: &Block,
@@ -152,7 +151,7 @@ fn marked_block_holds<N: Network>(
     block_holds_by(network, block, least, &mut tables.far)
 }
 
-/// Whether all distances lie between these ends, the second of which isn't one of them.
+/// Whether all distances are from `low` up to `end`, without `end`.
 fn lie_within(labels: &LabelList, low: i64, end: i64) -> bool
     ensures { IsTrue result → All (λ (l : Label). Fits low end l.dist) labels.now }
 {
@@ -167,7 +166,7 @@ fn lie_within(labels: &LabelList, low: i64, end: i64) -> bool
     true
 }
 
-/// The tests of a block by numbers that take its distances: first its labels, then the arcs.
+/// Judges a block with marks that hold its distances: first its labels, then the arcs.
 fn block_holds_by<N: Network, D: Distance>(
     network: &N,
     block: &Block,
@@ -187,7 +186,7 @@ fn block_holds_by<N: Network, D: Distance>(
     Ok(())
 }
 
-/// Marks the nodes that a block labels.
+/// Marks the nodes that have a label in the block.
 #[inline(never)]
 fn mark_labels<D: Distance>(block: &Block, marks: &mut NodeTable<Mark<D>>) -> Result<(), Memory>
     requires lawful { (nodes : ℕ) × (nodes ≤ most_nodes) × IsBlock nodes block.now }
@@ -204,7 +203,7 @@ fn mark_labels<D: Distance>(block: &Block, marks: &mut NodeTable<Mark<D>>) -> Re
     Ok(())
 }
 
-/// Takes the marks of a block away. Their memory is kept.
+/// Clears the marks of a block. Their memory is kept for the next one.
 fn blank_labels<D: Distance>(block: &Block, marks: &mut NodeTable<Mark<D>>) -> Result<(), Memory>
     requires { (arcs : List ArcView) × IsMarked D.value arcs block.now marks.old }
     ensures { OnOk result (AreBlank D.value marks.new) }
@@ -217,8 +216,8 @@ fn blank_labels<D: Distance>(block: &Block, marks: &mut NodeTable<Mark<D>>) -> R
     Ok(())
 }
 
-/// Marks the labels that arcs make, and makes the tests: by the least arcs that leave labelled nodes where the block labels
-/// few and none fails, else by all.
+/// Relaxes arcs and returns the first test that fails: the lightest arcs that leave labelled nodes if the block has few
+/// labels, and all arcs if one of those fails or there are more labels.
 fn block_passed<N: Network, D: Distance>(
     network: &N,
     block: &Block,
@@ -237,7 +236,7 @@ fn block_passed<N: Network, D: Distance>(
     arcs_passed(network, block, marks)
 }
 
-/// Whether the block labels few nodes, and none of the least arcs that leave them fails.
+/// Whether the block has few labels, and none of the lightest arcs that leave labelled nodes fails.
 fn few_passed<N: Network, D: Distance>(
     network: &N,
     block: &Block,
@@ -257,9 +256,9 @@ fn few_passed<N: Network, D: Distance>(
     }
 }
 
-/// Marks the labels that arcs make, and tells the first label that none makes, else the first arc with a labelled tail whose
-/// head has no label, and isn't past the radius, or a label that is too great. The labels are looked up again only where
-/// one of them wasn't counted as made.
+/// Relaxes all arcs. The error names the first label without a tight arc; otherwise the first arc with a labelled tail
+/// whose head has no label within the radius, or too great a label. It goes over the labels again only if the count of
+/// tight arcs is too low, or an arc fails.
 #[inline(never)]
 fn arcs_passed<N: Network, D: Distance>(
     network: &N,
@@ -288,7 +287,7 @@ fn arcs_passed<N: Network, D: Distance>(
     Ok(())
 }
 
-/// Marks the labels that the arcs from this one on make, after an arc that fails.
+/// Relaxes the remaining arcs after one that fails, to find the labels without a tight arc.
 #[cold]
 #[inline(never)]
 fn rest_passed<N: Network, D: Distance>(
@@ -308,8 +307,8 @@ fn rest_passed<N: Network, D: Distance>(
     }
 }
 
-/// Marks the head where the arc makes its label. Tells whether it did, as no arc before it, or why the arc fails. Where the
-/// labels hold no branch is foretold wrongly: none is on whether the arc makes a label.
+/// Relaxes one arc: marks its head if the arc is tight for its label. Returns whether it is the first such arc, or why
+/// the arc fails. No branch depends on whether an arc is tight, so none is mispredicted if the labels are right.
 #[inline(always)]
 pub(crate) fn pass_arc<D: Distance>(
     arc: ArcView,
@@ -342,7 +341,7 @@ pub(crate) fn pass_arc<D: Distance>(
     Ok(made)
 }
 
-/// Why an arc of this weight fails, if it does.
+/// The reason why an arc fails, if it does.
 #[cold]
 #[inline(never)]
 fn arc_fault<D: Distance>(
@@ -360,7 +359,7 @@ fn arc_fault<D: Distance>(
     relax_fault_from(from, to, block.radius(), weight)
 }
 
-/// The first label that no arc makes, by the marks.
+/// Tests that each label has a tight arc, by the marks; the error names the first that has none.
 fn labels_made<D: Distance>(
     labels: &LabelList,
     marks: &NodeTable<Mark<D>>,

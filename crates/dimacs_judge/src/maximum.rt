@@ -25,13 +25,13 @@ use dimacs_network::Network;
 use dimacs_records::Reason;
 use std::alloc::Global;
 
-/// Whether the cut shows that the solution's flow is maximum. A yes, `Max` with the claimed value, means that the flow
-/// is feasible and has this value, and that no feasible flow of whole numbers has a greater one. `Memory` where there is
-/// none for a flow and a table of the nodes that have arcs; it says nothing of the claim.
+/// Judges by a cut whether a solution's flow is maximum. A yes, `Max` with the claimed value, means: the flow is
+/// feasible and has this value, and no feasible flow of whole numbers has a greater one. `Memory` comes if there is
+/// none for a flow and a table of the nodes that have arcs; it leaves the claim open.
 ///
-/// The tests in their order: each entry, `UnknownArc` or `ArcTwice` at its line; each arc, from 1, `BelowLow` or
-/// `AboveCap`; each node but source and sink, by ID, `Balance`; the value, `ValueDiffers` at its line; `NodesDiffer`,
-/// where the cut isn't of as many nodes as the instance; and then those of `cut_tests`.
+/// The tests in order: for each entry `UnknownArc` or `ArcTwice`, at its line; for each arc, from 1, `BelowLow` or
+/// `AboveCap`; for each node but source and sink, by ID, `Balance`; `ValueDiffers`, at the line of the value;
+/// `NodesDiffer` if the cut and the instance differ in the number of nodes; then those of `cut_tests`.
 pub fn judge_max<N: Network>(
     alloc: Global,
     instance: &MaxInstance<N>,
@@ -45,8 +45,7 @@ pub fn judge_max<N: Network>(
     judge_max_placed(alloc, instance, &placed, cut)
 }
 
-/// The same of a solution whose entries were placed on the arcs of the instance: what `judge_max` answers of any solution
-/// that the placed values stand for.
+/// As `judge_max`, for a solution whose entries were put on the arcs of the instance already.
 pub fn judge_max_placed<N: Network>(
     alloc: Global,
     instance: &MaxInstance<N>,
@@ -64,8 +63,8 @@ pub fn judge_max_placed<N: Network>(
     Ok(Verdict::Max(placed.value))
 }
 
-/// The flow that a solution claims, where it passes the tests that `judge_max` makes before it looks at the cut: those of
-/// the entries, of the bounds, of the balances and of the value; else the first that fails.
+/// Makes the tests of `judge_max` that come before the cut: of the entries, the bounds, the balances and the value.
+/// Returns the claimed flow, or the first test that fails.
 pub fn max_claim_tests<'a, N: Network>(
     alloc: Global,
     instance: &MaxInstance<N>,
@@ -85,7 +84,7 @@ pub fn max_claim_tests<'a, N: Network>(
     Ok(flow)
 }
 
-/// Whether the flow that has these balances has the claimed value.
+/// Tests that the flow with these balances has the claimed value.
 fn value_holds<N: Network, P: Place>(
     instance: &MaxInstance<N>,
     balances: &Balances,

@@ -14,18 +14,19 @@ use dimacs_instance::{Graph, Queries};
 use dimacs_network::Network;
 use std::alloc::Global;
 
-/// Whether the labels are distances, and what they answer to the queries. A yes means that in every block, whether or not
-/// a query asks for it, the label of a node is the least weight of all walks to it from the block's source, and that no
-/// walk leads to a node without a label, whatever its ID; where the block has a radius, that each walk to such a node
-/// weighs more than the radius. `Sources` tells how many sources were asked for; `Pairs` the distance between the nodes
-/// of each pair, in order, or none with the radius of the block, where it has one; each is looked up in the labels, so
-/// `index_for` should come first. `Memory` where there is none for a table
-/// of the nodes that have labels, for links between the arcs, for the numbers of the blocks or for the answers; it says
-/// nothing of the labels.
+/// Judges whether labels are distances, and answers the queries by them. A yes means for every block, even if no query
+/// asks for it: the label of a node is the least weight of all walks to it from the block's source, and no walk leads
+/// to a node without a label, whatever its ID. In a block with a radius all walks to such a node weigh more than the
+/// radius.
 ///
-/// The tests in their order: `NodesDiffer`, where the labels aren't of as many nodes as the graph; each query,
-/// `QueryNode` at a node above that number, FROM before TO; each query, `BlockMissing` at its source, where no block has
-/// it, or where all distances are asked for and its block has a radius; and then those of `label_tests`.
+/// The answer `Sources` has the number of sources asked for. `Pairs` has for each pair, in order, the distance, or none
+/// and the radius of the block if it has one. Each pair is looked up in the labels, so call `index_for` first. `Memory`
+/// comes if there is none for a table of the nodes that have labels, for lists of arcs, for the numbers of the blocks
+/// or for the answers; it leaves the labels open.
+///
+/// The tests in order: `NodesDiffer` if the labels and the graph differ in the number of nodes; for each query
+/// `QueryNode` if FROM, or else TO, is above this number; for each query `BlockMissing` if its source has no block, or
+/// if it asks for all distances and the block has a radius; then those of `label_tests`.
 pub fn judge_paths<N: Network>(
     alloc: Global,
     graph: &Graph<N>,

@@ -1,4 +1,4 @@
-//! The flow that entries claim, put on the arcs as the entries come.
+//! The flow that entries claim, put on the arcs entry by entry.
 
 ghost use Rattle.std.specs.Prelude.{◌≡◌, ◌≤◌, ◌<◌, ◌+◌, ◌++◌, ◌∷◌, [], List, Result, Some, None, true, false, length, take, count_by, IfOk, IfErr, IsOk, IsTrue, OnOk, OnErr, ◌↔◌};
 ghost use Rattle.dimacs_claims.specs.declared.solution.Entry.{Entry};
@@ -18,21 +18,21 @@ use dimacs_records::Reason;
 use std::alloc::Global;
 use std::marker::Model;
 
-/// The flow that entries claim, as far as they came: an amount and a count for each arc of a network, and no entry.
+/// The flow that the entries so far claim: an amount and a count for each arc, and no entry.
 ///
-/// The k-th entry with given ends belongs to the k-th arc with them. As long as entries come in the order of the arcs,
-/// each belongs to the next arc and no arc is searched. After that the entries between two nodes are counted at the
-/// first arc between them.
+/// The k-th entry with given ends belongs to the k-th arc with them. While entries come in the order of the arcs, each
+/// belongs to the next arc, and no search is needed. From the first one out of order on, the entries between two nodes
+/// are counted at the first arc between them.
 #[derive(Drop)]
 pub struct FlowPlaces<'a, N: Network> {
     network: &'a N,
     flow: Flow,
-    /// How many entries came between two nodes, at the first arc between them; 0 where none came out of order.
+    /// At the first arc between two nodes, how many entries between them came; 0 if none came out of order.
     counts: Vec<u32>,
-    /// How many entries came before the first out of order.
+    /// How many entries came before the first one out of order.
     in_order: u32,
     out_of_order: bool,
-    /// An index of the arcs, where the network has none of its own. It is filled once an entry comes out of order.
+    /// An index of the arcs, if the network has none itself. It is filled when the first entry comes out of order.
     index: Option<ArcIndex>,
     /// The first entry that fails. Nothing is counted or put after it.
     refusal: Option<(Where, Reason)>,
@@ -53,7 +53,7 @@ impl<'a, N: Network> Model for FlowPlaces<'a, N> {
 }
 
 impl<'a, N: Network> FlowPlaces<'a, N> {
-    /// Places for the arcs of a network, with no entry in them. Makes all their room: to place an entry takes none.
+    /// No entries on the arcs of a network. It allocates all memory that is ever needed.
     pub fn new(alloc: Global, network: &'a N) -> Result<FlowPlaces<'a, N>, Memory>
         ensures network { IfOk result (λ places. places.arcs ≡ N.list network.now) }
         ensures empty { IfOk result (λ places. ArePlaced places []) }
@@ -70,7 +70,7 @@ impl<'a, N: Network> FlowPlaces<'a, N> {
         })
     }
 
-    /// Places one more entry, which may fail; the first that does is kept.
+    /// Puts one more entry. If it fails and is the first to do so, this is kept.
     #[inline(always)]
     pub(crate) fn put(&mut self, entry: Entry)
         ensures network { self.new.arcs ≡ self.old.arcs }
@@ -88,7 +88,7 @@ impl<'a, N: Network> FlowPlaces<'a, N> {
         }
     }
 
-    /// The flow of the entries, or the first that fails.
+    /// The flow of the entries, or the first entry that fails.
     pub fn flow(&self) -> Result<&Flow, (Where, Reason)>
         ensures one_each { IfOk result (λ flow. length flow.now ≡ length self.now.arcs) }
         ensures carried { IfOk result (λ flow. (entries : List Entry) → ArePlaced self.now entries → Carries self.now.arcs entries flow.now) }
@@ -101,7 +101,7 @@ impl<'a, N: Network> FlowPlaces<'a, N> {
         }
     }
 
-    /// The same, without the places.
+    /// The same, by value.
     pub(crate) fn into_flow(self) -> Result<Flow, (Where, Reason)>
         ensures { (entries : List Entry) → ArePlaced self.entry entries → TellsFlow self.entry.arcs entries result }
     {
@@ -128,7 +128,7 @@ impl<'a, N: Network> FlowPlaces<'a, N> {
         self.put_by_search(entry)
     }
 
-    /// From here on entries are looked for by their ends. The first time, an index is filled for that.
+    /// Entries are found by their ends from now on. The first call fills the index.
     fn leave_order(&mut self)
         ensures { self.new ≡ record self.old { out_of_order = true } }
     {
@@ -154,7 +154,7 @@ impl<'a, N: Network> FlowPlaces<'a, N> {
         arc.tail == entry.tail && arc.head == entry.head
     }
 
-    /// Puts the flow of an entry on its arc, which may be any.
+    /// Puts the flow of an entry on its arc, wherever that is.
     fn put_by_search(&mut self, entry: Entry) -> Result<(), Reason>
         requires searched { self.old.out_of_order ≡ true }
         requires no_refusal { self.old.refusal ≡ None }
@@ -174,7 +174,7 @@ impl<'a, N: Network> FlowPlaces<'a, N> {
         Ok(())
     }
 
-    /// How many entries came with the ends of this one, whose first arc is at hand.
+    /// How many entries with the ends of this one came; `first` is the first arc with these ends.
     fn came(&self, entry: Entry, first: u32) -> u32
         requires searched { self.now.out_of_order ≡ true }
         requires first { IsKthBetween self.now.arcs entry.tail entry.head 0 (Some first) }
@@ -190,7 +190,7 @@ impl<'a, N: Network> FlowPlaces<'a, N> {
         self.arcs_below(entry, self.in_order)
     }
 
-    /// How many of the arcs below `end` have the ends of this entry, where at least one does.
+    /// How many of the arcs before `end` have the ends of this entry, if at least one has.
     fn arcs_below(&self, entry: Entry, end: u32) -> u32
         requires searched { self.now.out_of_order ≡ true }
         requires some { 1 ≤ count_by (joins entry.tail entry.head) (take end self.now.arcs) }
@@ -205,7 +205,7 @@ impl<'a, N: Network> FlowPlaces<'a, N> {
         self.network.arcs()
     }
 
-    /// The k-th arc with the ends of this entry, of which the first is at hand.
+    /// The arc with the ends of this entry that comes after k such arcs; `first` is the first of them.
     #[inline]
     fn kth(&self, entry: Entry, first: u32, k: u32) -> Option<u32>
         requires searched { self.now.out_of_order ≡ true }
@@ -219,7 +219,7 @@ impl<'a, N: Network> FlowPlaces<'a, N> {
         }
     }
 
-    /// The k-th arc with the ends of this entry.
+    /// The arc with the ends of this entry that comes after k such arcs.
     #[inline(always)]
     fn find(&self, entry: Entry, k: u32) -> Option<u32>
         requires { self.now.out_of_order ≡ true }
@@ -232,7 +232,7 @@ impl<'a, N: Network> FlowPlaces<'a, N> {
     }
 }
 
-/// Each entry is placed, also one that fails, and no entry takes memory.
+/// An entry that fails is placed too, and no entry allocates.
 impl<'a, N: Network> Place for FlowPlaces<'a, N> {
     ghost stands_for = { λ places entries. ArePlaced places entries };
 
@@ -252,7 +252,7 @@ impl<'a, N: Network> Place for FlowPlaces<'a, N> {
     }
 }
 
-/// Room for an index of the arcs of a network, where it has none of its own.
+/// Room for an index of the arcs, if the network has none itself.
 fn room_for_index<N: Network>(alloc: Global, network: &N) -> Result<Option<ArcIndex>, Memory>
     ensures { IfOk result (λ index. IsIndexFor (N.list network.now) false index) }
 {

@@ -1,4 +1,4 @@
-//! Whether potentials are slack.
+//! Whether potentials are slack for a flow.
 
 ghost use Rattle.std.specs.Prelude.{◌≡◌, ◌*◌, ◌^◌, [], ◌∷◌, length};
 ghost use Rattle.dimacs_claims.specs.Potentials.{potential_of};
@@ -16,11 +16,11 @@ use dimacs_instance::MinInstance;
 use dimacs_network::{ArcView, Network};
 use dimacs_records::Reason;
 
-/// Whether the potentials are slack: each arc of positive reduced cost carries its lower bound, and each of negative
-/// reduced cost its capacity. The reduced cost is the arc's cost, less the potential of its tail, and with that of its
-/// head. Takes no memory.
+/// Tests complementary slackness: each arc of positive reduced cost carries its lower bound, and each arc of negative
+/// reduced cost its capacity. The reduced cost of an arc is its cost, minus the potential of its tail, plus the
+/// potential of its head. Allocates nothing.
 ///
-/// Arcs are tested from 1: `NotTight`.
+/// For each arc, from 1, `NotTight`.
 pub fn slack_tests<N: Network>(
     instance: &MinInstance<N>,
     flow: &Flow,
@@ -33,8 +33,8 @@ pub fn slack_tests<N: Network>(
     arcs_slack(instance.network(), flow, potentials)
 }
 
-/// The first arc whose reduced cost is positive while it carries more than its lower bound, or negative while it
-/// carries less than its capacity.
+/// Tests each arc; the error names the first whose reduced cost is positive and that carries more than its lower bound,
+/// or whose reduced cost is negative and that carries less than its capacity.
 fn arcs_slack<N: Network>(
     network: &N,
     flow: &Flow,
@@ -53,7 +53,8 @@ fn arcs_slack<N: Network>(
     Ok(())
 }
 
-/// Makes both tests of an arc, with no branch between them: which of the two may fail can't be foreseen.
+/// The reason why an arc fails, if it does. Makes both tests without a branch between them, which would be
+/// mispredicted.
 fn slack_fault(reduced: i128, arc: ArcView, amount: i64) -> Option<Reason>
     ensures { TellsReason (SlackFails reduced arc amount) result }
 {
@@ -66,6 +67,7 @@ fn slack_fault(reduced: i128, arc: ArcView, amount: i64) -> Option<Reason>
     }
 }
 
+/// The arc's cost, minus the potential of its tail, plus the potential of its head.
 fn reduced_cost(arc: ArcView, potentials: &Potentials) -> i128
     ensures value { result ≡ theory.reduced_cost (potential_of potentials.now) arc }
     ensures size { IsOfSize (3 * 10 ^ 30) result }

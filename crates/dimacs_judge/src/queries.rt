@@ -1,4 +1,4 @@
-//! Whether queries ask for what is there, and what labels answer to them.
+//! Tests of queries, and the answers that labels give.
 
 ghost use Rattle.std.specs.Prelude.{◌≡◌, ◌<◌, ◌≤◌, ◌↔◌, IsTrue, All, List, Some, IfOk, OnOk, map, length, slice_get};
 ghost use Rattle.dimacs_records.specs.declared.reasons.Reason.TheVariants as reasons;
@@ -16,7 +16,7 @@ use dimacs_nodes::NodeMap;
 use dimacs_records::Reason;
 use std::alloc::Global;
 
-/// Whether the queries name nodes of the instance; else the first ID that is too great, FROM before TO.
+/// Tests that the queries name nodes of the graph. The error names the first ID that is too great, FROM before TO.
 pub fn query_nodes_hold(nodes: u32, queries: &Queries) -> Result<(), (Where, Reason)>
     ensures tests { TellsRow (query_node_row nodes (asked queries.now)) result }
     ensures within { OnOk result (All (λ id. id ≤ nodes) (nodes_asked (asked queries.now))) }
@@ -27,6 +27,7 @@ pub fn query_nodes_hold(nodes: u32, queries: &Queries) -> Result<(), (Where, Rea
     }
 }
 
+/// The same for queries of sources.
 fn sources_are_nodes(nodes: u32, ids: &[u32]) -> Result<(), (Where, Reason)>
     ensures { TellsRow (listed_row ids.now reasons.QueryNode (λ id. nodes < id)) result }
 {
@@ -38,6 +39,7 @@ fn sources_are_nodes(nodes: u32, ids: &[u32]) -> Result<(), (Where, Reason)>
     Ok(())
 }
 
+/// The same for queries of pairs.
 fn pairs_are_nodes(nodes: u32, pairs: &[(u32, u32)]) -> Result<(), (Where, Reason)>
     ensures { TellsRow (query_node_row nodes (Pairs pairs.now)) result }
 {
@@ -52,7 +54,8 @@ fn pairs_are_nodes(nodes: u32, pairs: &[(u32, u32)]) -> Result<(), (Where, Reaso
     Ok(())
 }
 
-/// The number of each source's block, where every query is served by one; else the first query that isn't.
+/// Tests that each query has a block that answers it. Returns the number of each source's block, or the first query
+/// that has none.
 pub(crate) fn blocks_exist(
     alloc: Global,
     labels: &Labels,
@@ -76,6 +79,7 @@ fn block_numbers(alloc: Global, labels: &Labels) -> Result<NodeMap<u32>, Memory>
     Ok(numbers)
 }
 
+/// Tests that each query has a block that answers it, by the numbers of the blocks.
 fn sources_are_served(
     labels: &Labels,
     numbers: &NodeMap<u32>,
@@ -93,7 +97,7 @@ fn sources_are_served(
     Ok(())
 }
 
-/// Whether the source has a block, and for all distances from it one without a radius.
+/// Whether the source has a block that answers its query: without a radius if all distances are asked for.
 fn is_served(labels: &Labels, numbers: &NodeMap<u32>, queries: &Queries, source: u32) -> bool
     requires { AreNumbers labels.now.blocks numbers.now }
     ensures { IsTrue result ↔ IsServed labels.now.blocks (asked queries.now) source }
@@ -104,6 +108,7 @@ fn is_served(labels: &Labels, numbers: &NodeMap<u32>, queries: &Queries, source:
     }
 }
 
+/// Whether the source has a block without a radius.
 fn has_full_block(labels: &Labels, numbers: &NodeMap<u32>, source: u32) -> bool
     requires { AreNumbers labels.now.blocks numbers.now }
     ensures { IsTrue result ↔ HasFullBlock labels.now.blocks source }
@@ -114,6 +119,7 @@ fn has_full_block(labels: &Labels, numbers: &NodeMap<u32>, source: u32) -> bool
     }
 }
 
+/// Whether the source has a block.
 fn has_block(labels: &Labels, numbers: &NodeMap<u32>, source: u32) -> bool
     requires { AreNumbers labels.now.blocks numbers.now }
     ensures { IsTrue result ↔ HasBlock labels.now.blocks source }
@@ -121,7 +127,7 @@ fn has_block(labels: &Labels, numbers: &NodeMap<u32>, source: u32) -> bool
     numbers.get(source).is_some()
 }
 
-/// The source of a query: its node, or FROM.
+/// The source of the query with this index: its node, or FROM.
 pub fn source_asked(queries: &Queries, i: usize) -> u32
     requires { i < length (sources_asked (asked queries.now)) }
     ensures { slice_get (sources_asked (asked queries.now)) i ≡ Some result }
@@ -132,7 +138,7 @@ pub fn source_asked(queries: &Queries, i: usize) -> u32
     }
 }
 
-/// Indexes the labels where the distances of pairs are looked up in them.
+/// Indexes the labels if queries of pairs look them up.
 pub fn index_for(queries: &Queries, labels: &mut Labels) -> Result<(), Memory>
     ensures { labels.new ≡ labels.old }
 {
@@ -142,8 +148,9 @@ pub fn index_for(queries: &Queries, labels: &mut Labels) -> Result<(), Memory>
     }
 }
 
-/// What labels answer to queries, whether or not they pass a test. A query whose source has no block is answered by none.
-/// Each pair is looked up, in logarithmic time after `index_for`.
+/// The answers that labels give to queries, whether or not the labels pass any test. A pair whose source has no block
+/// gets none. Each pair takes logarithmic time after `index_for`, otherwise time in proportion to the labels of its
+/// block.
 pub fn answer_queries(alloc: Global, queries: &Queries, labels: &Labels) -> Result<Verdict, Memory>
     requires { AreLawful (asked queries.now) }
     ensures { IfOk result (AnswersQueries labels.now.blocks (asked queries.now)) }
@@ -152,7 +159,7 @@ pub fn answer_queries(alloc: Global, queries: &Queries, labels: &Labels) -> Resu
     answers(alloc, queries, labels, &numbers)
 }
 
-/// What the labels answer to queries, by the numbers of the blocks.
+/// The same, by the numbers of the blocks.
 pub(crate) fn answers(
     alloc: Global,
     queries: &Queries,
@@ -172,7 +179,7 @@ pub(crate) fn answers(
     }
 }
 
-/// The answer to each pair.
+/// The answer to each pair, in order.
 fn pair_answers(
     alloc: Global,
     pairs: &[(u32, u32)],
@@ -190,7 +197,7 @@ fn pair_answers(
     Ok(answers)
 }
 
-/// The label of a node in the block of another, or else the block's radius.
+/// The answer to one pair: the label of `to` in the block of `from`, or the radius of this block.
 fn answer(labels: &Labels, numbers: &NodeMap<u32>, from: u32, to: u32) -> Answer
     requires { AreNumbers labels.now.blocks numbers.now }
     ensures { result ≡ answer_to labels.now.blocks (from, to) }

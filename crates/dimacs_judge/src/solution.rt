@@ -1,4 +1,4 @@
-//! Solutions with an entry for every arc.
+//! Making solutions with an entry for every arc.
 
 ghost use Rattle.std.specs.Prelude.{◌≡◌, ◌≤◌, ◌+◌, length, IfNone, IfOk, IfSome, map};
 ghost use Rattle.dimacs_lines.specs.Limits.{most_count};
@@ -17,8 +17,8 @@ use dimacs_lines::Memory;
 use dimacs_network::{ArcView, Network};
 use std::alloc::Global;
 
-/// The solution that claims a feasible flow, with its value on line 1 and then an entry for every arc, in the order of the
-/// instance.
+/// The solution that claims this feasible flow: the flow's value on line 1, then an entry for every arc, in the order
+/// of the instance.
 pub fn max_solution<N: Network>(
     alloc: Global,
     instance: &MaxInstance<N>,
@@ -36,8 +36,8 @@ pub fn max_solution<N: Network>(
     })
 }
 
-/// The solution that claims a feasible flow, with its cost on line 1 and then an entry for every arc, in the order of the
-/// instance. None where the costs of the arcs up to some one are out of their range: `judge_min` would refuse it.
+/// The solution that claims this feasible flow: the flow's cost on line 1, then an entry for every arc, in the order of
+/// the instance. None if the sum of the costs up to some arc is out of range: `judge_min` would refuse the solution.
 pub fn min_solution<N: Network>(
     alloc: Global,
     instance: &MinInstance<N>,
@@ -59,7 +59,7 @@ pub fn min_solution<N: Network>(
     }))
 }
 
-/// The entry of the arc of this index, where the value stands on line 1 and the arcs follow in order.
+/// The entry of the arc with this index, on the line that it has after the value on line 1.
 #[inline(always)]
 fn entry_of(arc: ArcView, i: u32, flow: i64) -> Entry
     ensures place { IsEntryOf arc (i + 2) result }

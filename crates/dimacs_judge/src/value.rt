@@ -9,7 +9,7 @@ use crate::flow::Flow;
 use dimacs_instance::MaxInstance;
 use dimacs_network::{ArcView, Network};
 
-/// The value of a flow: what leaves the source less what enters it. Takes no memory.
+/// The value of a flow: the outflow of the source less its inflow. Allocates nothing.
 pub fn value_of<N: Network>(instance: &MaxInstance<N>, flow: &Flow) -> i128
     requires { length flow.now ≡ length instance.now.arcs }
     ensures { result ≡ value instance.now flow.now }
@@ -17,7 +17,7 @@ pub fn value_of<N: Network>(instance: &MaxInstance<N>, flow: &Flow) -> i128
     balance_at(instance.network(), flow, instance.source())
 }
 
-/// The balance of one node.
+/// The outflow of a node less its inflow.
 fn balance_at<N: Network>(network: &N, flow: &Flow, node: u32) -> i128
     requires few_arcs { length (N.list network.now) ≤ most_count }
     requires one_each { length flow.now ≡ length (N.list network.now) }
@@ -30,7 +30,7 @@ fn balance_at<N: Network>(network: &N, flow: &Flow, node: u32) -> i128
     sum
 }
 
-/// What the amount on an arc adds to the balance of a node.
+/// What one arc contributes to the balance of a node.
 #[inline(always)]
 fn share(arc: ArcView, amount: i64, node: u32) -> i128
     ensures { result ≡ when (arc.tail == node) amount -ℤ when (arc.head == node) amount }

@@ -1,9 +1,10 @@
-//! What a judge says.
+//! The results of judges.
 
 use dimacs_lines::Memory;
 use dimacs_records::Reason;
 
-/// The place that a refusal names. Arcs and nodes count from 1; field 0 is the whole line.
+/// The place that a refusal names. Lines, arcs and nodes count from 1; field 0 is the whole line. A certificate is
+/// named as a whole.
 #[derive(Clone, Copy, Debug, PartialEq, Eq)]
 pub enum Where {
     Solution { line: u64, field: u32 },
@@ -12,12 +13,12 @@ pub enum Where {
     Node(u32),
 }
 
-/// Why a judge does not say yes.
+/// Why a judge doesn't answer yes.
 #[derive(Clone, Copy, Debug, PartialEq, Eq)]
 pub enum JudgeError {
-    /// The first test that fails.
+    /// The first test that fails, by its place and reason.
     Refused(Where, Reason),
-    /// A growth was refused.
+    /// Out of memory; it leaves the claim open.
     Memory,
 }
 
@@ -43,23 +44,23 @@ impl From<Memory> for JudgeError {
     }
 }
 
-/// What a judge says yes to.
+/// What a judge has found to be true.
 #[derive(Debug, PartialEq, Eq, Drop)]
 pub enum Verdict {
-    /// The flow is maximum, and this is its value.
+    /// The flow is maximum and has this value.
     Max(i128),
-    /// The flow is least, and this is its cost.
+    /// The flow costs least, and this is its cost.
     Min(i128),
     /// There is no feasible flow.
     Infeasible,
     /// All labels are distances; so many sources were asked for.
     Sources(u32),
-    /// The distances that were asked for.
+    /// All labels are distances; the answers to the pairs, in order.
     Pairs(Vec<Answer>),
 }
 
-/// The distance between two nodes. None where there is no walk, or none but those that weigh more than `beyond`, where it
-/// tells a radius.
+/// The distance between two nodes. If `distance` is none and `beyond` is a radius, every walk weighs more than the
+/// radius; if both are none, there is no walk.
 #[derive(Clone, Copy, Debug, PartialEq, Eq)]
 pub struct Answer {
     pub from: u32,

@@ -9,11 +9,11 @@ use Rattle.itoa.proofs.Decimal.{PAIRS_at, length_one, length_two, decimal_two}
 use Rattle.dimacs_lines.specs.declared.decimals.TheConstants.{PAIRS}
 use mir.Val.{bool_byte}
 
--- the table has the two digits of each number: it is that of itoa
+-- the table has the two digits of each number, as itoa's does
 pub table_at : (n : ℕ) → n < 100 → (get_or PAIRS (n * 2) 0 ≡ 48 + n / 10) × (get_or PAIRS (n * 2 + 1) 0 ≡ 48 + n % 10)
 table_at n few = PAIRS_at n few
 
--- one digit below ten, and else two
+-- one digit below ten, otherwise two
 pub first_count : (n : ℕ) → n < 100 → 2 - bool_byte (ltb n 10) ≡ length (decimal n)
 first_count n few =
     elim (leb_tells 10 n) [

@@ -1,4 +1,4 @@
--- Fields that are plain numbers.
+-- Fields of digits, perhaps after a minus.
 use Rattle.std.proofs.Common.{◌≡◌, ◌+◌, ◌<◌, ◌≤◌, ◌∷◌, [], ℕ, suc, List, true, false, length, take, drop, get_or, refl, sym, arith}
 use Rattle.std.specs.Prelude.{ℤ, pos, neg_ℤ, ◌-ℤ◌, ◌^◌, ◌==◌, ◌||◌}
 use Rattle.std.specs.Int.Signed.{mag}
@@ -20,7 +20,7 @@ digit_from b h = (grind (arith, nat_tests), grind (arith, nat_tests))
 pub not_blank : (b : ℕ) → 33 ≤ b → is_blank b ≡ false
 not_blank b h = grind (arith, nat_tests)
 
--- each byte among the digits in front
+-- each byte among the leading digits is a digit
 digit_at : (xs : List ℕ) (n k d : ℕ) → n ≡ prefix_len is_ascii_digit (take 8 xs) → k < n → IsAsciiDigit (get_or xs k d)
 digit_at xs n k d is below =
     let within : n ≤ length (take 8 xs) = omega (arith, prefix_len-le-length is_ascii_digit (take 8 xs)) in
@@ -32,7 +32,7 @@ All-digits xs n is k d inside =
     let below : k < n = omega (arith, length-take n xs) in
     rw (get_or-take n xs k d below) (digit_at xs n k d is below)
 
--- digits with nothing or a blank after them are a whole field
+-- digits with a blank or nothing after them are a whole field
 pub run_of_digits : (xs : List ℕ) (n : ℕ) → n ≡ prefix_len is_ascii_digit (take 8 xs) → (n < length xs → is_blank (get_or xs n 0) ≡ true) → n ≡ position_or_len is_blank xs
 run_of_digits xs n is ends =
     let within : n ≤ length xs = omega (arith, prefix_len-le-length is_ascii_digit (take 8 xs), length-take 8 xs) in
@@ -44,14 +44,14 @@ digit_is_no_sign b digit = grind (arith, nat_tests, digit.0, digit.1)
 pub digit_is_no_minus : (b : ℕ) → IsAsciiDigit b → (b == 45) ≡ false
 digit_is_no_minus b digit = grind (arith, nat_tests, digit.0, digit.1)
 
--- digits alone
+-- a text of digits spells their value
 pub spells_digits : (digits : List ℕ) → 0 < length digits → All IsAsciiDigit digits → Spells digits (pos (place_sum digits))
 spells_digits [] some all = absurd (omega (arith, some))
 spells_digits (b ∷ bs) some all =
     let first : IsAsciiDigit b = all 0 0 some in
     rw (digit_is_no_sign b first, digit_is_no_minus b first) ((some, all), refl)
 
--- digits after a minus
+-- a minus and digits spell the negative of their value
 pub spells_minus : (digits : List ℕ) → 0 < length digits → All IsAsciiDigit digits → Spells (45 ∷ digits) (neg_ℤ (pos (place_sum digits)))
 spells_minus digits some all = ((some, all), refl)
 
@@ -68,7 +68,7 @@ read_back x size sum is value fits = omega (arith, ints)
 pub read_minus : (x : ℤ) (size sum : ℕ) → x ≡ pos size → size ≡ sum → mag x < 2 ^ 63 → to_z w64 (of_z w64 (pos 0 -ℤ to_z w64 (of_z w64 x))) ≡ neg_ℤ (pos sum)
 read_minus x size sum is value fits = omega (arith, ints)
 
--- a number kept as bits
+-- the number that was kept in 64 bits is the one that the text spells
 pub kept : (text : List ℕ) (x n : ℤ) → SFits w64 x → Spells text x → ◌≡◌ {A = Option ℤ} (Some (to_z w64 (of_z w64 x))) (Some n) → Spells text n
 kept text x n fits spelled is =
     let P : Option ℤ → Type 0 = λ o. IfSome o (Spells text) in

@@ -12,13 +12,13 @@ use Rattle.dimacs_lines.proofs.FieldLemmas.{runs_start}
 abbrev IsSolid : ℕ → Type 0
 IsSolid b = is_blank b ≡ false
 
--- what the law says of one run
+-- what the theorem states of one run
 record IsField (line : List ℕ) (run : Run) : Type 0 where
   some : run.text ≢ []
   no_blank : All IsSolid run.text
   in_place : take (length run.text) (drop run.start line) ≡ run.text
 
--- the law, for the bytes from place i on
+-- the theorem for the bytes from place i on
 record AreFieldsFrom (line : List ℕ) (i : ℕ) (runs : List Run) : Type 0 where
   each : All (IsField line) runs
   apart : AreApart runs
@@ -38,7 +38,7 @@ any_other_first : (P : Run → Type 0) (run other : Run) (runs : List Run) → (
 any_other_first P run other runs f (zero, x, lt, e, p) = any_first P other runs (f (subst P (sym e) p))
 any_other_first P run other runs f (suc k, x, lt, e, p) = (suc k, x, lt, e, p)
 
--- the first run may be another one that ends in the same place
+-- the first run may be replaced by one that ends at the same place
 apart_other_first : (run other : Run) (runs : List Run) → other.start + length other.text ≡ run.start + length run.text → AreApart (run ∷ runs) → AreApart (other ∷ runs)
 apart_other_first run other [] same apart = tt
 apart_other_first run other (next ∷ runs) same apart = (omega (arith, apart.0), apart.1)
@@ -54,7 +54,7 @@ past_blank line i runs blank h = record {
   ];
 }
 
--- a byte at place i that is no blank, before the runs after it
+-- a byte at place i that is no blank, in front of the later runs
 module _ (line : List ℕ) (i : ℕ) (inside : i < length line) (first : IsSolid (get_or line i 0)) where
   byte_then_field : (text : List ℕ) → All IsSolid text → take (length text) (drop (suc i) line) ≡ text → IsField line (byte_then line i text)
   byte_then_field text solid after = record {
@@ -63,7 +63,7 @@ module _ (line : List ℕ) (i : ℕ) (inside : i < length line) (first : IsSolid
     in_place = rw (drop-cons line i 0 inside) (ap (λ bs. get_or line i 0 ∷ bs) after);
   }
 
-  -- it is a run alone
+  -- if it is a run by itself
   alone : (runs : List Run) → AreApart (byte_then line i [] ∷ runs) → AreFieldsFrom line (suc i) runs → AreFieldsFrom line i (byte_then line i [] ∷ runs)
   alone runs apart h = record {
     each = All-cons (IsField line) (byte_then line i []) runs (byte_then_field [] (All-nil IsSolid) refl) h.each;
@@ -74,7 +74,7 @@ module _ (line : List ℕ) (i : ℕ) (inside : i < length line) (first : IsSolid
     ];
   }
 
-  -- it begins the run that starts right after it
+  -- if it joins the run that starts right after it
   joined : (run : Run) (runs : List Run) → run.start ≡ suc i → AreFieldsFrom line (suc i) (run ∷ runs) → AreFieldsFrom line i (byte_then line i run.text ∷ runs)
   joined run runs next h =
       let field = All-head (IsField line) run runs h.each in

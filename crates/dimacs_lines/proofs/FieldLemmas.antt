@@ -40,7 +40,7 @@ same_runs i j xs ys p q = cc
 drop_one_more : (n b : ℕ) (bs : List ℕ) → drop (1 + n) (b ∷ bs) ≡ drop n bs
 drop_one_more n b bs = let e : 1 + n ≡ suc n = omega arith in rw e refl
 
--- how many blanks stand in front, and how many bytes before the first blank
+-- how many blanks the bytes begin with, and how many bytes stand before the first blank
 abbrev pub blanks_in : List ℕ → ℕ
 blanks_in xs = position_or_len (λ b. not (is_blank b)) xs
 
@@ -56,12 +56,12 @@ past_at false i b bs h more =
     let n : blanks_in (b ∷ bs) ≡ 0 = rw h refl in
     rw n (same_runs i (i + 0) (b ∷ bs) (b ∷ bs) (omega arith) refl)
 
--- blanks in front add no run
+-- leading blanks add no run
 runs_past : (i : ℕ) (xs : List ℕ) → runs_from i xs ≡ runs_from (i + blanks_in xs) (drop (blanks_in xs) xs)
 runs_past i [] = refl
 runs_past i (b ∷ bs) = past_at (is_blank b) i b bs refl (runs_past (suc i) bs)
 
--- a run of n bytes, and those after it
+-- a run of n bytes, and the later ones
 abbrev run_and_rest : ℕ → ℕ → List ℕ → List Run
 run_and_rest i n xs = record { text = take n xs; start = i } ∷ runs_from (i + n) (drop n xs)
 
@@ -70,7 +70,7 @@ longer b i n bs =
     let e : 1 + n ≡ suc n = omega arith in
     rw (e, eq-eqb (suc i) (suc i) refl) (ap (λ k. record { text = b ∷ take n bs; start = i } ∷ runs_from k (drop n bs)) (omega arith))
 
--- a byte before a blank is a run alone
+-- a byte before a blank is a run by itself
 alone : (b i : ℕ) (runs : List Run) → All (StartsFrom (suc (suc i))) runs → onto_runs b i runs ≡ record { text = b ∷ []; start = i } ∷ runs
 alone b i [] all = refl
 alone b i (run ∷ runs) all = let later = All-head (StartsFrom (suc (suc i))) run runs all in let no : (run.start == suc i) ≡ false = grind (arith, nat_tests, later) in rw no refl

@@ -14,7 +14,7 @@ word_of k (b ∷ bs) = word_of k bs * 2 ^ k + b
 abbrev pub AllBytes : List ℕ → Type 0
 AllBytes bs = All (λ b. b < 256) bs
 
--- a shift to the left puts zeros in front
+-- a shift to the left puts zeros first
 pub word_of-zeros : (j : ℕ) (bs : List ℕ) → word_of 8 (replicate j 0 ++ bs) ≡ word_of 8 bs * 2 ^ (8 * j)
 word_of-zeros zero bs = omega arith
 word_of-zeros (suc j) bs = rw (mul-suc 8 j, pow-add 2 (8 * j) 8) (omega (arith, word_of-zeros j bs))
@@ -37,7 +37,7 @@ word_of-take (suc j) (b ∷ bs) h =
     let rest = word_of-take j bs (All-tail (λ b. b < 256) b bs h) in
     rw (mul-suc 8 j, mod-pow-add, shr_high (word_of 8 bs) 8 b small, mod_low (word_of 8 bs) 8 b small) (ap (λ n. n * 256 + b) rest)
 
--- `^` with 48 in each lane changes each lane so
+-- `^` with 48 in each lane does this to each lane
 pub word_of-map : (bs : List ℕ) → AllBytes bs → bit_xor (word_of 8 bs) (word_of 8 (replicate (length bs) 48)) ≡ word_of 8 (map (λ b. bit_xor b 48) bs)
 word_of-map [] h = refl
 word_of-map (b ∷ bs) h =
@@ -50,7 +50,7 @@ byte_at-step : (i n high b : ℕ) → b < 256 → n / 256 ^ i ≡ high * 256 + b
 byte_at-step zero n high b small is = (omega arith, omega arith)
 byte_at-step (suc i) n high b small is = (omega arith, rw (pow-suc 256 (suc i), ← div-div-eq-div-mul n (256 ^ suc i) 256) (omega arith))
 
--- the k bytes of a word from byte i on, with zeros after its lanes
+-- the k bytes of a word from byte i on are its lanes, then zeros
 bytes_low_first-word_of : (i k m n : ℕ) (bs : List ℕ) → k ≤ m → AllBytes bs → n / 256 ^ i ≡ word_of 8 bs
     → bytes_low_first i k n ≡ take k (bs ++ replicate m 0)
 bytes_low_first-word_of i zero m n bs le h is = refl
@@ -63,11 +63,11 @@ bytes_low_first-word_of i (suc k) (suc m) n (b ∷ bs) le h is =
     let rest = bytes_low_first-word_of (suc i) k (suc m) n bs (omega arith) (All-tail (λ b. b < 256) b bs h) step.1 in
     ap₂ (λ x xs. x ∷ xs) step.0 rest
 
--- the bytes of a word are its lanes, with zeros after
+-- the bytes of a word are its lanes, then zeros
 pub to_le_bytes-word_of : (n : ℕ) (bs : List ℕ) → AllBytes bs → n ≡ word_of 8 bs → to_le_bytes w64 n ≡ take 8 (bs ++ replicate 8 0)
 to_le_bytes-word_of n bs h is = bytes_low_first-word_of 0 8 8 n bs (omega arith) h (omega arith)
 
--- a word is that of its bytes
+-- a word is made of its bytes
 pub word_of-to_le_bytes : (n : ℕ) → n < 2 ^ 64 → word_of 8 (to_le_bytes w64 n) ≡ n
 word_of-to_le_bytes n fits = omega (arith, from_le_bytes-to_le_bytes_8 n fits)
 

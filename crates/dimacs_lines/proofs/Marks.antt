@@ -18,13 +18,13 @@ each n c = word_of 8 (replicate n c)
 abbrev pub marks : ℕ → ℕ → ℕ
 marks n word = bit_xor (bit_and word (each n 16)) (each n 16)
 
--- each lane is marked by itself
+-- each lane is marked independently
 marks-cons : (n w b : ℕ) → b < 256 → marks (suc n) (w * 256 + b) ≡ marks n w * 256 + marks 1 b
 marks-cons n w b small =
     let bits_small : bit_and b 16 < 256 = omega (arith, and_le_r b 16) in
     rw (and_block 8 w (each n 16) b 16 small (lit< tt)) (xor_block 8 (bit_and w (each n 16)) (each n 16) (bit_and b 16) 16 bits_small (lit< tt))
 
--- a lane is marked where its byte lacks the bit, by a test of all 256 bytes
+-- a lane is marked if its byte lacks the bit; shown by testing all 256 bytes
 marks-one : (b : ℕ) → b < 256 → marks 1 b ≡ cond (has_sixteen b) 0 16
 marks-one b small = eqb-true _ _ (agree_below_at (λ b. eqb (marks 1 b) (cond (has_sixteen b) 0 16)) (λ _. true) 256 b refl small)
 
@@ -71,17 +71,17 @@ count_trailing_zeros-marks (b ∷ bs) h =
     ∙ count_trailing_zeros-lane (has_sixteen b) (8 * n) (8 * suc n) (marks n (word_of 8 bs)) (omega arith)
     ∙ ap (λ m. cond (has_sixteen b) (1 + m) 0) rest
 
--- the high halves of n lanes that are six more
+-- the high halves of n lanes after six is added to each
 abbrev pub carries : ℕ → ℕ → ℕ
 carries n word = bit_and (word + each n 6) (each n 240)
 
--- each lane is tested by itself
+-- each lane is tested independently
 carries-cons : (n w b : ℕ) → b < 240 → carries (suc n) (w * 256 + b) ≡ carries n w * 256 + carries 1 b
 carries-cons n w b small =
     let sum : w * 256 + b + (each n 6 * 256 + 6) ≡ (w + each n 6) * 256 + (b + 6) = omega arith in
     rw sum (and_block 8 (w + each n 6) (each n 240) (b + 6) 240 (omega arith) (lit< tt))
 
--- a lane's test is passed by what is below ten, by a test of all bytes
+-- a byte below 240 passes if it is below ten; shown by testing all of them
 carries-one : (b : ℕ) → b < 240 → eqb (carries 1 b) 0 ≡ ltb b 10
 carries-one b small = agree_below_at (λ b. eqb (carries 1 b) 0) (λ b. ltb b 10) 240 b refl small
 
@@ -99,7 +99,7 @@ carries-none (b ∷ bs) h =
       λ all. omega (arith, split, eqb-true (carries 1 b) 0 (first ∙ lt-ltb b 10 all.0), rest.1 all.1),
     )
 
--- six more in each lane is carried into no other
+-- adding six to each lane carries into no other
 pub carry_fits : (bs : List ℕ) → All (λ b. b < 240) bs → word_of 8 bs + each (length bs) 6 < 2 ^ (8 * length bs)
 carry_fits [] h = lit< tt
 carry_fits (b ∷ bs) h =

@@ -1,4 +1,4 @@
--- What digits say, one digit more at a time.
+-- The value of digits, one more digit at a time.
 use Rattle.std.proofs.Common.{◌≡◌, ◌+◌, ◌-◌, ◌*◌, ◌^◌, ◌<◌, ◌≤◌, ◌++◌, ◌∷◌, [], ℕ, List, length, take, get_or, ap, ◌∙◌, arith, length-append, add-one}
 use Rattle.std.specs.Prelude.{min}
 use Rattle.std.specs.List.{All}
@@ -11,7 +11,7 @@ use Rattle.dimacs_lines.specs.Number.{place_sum}
 ten_more : (n : ℕ) → 10 ^ (n + 1) ≡ 10 ^ n * 10
 ten_more n = rw (add-one, pow-suc) (omega arith)
 
--- one digit more at the end
+-- the value with one more digit at the end
 pub place_sum-push : (xs : List ℕ) (c : ℕ) → place_sum (xs ++ c ∷ []) ≡ place_sum xs * 10 + (c - 48)
 place_sum-push [] c = omega arith
 place_sum-push (x ∷ xs) c = rw (length-append xs (c ∷ []), ten_more (length xs), place_sum-push xs c) (omega arith)
@@ -19,14 +19,14 @@ place_sum-push (x ∷ xs) c = rw (length-append xs (c ∷ []), ten_more (length 
 pub place_sum_more : (xs : List ℕ) (i : ℕ) → i < length xs → place_sum (take (i + 1) xs) ≡ place_sum (take i xs) * 10 + (get_or xs i 0 - 48)
 place_sum_more xs i h = ap place_sum (take_more xs i 0 h) ∙ place_sum-push (take i xs) (get_or xs i 0)
 
--- a sum that stops at a cap
+-- a value that is capped after each digit is the capped value
 pub min_more : (sum digit most : ℕ) → min most (min sum most * 10 + digit) ≡ min (sum * 10 + digit) most
 min_more sum digit most = omega arith
 
 digit_times : (digit p : ℕ) → digit ≤ 9 → digit * p ≤ 9 * p
 digit_times digit p h = grind arith
 
--- n digits say less than the n-th power of ten
+-- n digits have a value below 10^n
 pub place_sum-lt : (xs : List ℕ) → All IsAsciiDigit xs → place_sum xs < 10 ^ length xs
 place_sum-lt [] digits = omega arith
 place_sum-lt (x ∷ xs) digits =
@@ -34,7 +34,7 @@ place_sum-lt (x ∷ xs) digits =
     let rest = place_sum-lt xs (All-tail IsAsciiDigit x xs digits) in
     rw pow-suc (omega (arith, digit_times (x - 48) (10 ^ length xs) (omega (arith, digit.1)), rest))
 
--- up to 19 digits say less than the 19th power of ten, with the next one too
+-- up to 19 digits stay below 10^19, with each next digit too
 pub place_sum-short : (xs : List ℕ) (i : ℕ) → All IsAsciiDigit xs → length xs < 20 → i < length xs → place_sum (take i xs) * 10 + (get_or xs i 0 - 48) < 10 ^ 19
 place_sum-short xs i digits short inside =
     let size : length (take (i + 1) xs) ≡ i + 1 = length-take-le (i + 1) xs (omega arith) in

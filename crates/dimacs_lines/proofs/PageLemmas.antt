@@ -1,4 +1,4 @@
--- Writing through a page.
+-- Writing through a buffer.
 use Rattle.std.proofs.Common.{◌++◌, ℕ, List, [], Bool, true, false, ap, sym, ◌∙◌, subst, append_assoc, refl, ◌≡◌}
 use Rattle.std.proofs.lemmas.List.{append-nil}
 use Rattle.dimacs_lines.specs.Devices.{Written, after_piece, one_more}
@@ -7,12 +7,12 @@ use Rattle.dimacs_lines.specs.Pages.{IsWrittenBy}
 use Rattle.dimacs_lines.specs.inside.Pages.{IsPut}
 use Rattle.dimacs_lines.proofs.PutLemmas.{after_piece-after_piece, AcceptsFront-after, AcceptsFront-longer}
 
--- more is kept, or nothing after a fault
+-- more is held, or nothing after a fault
 pub IsWritten-kept : (failed : Bool) (old new : Written) (text kept more : List ℕ) → IsWrittenBy failed old text new kept → IsWrittenBy failed old (text ++ more) new (kept ++ more)
 IsWritten-kept false old new text kept more h = record { front = h.front; whole = ap (λ x. x ++ more) h.whole ∙ append_assoc h.front kept more; accepted = h.accepted; sound = h.sound }
 IsWritten-kept true old new text kept more h = (AcceptsFront-longer old.accepted new.accepted text more h.0, h.1)
 
--- what was kept is put
+-- what was held is put
 pub IsWritten-put : (failed after : Bool) (start old new : Written) (text kept : List ℕ) → IsPut failed old kept after new → IsWrittenBy failed start text old kept → IsWrittenBy after start text new []
 IsWritten-put true after start old new text kept put h = rw (put.0, put.1) h
 IsWritten-put false true start old new text kept put h =

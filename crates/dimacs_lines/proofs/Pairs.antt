@@ -1,4 +1,4 @@
--- Two lanes made one by a product: times t * B + 1, each lane of base B gets t times the lane below it.
+-- One product joins each two lanes: times t * B + 1, each lane of base B gets t times the lane below it added.
 use Rattle.std.proofs.Common.{◌≡◌, ℕ, suc, ◌+◌, ◌-◌, ◌*◌, ◌/◌, ◌%◌, ◌^◌, ◌<◌, ◌≤◌, List, [], ◌∷◌, length, replicate, bit_and, sym, ap, ap₂, subst, ◌∙◌, arith, div-add-mod', pow-add, mod-eq_of_lt}
 use Rattle.std.proofs.Math.Nat.{zero-mod}
 use Rattle.std.specs.Int.Bits.{and_zero_r}
@@ -20,11 +20,11 @@ AllPaired t (a ∷ b ∷ ds) = (a < t) × (b < t) × AllPaired t ds
 abbrev pub low_halves : ℕ → ℕ → ℕ
 low_halves k n = word_of (k + k) (replicate n (2 ^ k - 1))
 
--- each two of a word's lanes of k bits made one of 2 * k bits, of which there are n
+-- the n lanes of 2 * k bits that join each two of a word's lanes of k bits
 abbrev joined : ℕ → ℕ → ℕ → ℕ → ℕ
 joined k t n word = bit_and (word * (t * 2 ^ k + 1) / 2 ^ k) (low_halves k n)
 
--- the lanes of the product, of which the lowest is a and the next is a * t + b
+-- the lanes of the product; its lowest lane is a, the next a * t + b
 product : (B t q r b a : ℕ) → (((q * B + r) * B + b) * B + a) * (t * B + 1) ≡ ((((q * B + r) * t + q) * B + (b * t + r)) * B + (a * t + b)) * B + a
 product B t q r b a = omega arith
 
@@ -32,7 +32,7 @@ product B t q r b a = omega arith
 product_rest : (B t q r : ℕ) → (q * B + r) * (t * B + 1) ≡ ((q * B + r) * t + q) * B + r
 product_rest B t q r = omega arith
 
--- the lowest two lanes are made one by themselves
+-- the lowest two lanes are joined independently of the others
 joined-cons : (k t n q r b a : ℕ) → t * t ≤ 2 ^ k → r < t → b < t → a < t
     → joined k t (suc n) (((q * 2 ^ k + r) * 2 ^ k + b) * 2 ^ k + a) ≡ joined k t n (q * 2 ^ k + r) * 2 ^ (k + k) + (a * t + b)
 joined-cons k t n q r b a wide r_small b_small a_small =
@@ -63,7 +63,7 @@ first_lane k t (a ∷ b ∷ ds) wide some h =
     let fits : a < 2 ^ k = omega (arith, mul-add-lt 0 t a t some h.0) in
     omega (arith, mod_low (word_of k ds * 2 ^ k + b) k a fits)
 
--- what is joined is each two digits as one
+-- joining gives each two digits as one
 joined-paired : (k t : ℕ) (ds : List ℕ) → t * t ≤ 2 ^ k → 0 < t → AllPaired t ds
     → joined k t (length (paired t ds)) (word_of k ds) ≡ word_of (k + k) (paired t ds)
 joined-paired k t [] wide some h = and_zero_r _
@@ -76,13 +76,13 @@ joined-paired k t (a ∷ b ∷ ds) wide some h =
     subst (λ v. joined k t (suc n) ((v * 2 ^ k + b) * 2 ^ k + a) ≡ joined k t n v * 2 ^ (k + k) + (a * t + b)) split first
     ∙ ap (λ v. v * 2 ^ (k + k) + (a * t + b)) (joined-paired k t ds wide some h.2)
 
--- what a product loses at the top is masked away
+-- what a product loses at the top is masked out anyway
 and-wrapped : (j k n m : ℕ) → m < 2 ^ j → bit_and (n % 2 ^ (j + k) / 2 ^ k) m ≡ bit_and (n / 2 ^ k) m
 and-wrapped j k n m small =
     let x = n / 2 ^ k in
     ap₂ bit_and (field_of n j k) (sym (mod-eq_of_lt small)) ∙ sym (and_mod x m j) ∙ mod-eq_of_lt (omega (arith, and_le_r x m))
 
--- the step at a type of j + k bits
+-- the same in a type of j + k bits
 pub joined-wrapped : (j k t : ℕ) (ds : List ℕ) → t * t ≤ 2 ^ k → 0 < t → AllPaired t ds → low_halves k (length (paired t ds)) < 2 ^ j
     → bit_and (word_of k ds * (t * 2 ^ k + 1) % 2 ^ (j + k) / 2 ^ k) (low_halves k (length (paired t ds))) ≡ word_of (k + k) (paired t ds)
 joined-wrapped j k t ds wide some digits fits =

@@ -9,17 +9,17 @@ use Rattle.std.specs.List.{position_or_len}
 use Rattle.std.proofs.lemmas.List.Edits.{length-between}
 use borrow.Rule.Slice.PartMut.{put_mid}
 
--- what was put after a front of this length
+-- reading back what was put after a front of this length
 pub take-drop-put_mid : (xs piece : List ℕ) (a k n : ℕ) → a ≤ length xs → n ≤ length piece → take n (drop a (put_mid a k xs piece)) ≡ take n piece
 take-drop-put_mid xs piece a k n within le =
     ap (take n) (drop_at (take a xs) (piece ++ drop k (drop a xs)) a (length-take-le a xs within)) ∙ take-append-le n piece (drop k (drop a xs)) le
 
--- two clauses on the value make a third
+-- a third clause follows from two clauses about the value
 pub IfOk-both : {T E : Type 0} (r : Result T E) (P Q R : T → Type 0) → ((x : T) → P x → Q x → R x) → IfOk r P → IfOk r Q → IfOk r R
 IfOk-both (Ok x) P Q R f p q = f x p q
 IfOk-both (Err e) P Q R f p q = p
 
--- after what was moved to the front and kept there lies the piece
+-- the piece lies right after what was moved to the front
 pub held_and_piece : (before moved grown pulled : List ℕ) (start end count : ℕ) → take (end - start) moved ≡ slice_range before start end → take (end - start) grown ≡ take (end - start) moved → take (end - start) pulled ≡ take (end - start) grown
     → slice_range pulled 0 (end - start + count) ≡ slice_range before start end ++ take count (drop (end - start) pulled)
 held_and_piece before moved grown pulled start end count a b c =
@@ -36,7 +36,7 @@ last_of_slice xs start end count ordered within few =
     let place : end - count ≡ start + rest = omega (arith, size, few) in
     between_is xs (end - count) end ∙ ap (λ k. drop k (take end xs)) place ∙ sym (drop-drop rest start (take end xs)) ∙ ap (drop rest) (sym (between_is xs start end))
 
--- what stands before and after the first line of a part of the buffer
+-- what stands before and after the first line in a part of the buffer
 pub before_first_of_slice : (xs : List ℕ) (start end n : ℕ) → n ≤ end - start → slice_range xs start (start + n) ≡ take n (slice_range xs start end)
 before_first_of_slice xs start end n within =
     let size : start + n - start ≡ n = omega arith in

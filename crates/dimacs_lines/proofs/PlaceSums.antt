@@ -1,4 +1,4 @@
--- The number that digits say, by places and from the first digit on.
+-- The value of digits, by places and from the first digit on.
 use Rattle.std.proofs.Common.{◌≡◌, ℕ, zero, suc, ◌+◌, ◌-◌, ◌*◌, ◌/◌, ◌%◌, ◌^◌, ◌<◌, Bool, true, false, cond, eqb, ltb, List, [], ◌∷◌, ◌++◌, length, map, take, replicate, bit_xor, refl, sym, ap, ◌∙◌, arith, lit<, subst, leb-true, ltb-true, lt-ltb, eqb-true, eq-eqb, pow-suc, get_or-take, length-take}
 use Rattle.std.specs.Prelude.{◌||◌, not}
 use Rattle.std.specs.Char.{is_ascii_digit}
@@ -10,18 +10,18 @@ use Rattle.std.proofs.lemmas.List.Sums.{prefix_len_passes}
 use Rattle.dimacs_lines.specs.Number.{place_sum}
 use Rattle.dimacs_lines.specs.inside.Plain.{has_sixteen}
 
--- a digit's value is its code with the bits of 48 turned, by a test of all bytes
+-- xor with 48 turns a digit's code into its value; shown by testing all bytes
 digit_value : (b : ℕ) → is_ascii_digit b ≡ true → bit_xor b 48 ≡ b - 48
 digit_value b digit =
     let high = leb-true b 57 (and_parts _ _ digit).1 in
     let told = agree_below_at (λ b. not (is_ascii_digit b) || eqb (bit_xor b 48) (b - 48)) (λ _. true) 256 b refl (omega (arith, high)) in
     eqb-true (bit_xor b 48) (b - 48) (rw digit at told)
 
--- and a byte is a digit where that is below ten
+-- a byte that xor with 48 makes less than ten is a digit
 turned_digit : (b : ℕ) → b < 256 → bit_xor b 48 < 10 → is_ascii_digit b ≡ true
 turned_digit b small below = sym (agree_below_at (λ b. ltb (bit_xor b 48) 10) is_ascii_digit 256 b refl small) ∙ lt-ltb (bit_xor b 48) 10 below
 
--- a byte with the bit of 16 loses it
+-- a byte with the bit of 16 loses it by xor with 48
 turned_below : (b : ℕ) → b < 256 → has_sixteen b ≡ true → bit_xor b 48 < 240
 turned_below b small has =
     let told = agree_below_at (λ b. not (has_sixteen b) || ltb (bit_xor b 48) 240) (λ _. true) 256 b refl small in
@@ -34,7 +34,7 @@ digit_has_sixteen b digit =
     let high = leb-true b 57 both.1 in
     eq-eqb (b / 16 % 2) 1 (omega arith)
 
--- no digits come before the first
+-- the first digit has no digits before it
 zero-mul-add : (p s : ℕ) → 0 * p + s ≡ s
 zero-mul-add p s = omega arith
 
@@ -53,19 +53,19 @@ number_from_digits_after-map n (b ∷ ds) h =
     ∙ number_from_digits_after-map (n * 10 + v) ds (All-tail (λ b. is_ascii_digit b ≡ true) b ds h)
     ∙ first_place n v (10 ^ length ds) (place_sum ds) ∙ ap (λ p. n * p + (v * 10 ^ length ds + place_sum ds)) (sym (pow-suc 10 (length ds)))
 
--- zeros in front add nothing
+-- leading zeros add nothing
 pub number_from_digits-zeros : (j : ℕ) (ds : List ℕ) → AllPass is_ascii_digit ds
     → number_from_digits 10 (replicate j 0 ++ map (λ b. bit_xor b 48) ds) ≡ place_sum ds
 number_from_digits-zeros zero ds h = number_from_digits_after-map 0 ds h ∙ zero-mul-add (10 ^ length ds) (place_sum ds)
 number_from_digits-zeros (suc j) ds h = number_from_digits-zeros j ds h
 
--- what passes a test up to the first that doesn't
+-- all bytes before the first that fails a test pass it
 pub AllPass-take : (p : ℕ → Bool) (n : ℕ) (bs : List ℕ) → n ≡ prefix_len p bs → AllPass p (take n bs)
 AllPass-take p n bs counted = λ k d h.
     let within : k < n = omega (arith, length-take n bs) in
     ap p (get_or-take n bs k d within) ∙ prefix_len_passes p bs k d (omega arith)
 
--- bytes with the bit of 16, and zeros in front of them, leave room for a carry once turned
+-- after xor with 48, bytes with the bit of 16 and zeros before them leave room for adding six
 pub All-turned : (j : ℕ) (ds : List ℕ) → All (λ b. b < 256) ds → AllPass has_sixteen ds → All (λ b. b < 240) (replicate j 0 ++ map (λ b. bit_xor b 48) ds)
 All-turned zero [] small has = All-nil (λ b. b < 240)
 All-turned zero (b ∷ ds) small has =
@@ -73,7 +73,7 @@ All-turned zero (b ∷ ds) small has =
     All-cons (λ b. b < 240) (bit_xor b 48) (map (λ b. bit_xor b 48) ds) first (All-turned zero ds (All-tail (λ b. b < 256) b ds small) (All-tail (λ b. has_sixteen b ≡ true) b ds has))
 All-turned (suc j) ds small has = All-cons (λ b. b < 240) 0 (replicate j 0 ++ map (λ b. bit_xor b 48) ds) (lit< tt) (All-turned j ds small has)
 
--- they are digits where all are below ten then
+-- they were digits if all are below ten then
 pub AllPass-turned : (j : ℕ) (ds : List ℕ) → All (λ b. b < 256) ds → AllBelowBase 10 (replicate j 0 ++ map (λ b. bit_xor b 48) ds) → AllPass is_ascii_digit ds
 AllPass-turned zero [] small below = All-nil (λ b. is_ascii_digit b ≡ true)
 AllPass-turned zero (b ∷ ds) small below =
@@ -88,7 +88,7 @@ no_digit b off = by (is_ascii_digit b) refl
     by true digit = absurd (let e = digit_has_sixteen b digit in cc)
     by false digit = digit
 
--- the digits in front end where the bit of 16 does, if only digits come before
+-- the leading digits end at the first byte without the bit of 16, if all bytes before it are digits
 pub prefix_len-digits : (n : ℕ) (bs : List ℕ) → n ≡ prefix_len has_sixteen bs → AllPass is_ascii_digit (take n bs) → n ≡ prefix_len is_ascii_digit bs
 prefix_len-digits n [] counted digits = counted
 prefix_len-digits n (b ∷ bs) counted digits = by (has_sixteen b) refl (prefix_len-digits (prefix_len has_sixteen bs) bs refl)
@@ -105,7 +105,7 @@ prefix_len-digits n (b ∷ bs) counted digits = by (has_sixteen b) refl (prefix_
     by false off more =
         counted ∙ ap (λ t. cond t (1 + prefix_len has_sixteen bs) 0) off ∙ sym (ap (λ t. cond t (1 + prefix_len is_ascii_digit bs) 0) (no_digit b off))
 
--- zeros after are no digits
+-- the zeros past the end are no digits
 pub prefix_len-padded : (n m : ℕ) (bs : List ℕ) → prefix_len is_ascii_digit (take n (bs ++ replicate m 0)) ≡ prefix_len is_ascii_digit (take n bs)
 prefix_len-padded zero m bs = refl
 prefix_len-padded (suc n) zero [] = refl

@@ -1,4 +1,4 @@
--- Numbers that stand in bytes with one byte right after them.
+-- Numbers in a buffer with a given byte right after them.
 use Rattle.std.proofs.Common.{◌≡◌, ◌+◌, ◌-◌, ◌*◌, ◌^◌, ◌<◌, ◌≤◌, ◌++◌, ◌∷◌, [], ℕ, List, length, take, drop, get_or, ap, ap₂, sym, ◌∙◌, arith, length-append, length-drop, append_assoc, pow-add}
 use Rattle.std.specs.Char.{IsAsciiDigit}
 use Rattle.std.proofs.lemmas.List.Elements.{All-append}
@@ -14,7 +14,7 @@ use Rattle.dimacs_lines.specs.inside.Plain.{DigitsAt}
 use Rattle.dimacs_lines.proofs.DigitLemmas.{All-digits, spells_digits, spells_minus}
 use Rattle.dimacs_lines.proofs.NumberLemmas.{place_sum-lt}
 
--- digits that were counted, and the byte right after them
+-- counted digits, and the byte right after them
 pub digits_stand : (bytes : List ℕ) (at stop count n : ℕ) → at + count < length bytes → count ≡ prefix_len is_ascii_digit (take 8 (drop at bytes)) → n ≡ place_sum (take count (drop at bytes)) → 0 < count
     → get_or bytes (at + count) 0 ≡ stop → DigitsAt bytes at stop n (at + count + 1)
 digits_stand bytes at stop count n inside counted says some ends =
@@ -32,7 +32,7 @@ digits_stand bytes at stop count n inside counted says some ends =
       ends = record { there = sym (take-append-drop count rest) ∙ ap (λ ys. take count rest ++ ys) after; passed = omega (arith, size); within = omega arith };
     }
 
--- up to k digits
+-- up to k digits have a value below 10^k
 digits_below : (bytes : List ℕ) (at stop n next k : ℕ) → DigitsAt bytes at stop n next → next ≤ at + k + 1 → n < 10 ^ k
 digits_below bytes at stop n next k d near =
     let most : 10 ^ length d.digits ≤ 10 ^ k = pow-le-pow_right {n = 10} (omega arith) {j = k} (omega (arith, near, d.ends.passed)) in
@@ -44,7 +44,7 @@ digits_few bytes at stop n next d near = digits_below bytes at stop n next 8 d (
 pub digits_fit : (bytes : List ℕ) (at stop n next : ℕ) → DigitsAt bytes at stop n next → n < 10 ^ 16
 digits_fit bytes at stop n next d = digits_below bytes at stop n next 16 d (omega (arith, d.ends.passed, d.few))
 
--- digits that follow others
+-- the value of digits that follow others
 place_sum-append : (xs ys : List ℕ) → place_sum (xs ++ ys) ≡ place_sum xs * 10 ^ length ys + place_sum ys
 place_sum-append [] ys = omega arith
 place_sum-append (x ∷ xs) ys = rw (length-append xs ys, pow-add 10 (length xs) (length ys), place_sum-append xs ys) (digits_over (x - 48) (10 ^ length xs) (10 ^ length ys) (place_sum xs) (place_sum ys))
@@ -52,7 +52,7 @@ place_sum-append (x ∷ xs) ys = rw (length-append xs ys, pow-add 10 (length xs)
     digits_over : (d p q s t : ℕ) → d * (p * q) + (s * q + t) ≡ (d * p + s) * q + t
     digits_over d p q s t = omega arith
 
--- eight digits, and more after them
+-- eight digits, then more
 pub digits_joined : (bytes : List ℕ) (at stop count high low next : ℕ) → at ≤ length bytes → count ≡ prefix_len is_ascii_digit (take 8 (drop at bytes)) → high ≡ place_sum (take count (drop at bytes)) → 8 ≤ count → DigitsAt bytes (at + 8) stop low next → next ≤ at + 8 + 9
     → DigitsAt bytes at stop (high * 10 ^ (next - at - 9) + low) next
 digits_joined bytes at stop count high low next within counted says whole d near =
@@ -75,11 +75,11 @@ digits_joined bytes at stop count high low next within counted says whole d near
       };
     }
 
--- digits alone
+-- a text of digits
 pub stands_digits : (bytes : List ℕ) (at stop n next : ℕ) → DigitsAt bytes at stop n next → StandsAt bytes at stop (pos n) next
 stands_digits bytes at stop n next d = record { text = d.digits; spelled = rw d.says (spells_digits d.digits d.some d.each); short = omega (arith, d.few); ends = d.ends }
 
--- digits after a minus
+-- a minus, then digits
 pub stands_minus : (bytes : List ℕ) (at stop n next : ℕ) → at < length bytes → get_or bytes at 0 ≡ 45 → DigitsAt bytes (at + 1) stop n next → StandsAt bytes at stop (neg_ℤ (pos n)) next
 stands_minus bytes at stop n next inside minus d =
     let cut : drop at bytes ≡ get_or bytes at 0 ∷ drop (at + 1) bytes = drop_more bytes at 0 inside in

@@ -1,4 +1,4 @@
--- What is held, and what is left of the text.
+-- The bytes held, and the text that is left.
 use Rattle.std.proofs.Common.{◌≡◌, ◌≢◌, ◌+◌, ◌-◌, ◌<◌, ◌≤◌, ◌++◌, ◌∷◌, [], ℕ, List, Option, Some, None, Result, Ok, Err, length, drop, refl, ap, sym, ◌∙◌, arith, inl, inr, length-append, append_assoc, append-nil, eq-eqb, Bool, true, false}
 use Rattle.std.proofs.lemmas.Bool.{eqb-true}
 use Rattle.std.specs.Prelude.{◌==◌}
@@ -21,11 +21,11 @@ pub before_piece-before_piece : (a b : List ℕ) (rest : Option (List ℕ)) → 
 before_piece-before_piece a b None = refl
 before_piece-before_piece a b (Some rest) = ap (λ x. Some x) (sym (append_assoc a b rest))
 
--- where the first end stands after a front without one
+-- where the first line end stands after a front without one
 pub position_or_len-after : (xs ys : List ℕ) → position_or_len is_end xs ≡ length xs → position_or_len is_end (xs ++ ys) ≡ length xs + position_or_len is_end ys
 position_or_len-after xs ys none = prefix_len-append (λ b. not (is_end b)) xs ys ∙ rw (none, eq-eqb (length xs) (length xs) refl) refl
 
--- the length of the first line, once a piece came after what had no end
+-- the length of the first line after a piece was appended to bytes without a line end
 pub length_goes_on : (held piece now : List ℕ) (so_far more count : ℕ) → so_far ≡ position_or_len is_end held → length held ≤ so_far → length piece ≡ count → now ≡ held ++ piece → more ≡ position_or_len is_end (drop (length now - count) now)
     → so_far + more ≡ position_or_len is_end now
 length_goes_on held piece now so_far more count place none size is last =
@@ -45,7 +45,7 @@ position_or_len-append-le xs ys = by_test (position_or_len is_end xs == length x
     by_test true h = let place : position_or_len is_end xs ≡ length xs = eqb-true _ _ h in omega (arith, place, position_or_len-after xs ys place)
     by_test false h = let same : position_or_len is_end (xs ++ ys) ≡ position_or_len is_end xs = prefix_len-append (λ b. not (is_end b)) xs ys ∙ rw h refl in omega (arith, same)
 
--- what is left where the source tells it
+-- the text that is left, if the source's bytes are known
 record Told (held : List ℕ) (coming : Option (List ℕ)) (text : List ℕ) : Type 0 where
   more : List ℕ
   coming_is : coming ≡ Some more
@@ -62,7 +62,7 @@ not_empty (x ∷ xs) ys some h = cc
 short_line : (held : List ℕ) → position_or_len is_end held ≤ longest_line → length (before_first is_end held) ≤ longest_line
 short_line held short = omega (arith, length-take (position_or_len is_end held) held, short)
 
--- the first line of what is held is the first that is left
+-- the first line held is the first line left
 first_left : (held more : List ℕ) (coming : Option (List ℕ)) → coming ≡ Some more → IsEnough held coming → held ≢ [] → position_or_len is_end held ≤ longest_line → lines (held ++ more) ≡ before_first is_end held ∷ lines (after_first is_end held ++ more)
 first_left held more coming is (inl whole) some short =
     lines_step (held ++ more) (not_empty held more some) ∙ ap (λ line. line ∷ lines (after_first is_end (held ++ more))) (before_first-whole held more whole)
@@ -98,7 +98,7 @@ comes_left (TooLong number) old mid coming left given is refused = (omega (arith
 comes_left Device old mid coming left given is refused = absurd refused
 comes_left Memory old mid coming left given is refused = absurd refused
 
--- what is answered of the bytes held is answered of all that is left
+-- the result for the bytes held is the result for all that is left
 pub answers_left : (result : Result (Option ℕ) LinesError) (old mid new : State) (coming left : Option (List ℕ)) → mid.given ≡ old.given → mid.progress ≡ Open → left ≡ before_piece mid.held coming → IsEnough mid.held coming → GivesHeld mid new result → NextLine old new left (before_piece new.held coming) result
 answers_left (Ok (Some number)) old mid new coming left given open_still is enough g = record {
   next = omega (arith, g.next, given);

@@ -1,4 +1,4 @@
--- Where a text has its first line, and what follows it.
+-- The first line of a text, and what follows it.
 use Rattle.std.proofs.Common.{◌≡◌, ◌≢◌, ◌+◌, ◌<◌, ◌++◌, ◌∷◌, [], ℕ, suc, List, Option, Some, None, Bool, true, false, length, take, drop, get_or, refl, ap, sym, ◌∙◌, arith, length-append}
 use Rattle.std.specs.Prelude.{unwrap_or}
 use Rattle.std.specs.List.{position_or_len, onto_first, before_first, after_first}
@@ -12,7 +12,7 @@ not_true : (b : Bool) → (b ≡ true → ⊥) → b ≡ false
 not_true true h = absurd (h refl)
 not_true false h = refl
 
--- the first place of a byte 10, or the length
+-- the place of the first byte 10, or the length
 pub unwrap_or-first_end : (xs : List ℕ) (place : Option ℕ) → IsFirstByte (is_byte 10) xs place → unwrap_or place (length xs) ≡ position_or_len is_end xs
 unwrap_or-first_end xs None h = sym (position_or_len_is is_end xs (length xs) 0 (omega arith) (λ k below. not_true (is_end (get_or xs k 0)) (h k (omega arith) below)) (λ below. absurd (omega arith)))
 unwrap_or-first_end xs (Some n) h = sym (position_or_len_is is_end xs n 0 (omega (arith, h.0.high)) (λ k below. not_true (is_end (get_or xs k 0)) (h.0.before k (omega arith) below)) (λ _. h.1))
@@ -54,7 +54,7 @@ lines_at b (c ∷ cs) false h more =
     let joined : lines (b ∷ c ∷ cs) ≡ onto_first b (lines (c ∷ cs)) = rw h refl in
     joined ∙ ap (onto_first b) (more some) ∙ sym (ap (λ x. x ∷ lines (after_first is_end (b ∷ c ∷ cs))) (before_first_more b (c ∷ cs) h) ∙ ap (λ x. (b ∷ before_first is_end (c ∷ cs)) ∷ lines x) (after_first_more b (c ∷ cs) h))
 
--- a text with something in it is its first line and the later ones
+-- a text that isn't empty is its first line and the later ones
 pub lines_step : (text : List ℕ) → text ≢ [] → lines text ≡ before_first is_end text ∷ lines (after_first is_end text)
 lines_step [] some = absurd (some refl)
 lines_step (b ∷ bs) some = lines_at b bs (is_end b) refl (lines_step bs)

@@ -1,8 +1,8 @@
--- The steps of a reader of lines within its buffer.
+-- The layout of a line reader's buffer.
 use Rattle.std.specs.Prelude.{ℕ, ◌≤◌}
 use Rattle.dimacs_lines.specs.Limits.{most_lines, most_held}
 
--- the line that was given last and the bytes that are held lie within the buffer, and the buffer is bounded
+-- the last line and the held bytes lie within the buffer, and the buffer is bounded
 pub record IsLaidOut (line_start line_end next end given size : ℕ) : Type 0 where
   pub line_ordered : line_start ≤ line_end
   pub line_within : line_end ≤ size

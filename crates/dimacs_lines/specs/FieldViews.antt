@@ -1,4 +1,4 @@
--- What a field says of its line.
+-- A field as a part of its line.
 use Rattle.dimacs_lines.specs.declared.scan.Field.{Field}
 use Rattle.dimacs_lines.specs.Fields.{Run}
 

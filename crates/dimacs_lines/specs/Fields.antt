@@ -6,17 +6,17 @@ use Rattle.std.specs.List.{All, Any}
 abbrev pub is_blank : ℕ → Bool
 is_blank b = b == 32 || b == 9 || b == 13
 
--- some bytes of a line, and the place of the first of them
+-- a run: successive bytes of a line, and the place of the first
 pub record Run : Type 0 where
   pub text : List ℕ
   pub start : ℕ
 
--- a byte at place i, before the runs after it: it begins the first of them, if that starts right after it, and else is a run alone
+-- a byte at place i joins the first of the later runs if that starts right after it; otherwise it is a run by itself
 abbrev pub onto_runs : ℕ → ℕ → List Run → List Run
 onto_runs b i [] = record { text = b ∷ []; start = i } ∷ []
 onto_runs b i (run ∷ runs) = if run.start == suc i then record { text = b ∷ run.text; start = i } ∷ runs else record { text = b ∷ []; start = i } ∷ run ∷ runs
 
--- the maximal runs without blanks, where the first byte has place i
+-- the maximal runs without blanks; the first byte has place i
 abbrev pub runs_from : ℕ → List ℕ → List Run
 runs_from i [] = []
 runs_from i (b ∷ bs) = if is_blank b then runs_from (suc i) bs else onto_runs b i (runs_from (suc i) bs)
@@ -24,7 +24,7 @@ runs_from i (b ∷ bs) = if is_blank b then runs_from (suc i) bs else onto_runs 
 abbrev pub fields_of : List ℕ → List Run
 fields_of line = runs_from 0 line
 
--- each run ends before the next one starts, with a byte between them
+-- at least one byte stands between each run and the next
 abbrev pub AreApart : List Run → Type 0
 AreApart [] = Unit {0}
 AreApart (run ∷ []) = Unit {0}
@@ -33,7 +33,7 @@ AreApart (run ∷ next ∷ runs) = (run.start + length run.text < next.start) ×
 abbrev pub IsInRun : ℕ → Run → Type 0
 IsInRun place run = (run.start ≤ place) × (place < run.start + length run.text)
 
--- the runs of a line, in the line's words
+-- the fields of a line, defined without a scan: what `runs_from` computes
 pub record AreFields (line : List ℕ) (runs : List Run) : Type 0 where
   pub some : All (λ (run : Run). run.text ≢ []) runs
   pub no_blank : All (λ (run : Run). All (λ b. is_blank b ≡ false) run.text) runs

@@ -5,7 +5,7 @@ use Rattle.std.specs.Char.{IsAsciiDigit}
 use Rattle.dimacs_lines.specs.declared.numbers.NumberFault.{NumberFault}
 use Rattle.dimacs_lines.specs.declared.numbers.NumberFault.TheVariants.{BadNumber, NumberRange}
 
--- what stands after an optional sign
+-- the text after an optional sign
 abbrev pub digits_of : List ℕ → List ℕ
 digits_of [] = []
 digits_of (b ∷ bs) = if b == 43 || b == 45 then bs else b ∷ bs
@@ -14,12 +14,12 @@ digits_of (b ∷ bs) = if b == 43 || b == 45 then bs else b ∷ bs
 abbrev pub IsNumber : List ℕ → Type 0
 IsNumber text = (0 < length (digits_of text)) × All IsAsciiDigit (digits_of text)
 
--- the sum of digit times power of ten by place
+-- the value of decimal digits: the sum of each digit times its power of ten
 abbrev pub place_sum : List ℕ → ℕ
 place_sum [] = 0
 place_sum (b ∷ bs) = (b - 48) * 10 ^ length bs + place_sum bs
 
--- a minus in front makes a number negative
+-- the text begins with a minus
 abbrev pub is_negative : List ℕ → Bool
 is_negative [] = false
 is_negative (b ∷ bs) = b == 45
@@ -35,7 +35,7 @@ Spells text n = IsNumber text × (n ≡ number_in text)
 abbrev pub IsWithin : ℤ → ℤ → ℤ → Type 0
 IsWithin low high n = (low ≤ℤ n) × (n ≤ℤ high)
 
--- the number, where the text spells one between low and high
+-- the result is the number if the text spells one from low to high; otherwise the reason why not
 abbrev pub ReadsNumber : ℤ → ℤ → List ℕ → Result ℤ NumberFault → Type 0
 ReadsNumber low high text (Ok n) = Spells text n × IsWithin low high n
 ReadsNumber low high text (Err BadNumber) = ¬ IsNumber text

@@ -1,16 +1,16 @@
--- What was written to a sink through a page.
+-- What was written to a sink through a buffer.
 use Rattle.std.specs.Prelude.{ℕ, ℤ, ◌≡◌, ◌++◌, ◌∷◌, [], List, Bool, true, false}
 use Rattle.std.specs.List.{flat_map}
 use Rattle.std.specs.Fmt.{signed_decimal}
 use Rattle.dimacs_lines.specs.Devices.{Written, after_piece, one_more}
 use Rattle.dimacs_lines.specs.Puts.{AcceptsFront}
 
--- what a page keeps of a text, and whether the sink has failed
+-- what the buffer holds, and whether a put has failed
 pub record PageState : Type 0 where
   pub kept : List ℕ
   pub failed : Bool
 
--- all but an end of the text was accepted, and that end is kept
+-- the sink accepted the text up to an end, and the buffer holds this end
 pub record Keeps (old : Written) (text : List ℕ) (new : Written) (kept : List ℕ) : Type 0 where
   pub front : List ℕ
   pub whole : text ≡ front ++ kept
@@ -21,11 +21,11 @@ abbrev pub IsWrittenBy : Bool → Written → List ℕ → Written → List ℕ 
 IsWrittenBy false old text new kept = Keeps old text new kept
 IsWrittenBy true old text new kept = AcceptsFront old.accepted text new.accepted × (new.faults ≡ one_more old.faults)
 
--- the text was accepted or is kept; after a fault, of which there is one more then, a beginning of it was accepted
+-- the text was accepted, or its rest is in the buffer; after a fault, which is counted, its first bytes were accepted
 abbrev pub IsWritten : Written → List ℕ → Written → PageState → Type 0
 IsWritten old text new page = IsWrittenBy page.failed old text new page.kept
 
--- more was written, after whatever stood there: the sink accepted it, or the page keeps it
+-- more was appended to whatever was written: the sink accepted it, or the buffer holds it
 abbrev pub Appends : List ℕ → Written → PageState → Written → PageState → Type 0
 Appends more old page new after = (start : Written) (text : List ℕ) → IsWritten start text old page → IsWritten start (text ++ more) new after
 

@@ -1,4 +1,4 @@
--- What a reader of lines stands for, and what its next line is.
+-- The state of a line reader, and its next line.
 use Rattle.std.specs.Prelude.{ℕ, ◌+◌, ◌≡◌, ◌≢◌, ◌≤◌, ◌<◌, List, [], ◌∷◌, length, Option, Some, None, Result, Ok, Err}
 use Rattle.dimacs_lines.specs.declared.reader.LinesError.{LinesError}
 use Rattle.dimacs_lines.specs.declared.reader.LinesError.TheVariants.{TooMany, TooLong, Device, Memory}
@@ -9,7 +9,7 @@ use Rattle.dimacs_lines.specs.Devices.{before_piece, one_more}
 use Rattle.dimacs_lines.specs.Lines.{lines}
 
 pub record State : Type 0 where
-  -- the bytes pulled and not yet given out
+  -- the bytes that were pulled and aren't given yet
   pub held : List ℕ
   -- how many lines were given
   pub given : ℕ
@@ -17,11 +17,11 @@ pub record State : Type 0 where
   pub line : List ℕ
   pub progress : Progress
 
--- the text that is left: what is held, and what the source has to come
+-- the text still to be given: what the reader holds, then what the source has to come
 abbrev pub text_left : State → Option (List ℕ) → Option (List ℕ)
 text_left reader coming = before_piece reader.held coming
 
--- a line within the limits was given, with the next number: the first of the text that was left
+-- the next line: the first of the text that was left, within the limits, with the next number
 pub record GivesLine (old new : State) (left later : Option (List ℕ)) (number : ℕ) : Type 0 where
   pub next : number ≡ old.given + 1
   pub counted : new.given ≡ number
@@ -36,7 +36,7 @@ pub record AtEnd (new : State) (left : Option (List ℕ)) : Type 0 where
   pub no_line : new.line ≡ []
   pub none : (text : List ℕ) → left ≡ Some text → lines text ≡ []
 
--- when an error comes first; too many lines are told before too long a one
+-- when each error comes; `TooMany` comes before `TooLong` if both apply
 abbrev pub ComesAt : State → Option (List ℕ) → LinesError → Type 0
 ComesAt old left (TooMany number) = (number ≡ old.given + 1) × (most_lines < number) × ((text : List ℕ) → left ≡ Some text → lines text ≢ [])
 ComesAt old left (TooLong number) = (number ≡ old.given + 1) × (number ≤ most_lines) × ((text : List ℕ) → left ≡ Some text → (line : List ℕ) × (rest : List (List ℕ)) × (lines text ≡ line ∷ rest) × (longest_line < length line))
@@ -49,13 +49,13 @@ pub record Stops (old new : State) (left : Option (List ℕ)) (error : LinesErro
   pub failed : new.progress ≡ Failed error
   pub no_line : new.line ≡ []
 
--- what a call answers before any end or error, of the text that was left, leaving the later text
+-- the result of a call before any end or error; `left` is the text before the call, `later` the text after it
 abbrev pub NextLine : State → State → Option (List ℕ) → Option (List ℕ) → Result (Option ℕ) LinesError → Type 0
 NextLine old new left later (Ok (Some number)) = GivesLine old new left later number
 NextLine old new left later (Ok None) = AtEnd new left
 NextLine old new left later (Err error) = Stops old new left error
 
--- the count of faults after a call: one more where it told of a device, else the same
+-- the source's faults after a call: one more after the error `Device`, otherwise the same
 abbrev pub CountsDevice : {V : Type 0} → Result V LinesError → ℕ → ℕ → Type 0
 CountsDevice (Ok value) old new = new ≡ old
 CountsDevice (Err (TooMany number)) old new = new ≡ old

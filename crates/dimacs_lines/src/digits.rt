@@ -8,8 +8,9 @@ ghost use Rattle.std.specs.List.{All, prefix_len};
 ghost use Rattle.dimacs_lines.specs.Number.{place_sum};
 ghost use Rattle.dimacs_lines.specs.inside.Plain.{has_sixteen};
 
-/// How many digits stand at `at`, up to eight, and the number that they say. None where there is no digit, or where some other
-/// byte that has the bit of 16 set comes right after them, as few do: no blank, line's end or sign does.
+/// Reads up to eight digits at `at`: their count and their value. Returns none if no digit stands there, or if fewer
+/// than eight digits are followed by another byte that has the bit of 16 set. Blanks, signs and line ends don't have
+/// it.
 #[inline(always)]
 pub fn digits_at(line: &[u8], at: usize) -> Option<(usize, u32)>
     requires { at ≤ length line.now }
@@ -29,7 +30,7 @@ pub fn digits_at(line: &[u8], at: usize) -> Option<(usize, u32)>
     Some((count as usize, eight_digits(values)))
 }
 
-/// The eight bytes from `at` on, the first one lowest, with zeros after the line's end.
+/// The eight bytes from `at` on, the first one lowest, with zeros past the line's end.
 #[inline(always)]
 fn word_at(line: &[u8], at: usize) -> u64
     requires { at ≤ length line.now }
@@ -38,7 +39,7 @@ fn word_at(line: &[u8], at: usize) -> u64
     if line.len() - at >= 8 {
         load(&line[at..])
     } else if line.len() >= 8 {
-        // Both shifts together may be by all 64 bits.
+        // Together the two shifts may move all 64 bits out.
         let back = line.len() - 8;
         let half = 4 * (at - back) as u32;
         (load(&line[back..]) >> half) >> half
@@ -70,8 +71,8 @@ fn short_word(bytes: &[u8]) -> u64
     u64::from_le_bytes(padded)
 }
 
-/// How many of the word's bytes have the bit of 16 set, from the lowest on. Where a number ends is known before the next one
-/// can be read, so it is found by this bit alone, and whether digits came before is tested apart.
+/// Counts the lowest bytes of the word that have the bit of 16 set. Reading waits until the end of a number is known,
+/// so this one bit finds it; `are_digits` then tests that all of these bytes were digits.
 #[inline(always)]
 fn count_to_end(word: u64) -> u32
     ensures count { result ≡ prefix_len has_sixteen (to_le_bytes w64 word) }
@@ -81,7 +82,8 @@ fn count_to_end(word: u64) -> u32
     ends.trailing_zeros() / 8
 }
 
-/// What the `count` lowest bytes are more than a zero's code, if they are digits, moved to the top, with zeros below.
+/// The values of the `count` lowest bytes, moved to the top of the word, with zeros below. A byte that is no digit
+/// gives ten or more.
 #[inline(always)]
 fn values_on_top(word: u64, count: u32) -> u64
     requires some { 0 < count }
@@ -92,7 +94,7 @@ fn values_on_top(word: u64, count: u32) -> u64
     (word ^ 0x3030303030303030) << (64 - 8 * count)
 }
 
-/// Whether all bytes are below ten.
+/// Whether all bytes are below ten. Adding six carries into the high half of each other byte.
 #[inline(always)]
 fn are_digits(word: u64) -> bool
     requires { All (λ b. b < 240) (to_le_bytes w64 word) }
@@ -101,13 +103,13 @@ fn are_digits(word: u64) -> bool
     (word + 0x0606060606060606) & 0xf0f0f0f0f0f0f0f0 == 0
 }
 
-/// The number that eight digits say, the first one lowest.
+/// The number with these eight digit values, its first digit in the lowest byte.
 #[inline(always)]
 fn eight_digits(word: u64) -> u32
     requires { AllBelowBase 10 (to_le_bytes w64 word) }
     ensures { result ≡ number_from_digits 10 (to_le_bytes w64 word) }
 {
-    // Each product adds to a lane ten, a hundred or ten thousand times the lane before it.
+    // Each product adds to each lane ten, a hundred or ten thousand times the lane below it.
     let twos = (word.wrapping_mul(2561) >> 8) & 0x00ff00ff00ff00ff;
     let fours = (twos.wrapping_mul(6553601) >> 16) & 0x0000ffff0000ffff;
     (fours.wrapping_mul(42949672960001) >> 32) as u32

@@ -1,5 +1,5 @@
-//! Files and the standard output. They tell nothing of their bytes, since no contract can say what a file holds. What
-//! the clauses of `pull` and `put` say is of each reader and writer that does tell.
+//! Files and the standard output. No contract knows their contents: `coming` and `accepted` are `None`. The clauses
+//! `bytes` of `pull` and `put` describe readers and writers whose bytes are known, as those in memory.
 
 ghost use Rattle.std.specs.Prelude.{◌≡◌, ◌≢◌, ◌≤◌, None, Some, length, IfOk};
 ghost use Rattle.std.specs.Io.KnownBytes.{ReadConsumes, WriteAppends};
@@ -10,21 +10,21 @@ use std::io;
 use std::io::{ErrorKind, Printer, Read, Write};
 use std::marker::Model;
 
-/// A file that was opened, or another reader.
+/// Input from an opened file, or from any reader.
 pub type FileSource<R> = FileDevice<R>;
 
-/// A file that was created, or another writer. Bytes go to it as they are put.
+/// Output to a created file, or to any writer. It isn't buffered: each put writes.
 pub type FileSink<W> = FileDevice<W>;
 
-/// The standard output: made by `FileSink::new(io::writer(rt))`.
+/// Output to the standard output: `FileSink::new(io::writer(rt))`.
 pub type StdoutSink<'a, P> = FileSink<Printer<'a, P>>;
 
-/// A device over a file, or over another reader or writer.
+/// Input or output by a file, a reader or a writer, which counts errors and keeps the last one.
 #[derive(Drop)]
 pub struct FileDevice<F> {
     file: F,
     faults: u64,
-    /// Why the last call that failed did.
+    /// The error of the last call that failed.
     reason: Option<io::Error>,
 }
 
@@ -37,6 +37,7 @@ impl<F> Model for FileDevice<F> {
 }
 
 impl<F> FileDevice<F> {
+    /// Wraps a file that is open already. No error is counted yet.
     pub fn new(file: F) -> FileDevice<F>
         ensures { result ≡ record { file = file; faults = 0; reason = None } }
     {
@@ -47,14 +48,14 @@ impl<F> FileDevice<F> {
         }
     }
 
-    /// Why the last call that failed did, by the system; none where none failed.
+    /// The system's error of the last call that failed; none if none failed.
     pub fn reason(&self) -> Option<io::Error>
         ensures { result ≡ self.now.reason }
     {
         self.reason
     }
 
-    /// Keeps why a call failed, and counts it.
+    /// Keeps the error of a call, and counts it.
     fn fail(&mut self, error: io::Error) -> DeviceFault
         ensures { self.new ≡ record { file = self.old.file; faults = one_more self.old.faults; reason = Some error } }
     {
@@ -82,7 +83,7 @@ impl<R: Read> Source for FileDevice<R> {
     }
 }
 
-/// Reads once, and again where a signal interrupts.
+/// Reads once. If a signal interrupts the read, reads again.
 fn read_some<R: Read>(reader: &mut R, into: &mut [u8]) -> io::Result<usize>
     ensures room { IfOk result (λ count. count ≤ length into.old) }
     ensures bytes { ReadConsumes (R.remaining reader.old) (R.remaining reader.new) result into.new }
@@ -113,7 +114,7 @@ impl<W: Write> Sink for FileDevice<W> {
     }
 }
 
-/// Writes once, and again where a signal interrupts. To write nothing of some bytes is a fault.
+/// Writes once. If a signal interrupts the write, writes again. It is an error to write nothing of some bytes.
 fn write_some<W: Write>(writer: &mut W, bytes: &[u8]) -> io::Result<usize>
     ensures room { IfOk result (λ count. count ≤ length bytes.now) }
     ensures some { IfOk result (λ count. count ≡ 0 → length bytes.now ≡ 0) }

@@ -1,8 +1,9 @@
-//! Bytes in and out: sources and sinks that may fail, the lines of a text, the fields of a line, the numbers that
-//! fields spell, and output in large pieces.
+//! Input and output: sources and sinks that may fail, the lines of a text, the fields of a line, the numbers in fields,
+//! and buffered output.
 //!
-//! The rest of `dimacs` reads and writes through this crate alone. Its promise: a text's lines come in order with
-//! their numbers, however the source cuts the text into pieces; each field and each number is what the bytes spell.
+//! All other crates of `dimacs` read and write through this one. It promises: the lines of a text come in order, with
+//! their numbers, however the source cuts the text into pieces; each field and each number is the one that the bytes
+//! spell.
 #![tactic(auto)]
 
 mod decimals;

@@ -1,26 +1,26 @@
-//! The numbers that fields spell: an optional sign and digits, as many as come.
+//! The numbers that fields spell: an optional sign, then any number of digits.
 
 ghost use Rattle.std.specs.Prelude.{◌≡◌, ◌≤◌, ◌^◌, ◌-◌, ◌↔◌, ℤ, pos, neg_ℤ, ◌≤ℤ◌, min, length, IsTrue, ◌<◌};
 ghost use Rattle.std.specs.List.{All};
 ghost use Rattle.std.specs.Char.{IsAsciiDigit};
 ghost use Rattle.dimacs_lines.specs.Number.{ReadsNumber, is_negative, digits_of, place_sum};
 
-/// Why a field is no number of its range.
+/// Why a field isn't a number of its range.
 #[derive(Clone, Copy, Debug, PartialEq, Eq)]
 pub enum NumberFault {
-    /// It is not an optional sign and one or more digits.
+    /// It isn't an optional sign and one or more digits.
     BadNumber,
     /// It spells a number outside of the range.
     NumberRange,
 }
 
-/// The size of the greatest wide number: 10^30.
+/// The greatest absolute value of a 128-bit number: 10^30.
 pub const WIDE: i128 = 1_000_000_000_000_000_000_000_000_000_000;
 
-/// One more than the greatest wide number.
+/// One more than `WIDE`.
 const PAST_WIDE: u128 = 1_000_000_000_000_000_000_000_000_000_001;
 
-/// The number that a field spells, from -2^63 to 2^63 - 1.
+/// Reads a 64-bit number: from -2^63 to 2^63 - 1, with any number of digits.
 pub fn number(text: &[u8]) -> Result<i64, NumberFault>
     ensures { ReadsNumber (neg_ℤ (pos (2 ^ 63))) (pos (2 ^ 63 - 1)) text.now result }
 {
@@ -30,14 +30,15 @@ pub fn number(text: &[u8]) -> Result<i64, NumberFault>
     }
 }
 
-/// The number that a field spells, from -10^30 to 10^30.
+/// Reads a 128-bit number: from -10^30 to 10^30, with any number of digits. Values, costs, potentials and distances are
+/// such numbers.
 pub fn wide(text: &[u8]) -> Result<i128, NumberFault>
     ensures { ReadsNumber (neg_ℤ (pos (10 ^ 30))) (pos (10 ^ 30)) text.now result }
 {
     within(text, -WIDE, WIDE)
 }
 
-/// The number that a field spells, from low to high, which lie in the wide range.
+/// Reads a number from `low` to `high`.
 fn within(text: &[u8], low: i128, high: i128) -> Result<i128, NumberFault>
     requires low { neg_ℤ (pos (10 ^ 30)) ≤ℤ low }
     requires high { high ≤ℤ pos (10 ^ 30) }
@@ -55,7 +56,7 @@ fn within(text: &[u8], low: i128, high: i128) -> Result<i128, NumberFault>
     Ok(n)
 }
 
-/// Whether a minus stands in front, and what stands after the sign.
+/// Whether the text begins with a minus, and what follows the sign.
 fn signed(text: &[u8]) -> (bool, &[u8])
     ensures negative { result.0 ≡ is_negative text.now }
     ensures digits { result.1.now ≡ digits_of text.now }
@@ -73,7 +74,7 @@ fn is_digits(text: &[u8]) -> bool
     !text.is_empty() && text.iter().all(|b| b.is_ascii_digit())
 }
 
-/// What the digits say, up to one more than the greatest wide number.
+/// The value of the digits, or `PAST_WIDE` if it is greater.
 fn size(digits: &[u8]) -> u128
     requires { All IsAsciiDigit digits.now }
     ensures { result ≡ min (place_sum digits.now) 1000000000000000000000000000001 }
@@ -85,7 +86,7 @@ fn size(digits: &[u8]) -> u128
     }
 }
 
-/// What up to 19 digits say.
+/// The value of up to 19 digits, which fits into 64 bits.
 fn short_size(digits: &[u8]) -> u64
     requires digits { All IsAsciiDigit digits.now }
     requires short { length digits.now < 20 }
@@ -98,7 +99,7 @@ fn short_size(digits: &[u8]) -> u64
     total
 }
 
-/// What digits say, up to one more than the greatest wide number.
+/// The value of any number of digits, or `PAST_WIDE` if it is greater.
 fn long_size(digits: &[u8]) -> u128
     requires { All IsAsciiDigit digits.now }
     ensures { result ≡ min (place_sum digits.now) 1000000000000000000000000000001 }

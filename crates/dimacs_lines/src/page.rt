@@ -1,4 +1,4 @@
-//! Output in large pieces.
+//! Buffered output.
 
 ghost use Rattle.std.specs.Prelude.{◌≡◌, ◌+◌, ◌/◌, ◌%◌, ◌<◌, ◌≤◌, [], ◌∷◌, ◌++◌, ℕ, List, true, false, length};
 ghost use Rattle.std.specs.Fmt.{decimal, signed_decimal};
@@ -13,18 +13,19 @@ use crate::device::{DeviceFault, Sink, put_all};
 use itoa::Buffer;
 use std::marker::Model;
 
-/// The bytes that a page has room for.
+/// The size of the buffer in bytes.
 const PAGE: usize = 16_384;
 
-/// The bytes of the longest number of 64 bits.
+/// The most bytes of a 64-bit number in decimal, with its sign.
 const LONGEST: usize = 20;
 
-/// The bytes of the longest line of a letter and up to five numbers.
+/// The most bytes of a line with a letter and up to five numbers.
 const LONGEST_LINE: usize = 107;
 
-/// The end of what was written, until enough of it has come together to be put at once.
+/// A buffer in front of a sink: what was written and not yet put.
 ///
-/// After a fault of the sink nothing more is put, and `finish` tells the fault.
+/// After an I/O error nothing more is put, and `finish` reports the error. Each call takes the sink; pass the same one
+/// each time.
 pub struct Page {
     bytes: [u8; 16_384],
     length: usize,
@@ -53,6 +54,7 @@ impl Model for Page {
 }
 
 impl Page {
+    /// An empty buffer.
     pub fn new() -> Page
         ensures empty { result ≡ record { kept = []; failed = false } }
         ensures written { (start : Written) → IsWritten start [] start result }
@@ -64,7 +66,7 @@ impl Page {
         }
     }
 
-    /// Writes the bytes after what was written before.
+    /// Appends the bytes.
     #[inline(always)]
     pub fn write<S: Sink>(&mut self, sink: &mut S, bytes: &[u8])
         ensures { Appends bytes.now (S.seen sink.old) self.old (S.seen sink.new) self.new }
@@ -76,7 +78,7 @@ impl Page {
         }
     }
 
-    /// Writes a number in decimal.
+    /// Appends a 64-bit number in decimal.
     #[inline(always)]
     pub fn number<S: Sink>(&mut self, sink: &mut S, n: i64)
         ensures { Appends (signed_decimal n) (S.seen sink.old) self.old (S.seen sink.new) self.new }
@@ -85,8 +87,7 @@ impl Page {
         self.append_number(n);
     }
 
-    /// Writes a line of a letter and up to five numbers, with one blank before each: one test for room serves the whole
-    /// line.
+    /// Appends a line: a letter, then up to five numbers with a blank before each. It tests only once for room.
     pub fn line<S: Sink>(&mut self, sink: &mut S, letter: u8, numbers: &[i64])
         requires few { length numbers.now ≤ 5 }
         ensures { Appends (numbers_line letter numbers.now) (S.seen sink.old) self.old (S.seen sink.new) self.new }
@@ -95,8 +96,8 @@ impl Page {
         self.append_line(letter, numbers);
     }
 
-    /// Writes a line of a letter and three numbers, as the lines of arcs are in most kinds of text. There is no loop, so
-    /// that the processor foresees the branches of each number apart.
+    /// Appends a line of a letter and three numbers, as most kinds of text have for arcs. Without a loop the processor
+    /// predicts the branches of each number separately.
     pub fn line_of_three<S: Sink>(
         &mut self,
         sink: &mut S,
@@ -111,7 +112,7 @@ impl Page {
         self.append_line_of_three(letter, first, second, third);
     }
 
-    /// Writes a wide number in decimal.
+    /// Appends a 128-bit number in decimal.
     pub fn wide<S: Sink>(&mut self, sink: &mut S, n: i128)
         ensures { Appends (signed_decimal n) (S.seen sink.old) self.old (S.seen sink.new) self.new }
     {
@@ -119,7 +120,7 @@ impl Page {
         self.write(sink, digits.format(n).as_bytes());
     }
 
-    /// Puts what is left of the text, and tells whether the sink failed.
+    /// Puts what is left in the buffer. Reports whether any put failed since the buffer was made.
     pub fn finish<S: Sink>(mut self, sink: &mut S) -> Result<(), DeviceFault>
         ensures { (start : Written) (text : List ℕ) → IsWritten start text (S.seen sink.old) self
             → Puts result start text (S.seen sink.new) }
@@ -131,7 +132,7 @@ impl Page {
         Ok(())
     }
 
-    /// Writes the bytes where the page has no room for them.
+    /// Appends the bytes if the buffer has no room for them: puts what it holds first.
     #[inline(never)]
     fn turn<S: Sink>(&mut self, sink: &mut S, bytes: &[u8])
         ensures { Appends bytes.now (S.seen sink.old) self.old (S.seen sink.new) self.new }
@@ -144,7 +145,7 @@ impl Page {
         }
     }
 
-    /// Puts what is kept where so many bytes more have no room.
+    /// Empties the buffer if it has no room for so many bytes more.
     #[inline(always)]
     fn make_room<S: Sink>(&mut self, sink: &mut S, bytes: usize)
         requires { bytes ≤ 16384 }
@@ -157,6 +158,7 @@ impl Page {
         }
     }
 
+    /// Puts what the buffer holds, and empties it.
     fn flush<S: Sink>(&mut self, sink: &mut S)
         ensures written { (start : Written) (text : List ℕ)
             → IsWritten start text (S.seen sink.old) self.old → IsWritten start text (S.seen sink.new) self.new }
@@ -166,6 +168,7 @@ impl Page {
         self.length = 0;
     }
 
+    /// Appends bytes that fit.
     #[inline(always)]
     fn append(&mut self, bytes: &[u8])
         requires { length self.old.kept + length bytes.now ≤ 16384 }
@@ -204,6 +207,7 @@ impl Page {
         self.append(b"\n");
     }
 
+    /// Appends a blank and the number.
     #[inline(always)]
     fn append_field(&mut self, n: i64)
         requires { length self.old.kept + 21 ≤ 16384 }
@@ -227,8 +231,8 @@ impl Page {
         self.append_digits(n.unsigned_abs());
     }
 
-    /// Up to eight digits are written where they are kept, two at a time; longer numbers are copied. The room asked for is
-    /// that of the longest number, since a byte may be written that isn't kept.
+    /// Writes up to eight digits in place, two at a time, and copies longer numbers. It needs room for the longest
+    /// number: a byte may be written past the digits.
     #[inline(always)]
     fn append_digits(&mut self, n: u64)
         requires short { length (decimal n) ≤ 19 }
@@ -246,7 +250,7 @@ impl Page {
         }
     }
 
-    /// Long numbers are few, and a call to write them keeps the lines' own code short.
+    /// Apart from `append_digits`, since long numbers are rare and the code of lines stays short without them.
     #[inline(never)]
     fn append_long(&mut self, n: u64)
         requires { length self.old.kept + length (decimal n) ≤ 16384 }
@@ -257,7 +261,7 @@ impl Page {
         self.append(digits.format(n).as_bytes());
     }
 
-    /// A number of at most four digits.
+    /// Appends a number of at most four digits.
     #[inline(always)]
     fn append_short(&mut self, n: u64)
         requires short { n < 10000 }
@@ -273,7 +277,7 @@ impl Page {
         }
     }
 
-    /// A number as four digits, with noughts in front where it has fewer.
+    /// Appends a number as four digits, with leading zeros.
     #[inline(always)]
     fn append_four(&mut self, n: u64)
         requires short { n < 10000 }
@@ -285,7 +289,8 @@ impl Page {
         self.append(&two_digits(n % 100));
     }
 
-    /// A number of one digit or two, without a branch: two bytes are written, and as many kept as it has digits.
+    /// Appends a number of one or two digits without a branch: it writes two bytes, and keeps as many as the number has
+    /// digits.
     #[inline(always)]
     fn append_first(&mut self, n: u64)
         requires short { n < 100 }
@@ -300,7 +305,7 @@ impl Page {
     }
 }
 
-/// Puts the bytes, unless the sink has failed before; and whether it has failed by now.
+/// Puts the bytes, unless a put failed before. Returns whether one has failed by now.
 fn put_unless<S: Sink>(failed: bool, sink: &mut S, bytes: &[u8]) -> bool
     ensures { IsPut failed (S.seen sink.old) bytes.now result (S.seen sink.new) }
 {

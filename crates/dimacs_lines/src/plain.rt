@@ -1,5 +1,5 @@
-//! Numbers of lines in the plain form, straight from the bytes that a reader holds: right after a number stands one byte
-//! that ends it, a blank or the line's end. What has another form is left to `Scan`.
+//! Fast reading of numbers in their most common form, straight from the buffer of a reader: right after the number
+//! stands one given byte, a blank or the line's end. Everything else is left to `Scan`.
 
 ghost use Rattle.std.specs.Prelude.{◌≡◌, ◌≤◌, ◌<◌, ◌+◌, ◌^◌, pos, length, IfSome};
 ghost use Rattle.dimacs_lines.specs.Plain.{StandsAt};
@@ -8,10 +8,10 @@ ghost use Rattle.dimacs_lines.specs.inside.Plain.{DigitsAt};
 use crate::digits::digits_at;
 use crate::numbers::number;
 
-/// The most bytes of a number that is read whatever its form.
+/// The most bytes of a number that is read here, in whatever form.
 const LONGEST: usize = 40;
 
-/// The powers of ten up to the eighth.
+/// The powers of ten from 10^0 to 10^8.
 const POWERS: [u64; 9] = [
     1,
     10,
@@ -24,8 +24,8 @@ const POWERS: [u64; 9] = [
     100_000_000,
 ];
 
-/// One to eight digits at `at` that don't say 0, and `stop` right after them: the place after `stop`, and the ID that
-/// they say.
+/// Reads an ID at `at`: one to eight digits with a value above 0, and `stop` right after them. Returns the place after
+/// `stop` and the ID; none if the bytes have another form.
 #[inline(always)]
 pub fn plain_id(bytes: &[u8], at: usize, stop: u8) -> Option<(usize, u32)>
     requires { at ≤ length bytes.now }
@@ -39,8 +39,8 @@ pub fn plain_id(bytes: &[u8], at: usize, stop: u8) -> Option<(usize, u32)>
     Some((next, id))
 }
 
-/// A whole number at `at`, and `stop` right after it: the place after `stop`, and the number. One to eight digits,
-/// perhaps after a minus, are read at once.
+/// Reads a 64-bit number at `at`, with `stop` right after it. Returns the place after `stop` and the number; none if
+/// the bytes have another form, or more than 40 bytes. One to eight digits, perhaps after a minus, are the fast case.
 #[inline(always)]
 pub fn plain_whole(bytes: &[u8], at: usize, stop: u8) -> Option<(usize, i64)>
     requires { at ≤ length bytes.now }
@@ -56,7 +56,7 @@ pub fn plain_whole(bytes: &[u8], at: usize, stop: u8) -> Option<(usize, i64)>
     long_whole(bytes, at, stop)
 }
 
-/// One to eight digits at `at`, and `stop` right after them: the place after `stop`, and what they say.
+/// Reads one to eight digits at `at`, with `stop` right after them: the place after `stop`, and the value.
 #[inline(always)]
 fn plain_size(bytes: &[u8], at: usize, stop: u8) -> Option<(usize, u32)>
     requires { at ≤ length bytes.now }
@@ -71,7 +71,7 @@ fn plain_size(bytes: &[u8], at: usize, stop: u8) -> Option<(usize, u32)>
     None
 }
 
-/// A whole number of more digits, or written in another way.
+/// Reads a whole number with more digits, or in another form.
 #[inline(never)]
 fn long_whole(bytes: &[u8], at: usize, stop: u8) -> Option<(usize, i64)>
     requires { at ≤ length bytes.now }
@@ -87,8 +87,8 @@ fn long_whole(bytes: &[u8], at: usize, stop: u8) -> Option<(usize, i64)>
     other_whole(bytes, at, stop)
 }
 
-/// Nine to sixteen digits at `at`, and `stop` right after them: the place after `stop`, and what they say. Eight of them
-/// are read at once, and then the others.
+/// Reads nine to sixteen digits at `at`, with `stop` right after them: the place after `stop`, and the value. It reads
+/// eight at once, then the others.
 #[inline(always)]
 fn long_size(bytes: &[u8], at: usize, stop: u8) -> Option<(usize, u64)>
     requires { at ≤ length bytes.now }
@@ -103,7 +103,7 @@ fn long_size(bytes: &[u8], at: usize, stop: u8) -> Option<(usize, u64)>
     Some((next, size))
 }
 
-/// A power of ten, up to the eighth.
+/// A power of ten.
 #[inline(always)]
 fn ten_to(power: usize) -> u64
     requires { power ≤ 8 }
@@ -113,7 +113,7 @@ fn ten_to(power: usize) -> u64
     POWERS[power]
 }
 
-/// A number of some bytes, whatever its form.
+/// Reads a number of up to `LONGEST` bytes in any form, with the general reader.
 #[cold]
 #[inline(never)]
 fn other_whole(bytes: &[u8], at: usize, stop: u8) -> Option<(usize, i64)>
@@ -129,7 +129,7 @@ fn other_whole(bytes: &[u8], at: usize, stop: u8) -> Option<(usize, i64)>
     None
 }
 
-/// How many visible bytes stand in front, up to the most of a number.
+/// Counts the leading visible bytes (33 to 126), up to `LONGEST`.
 fn visible(bytes: &[u8]) -> usize
     ensures short { result ≤ 40 }
     ensures within { result ≤ length bytes.now }

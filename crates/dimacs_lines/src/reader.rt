@@ -1,4 +1,4 @@
-//! The lines of a text that comes in pieces, over one bounded buffer.
+//! The lines of a text that comes in pieces, with one bounded buffer.
 
 ghost use Rattle.std.specs.Prelude.{◌≡◌, ◌≢◌, ◌↔◌, ◌≤◌, ◌<◌, ◌+◌, ◌++◌, ℕ, List, [], Some, None, Ok, Err, IfOk, IfErr, OnOk, OnErr, IfSome, length, take, drop, slice_range, ◌-◌};
 ghost use Rattle.std.specs.List.{position_or_len};
@@ -15,40 +15,43 @@ use memchr::memchr;
 use std::alloc::Global;
 use std::marker::Model;
 
-/// The most bytes of a line, its end not counted.
+/// The most bytes of a line, without its end.
 pub const MAX_LINE: usize = 1_048_576;
 
 /// The most lines of a text.
 pub const MAX_LINES: u64 = 1_000_000_000_000;
 
-/// The most bytes that a reader of lines holds: a whole line and one piece.
+/// The most bytes that a reader of lines holds: a line of full length and one piece.
 pub const MAX_HELD: usize = 1_114_112;
 
-/// The most bytes that are pulled at once.
+/// The most bytes that one call pulls.
 const PIECE: usize = 65_536;
 
-/// Why no line can be given. A number is that of the line where it comes.
+/// Why there is no next line. The number is the line's, counted from 1.
 #[derive(Clone, Copy, Debug, PartialEq, Eq)]
 pub enum LinesError {
-    /// A line after the `MAX_LINES`th.
+    /// The text has more than `MAX_LINES` lines.
     TooMany(u64),
-    /// A line of more than `MAX_LINE` bytes.
+    /// The line has more than `MAX_LINE` bytes.
     TooLong(u64),
-    /// A pull failed.
+    /// I/O error: a pull failed.
     Device,
-    /// The buffer could not grow.
+    /// Out of memory: the buffer couldn't grow.
     Memory,
 }
 
-/// How far a reader of lines has come.
+/// Whether a reader of lines can give more.
 #[derive(Clone, Copy, Debug, PartialEq, Eq)]
 pub enum Progress {
+    /// There may be more lines.
     Open,
+    /// All lines were given.
     Ended,
+    /// A call failed; each later one returns the same error.
     Failed(LinesError),
 }
 
-/// Gives the lines of a text in order. What it holds of the text lies in one buffer, which each line is given out of.
+/// Gives the lines of a text in order. It holds a part of the text in one buffer, and gives each line as a part of it.
 #[derive(Drop)]
 pub struct Lines {
     buffer: Vec<u8>,
@@ -74,6 +77,7 @@ impl Model for Lines {
 }
 
 impl Lines {
+    /// A reader at the start of a text. It allocates two pieces; the buffer grows only for longer lines.
     pub fn new(alloc: Global) -> Result<Lines, Memory>
         ensures { IfOk result (λ lines. lines ≡ record { held = []; given = 0; line = []; progress = Open }) }
     {
@@ -88,14 +92,15 @@ impl Lines {
         })
     }
 
-    /// The line that was given last, without its end. Empty before the first line, after the end and after an error.
+    /// The line that was given last, without its end. It is empty before the first line, after `skip`, after the end
+    /// and after an error.
     pub fn line(&self) -> &[u8]
         ensures { result.now ≡ self.now.line }
     {
         &self.buffer[self.line_start..self.line_end]
     }
 
-    /// The bytes that were pulled and not yet given out.
+    /// The bytes that were pulled and aren't given yet.
     #[inline(always)]
     pub fn ahead(&self) -> &[u8]
         ensures held { result.now ≡ self.now.held }
@@ -104,7 +109,7 @@ impl Lines {
         &self.buffer[self.next..self.end]
     }
 
-    /// How many lines were given.
+    /// How many lines were given or skipped.
     #[inline(always)]
     pub fn given(&self) -> u64
         ensures { result ≡ self.now.given }
@@ -112,7 +117,7 @@ impl Lines {
         self.given
     }
 
-    /// Goes on after the first bytes held, which are so many whole lines with their ends: they count as given.
+    /// Skips the first `bytes` bytes of `ahead`, which are `lines` whole lines with their ends. They count as given.
     #[inline(always)]
     pub fn skip(&mut self, bytes: usize, lines: u64)
         requires within { bytes ≤ length self.old.held }
@@ -126,7 +131,7 @@ impl Lines {
         self.given += lines;
     }
 
-    /// How many bytes were pulled and not yet given out.
+    /// How many bytes were pulled and aren't given yet.
     pub fn held(&self) -> usize
         ensures value { result ≡ length self.now.held }
         ensures bounded { result ≤ most_held }
@@ -134,13 +139,14 @@ impl Lines {
         self.end - self.next
     }
 
-    /// Gives the next line: answers its number, counted from 1, and `line` then has its bytes.
+    /// Goes to the next line. Returns its number, counted from 1, and `line` then has its bytes; returns none after the
+    /// last line. After an error, calls return the same error for ever.
     pub fn next_line<S: Source>(&mut self, source: &mut S) -> Result<Option<u64>, LinesError>
         ensures answer { self.old.progress ≡ Open → NextLine self.old self.new
             (text_left self.old (S.coming source.old)) (text_left self.new (S.coming source.new)) result }
         ensures device { self.old.progress ≡ Open → CountsDevice result (S.faults source.old) (S.faults source.new) }
 
-        // After the end there is no line for ever, and after an error the same error. Nothing is pulled.
+        // After the end there is no line for ever; after an error, the same error. Nothing is pulled.
         ensures ended { self.old.progress ≡ Ended → (result ≡ Ok None) × (self.new ≡ self.old) }
         ensures failed { (error : LinesError) → self.old.progress ≡ Failed error → (result ≡ Err error) × (self.new ≡ self.old) }
         ensures idle { self.old.progress ≢ Open → (S.coming source.new ≡ S.coming source.old) × (S.faults source.new ≡ S.faults source.old) }
@@ -156,7 +162,7 @@ impl Lines {
         }
     }
 
-    /// Pulls until the first line is whole, too long or the last, and answers its length.
+    /// Pulls until the first line is whole, too long or the last. Returns its length.
     fn find_end<S: Source>(&mut self, source: &mut S) -> Result<usize, LinesError>
         ensures length { IfOk result (λ length. length ≡ position_or_len is_end self.new.held) }
         ensures left { OnOk result (text_left self.old (S.coming source.old) ≡ text_left self.new (S.coming source.new)) }
@@ -179,7 +185,7 @@ impl Lines {
         }
     }
 
-    /// How long the first line is of the last `count` bytes held.
+    /// The length of the first line in the last `count` bytes held.
     fn last_length(&self, count: usize) -> usize
         requires { count ≤ length self.now.held }
         ensures length { result ≡ position_or_len is_end (drop (length self.now.held - count) self.now.held) }
@@ -188,7 +194,7 @@ impl Lines {
         line_length(&self.buffer[self.end - count..self.end])
     }
 
-    /// Pulls a piece after what is held, and answers its size.
+    /// Pulls a piece and appends it to what is held. Returns its size; 0 means the end of the text.
     fn pull_more<S: Source>(&mut self, source: &mut S) -> Result<usize, LinesError>
         requires { length self.old.held ≤ longest_line }
         ensures more { IfOk result (λ count. PullsMore self.old self.new (S.coming source.old) (S.coming source.new) count) }
@@ -218,7 +224,7 @@ impl Lines {
         }
     }
 
-    /// Gives the first line of what is held, of this length.
+    /// Gives the first line held, which has this length.
     fn give_line(&mut self, length: usize) -> Result<Option<u64>, LinesError>
         requires { length ≡ position_or_len is_end self.old.held }
         ensures given { GivesHeld self.old self.new result }
@@ -241,7 +247,7 @@ impl Lines {
         Ok(Some(number))
     }
 
-    /// Answers the error from now on.
+    /// Returns the error, now and from each later call.
     fn fail(&mut self, error: LinesError) -> LinesError
         ensures error { result ≡ error }
         ensures closed { self.new ≡ record self.old { line = []; progress = Failed error } }
@@ -250,6 +256,7 @@ impl Lines {
         error
     }
 
+    /// Ends the reading: there is no current line any more.
     fn close(&mut self, progress: Progress)
         ensures { self.new ≡ record self.old { line = []; progress = progress } }
     {
@@ -259,7 +266,7 @@ impl Lines {
     }
 }
 
-/// How long the first line is: what stands before the first end, or all.
+/// The length of the first line: up to its end, or to the end of the bytes.
 fn line_length(bytes: &[u8]) -> usize
     ensures length { result ≡ position_or_len is_end bytes.now }
     ensures within { result ≤ length bytes.now }
@@ -279,7 +286,7 @@ fn move_to_front(buffer: &mut Vec<u8>, start: usize, end: usize)
     }
 }
 
-/// Makes room for a piece after what is held.
+/// Ensures that there is room after what is held. A full buffer grows to twice its size and a piece, up to `MAX_HELD`.
 fn grow(buffer: &mut Vec<u8>, held: usize) -> Result<(), Memory>
     requires short { held ≤ longest_line }
     requires held { held ≤ length buffer.old.items }
@@ -296,7 +303,7 @@ fn grow(buffer: &mut Vec<u8>, held: usize) -> Result<(), Memory>
     Ok(())
 }
 
-/// Pulls a piece after what is held.
+/// Pulls a piece to the place right after what is held. Returns its size.
 fn pull_after<S: Source>(
     buffer: &mut [u8],
     held: usize,

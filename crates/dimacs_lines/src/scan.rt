@@ -1,4 +1,4 @@
-//! The fields of a line from left to right, with the numbers that are seen in passing.
+//! The fields of a line from left to right, and their numbers if finding the field's end shows them already.
 
 ghost use Rattle.std.specs.Prelude.{◌≡◌, ◌≤◌, ◌<◌, ◌+◌, ◌-◌, ◌^◌, [], ◌∷◌, ℤ, pos, neg_ℤ, Some, not, true, length, take, drop, slice_index, IsTrue, ◌↔◌, IfNone, IfSome};
 ghost use Rattle.std.specs.List.{position_or_len, All};
@@ -11,14 +11,14 @@ use crate::numbers::{NumberFault, number, wide};
 use crate::split::Fields;
 use std::marker::Model;
 
-/// A field of a line, and the place in the line where it starts.
+/// A field of a line, and the index of its first byte in the line, from 0.
 #[derive(Clone, Copy, Debug, PartialEq, Eq)]
 pub struct Field<'a> {
     pub text: &'a [u8],
     pub start: usize,
 }
 
-/// A field, and the number that it spells where this was seen in passing.
+/// A field, and its number if that was found on the way to the field's end.
 #[derive(Clone, Copy)]
 pub struct Token<'a> {
     pub field: Field<'a>,
@@ -27,7 +27,7 @@ pub struct Token<'a> {
 }
 
 impl<'a> Token<'a> {
-    /// The number that the field spells, from -2^63 to 2^63 - 1.
+    /// Reads the field as a 64-bit number: from -2^63 to 2^63 - 1.
     #[inline(always)]
     pub fn number(&self) -> Result<i64, NumberFault>
         ensures { ReadsNumber (neg_ℤ (pos (2 ^ 63))) (pos (2 ^ 63 - 1)) self.now.field.text.now result }
@@ -38,7 +38,7 @@ impl<'a> Token<'a> {
         }
     }
 
-    /// The number that the field spells, from -10^30 to 10^30.
+    /// Reads the field as a 128-bit number: from -10^30 to 10^30.
     #[inline(always)]
     pub fn wide(&self) -> Result<i128, NumberFault>
         ensures { ReadsNumber (neg_ℤ (pos (10 ^ 30))) (pos (10 ^ 30)) self.now.field.text.now result }
@@ -58,7 +58,7 @@ pub fn fields(line: &[u8]) -> Fields<'_>
     Fields::new(line)
 }
 
-/// What of a line is not scanned yet.
+/// The part of a line that isn't scanned yet.
 #[derive(Drop)]
 pub struct Scan<'a> {
     line: &'a [u8],
@@ -79,13 +79,14 @@ impl<'a> Model for Scan<'a> {
 impl<'a> Scan<'a> {
     ghost use Rattle.dimacs_lines.specs.FieldViews.{view_field};
 
+    /// A scan from the start of this line.
     pub fn new(line: &'a [u8]) -> Scan<'a>
         ensures { result ≡ fields_of line.now }
     {
         Scan { line, at: 0 }
     }
 
-    /// The next field.
+    /// Takes the next field; none at the end of the line.
     #[inline(always)]
     pub fn next_token(&mut self) -> Option<Token<'a>>
         ensures none { IfNone result ((self.old ≡ []) × (self.new ≡ [])) }
@@ -124,14 +125,14 @@ fn token_at(line: &[u8], start: usize) -> Token<'_>
     }
 }
 
-/// A number of a few digits, and the bytes that it takes.
+/// A number of a few digits, and its length in bytes.
 #[derive(Clone, Copy)]
 struct Plain {
     length: usize,
     number: i64,
 }
 
-/// The field that starts at `start`, where it is one to eight digits, perhaps after a minus.
+/// The field that starts at `start`, if it is one to eight digits, perhaps after a minus.
 #[inline(always)]
 fn plain_number(line: &[u8], start: usize) -> Option<Plain>
     requires { start < length line.now }
@@ -154,7 +155,7 @@ fn plain_number(line: &[u8], start: usize) -> Option<Plain>
     }
 }
 
-/// One to eight digits at `at`, where a blank or the end of the line follows them: how many, and what they say.
+/// One to eight digits at `at`, if a blank or the end of the line follows them: their count and their value.
 #[inline(always)]
 fn plain_digits(line: &[u8], at: usize) -> Option<(usize, u32)>
     requires { at ≤ length line.now }
@@ -172,7 +173,7 @@ fn plain_digits(line: &[u8], at: usize) -> Option<(usize, u32)>
     }
 }
 
-/// Whether no field goes on at `at`.
+/// Whether a field ends before `at`: a blank stands there, or the line ends.
 #[inline(always)]
 fn ends_at(line: &[u8], at: usize) -> bool
     requires { at ≤ length line.now }
@@ -188,7 +189,7 @@ fn is_blank(b: u8) -> bool
     b == b' ' || b == b'\t' || b == b'\r'
 }
 
-/// How many blanks stand in front.
+/// How many blanks the bytes begin with.
 #[inline(always)]
 fn blanks(bytes: &[u8]) -> usize
     ensures length { result ≡ position_or_len (λ b. not (is_blank b)) bytes.now }

@@ -1,4 +1,4 @@
-//! Sinks over memory: one that keeps all that it accepts, and one for tests, which cuts what is put and fails.
+//! Sinks in memory: one that keeps all bytes, and one for tests that accepts pieces and fails on demand.
 
 ghost use Rattle.std.specs.Prelude.{◌≡◌, ◌≤◌, [], List, ℕ, Some, IfOk, OnErr, IsErr, IsTrue, take, length};
 ghost use Rattle.dimacs_lines.specs.Devices.{InMemory, Flaky, after_piece, CountsPut, cut_by, next_call, fails_next, sizes_left};
@@ -8,7 +8,7 @@ use crate::sources::next_piece;
 use std::alloc::Global;
 use std::marker::Model;
 
-/// Keeps what it accepts. A growth that is refused memory is a fault.
+/// Keeps the bytes that it accepts. Out of memory counts as a fault.
 #[derive(Drop)]
 pub struct MemorySink {
     bytes: Vec<u8>,
@@ -22,6 +22,7 @@ impl Model for MemorySink {
 }
 
 impl MemorySink {
+    /// An empty sink. It allocates with the first put.
     pub fn new(alloc: Global) -> MemorySink
         ensures { result ≡ record { bytes = []; faults = 0 } }
     {
@@ -31,7 +32,7 @@ impl MemorySink {
         }
     }
 
-    /// What it accepted so far.
+    /// The bytes accepted so far.
     pub fn bytes(&self) -> &[u8]
         ensures { result.now ≡ self.now.bytes }
     {
@@ -45,7 +46,7 @@ impl Sink for MemorySink {
     fn put(&mut self, bytes: &[u8]) -> Result<usize, DeviceFault>
         ensures whole { IfOk result (λ count. count ≡ length bytes.now) }
 
-        // What every sink ensures.
+        // These hold for every sink.
         ensures room { IfOk result (λ count. count ≤ length bytes.now) }
         ensures taken { IfOk result (λ count. Some self.new.bytes ≡ after_piece (Some self.old.bytes) (take count bytes.now)) }
         ensures unchanged { OnErr result (Some self.new.bytes ≡ Some self.old.bytes) }
@@ -61,9 +62,8 @@ impl Sink for MemorySink {
     }
 }
 
-/// A `MemorySink` that at each put accepts at most the next listed number of bytes, a 0 counting as 1, and after the
-/// list the whole piece. Its listed puts, counted from 1, fail: such a put uses up no size, and the sink goes on after
-/// it.
+/// A `MemorySink` for tests. Each put accepts at most the next size of `sizes` (a 0 counts as 1); after the list, the
+/// whole piece. The puts listed in `fails`, counted from 1, fail: they use up no size, and the sink goes on after them.
 #[derive(Drop)]
 pub struct FlakySink<'a> {
     kept: MemorySink,
@@ -79,6 +79,7 @@ impl<'a> Model for FlakySink<'a> {
 }
 
 impl<'a> FlakySink<'a> {
+    /// An empty sink; `sizes` and `fails` as the type describes.
     pub fn new(alloc: Global, sizes: &'a [usize], fails: &'a [u64]) -> FlakySink<'a>
         ensures { result ≡ record { bytes = []; faults = 0; sizes = sizes.now; fails = fails.now; calls = 0 } }
     {
@@ -90,7 +91,7 @@ impl<'a> FlakySink<'a> {
         }
     }
 
-    /// What it accepted so far.
+    /// The bytes accepted so far.
     pub fn bytes(&self) -> &[u8]
         ensures { result.now ≡ self.now.bytes }
     {
@@ -108,7 +109,7 @@ impl<'a> Sink for FlakySink<'a> {
         ensures calls { self.new.calls ≡ next_call self.old }
         ensures list_unchanged { self.new.fails ≡ self.old.fails }
 
-        // What every sink ensures.
+        // These hold for every sink.
         ensures room { IfOk result (λ count. count ≤ length bytes.now) }
         ensures taken { IfOk result (λ count. Some self.new.bytes ≡ after_piece (Some self.old.bytes) (take count bytes.now)) }
         ensures unchanged { OnErr result (Some self.new.bytes ≡ Some self.old.bytes) }

@@ -1,4 +1,4 @@
-//! Sources over memory: one that gives all there is room for, and two for tests, which cut the text and fail.
+//! Sources in memory: one that gives all that fits, and two for tests that cut the text and fail on demand.
 
 ghost use Rattle.std.specs.Prelude.{◌≡◌, ◌↔◌, ◌≤◌, ◌<◌, [], List, ℕ, Some, Ok, IfOk, OnErr, IsErr, IsTrue, drop, take, length, min};
 ghost use Rattle.dimacs_lines.specs.Devices.{InPieces, Flaky, before_piece, CountsFault, cut_by, next_call, fails_next, sizes_left};
@@ -6,7 +6,7 @@ ghost use Rattle.dimacs_lines.specs.Devices.{InPieces, Flaky, before_piece, Coun
 use crate::device::{DeviceFault, Source};
 use std::marker::Model;
 
-/// Bytes in memory, given as far as there is room.
+/// Gives bytes in memory, as many as fit.
 #[derive(Drop)]
 pub struct MemorySource<'a> {
     rest: &'a [u8],
@@ -19,6 +19,7 @@ impl<'a> Model for MemorySource<'a> {
 }
 
 impl<'a> MemorySource<'a> {
+    /// A source of these bytes. It never fails.
     pub fn new(bytes: &'a [u8]) -> MemorySource<'a>
         ensures { result ≡ bytes.now }
     {
@@ -34,7 +35,7 @@ impl<'a> Source for MemorySource<'a> {
     fn pull(&mut self, into: &mut [u8]) -> Result<usize, DeviceFault>
         ensures piece { result ≡ Ok (min (length into.old) (length self.old)) }
 
-        // What every source ensures.
+        // These hold for every source.
         ensures room { IfOk result (λ count. count ≤ length into.old) }
         ensures given { IfOk result (λ count. Some self.old ≡ before_piece (take count into.new) (Some self.new)) }
         ensures end { 0 < length into.old → result ≡ Ok 0 → self.old ≡ [] }
@@ -49,8 +50,8 @@ impl<'a> Source for MemorySource<'a> {
     }
 }
 
-/// Bytes in memory, of which each pull gives at most the next listed number, a 0 counting as 1. After the list each
-/// pull gives as much as there is room for.
+/// Gives bytes in memory in pieces: each pull gives at most the next size of `sizes` (a 0 counts as 1); after the list,
+/// as many as fit.
 #[derive(Drop)]
 pub struct CutSource<'a> {
     text: MemorySource<'a>,
@@ -64,6 +65,7 @@ impl<'a> Model for CutSource<'a> {
 }
 
 impl<'a> CutSource<'a> {
+    /// A source of these bytes, cut by these sizes. It never fails.
     pub fn new(bytes: &'a [u8], sizes: &'a [usize]) -> CutSource<'a>
         ensures { result ≡ record { bytes = bytes.now; sizes = sizes.now } }
     {
@@ -81,7 +83,7 @@ impl<'a> Source for CutSource<'a> {
         ensures piece { result ≡ Ok (min (cut_by self.old.sizes (length into.old)) (length self.old.bytes)) }
         ensures sizes { self.new.sizes ≡ drop 1 self.old.sizes }
 
-        // What every source ensures.
+        // These hold for every source.
         ensures room { IfOk result (λ count. count ≤ length into.old) }
         ensures given { IfOk result (λ count. Some self.old.bytes ≡ before_piece (take count into.new) (Some self.new.bytes)) }
         ensures end { 0 < length into.old → result ≡ Ok 0 → self.old.bytes ≡ [] }
@@ -93,7 +95,7 @@ impl<'a> Source for CutSource<'a> {
     }
 }
 
-/// How many of `most` bytes the next piece has: at most the next listed size, which it uses up, a 0 counting as 1.
+/// The size of the next piece of up to `most` bytes: at most the next listed size, which it uses up. A 0 counts as 1.
 pub(crate) fn next_piece<'a>(sizes: &mut &'a [usize], most: usize) -> usize
     ensures cut { result ≡ cut_by sizes.old.now most }
     ensures used { sizes.new.now ≡ drop 1 sizes.old.now }
@@ -107,8 +109,8 @@ pub(crate) fn next_piece<'a>(sizes: &mut &'a [usize], most: usize) -> usize
     }
 }
 
-/// A `CutSource` whose listed pulls, counted from 1, fail. A pull that fails uses up no size, and the source goes on
-/// after it.
+/// A `CutSource` whose pulls fail if they are listed, counted from 1. A pull that fails uses up no size, and the source
+/// goes on after it.
 #[derive(Drop)]
 pub struct FlakySource<'a> {
     text: CutSource<'a>,
@@ -124,6 +126,7 @@ impl<'a> Model for FlakySource<'a> {
 }
 
 impl<'a> FlakySource<'a> {
+    /// A source of these bytes; `sizes` and `fails` as the type describes.
     pub fn new(bytes: &'a [u8], sizes: &'a [usize], fails: &'a [u64]) -> FlakySource<'a>
         ensures { result ≡ record { bytes = bytes.now; faults = 0; sizes = sizes.now; fails = fails.now; calls = 0 } }
     {
@@ -148,7 +151,7 @@ impl<'a> Source for FlakySource<'a> {
         ensures calls { self.new.calls ≡ next_call self.old }
         ensures list_unchanged { self.new.fails ≡ self.old.fails }
 
-        // What every source ensures.
+        // These hold for every source.
         ensures room { IfOk result (λ count. count ≤ length into.old) }
         ensures given { IfOk result (λ count. Some self.old.bytes ≡ before_piece (take count into.new) (Some self.new.bytes)) }
         ensures end { 0 < length into.old → result ≡ Ok 0 → self.old.bytes ≡ [] }

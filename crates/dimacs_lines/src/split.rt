@@ -6,7 +6,7 @@ ghost use Rattle.dimacs_lines.specs.Fields.{fields_of};
 use crate::scan::{Field, Scan};
 use std::marker::Model;
 
-/// The fields of a line that are still to come, from left to right.
+/// Iterates over the fields of a line, from left to right.
 #[derive(Drop)]
 pub struct Fields<'a> {
     scan: Scan<'a>,
@@ -40,6 +40,7 @@ impl<'a> Iterator for Fields<'a> {
 }
 
 impl<'a> Fields<'a> {
+    /// The fields of this line.
     pub fn new(line: &'a [u8]) -> Fields<'a>
         ensures { result ≡ fields_of line.now }
     {

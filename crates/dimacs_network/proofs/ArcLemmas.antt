@@ -14,7 +14,7 @@ joins_ends tail head a same_tail same_head = and_from (a.tail == tail) (a.head =
 joins_not : (tail head : ℕ) (a : ArcView) → (a.tail ≡ tail → a.head ≡ head → ⊥) → joins tail head a ≡ false
 joins_not tail head a other = grind (arith, nat_tests)
 
--- the arcs of these ends up to one more
+-- counting the arcs of these ends up to one more
 module _ (arcs : List ArcView) (tail head i : ℕ) (a : ArcView) (got : slice_get arcs i ≡ Some a) where
   pub counts_joined : a.tail ≡ tail → a.head ≡ head → count_by (joins tail head) (take (i + 1) arcs) ≡ count_by (joins tail head) (take i arcs) + 1
   counts_joined same_tail same_head = count_by_more_yes (joins tail head) arcs i a (slice_get_within arcs i a got) (rw (get_or_from_slice_get arcs i a a got) (joins_ends tail head a same_tail same_head))

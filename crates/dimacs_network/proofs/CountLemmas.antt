@@ -1,13 +1,13 @@
--- How many of a stretch of a list pass a test.
+-- How many items in a part of a list pass a test.
 use Rattle.std.proofs.Common.{◌≡◌, ℕ, ◌+◌, ◌<◌, ◌≤◌, inl, inr, Bool, true, false, List, length, take, get_or, count_by, sym, ap, ◌∙◌, refl, arith, suc, zero}
 use Rattle.std.proofs.lemmas.Bool.{cases_Bool}
 use Rattle.std.proofs.lemmas.List.Sums.{count_by_more_yes, count_by_more_no}
 
--- so many, counted another way
+-- the same number, written in two ways
 pub taken : {X : Type 0} (p : X → Bool) (xs : List X) (m n : ℕ) → m ≡ n → count_by p (take m xs) ≡ count_by p (take n xs)
 taken p xs m n same = ap (λ t. count_by p (take t xs)) same
 
--- how many pass among the first so many, where none of the last ones does, all of them do, or some
+-- how many of the first items pass, if none of the last ones does, all do or some do
 module _ {X : Type 0} (p : X → Bool) (xs : List X) (d : X) where
   pub count_none : (a m : ℕ) → a + m ≤ length xs → ((k : ℕ) → a ≤ k → k < a + m → p (get_or xs k d) ≡ false) → count_by p (take (a + m) xs) ≡ count_by p (take a xs)
   count_none a zero h f = taken p xs _ _ (omega arith)
@@ -30,7 +30,7 @@ module _ {X : Type 0} (p : X → Bool) (xs : List X) (d : X) where
         | inr off ↦ omega (arith, e, count_by_more_no p xs (a + m) d (omega arith) off, count_some a m (omega arith))
       ]
 
--- two lists whose elements pass two tests alike
+-- two lists whose items pass two tests at the same positions
 pub count_alike : {X Y : Type 0} (p : X → Bool) (q : Y → Bool) (xs : List X) (ys : List Y) (d : X) (e : Y) (m : ℕ) → m ≤ length xs → m ≤ length ys → ((k : ℕ) → k < m → p (get_or xs k d) ≡ q (get_or ys k e)) → count_by p (take m xs) ≡ count_by q (take m ys)
 count_alike p q xs ys d e zero h g f = refl
 count_alike p q xs ys d e (suc m) h g f =

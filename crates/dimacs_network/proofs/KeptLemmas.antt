@@ -1,4 +1,4 @@
--- Arcs that are kept in two parts.
+-- Arcs that are stored in two parts.
 use Rattle.std.proofs.Common.{◌≡◌, ℕ, ◌<◌, ◌∷◌, ◌++◌, [], List, length, map, get_or, slice_get, Some, ap, ◌∙◌, refl, arith}
 use Rattle.std.specs.List.{zip}
 use Rattle.std.specs.Prelude.{option_map}

@@ -1,4 +1,4 @@
--- Numbers below their count, no two of them equal, are all numbers below it.
+-- The pigeonhole principle: n different numbers below n are all numbers below n.
 use Rattle.std.proofs.Common.{◌≡◌, ℕ, ◌+◌, ◌<◌, ◌++◌, ◌∷◌, [], inl, inr, true, false, List, length, get_or, All, eqb, sym, ap, ◌∙◌, arith, suc, zero}
 use Rattle.std.specs.List.{range_with_len, IsDistinct, list_any, remove, position_or_len}
 use Rattle.std.specs.List.Sorted.{IsPermutation}

@@ -1,4 +1,4 @@
-//! An index of the arcs of a network, by their ends.
+//! An index of the arcs of a network by their ends.
 
 ghost use Rattle.std.specs.Prelude.{◌≤◌, List, length, IfOk, IsTrue};
 ghost use Rattle.dimacs_network.specs.declared.network.ArcView.{ArcView};
@@ -12,19 +12,20 @@ use crate::tail_starts::TailStarts;
 use dimacs_lines::Memory;
 use std::alloc::Global;
 
-/// A forward star apart from its network: the arcs out of each node stand together, by head. All its room is made at
-/// once, 16 bytes an arc at most, 12 for the order and 4 for the starts. No page of it is written until it is filled,
-/// which takes no more memory.
+/// A forward star that is kept apart from its network: the arcs ordered by tail, then head.
+///
+/// `room` allocates all of its memory: at most 16 bytes an arc, 12 for the order and 4 for the starts. The system
+/// assigns a page of it only when `fill` writes it; `fill` allocates nothing.
 #[derive(Drop)]
 pub struct ArcIndex {
-    /// All arcs, by tail, then head, then index.
+    /// All arcs by tail, then head, then index.
     pub(crate) outs: Vec<OutArc>,
-    /// About where the arcs of each group of tails begin. No answer rests on it.
+    /// Roughly where the arcs of each group of tails begin. No result depends on it, only the time.
     pub(crate) starts: TailStarts,
 }
 
 impl ArcIndex {
-    /// Room for the arcs of a network, with nothing in it.
+    /// Allocates an empty index with room for the arcs of this network.
     pub fn room<N: Network>(alloc: Global, network: &N) -> Result<ArcIndex, Memory>
         ensures { IfOk result (HasRoom (N.list network.now)) }
     {
@@ -34,7 +35,7 @@ impl ArcIndex {
         })
     }
 
-    /// Orders the arcs of the network that it has room for.
+    /// Fills the index with the arcs of the network that `room` was called for.
     #[inline(never)]
     pub fn fill<N: Network>(&mut self, network: &N)
         requires { HasRoom (N.list network.now) self.old }
@@ -43,7 +44,7 @@ impl ArcIndex {
         put_in_order(network, &mut self.starts, &mut self.outs);
     }
 
-    /// As `Network::find` of the network that it was filled for.
+    /// As `Network::find` of the network that filled the index.
     #[inline(always)]
     pub fn find(&self, tail: u32, head: u32, k: u32) -> Option<u32>
         ensures { (arcs : List ArcView) → Indexes arcs self.now → IsKthBetween arcs tail head k result }
@@ -57,8 +58,8 @@ impl ArcIndex {
         }
     }
 
-    /// The first place whose arc doesn't come before all those with these ends. It is guessed first, and the guess is
-    /// tested, so that a mistake in it costs time alone.
+    /// The first place whose arc doesn't come before all arcs with these ends. A guess is tested before it is used: a
+    /// wrong one costs only time.
     #[inline(always)]
     fn first(&self, tail: u32, head: u32) -> usize
         ensures inside { result ≤ length self.now.outs.items }
@@ -73,7 +74,7 @@ impl ArcIndex {
         }
     }
 
-    /// Whether this is that place.
+    /// Whether `place` is that first place.
     #[inline(always)]
     fn is_first(&self, tail: u32, head: u32, place: usize) -> bool
         requires { place ≤ length self.now.outs.items }
@@ -88,7 +89,7 @@ impl ArcIndex {
         true
     }
 
-    /// Where it is if the starts are right.
+    /// A guess for that place: right if `starts` is.
     #[inline(always)]
     fn guess(&self, tail: u32, head: u32) -> usize
         ensures { result ≤ length self.now.outs.items }
@@ -104,7 +105,8 @@ impl ArcIndex {
     }
 }
 
-/// How many of these arcs come before those with given ends. For so few that is quicker than to halve them.
+/// How many of these arcs come before all arcs with these ends. With so few arcs, to compare all is faster than a
+/// binary search.
 #[inline(always)]
 fn count_before(outs: &[OutArc], tail: u32, head: u32) -> usize
     ensures { result ≤ length outs.now }

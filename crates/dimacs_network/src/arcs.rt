@@ -1,4 +1,4 @@
-//! The arcs of instances, and how they are kept.
+//! The arcs of instances, and how they are stored.
 
 ghost use Rattle.std.specs.Prelude.{◌≡◌};
 ghost use Rattle.dimacs_network.specs.declared.network.ArcView.{ArcView};
@@ -6,27 +6,29 @@ ghost use Rattle.dimacs_network.specs.KeptArcs.{capacity_arc, cost_arc, weight_a
 
 use crate::network::ArcView;
 
-/// An arc of a kind of instance, and how it is kept: in two parts, since many passes over arcs read the ends alone.
-/// Numbers that all arcs of the kind have in common are in neither.
+/// An arc of a kind of instance, and how it is stored: in two parts, since many passes over the arcs read only the
+/// ends. Numbers that are the same for all arcs of the kind aren't stored.
 pub trait KeptArc: Copy {
-    /// The ends, and what is kept with them.
+    /// The ends, and what is stored with them.
     type WithEnds: Copy;
 
-    /// What is kept apart from the ends.
+    /// What is stored apart from the ends.
     type Apart: Copy;
 
     ghost shows: { Self → ArcView };
 
     ghost arc_of: { Self.WithEnds → Self.Apart → ArcView };
 
+    /// Splits an arc into its stored parts.
     fn parts(self) -> (Self::WithEnds, Self::Apart)
         ensures { arc_of result.0 result.1 ≡ shows self };
 
+    /// The arc with these parts.
     fn whole(with_ends: Self::WithEnds, apart: Self::Apart) -> ArcView
         ensures { result ≡ arc_of with_ends apart };
 }
 
-/// An arc of a graph, kept in 16 bytes.
+/// An arc of a graph, in 16 bytes.
 #[derive(Clone, Copy)]
 pub struct WeightArc {
     pub tail: u32,
@@ -35,6 +37,7 @@ pub struct WeightArc {
 }
 
 impl WeightArc {
+    /// The arc with all numbers; its weight is the cost.
     #[inline(always)]
     pub fn view(self) -> ArcView
         ensures { result ≡ weight_arc self.tail self.head self.weight }
@@ -69,7 +72,7 @@ impl KeptArc for WeightArc {
     }
 }
 
-/// An arc of a maximum flow, kept in 16 bytes.
+/// An arc of a maximum flow, in 16 bytes.
 #[derive(Clone, Copy)]
 pub struct CapacityArc {
     pub tail: u32,
@@ -78,6 +81,7 @@ pub struct CapacityArc {
 }
 
 impl CapacityArc {
+    /// The arc with all numbers.
     #[inline(always)]
     pub fn view(self) -> ArcView
         ensures { result ≡ capacity_arc self.tail self.head self.cap }
@@ -112,14 +116,14 @@ impl KeptArc for CapacityArc {
     }
 }
 
-/// The nodes of an arc.
+/// The ends of an arc.
 #[derive(Clone, Copy)]
 pub struct ArcEnds {
     pub tail: u32,
     pub head: u32,
 }
 
-/// The numbers of an arc of a minimum cost flow.
+/// The bounds and the cost of an arc of a minimum cost flow.
 #[derive(Clone, Copy)]
 pub struct BoundsAndCost {
     pub low: i64,
@@ -127,7 +131,7 @@ pub struct BoundsAndCost {
     pub cost: i64,
 }
 
-/// An arc of a minimum cost flow has all numbers. It is kept in 32 bytes: 8 for the ends, and 24 apart from them.
+/// An arc of a minimum cost flow has all numbers. It takes 32 bytes: 8 for the ends, 24 apart from them.
 impl KeptArc for ArcView {
     type WithEnds = ArcEnds;
 

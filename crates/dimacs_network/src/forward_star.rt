@@ -11,7 +11,7 @@ use dimacs_lines::Memory;
 use std::alloc::Global;
 use std::marker::Model;
 
-/// Arcs in the order of the text, and beside them their index, which takes 16 bytes an arc at most.
+/// Arcs in the order of the text with an index by their ends, which takes at most 16 bytes an arc.
 #[derive(Drop)]
 pub struct ForwardStar<A: KeptArc> {
     arcs: PlainArcs<A>,
@@ -30,7 +30,7 @@ impl<A: KeptArc> Model for ForwardStar<A> {
 }
 
 impl<A: KeptArc> ForwardStar<A> {
-    /// Orders the arcs. Where there is no memory for that, they come back.
+    /// Builds the index. If there is no memory for it, returns the arcs unchanged.
     pub fn build(
         alloc: Global,
         arcs: PlainArcs<A>,
@@ -45,7 +45,7 @@ impl<A: KeptArc> ForwardStar<A> {
         Ok(ForwardStar { arcs, index })
     }
 
-    /// Orders the arcs, which are dropped where there is no memory for that.
+    /// Builds the index. If there is no memory for it, the arcs are dropped.
     pub fn of(alloc: Global, arcs: PlainArcs<A>) -> Result<ForwardStar<A>, Memory>
         ensures { IfOk result (λ star. star ≡ arcs) }
     {
@@ -55,7 +55,7 @@ impl<A: KeptArc> ForwardStar<A> {
         }
     }
 
-    /// The arcs without the index. Takes no memory.
+    /// The arcs without the index. Allocates nothing.
     pub fn into_plain(self) -> PlainArcs<A>
         ensures { result ≡ self }
     {

@@ -1,7 +1,7 @@
-//! Networks: their arcs, how these are kept, and how they are found by their ends.
+//! Networks: their arcs, how arcs are stored, and how they are found by their ends.
 //!
-//! A network is a list of arcs in the order of the text. The judges see it through `Network` alone, so it may keep its
-//! arcs as it likes.
+//! A network is a list of arcs in the order of the text. Judges use it only through the trait `Network`, so an
+//! implementation may store its arcs as it likes.
 #![tactic(auto)]
 
 mod arc_index;

@@ -1,4 +1,4 @@
-//! The arcs of a network by one of their ends.
+//! Adjacency lists: the arcs of a network by one of their ends.
 
 ghost use Rattle.std.specs.Prelude.{◌≡◌, ◌<◌, length, slice_index, IfOk};
 ghost use Rattle.dimacs_nodes.specs.Tables.{value_of};
@@ -9,7 +9,7 @@ use dimacs_lines::Memory;
 use dimacs_nodes::NodeTable;
 use std::alloc::Global;
 
-/// The end from which an arc is left.
+/// One end of an arc.
 #[derive(Clone, Copy)]
 pub enum Side {
     Tail,
@@ -17,7 +17,7 @@ pub enum Side {
 }
 
 impl Side {
-    /// The end of the arc on this side.
+    /// The end on this side.
     #[inline(always)]
     pub fn near(self, arc: ArcView) -> u32
         ensures { result ≡ end_of self arc }
@@ -28,7 +28,7 @@ impl Side {
         }
     }
 
-    /// The end of the arc on the other side.
+    /// The end on the other side.
     #[inline(always)]
     pub fn far(self, arc: ArcView) -> u32
         ensures { result ≡ other_end self arc }
@@ -40,8 +40,8 @@ impl Side {
     }
 }
 
-/// The arcs of a network by one of their ends: each arc leads to the last one before it with that end, by 1 + its
-/// index, 0 for none, and each node to its last arc.
+/// Adjacency lists by one end. Each node leads to its last arc, and each arc to the one before it at the same node, by
+/// 1 + the index of the arc; 0 ends the list.
 #[derive(Drop)]
 pub struct Links {
     last: NodeTable<u32>,
@@ -49,7 +49,8 @@ pub struct Links {
 }
 
 impl Links {
-    /// Goes over the arcs once. Takes 4 bytes for each arc, and 4 for each node that has one.
+    /// Makes the lists in one pass over the arcs. They take 4 bytes for each arc, and 4 for each node that has one, by
+    /// pages of 64 nodes.
     pub fn new<N: Network>(alloc: Global, network: &N, side: Side) -> Result<Links, Memory>
         ensures { IfOk result (AreLinksOf side (N.list network.now)) }
     {
@@ -63,7 +64,7 @@ impl Links {
         Ok(Links { last, before })
     }
 
-    /// 1 + the index of the last arc of a node, 0 for none.
+    /// 1 + the index of the node's last arc; 0 if it has none.
     #[inline(always)]
     pub fn last(&self, node: u32) -> u32
         ensures { result ≡ value_of self.now.last node }
@@ -71,7 +72,7 @@ impl Links {
         self.last.get(node)
     }
 
-    /// 1 + the index of the last arc before this one at its node, 0 for none.
+    /// 1 + the index of the arc before this one at its node; 0 if there is none.
     #[inline(always)]
     pub fn before(&self, arc: u32) -> u32
         requires { arc < length self.now.before.items }

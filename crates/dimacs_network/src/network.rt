@@ -1,11 +1,11 @@
-//! What a network offers.
+//! The interface of a network.
 
 ghost use Rattle.std.specs.Prelude.{◌≡◌, ◌<◌, ℕ, List, Some, length, slice_get};
 ghost use Rattle.dimacs_network.specs.declared.network.ArcView.{ArcView};
 ghost use Rattle.dimacs_network.specs.Arcs.{IsKthBetween};
 
-/// An arc of an instance. A max arc has `low` and `cost` 0; a graph arc has `low` and `cap` 0, and its weight in
-/// `cost`.
+/// An arc of any instance. For a maximum flow `low` and `cost` are 0; in a graph `low` and `cap` are 0, and `cost` is
+/// the weight.
 #[derive(Clone, Copy, Debug, PartialEq, Eq)]
 pub struct ArcView {
     pub tail: u32,
@@ -15,28 +15,31 @@ pub struct ArcView {
     pub cost: i64,
 }
 
-/// A number of nodes, and arcs in the order of the text. Nodes count from 1, arcs from 0. No call takes memory.
+/// A number of nodes, and arcs in the order of the text. Nodes count from 1, arcs from 0. No call allocates.
 pub trait Network {
     ghost node_count: { Self → ℕ };
 
     ghost list: { Self → List ArcView };
 
+    /// How many nodes there are; they are 1 up to this number.
     fn nodes(&self) -> u32
         ensures { result ≡ node_count self.now };
 
+    /// How many arcs there are.
     fn arcs(&self) -> u32
         ensures { result ≡ length (list self.now) };
 
+    /// The arc with this index.
     fn arc(&self, i: u32) -> ArcView
         requires { i < length (list self.now) }
         ensures { slice_get (list self.now) i ≡ Some result };
 
-    /// Whether `find` looks an arc up in an index and doesn't go over all arcs. A hint: no answer depends on it.
+    /// Whether `find` uses an index instead of a pass over all arcs. A hint for speed: no result depends on it.
     fn is_indexed(&self) -> bool {
         false
     }
 
-    /// The index of the arc from `tail` to `head` that has `k` such arcs before it.
+    /// The index of the arc from `tail` to `head` that comes after `k` such arcs; none if there are no more than `k`.
     fn find(&self, tail: u32, head: u32, k: u32) -> Option<u32>
         ensures { IsKthBetween (list self.now) tail head k result };
 }

@@ -1,4 +1,4 @@
-//! Networks that are made of the arcs of a text, for each kind of arc.
+//! Making networks of the arcs of a text, for each kind of arc.
 
 ghost use Rattle.std.specs.Prelude.{◌≡◌, IfOk};
 
@@ -9,8 +9,9 @@ use crate::plain_arcs::PlainArcs;
 use dimacs_lines::Memory;
 use std::alloc::Global;
 
-/// A network that is made of the arcs of a maximum flow.
+/// A network that can be made of the arcs of a maximum flow instance.
 pub trait OfCapacityArcs: Network {
+    /// Makes the network of these arcs.
     fn of_arcs(alloc: Global, arcs: PlainArcs<CapacityArc>) -> Result<Self, Memory>
         ensures nodes { IfOk result (λ network. Self.node_count network ≡ arcs.nodes) }
         ensures arcs { IfOk result (λ network. Self.list network ≡ arcs.arcs) };
@@ -34,8 +35,9 @@ impl OfCapacityArcs for ForwardStar<CapacityArc> {
     }
 }
 
-/// A network that is made of the arcs of a minimum cost flow.
+/// A network that can be made of the arcs of a minimum cost flow instance.
 pub trait OfCostArcs: Network {
+    /// Makes the network of these arcs.
     fn of_arcs(alloc: Global, arcs: PlainArcs<ArcView>) -> Result<Self, Memory>
         ensures nodes { IfOk result (λ network. Self.node_count network ≡ arcs.nodes) }
         ensures arcs { IfOk result (λ network. Self.list network ≡ arcs.arcs) };
@@ -53,8 +55,9 @@ impl OfCostArcs for ForwardStar<ArcView> {
     }
 }
 
-/// A network that is made of the arcs of a graph.
+/// A network that can be made of the arcs of a graph.
 pub trait OfWeightArcs: Network {
+    /// Makes the network of these arcs.
     fn of_arcs(alloc: Global, arcs: PlainArcs<WeightArc>) -> Result<Self, Memory>
         ensures nodes { IfOk result (λ network. Self.node_count network ≡ arcs.nodes) }
         ensures arcs { IfOk result (λ network. Self.list network ≡ arcs.arcs) };

@@ -1,4 +1,4 @@
-//! A network that scans its list.
+//! Networks without an index.
 
 ghost use Rattle.std.specs.Prelude.{◌≡◌, ◌<◌, ◌≤◌, ◌+◌, ◌++◌, ◌∷◌, [], List, Some, length, slice_get, OnOk, OnErr};
 ghost use Rattle.dimacs_lines.specs.Limits.{most_count};
@@ -10,10 +10,10 @@ use dimacs_lines::Memory;
 use std::alloc::Global;
 use std::marker::Model;
 
-/// The most arcs of an instance, as many as a text can declare.
+/// The most arcs of a network, as many as a text may declare.
 pub const MAX_ARCS: u32 = 268_435_456;
 
-/// Arcs in the order of the text, with no index: `find` scans them.
+/// Arcs in the order of the text, without an index: `find` goes over all of them.
 #[derive(Drop)]
 pub struct PlainArcs<A: KeptArc> {
     nodes: u32,
@@ -46,7 +46,7 @@ impl<A: KeptArc> PlainArcs<A> {
         }
     }
 
-    /// Adds an arc after the others.
+    /// Adds an arc at the end.
     pub fn push(&mut self, arc: A) -> Result<(), Memory>
         requires { length self.old.arcs < most_count }
         ensures pushed { OnOk result (self.new ≡ record self.old { arcs = self.old.arcs ++ A.shows arc ∷ [] }) }

@@ -1,4 +1,4 @@
--- The entries of a map by node, one node after another.
+-- The entries of a node map, in the order of the nodes.
 use Rattle.std.proofs.Common.{◌≡◌, inl, inr, ℕ, zero, suc, ◌<◌, ◌≤◌, ◌+◌, ◌==◌, List, [], ◌∷◌, ◌++◌, length, Option, None, Some, Bool, true, false, cond, refl, sym, ◌∙◌, ap, arith, add-one, subst}
 use Rattle.std.specs.Prelude.{count_by}
 use Rattle.std.specs.List.{All}
@@ -16,7 +16,7 @@ use Rattle.std.specs.FinMap.{FinMap, empty, insert, get, entries, from_entries, 
 use Rattle.dimacs_nodes.specs.Maps.{values_below, with_option}
 use Rattle.dimacs_nodes.proofs.MapLemmas.{get-values_below, get-values_below_past}
 
--- 1 for an entry of this node, else 0
+-- 1 for an entry of this node, otherwise 0
 abbrev ones : ℕ → ℕ → ℕ
 ones id n = cond (n == id) 1 0
 
@@ -59,7 +59,7 @@ module _ {T : Type 0} where
       All-append (λ (e : ℕ × T). e.0 < suc n) (entries_below f n) (entry_of n (f n)) (All-weaker (λ (e : ℕ × T). e.0 < n) (λ (e : ℕ × T). e.0 < suc n) (λ e h. omega arith) (entries_below f n) (keys_below f n))
       (All-entry_of (λ (e : ℕ × T). e.0 < suc n) n (f n) (λ v is. omega arith))
 
-  -- an entry after all others
+  -- an entry after all others is put last
   put_past : (k : ℕ) (v : T) (es : List (ℕ × T)) → All (λ (e : ℕ × T). e.0 < k) es → put nat_cmp k v es ≡ es ++ (k, v) ∷ []
   put_past k v [] below = refl
   put_past k v (e ∷ es) below =
@@ -78,7 +78,7 @@ module _ {T : Type 0} where
   entries-values_below f zero = entries-empty
   entries-values_below f (suc n) = entries-with_option (values_below f n) (entries_below f n) n (f n) (keys_below f n) (entries-values_below f n)
 
-  -- a map whose nodes lie below n
+  -- the entries of a map whose nodes are all below n
   pub entries_are : (m : FinMap nat_cmp T) (n : ℕ) → ((id : ℕ) → n ≤ id → get m id ≡ None) → entries m ≡ entries_below (get m) n
   entries_are m n none =
       ap entries (same_map nat_cmp_total nat_cmp-IsAntisymmetric m (values_below (get m) n) (λ id.
@@ -93,7 +93,7 @@ module _ {T : Type 0} where
   All-entries_below P f zero each = All-nil P
   All-entries_below P f (suc n) each = All-append P (entries_below f n) (entry_of n (f n)) (All-entries_below P f n each) (All-entry_of P n (f n) (each n))
 
-  -- what holds of each value that is found holds of each entry
+  -- what holds of each value found holds of each entry
   pub All-entries : (P : ℕ × T → Type 0) (m : FinMap nat_cmp T) (n : ℕ) → ((id : ℕ) → n ≤ id → get m id ≡ None) → ((id : ℕ) (v : T) → get m id ≡ Some v → P (id, v)) → All P (entries m)
   All-entries P m n none each = rw (entries_are m n none) (All-entries_below P (get m) n each)
 
@@ -104,7 +104,7 @@ module _ {T : Type 0} where
   found_in P x id v true rest same here after is = found_here P x id v (eqb-true id x.0 same) (cc) here
   found_in P x id v false rest apart here after is = after is
 
-  -- what holds of each entry holds of what is found
+  -- what holds of each entry holds of each value found
   All-find : (P : ℕ × T → Type 0) (id : ℕ) (v : T) (es : List (ℕ × T)) → All P es → find nat_cmp id es ≡ Some v → P (id, v)
   All-find P id v [] all e = absurd (cc)
   All-find P id v (x ∷ es) all e = found_in P x id v (eq_by_cmp nat_cmp id x.0) (find nat_cmp id es) (sym (unsigned_tied id x.0)) (All-head P x es all) (All-find P id v es (All-tail P x es all)) e
@@ -127,7 +127,7 @@ module _ {T : Type 0} where
   pub All-insert : (P : ℕ × T → Type 0) (m : FinMap nat_cmp T) (id : ℕ) (v : T) → All P (entries m) → P (id, v) → All P (entries (insert m id v))
   All-insert P m id v all p = rw (entries-insert nat_cmp_total m id v) (All-put P id v (entries m) all p)
 
-  -- a map is that of its entries
+  -- a map is made of its entries
   pub from_entries-entries : (m : FinMap nat_cmp T) → from_entries (entries m) ≡ m
   from_entries-entries m = same_map nat_cmp_total nat_cmp-IsAntisymmetric _ m (λ id. get-from_entries nat_cmp_total (entries m) id ∙ sym (get-entries m id))
 
@@ -153,7 +153,7 @@ module _ {T : Type 0} where
         | inr h ↦ omega (arith, count-entries_below-next f n id, count-entries_below f n id h, at_most_one id n)
       ]
 
-  -- no entry has the node of another
+  -- no node has two entries
   pub entries_once : (m : FinMap nat_cmp T) (n : ℕ) → ((id : ℕ) → n ≤ id → get m id ≡ None) → (id : ℕ) → count_by (λ (e : ℕ × T). e.0 == id) (entries m) ≤ 1
   entries_once m n none id = rw (entries_are m n none) (entries_below-once (get m) n id)
 
@@ -166,6 +166,6 @@ module _ {T : Type 0} where
   length-entries_below f zero = omega arith
   length-entries_below f (suc n) = omega (arith, length-append (entries_below f n) (entry_of n (f n)), length-entry_of n (f n), length-entries_below f n)
 
-  -- there are not more entries than nodes
+  -- there are no more entries than nodes
   pub length-entries : (m : FinMap nat_cmp T) (n : ℕ) → ((id : ℕ) → n ≤ id → get m id ≡ None) → length (entries m) ≤ n
   length-entries m n none = rw (entries_are m n none) (length-entries_below (get m) n)

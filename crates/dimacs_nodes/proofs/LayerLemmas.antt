@@ -1,4 +1,4 @@
--- What two maps by node have, one over the other.
+-- Setting a value in one of two maps, one over the other.
 use Rattle.std.proofs.Common.{◌≡◌, inl, inr, ℕ, List, [], ◌∷◌, ◌++◌, None, Some, true, false, cond, refl, sym, ◌∙◌, ap}
 use Rattle.std.specs.Prelude.{Result, Ok, Err, OnOk}
 use Rattle.std.specs.Option.{option_or}
@@ -42,7 +42,7 @@ module _ {T : Type 0} where
         | inr apart ↦ get-overlaid (insert upper id value) lower other ∙ ap (λ found. option_or found (get lower other)) (get-insert_other upper id other value apart) ∙ sym (get-overlaid upper lower other) ∙ sym (get-insert_other (overlaid upper lower) id other value apart)
       ])
 
-  -- where the upper has no value of the node
+  -- if the upper map has no value of the node
   pub overlaid-insert_lower : (upper lower : FinMap nat_cmp T) (id : ℕ) (value : T) → get upper id ≡ None → overlaid upper (insert lower id value) ≡ insert (overlaid upper lower) id value
   overlaid-insert_lower upper lower id value none = same_map nat_cmp_total nat_cmp-IsAntisymmetric _ _ (λ other.
       elim (cases_eq other id) [
@@ -50,7 +50,7 @@ module _ {T : Type 0} where
         | inr apart ↦ get-overlaid upper (insert lower id value) other ∙ ap (option_or (get upper other)) (get-insert_other lower id other value apart) ∙ sym (get-overlaid upper lower other) ∙ sym (get-insert_other (overlaid upper lower) id other value apart)
       ])
 
-  -- what a call leaves that sets the value of a node in one of them
+  -- the two maps after a call that sets the value of a node in one of them
   pub set_lower : {E : Type 0} (upper lower new : FinMap nat_cmp T) (id : ℕ) (value : T) (r : Result Unit E) → get upper id ≡ None → OnOk r (new ≡ insert lower id value) → OnOk r (overlaid upper new ≡ insert (overlaid upper lower) id value)
   set_lower upper lower new id value (Ok done) none set = rw set (overlaid-insert_lower upper lower id value none)
   set_lower upper lower new id value (Err memory) none set = tt

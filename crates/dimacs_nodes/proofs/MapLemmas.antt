@@ -1,4 +1,4 @@
--- What a table has whose blank is none, as a map.
+-- A table whose blank value is `None`, as a map.
 use Rattle.std.proofs.Common.{◌≡◌, ◌≢◌, inl, inr, ℕ, zero, suc, ◌*◌, ◌/◌, ◌<◌, ◌≤◌, length, Option, None, Some, IsSome, refl, sym, ◌∙◌, arith}
 use Rattle.std.specs.Prelude.{Result, Ok, Err, OnOk}
 use Rattle.std.proofs.lemmas.Bool.{cases_eq, cases_lt}
@@ -15,7 +15,7 @@ use Rattle.dimacs_nodes.proofs.Nodes.{get-empty, get-insert_same, get-insert_oth
 use Rattle.dimacs_nodes.proofs.SlotLemmas.{slot_value-no_page, slot_value-past}
 
 module _ {T : Type 0} where
-  -- the values below n, at an ID
+  -- looking up the values below n
   get-with_option_other : (nodes : FinMap nat_cmp T) (id other : ℕ) (value : Option T) → other ≢ id → get (with_option nodes id value) other ≡ get nodes other
   get-with_option_other nodes id other None apart = refl
   get-with_option_other nodes id other (Some value) apart = get-insert_other nodes id other value apart
@@ -66,7 +66,7 @@ module _ {T : Type 0} where
         | inr apart ↦ get-values_in new other (still ∙ blank) ∙ others other apart ∙ sym (get-values_in old other blank) ∙ sym (get-insert_other (values_in old) id other value apart)
       ])
 
-  -- a value has a place
+  -- a node with a value has a slot
   pub HasSlot-value : (table : NodeTable (Option T)) (id : ℕ) → blank_of table ≡ None → IsSome (get (values_in table) id) → HasSlot table id
   HasSlot-value table id blank some =
       elim (cases_lt (place_of table.directory.items id) (length table.slots.items)) [

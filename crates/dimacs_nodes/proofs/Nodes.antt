@@ -1,4 +1,4 @@
--- The laws of maps and of sets of nodes, for the crates above.
+-- The lemmas about node maps and node sets, for other crates.
 use Rattle.std.proofs.Common.{◌≡◌, ◌≢◌, ℕ, None, Some, false, cond, ◌==◌, ◌||◌, ◌∙◌, ap, arith}
 use Rattle.std.proofs.lemmas.Bool.Decides.{nat_tests}
 use Rattle.std.specs.Ordering.{nat_cmp}

@@ -1,4 +1,4 @@
--- What a set of nodes has, by the map that holds it.
+-- A set of nodes, by the map that holds it.
 use Rattle.std.proofs.Common.{◌≡◌, ℕ, Option, Some, is_some, Bool, true, false, cond, ◌||◌, refl, sym, ◌∙◌, ap}
 use Rattle.std.specs.Ordering.{nat_cmp, eq_by_cmp}
 use Rattle.std.specs.Cmp.{nat_cmp_total}

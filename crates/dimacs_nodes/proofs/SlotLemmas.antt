@@ -1,4 +1,4 @@
--- What the slots of pages hold, by ID.
+-- The values in slots, by ID.
 use Rattle.std.proofs.Common.{◌≡◌, ◌≢◌, inl, inr, ℕ, ◌+◌, ◌*◌, ◌/◌, ◌%◌, ◌-◌, ◌<◌, ◌≤◌, List, [], ◌++◌, length, replicate, set, get_or, refl, sym, ◌∙◌, ap, arith, get_or-set_same, get_or-set_other}
 use Rattle.std.proofs.lemmas.Bool.{cases_eq, cases_lt}
 use Rattle.std.proofs.lemmas.List.{get_or_append_left, get_or-append_right, get_or_past, get_or-replicate, length-replicate, length-set}
@@ -13,12 +13,12 @@ place_of-number directory id = omega arith
 pub no_pages : IsDirectory [] 0
 no_pages = record { short = omega arith; whole = refl; few = omega arith; known = λ i some. absurd (some refl); apart = λ i j below same. absurd (omega (arith, below)) }
 
--- places are the same for the same numbers
+-- the same directory numbers give the same places
 pub place_of-same : (old new : List ℕ) → SameNumbers old new → (id : ℕ) → place_of new id ≡ place_of old id
 unfolding place_of
 place_of-same old new same id = ap (λ n. 64 * n + id % 64) (same (id / 64))
 
--- two IDs have places of their own
+-- two IDs have different places
 apart_places : (directory : List ℕ) (slots id other : ℕ) → IsDirectory directory slots → place_of directory id < slots → place_of directory other ≡ place_of directory id → other ≡ id
 unfolding place_of
 apart_places directory slots id other is inside same =
@@ -41,7 +41,7 @@ module _ {T : Type 0} (blank : T) where
   unfolding slot_value
   slot_value-past directory slots id past = get_or_past slots (place_of directory id) blank past
 
-  -- a page that was not taken
+  -- the value on a page that isn't allocated
   pub slot_value-no_page : (directory : List ℕ) (slots : List T) (id : ℕ) → IsDirectory directory (length slots) → number_of directory id ≡ NO_PAGE → slot_value blank directory slots id ≡ blank
   unfolding place_of
   slot_value-no_page directory slots id is none = slot_value-past directory slots id (omega (arith, none, is.few))
@@ -50,7 +50,7 @@ module _ {T : Type 0} (blank : T) where
   unfolding place_of
   slot_value-same_page directory slots id other is past same = slot_value-past directory slots other (omega (arith, past, is.whole, ap (λ i. get_or directory i NO_PAGE) same))
 
-  -- after a value was put
+  -- the values after one was put
   pub slot_value-put : (directory : List ℕ) (slots : List T) (id : ℕ) (value : T) → place_of directory id < length slots → slot_value blank directory (set slots (place_of directory id) value) id ≡ value
   unfolding slot_value
   slot_value-put directory slots id value inside = get_or-set_same slots (place_of directory id) value blank inside
@@ -83,7 +83,7 @@ module _ (directory : List ℕ) (slots id : ℕ) (is : IsDirectory directory slo
   elsewhere : (i : ℕ) → i ≢ id / 64 → get_or longer i NO_PAGE ≡ get_or directory i NO_PAGE
   elsewhere i apart = get_or-set_other directory (id / 64) i number NO_PAGE apart
 
-  -- no other page had the number, and none had one above it
+  -- no other page had the number, and none a greater one
   other_number : (i : ℕ) → i ≢ id / 64 → get_or directory i NO_PAGE ≢ number
   other_number i off same = elim (cases_eq (get_or directory i NO_PAGE) NO_PAGE) [
     | inl none ↦ omega (arith, same, none, room)
@@ -139,7 +139,7 @@ module _ (directory : List ℕ) (slots id : ℕ) (is : IsDirectory directory slo
           | inr off ↦ ap (λ n. get_or values (64 * n + other % 64) blank) (elsewhere (other / 64) off)
         ]
 
--- a longer directory
+-- the same pages in a longer directory
 pub same_directory : (old new : List ℕ) (slots : ℕ) → SameNumbers old new → length new ≤ 67108864 → IsDirectory old slots → IsDirectory new slots
 same_directory old new slots same short is = record {
   short = short;

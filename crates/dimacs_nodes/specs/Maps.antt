@@ -1,4 +1,4 @@
--- The values of nodes that have one, as a map.
+-- A node table as a map.
 use Rattle.std.specs.Prelude.{ℕ, zero, suc, ◌*◌, Option, None, Some}
 use Rattle.std.specs.Ordering.{nat_cmp}
 use Rattle.std.specs.FinMap.{FinMap, empty, insert}
@@ -6,7 +6,7 @@ use Rattle.dimacs_nodes.specs.declared.node_table.NodeTable.{NodeTable}
 use Rattle.dimacs_nodes.specs.Tables.{reach_of, value_of}
 
 module _ {T : Type 0} where
-  -- the map with this value, if it is one, at this ID
+  -- the map, with this value at this ID if it is one
   abbrev pub with_option : FinMap nat_cmp T → ℕ → Option T → FinMap nat_cmp T
   with_option nodes id None = nodes
   with_option nodes id (Some value) = insert nodes id value
@@ -16,6 +16,6 @@ module _ {T : Type 0} where
   values_below value_of zero = empty
   values_below value_of (suc n) = with_option (values_below value_of n) n (value_of n)
 
-  -- the values that a table has, whose blank is none
+  -- the values of a table whose blank value is `None`
   unfoldable pub values_in : NodeTable (Option T) → FinMap nat_cmp T
   values_in table = values_below (value_of table) (64 * reach_of table)

@@ -6,10 +6,10 @@ use Rattle.dimacs_nodes.specs.declared.node_table.TheConstants.{NO_PAGE}
 abbrev pub number_of : List ℕ → ℕ → ℕ
 number_of directory id = slice_index_or directory (id / 64) NO_PAGE
 
--- where the slot of this ID is
+-- the index of this ID's slot
 unfoldable pub place_of : List ℕ → ℕ → ℕ
 place_of directory id = 64 * number_of directory id + id % 64
 
--- what the slot of this ID holds
+-- the value in this ID's slot; blank without a slot
 unfoldable pub slot_value : {T : Type 0} → T → List ℕ → List T → ℕ → T
 slot_value blank directory slots id = slice_index_or slots (place_of directory id) blank

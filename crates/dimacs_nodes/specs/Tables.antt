@@ -1,4 +1,4 @@
--- Tables by node.
+-- Node tables.
 use Rattle.std.specs.Prelude.{ℕ, ◌+◌, ◌/◌, ◌≡◌, ◌<◌, ◌≤◌, length, max}
 use Rattle.dimacs_nodes.specs.declared.node_table.NodeTable.{NodeTable}
 use Rattle.dimacs_nodes.specs.Slots.{place_of, slot_value}
@@ -12,26 +12,26 @@ module _ {T : Type 0} where
   abbrev pub blank_of : NodeTable T → T
   blank_of table = table.blank
 
-  -- memory was taken for the node's value
+  -- the node's page is allocated
   abbrev pub HasSlot : NodeTable T → ℕ → Type 0
   HasSlot table id = place_of table.directory.items id < length table.slots.items
 
-  -- it is at this place
+  -- the node's slot has this index
   abbrev pub IsSlot : NodeTable T → ℕ → ℕ → Type 0
   IsSlot table id place = (place ≡ place_of table.directory.items id) × HasSlot table id
 
   abbrev pub SameValues : NodeTable T → NodeTable T → Type 0
   SameValues old new = (id : ℕ) → value_of new id ≡ value_of old id
 
-  -- up to which page the directory goes; the page of an ID is its 64th part
+  -- how many pages the directory covers; the page of an ID is `id / 64`
   abbrev pub reach_of : NodeTable T → ℕ
   reach_of table = length table.directory.items
 
-  -- how many slots were taken, 64 for each page
+  -- how many slots are allocated, 64 for each page
   abbrev pub slots_in : NodeTable T → ℕ
   slots_in table = length table.slots.items
 
-  -- nothing was taken but the page of this ID, where it had none, and the directory up to it
+  -- at most the page of this ID was allocated, if it had none, and the directory up to it
   pub record TakesPageAlone (old new : NodeTable T) (id : ℕ) : Type 0 where
     pub reach : reach_of new ≤ max (reach_of old) (id / 64 + 1)
     pub page : slots_in new ≤ slots_in old + 64

@@ -1,7 +1,8 @@
-//! What is kept by node: a value for each node that was given one, and sets of nodes.
+//! Values by node, and sets of nodes.
 //!
-//! For readers and judges of texts whose lines name nodes by their IDs. Memory is taken by the page, of 64 IDs, for IDs
-//! that were set, and for a list of the pages up to the greatest of them, never for a count that a text declares.
+//! The lines of many texts name nodes by their IDs. Here the values of such nodes are kept in pages of 64 IDs. Memory
+//! is allocated only for pages that hold a value, and for a list of pages up to the greatest ID that was set: never for
+//! a count that a text merely declares.
 #![tactic(auto)]
 
 mod node_map;

@@ -8,7 +8,7 @@ use dimacs_lines::Memory;
 use std::alloc::Global;
 use std::marker::Model;
 
-/// A value for each node that was given one, by the node's ID.
+/// A map from node IDs to values.
 #[derive(Drop)]
 pub struct NodeMap<T> {
     values: NodeTable<Option<T>>,
@@ -32,7 +32,7 @@ impl<T> Model for NodeMap<T> {
 }
 
 impl<T: Copy> NodeMap<T> {
-    /// No node has a value. Takes no memory.
+    /// The empty map. It allocates nothing.
     pub fn new(alloc: Global) -> NodeMap<T>
         ensures { result ≡ map.empty }
     {
@@ -49,7 +49,7 @@ impl<T: Copy> NodeMap<T> {
         self.values.get(id)
     }
 
-    /// Gives a node a value, in place of one that it may have. Only a first value may take memory.
+    /// Sets the value of a node. Only the first value of a node may allocate; to replace one never fails.
     #[inline]
     pub fn set(&mut self, id: u32, value: T) -> Result<(), Memory>
         ensures set { OnOk result (self.new ≡ map.insert self.old id value) }

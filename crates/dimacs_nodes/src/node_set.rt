@@ -8,7 +8,7 @@ use dimacs_lines::Memory;
 use std::alloc::Global;
 use std::marker::Model;
 
-/// A set of nodes, by their IDs.
+/// A set of node IDs.
 #[derive(Drop)]
 pub struct NodeSet {
     nodes: NodeMap<()>,
@@ -29,7 +29,7 @@ impl Model for NodeSet {
 
 #[tactic(auto, using(crate::proofs::SetLemmas::set_laws))]
 impl NodeSet {
-    /// The empty set. Takes no memory.
+    /// The empty set. It allocates nothing.
     pub fn new(alloc: Global) -> NodeSet
         ensures { result ≡ set.empty }
     {
@@ -38,6 +38,7 @@ impl NodeSet {
         }
     }
 
+    /// Whether the set has this node. Allocates nothing.
     #[inline]
     pub fn contains(&self, id: u32) -> bool
         ensures { result ≡ set.contains self.now id }
@@ -45,7 +46,7 @@ impl NodeSet {
         self.nodes.get(id).is_some()
     }
 
-    /// Adds a node, which may be in the set already. Then it takes no memory.
+    /// Adds a node. If it is in the set already, nothing is allocated, and the call can't fail.
     #[inline]
     pub fn insert(&mut self, id: u32) -> Result<(), Memory>
         ensures inserted { OnOk result (self.new ≡ set.insert self.old id) }

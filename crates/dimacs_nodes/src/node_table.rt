@@ -1,4 +1,4 @@
-//! A value for each node, blank but for those that were set.
+//! A value for each node, blank until it is set.
 
 ghost use Rattle.std.specs.Prelude.{◌≡◌, ◌≢◌, ◌<◌, ◌≤◌, ◌+◌, ◌/◌, ℕ, length, max, IfOk, IsOk, MatchOption, OnOk, OnErr};
 ghost use Rattle.dimacs_nodes.specs.Slots.{place_of};
@@ -7,16 +7,16 @@ ghost use Rattle.dimacs_nodes.specs.inside.Slots.{IsDirectory, SameNumbers};
 use dimacs_lines::Memory;
 use std::alloc::Global;
 
-/// The IDs that share a page.
+/// How many successive IDs share a page.
 const PAGE: usize = 64;
 
-/// The number of a page that was not taken.
+/// Stands in the directory for a page that isn't allocated.
 const NO_PAGE: u32 = u32::MAX;
 
-/// A value for each node, by its ID: the same blank one until another is set.
+/// A table of values by node ID. All are the same blank value until they are set.
 ///
-/// All pages of slots stand in one list, in the order in which they were taken, and the directory has 4 bytes for each
-/// page up to that of the greatest ID that was set. A slot has no room but for its value.
+/// One list has the slots of all pages, in the order in which the pages were allocated. The directory has 4 bytes for
+/// each page up to that of the greatest ID that was set. A slot holds a value and nothing else.
 #[derive(Drop)]
 pub struct NodeTable<T> {
     blank: T,
@@ -25,7 +25,7 @@ pub struct NodeTable<T> {
     ghost numbered: { IsDirectory directory.items (length slots.items) },
 }
 
-/// A value for which memory was taken, and its place in the table.
+/// A value with a slot, and the index of this slot in the table.
 #[derive(Clone, Copy)]
 pub struct Slot<T> {
     pub value: T,
@@ -35,7 +35,7 @@ pub struct Slot<T> {
 impl<T: Copy> NodeTable<T> {
     ghost use Rattle.dimacs_nodes.specs.Tables.{HasSlot, IsSlot, SameValues, TakesPageAlone, blank_of, reach_of, slots_in, value_of};
 
-    /// All values are blank. Takes no memory.
+    /// A table of blank values. It allocates nothing.
     pub fn new(alloc: Global, blank: T) -> NodeTable<T>
         ensures values { (id : ℕ) → value_of result id ≡ blank }
         ensures blank { blank_of result ≡ blank }
@@ -48,6 +48,7 @@ impl<T: Copy> NodeTable<T> {
         }
     }
 
+    /// The value of a node: the blank one until it is set. Allocates nothing.
     #[inline]
     pub fn get(&self, id: u32) -> T
         ensures value { result ≡ value_of self.now id }
@@ -58,7 +59,7 @@ impl<T: Copy> NodeTable<T> {
         }
     }
 
-    /// The value of a node for which memory was taken, which may be blank.
+    /// The value of a node whose page is allocated, and the index of its slot. The value may be blank.
     #[inline]
     pub fn get_slot(&self, id: u32) -> Option<Slot<T>>
         ensures { MatchOption result ((value_of self.now id ≡ blank_of self.now) × (¬ HasSlot self.now id))
@@ -69,7 +70,7 @@ impl<T: Copy> NodeTable<T> {
         Some(Slot { value, place })
     }
 
-    /// Sets the value of a node. Only the first value on a page takes memory.
+    /// Sets the value of a node. Only the first value on a page allocates.
     #[inline]
     pub fn set(&mut self, id: u32, value: T) -> Result<(), Memory>
         ensures set { OnOk result (value_of self.new id ≡ value) }
@@ -89,7 +90,7 @@ impl<T: Copy> NodeTable<T> {
         Ok(())
     }
 
-    /// The place of a node's value, for which it takes memory, as far as it needs some. Leaves the value.
+    /// The index of a node's slot; allocates its page if it has none. The value stays as it is.
     #[inline]
     pub fn reserve(&mut self, id: u32) -> Result<usize, Memory>
         ensures same { SameValues self.old self.new }
@@ -105,7 +106,7 @@ impl<T: Copy> NodeTable<T> {
         self.take_page(id)
     }
 
-    /// Sets the value at a place.
+    /// Sets the value in the slot with this index.
     #[inline]
     pub fn put(&mut self, place: usize, value: T)
         requires { place < slots_in self.old }
@@ -118,7 +119,7 @@ impl<T: Copy> NodeTable<T> {
         self.slots[place] = value;
     }
 
-    /// An ID past all that were set.
+    /// An ID greater than all that were set; at most 2^32.
     pub fn end(&self) -> usize
         ensures within { result ≤ 4294967296 }
         ensures blank { (id : ℕ) → result ≤ id → value_of self.now id ≡ blank_of self.now }
@@ -126,7 +127,8 @@ impl<T: Copy> NodeTable<T> {
         self.directory.len() * PAGE
     }
 
-    /// The first ID from this one on that may have been set: this one, or that after a page that was not taken.
+    /// `id` itself if its page is allocated, otherwise the first ID of the next page: all IDs from `id` to just before
+    /// the result are blank.
     #[inline]
     pub fn skip_blank(&self, id: u32) -> usize
         ensures from { id ≤ result }
@@ -139,7 +141,7 @@ impl<T: Copy> NodeTable<T> {
         }
     }
 
-    /// Takes the page of an ID that has none.
+    /// Allocates the page of an ID that has none.
     #[cold]
     #[inline(never)]
     fn take_page(&mut self, id: u32) -> Result<usize, Memory>
@@ -160,7 +162,7 @@ impl<T: Copy> NodeTable<T> {
     }
 }
 
-/// Where the slot of an ID is; past all slots where its page was not taken.
+/// The index of an ID's slot; past all slots if its page isn't allocated.
 #[inline]
 fn place(directory: &[u32], id: u32) -> usize
     ensures { result ≡ place_of directory.now id }
@@ -172,7 +174,7 @@ fn place(directory: &[u32], id: u32) -> usize
     number as usize * PAGE + id as usize % PAGE
 }
 
-/// Makes the directory reach to the page of an ID.
+/// Extends the directory up to the page of an ID.
 fn extend_directory(directory: &mut Vec<u32>, id: u32) -> Result<(), Memory>
     ensures same { SameNumbers directory.old.items directory.new.items }
     ensures reached { OnOk result (id / 64 < length directory.new.items) }

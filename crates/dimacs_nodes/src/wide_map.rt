@@ -1,4 +1,4 @@
-//! Wide numbers by node.
+//! 128-bit numbers by node.
 
 ghost use Rattle.std.specs.Prelude.{◌≡◌, IsSome, IsOk, OnOk, OnErr, FitsSigned};
 ghost use Rattle.std.specs.Int.{w64};
@@ -9,13 +9,13 @@ use dimacs_lines::Memory;
 use std::alloc::Global;
 use std::marker::Model;
 
-/// A number for each node that was given one, by the node's ID. It takes 16 bytes where it fits 64 bits, and else 32: by
-/// pages of 64 nodes, for either sort of number.
+/// A map from node IDs to 128-bit numbers. A number takes 16 bytes if it fits into 64 bits, otherwise 32. The two sorts
+/// have separate pages, each of 64 nodes.
 #[derive(Drop)]
 pub struct WideMap {
-    /// Numbers of 64 bits.
+    /// The numbers that fit into 64 bits.
     narrow: NodeMap<i64>,
-    /// Numbers that didn't fit, and later ones of the same nodes. Where a node is in both, this one counts.
+    /// The numbers that don't, and later ones of the same nodes. If a node is in both maps, this one counts.
     wide: NodeMap<i128>,
 }
 
@@ -34,7 +34,7 @@ impl Model for WideMap {
 }
 
 impl WideMap {
-    /// No node has a number. Takes no memory.
+    /// The empty map. It allocates nothing.
     pub fn new(alloc: Global) -> WideMap
         ensures { result ≡ map.empty }
     {
@@ -56,8 +56,8 @@ impl WideMap {
         Some(i128::from(number))
     }
 
-    /// Gives a node a number, in place of one that it may have. Its first number may take memory, and one that doesn't fit
-    /// 64 bits.
+    /// Sets the number of a node. The first number of a node may allocate, and so may one that doesn't fit into 64
+    /// bits.
     #[inline]
     pub fn set(&mut self, id: u32, number: i128) -> Result<(), Memory>
         ensures set { OnOk result (self.new ≡ map.insert self.old id number) }

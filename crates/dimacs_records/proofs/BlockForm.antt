@@ -1,4 +1,4 @@
--- What the line of a block gives, whose last field may be left out.
+-- The line of a block, with its optional last field.
 use Rattle.std.proofs.Common.{◌≡◌, ℕ, ◌∷◌, [], List, true, false, Option, Some, None, Result, Err, length, map, refl, ap, ◌∙◌, subst, arith}
 use Rattle.std.specs.Prelude.{◌==◌, ℤ, pos, codes}
 use Rattle.std.proofs.lemmas.Bool.{ne_eqb}
@@ -26,7 +26,7 @@ missing_last f [] old (Some radius) new h taken = absurd taken
 missing_last f (run ∷ runs) old None new h taken = absurd taken
 missing_last f (run ∷ runs) old (Some radius) new h taken = taken.1 ∙ h
 
--- the fields were taken one after another, and finished
+-- the fields, taken one after another
 module _ (s one two three : FieldReader) (source count : ℕ) (radius : Option ℤ) (result : Result (Option Record) LineFault) (fresh : IsUntouched s) (at_source : TakesField 2 Id s (Amount (pos source)) one) (at_count : TakesField 3 Count one (Amount (pos count)) two) (at_radius : TakesLast 4 two.scan two radius three) (h : result ≡ finished three (LabelsBlock source count radius)) where
   too_few : two.missing ≡ true → result ≡ Err (fault_at 0 FieldCount)
   too_few there = h ∙ at_missing three _ (missing_last 4 two.scan two radius three there at_radius)
@@ -65,6 +65,6 @@ module _ (s one two three : FieldReader) (source count : ℕ) (radius : Option �
       let longer : (2 == length texts) ≡ false = ne_eqb 2 (length texts) (omega arith) in
       rw longer reads
 
-  -- the line of a block, whose RADIUS may be left out
+  -- the line of a block, with or without a RADIUS
   pub reads_block : ReadsLetter Labels (codes "t") (texts_left s) result
   reads_block = by_runs s.scan refl

@@ -1,4 +1,4 @@
--- The canonical lines of records spell just these records.
+-- The canonical lines of records spell exactly these records.
 use Rattle.std.proofs.Common.{◌≡◌, ◌≤◌, ◌++◌, ◌∷◌, [], ℕ, suc, List, Some, false, length, map, refl, ap, ◌∙◌, arith, append_assoc}
 use Rattle.std.specs.List.{All, flat_map}
 use Rattle.std.proofs.lemmas.List.{length-map}
@@ -24,7 +24,7 @@ body_of r = letter_of r ++ flat_map after_blank (map text_of (parts_of r))
 regrouped : (letter fields rest : List ℕ) → (letter ++ (fields ++ 10 ∷ [])) ++ rest ≡ (letter ++ fields) ++ 10 ∷ rest
 regrouped letter fields rest = simp append_assoc
 
--- one record that some line of the kind can spell
+-- for one record that some line of the kind can spell
 module _ (kind : TextKind) (r : Record) (can : CanBeSpelled kind r) where
   form_is : IsPlainForm can.form
   form_is = plain_form kind can.form can.of_kind

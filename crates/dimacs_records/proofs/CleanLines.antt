@@ -1,4 +1,4 @@
--- A text read line by line: the clean lines so far, and the first condition at the next one.
+-- Reading a text line by line: the clean lines so far, and the first condition at the next one.
 use Rattle.std.proofs.Common.{◌≡◌, ℕ, suc, ◌+◌, ◌<◌, ◌∷◌, ◌++◌, [], List, Bool, false, true, Option, Some, None, length, refl, ap, sym, ◌∙◌, arith, length-append}
 use Rattle.std.specs.Prelude.{IsTrue}
 use Rattle.std.specs.List.{All}
@@ -23,7 +23,7 @@ use Rattle.dimacs_records.proofs.SpellLaws.{spells_one}
 use Rattle.dimacs_records.proofs.ShapeLaws.{spelled_shape}
 use Rattle.dimacs_records.proofs.FaultLaws.{say_same}
 
--- at no field and for no reason does this condition hold
+-- the condition holds at no field and for no reason
 abbrev pub NoneHolds : (ℕ → Reason → Bool) → Type 0
 NoneHolds test = (f : ℕ) (reason : Reason) → ¬ IsTrue (test f reason)
 
@@ -44,7 +44,7 @@ spell_append kind lines after said more h rest = absurd h
 pub clean_nothing : (kind : TextKind) → IsClean kind [] []
 clean_nothing kind = record { spell = tt; none = λ before after line earlier p e. absurd (omega (arith, ap length e, length-append before (line ∷ after))) }
 
--- clean lines, and one more at which no condition holds
+-- clean lines and one more without a condition
 clean_push : (kind : TextKind) (before : List (List ℕ)) (said : List (Option Record)) (line : List ℕ) (x : Option Record)
     → IsClean kind before said → Spell kind (line ∷ []) (x ∷ [])
     → ((p : Place) → ¬ Condition kind (records_in said) (length before + 1) line p) → IsClean kind (before ++ line ∷ []) (said ++ x ∷ [])
@@ -78,7 +78,7 @@ clean_record kind before said line r clean solid spells within fits = clean_push
   | of_record s again other h ↦ fits p (rw (spells_one kind (texts_in line) s r other spells) at h)
 ])
 
--- the whole line is none of its fields
+-- field 0 is the whole line, not one of its fields
 fields_condition-whole : (n : ℕ) (types : List FieldType) (texts : List (List ℕ)) (reason : Reason) → 0 < n → fields_condition n types texts 0 reason ≡ false
 fields_condition-whole n (type ∷ types) (text ∷ texts) reason positive = rw (ne_eqb 0 n (omega arith)) (fields_condition-whole (suc n) types texts reason (omega arith))
 fields_condition-whole n (type ∷ types) [] reason positive = refl
@@ -88,14 +88,14 @@ letter_condition-limit : (found : Option (List FieldType)) (behind : List (List 
 letter_condition-limit None behind = (refl, refl)
 letter_condition-limit (Some types) behind = (fields_condition-whole 2 types behind LineLimit (omega arith), fields_condition-whole 2 types behind LineTooLong (omega arith))
 
--- the shape has no condition at the places of the limits
+-- conditions of the shape never hold at the places of limits
 no_shape : (kind : TextKind) (texts : List (List ℕ)) → All (λ p. ¬ Holds (shape_condition kind texts) p) limit_places
 no_shape kind [] = none_is (test_at (shape_condition kind [])) limit_places refl
 no_shape kind (letter ∷ behind) =
     let none = letter_condition-limit (types_in (forms kind) letter (length behind)) behind in
     none_is (test_at (shape_condition kind (letter ∷ behind))) limit_places (rw (none.0, none.1) refl)
 
--- a record has no condition at the places of the limits and of the shape
+-- conditions of a record never hold at the places of limits and shape
 no_refusal : (earlier : List Record) (r : Record) → All (λ p. ¬ Holds (condition earlier r) p) (limit_places ++ shape_places)
 no_refusal earlier r = none_is (test_at (condition earlier r)) (limit_places ++ shape_places) refl
 

@@ -1,4 +1,4 @@
--- Records and lines with the conditions that come first there.
+-- Examples: records and lines with their first conditions.
 use Rattle.std.proofs.Common.{◌≡◌, ℕ, ◌∷◌, [], List, Option, Some, None, refl}
 use Rattle.std.specs.Prelude.{pos, negsuc, codes}
 use Rattle.dimacs_lines.specs.Limits.{most_nodes}

@@ -1,4 +1,4 @@
--- The first condition of a record after others, found by a search.
+-- The first condition for a record after others, by a search.
 use Rattle.std.proofs.Common.{◌≡◌, List, Bool, Option, Some, None, refl, arith}
 use Rattle.std.specs.Prelude.{IsTrue}
 use Rattle.std.specs.List.{Contains}
@@ -21,7 +21,7 @@ first_place earlier r = first_by (λ (p : Place). condition earlier r p.field p.
 abbrev pub first_reason_at_end : TextKind → List Record → Option Reason
 first_reason_at_end kind all = first_by (end_condition kind all) end_reasons
 
--- where a condition holds at the end, its reason is in the order
+-- the order at the end lists each reason that can hold there
 listed_at_end : (kind : TextKind) (all : List Record) (reason : Reason) → IsTrue (end_condition kind all reason) → Contains end_reasons reason
 listed_at_end kind all ProblemMissing h = (0, omega arith, refl)
 listed_at_end kind all EndMissing h = (1, omega arith, refl)
@@ -43,6 +43,6 @@ is_first_at_end kind all = is_first (end_condition kind all) end_reasons
 pub is_complete : (kind : TextKind) (all : List Record) → first_reason_at_end kind all ≡ None → IsComplete kind all
 is_complete kind all e reason h = All-contains (λ other. ¬ IsTrue (end_condition kind all other)) end_reasons reason (none_is (end_condition kind all) end_reasons e) (listed_at_end kind all reason h) h
 
--- a record that is allowed, in other words
+-- a record that is allowed, under other names
 pub allowed_at : (before here : List Record) (r s : Record) → before ≡ here → r ≡ s → IsAllowed here s → IsAllowed before r
 allowed_at before here r s before_is r_is h = rw (before_is, r_is) h

@@ -1,4 +1,4 @@
--- How many elements of a list pass a test.
+-- How many items of a list pass a test.
 use Rattle.std.proofs.Common.{◌≡◌, inl, inr, ℕ, ◌+◌, ◌≤◌, ◌==◌, Bool, true, false, cond, List, [], ◌∷◌, ◌++◌, count_by, refl, arith}
 use Rattle.std.specs.List.{list_any}
 use Rattle.std.proofs.lemmas.Bool.{cases_Bool, cond-true, cond-false}
@@ -38,11 +38,11 @@ none_passes p xs counted = elim (cases_Bool (list_any p xs)) [
   | inr none ↦ none
 ]
 
--- an element that is counted at most once is none of those before it
+-- an item that is counted at most once isn't among those before it
 pub once_before : {A : Type 0} (p : A → Bool) (front back : List A) (x : A) → p x ≡ true → count_by p (front ++ x ∷ back) ≤ 1 → list_any p front ≡ false
 once_before p front back x here once = none_passes p front (omega (arith, once, count_by-append p front (x ∷ back), count_yes p x back here))
 
--- none is counted twice with one more that is new
+-- one more item that is new leaves no item counted twice
 pub once_more : {A : Type 0} (test : ℕ → A → Bool) (xs : List A) (x : A) → ((k : ℕ) → test k x ≡ true → list_any (test k) xs ≡ false) → ((k : ℕ) → count_by (test k) xs ≤ 1) → (k : ℕ) → count_by (test k) (xs ++ x ∷ []) ≤ 1
 once_more test xs x new once k = elim (cases_Bool (test k x)) [
   | inl is ↦ omega (arith, count_by-append (test k) xs (x ∷ []), count_yes (test k) x [] is, none_counted (test k) xs (new k is))

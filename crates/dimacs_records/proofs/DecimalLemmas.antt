@@ -1,4 +1,4 @@
--- What the decimal text of a number spells.
+-- The decimal text of a number spells it.
 use Rattle.std.proofs.Common.{◌≡◌, ◌+◌, ◌/◌, ◌%◌, ◌^◌, ◌<◌, ◌≤◌, ◌++◌, ◌∷◌, [], ℕ, suc, List, length, refl, sym, ap, arith, length-append}
 use Rattle.std.specs.Prelude.{ℤ, pos, negsuc, neg_ℤ}
 use Rattle.std.specs.List.{All}
@@ -13,7 +13,7 @@ use Rattle.dimacs_records.proofs.PlainLines.{IsVisible, IsPlain}
 use Rattle.dimacs_lines.proofs.NumberLemmas.{place_sum-push}
 use Rattle.dimacs_lines.proofs.DigitLemmas.{digit_is_no_sign, digit_is_no_minus}
 
--- digits that spell n
+-- these digits spell n
 record AreDigits (n : ℕ) (digits : List ℕ) : Type 0 where
   some : 0 < length digits
   each : All IsAsciiDigit digits
@@ -41,7 +41,7 @@ spells_digits n (b ∷ bs) are =
 spells_minus : (n : ℕ) (digits : List ℕ) → AreDigits n digits → Spells (45 ∷ digits) (neg_ℤ (pos n))
 spells_minus n digits are = ((are.some, are.each), ap (λ k. neg_ℤ (pos k)) (sym are.sum))
 
--- each range of the forms lies between these
+-- the ranges of all forms lie between these
 abbrev pub lowest : ℤ
 lowest = neg_ℤ (pos (10 ^ 30))
 

@@ -36,13 +36,13 @@ records_of-numbered n (Some r ∷ more) = ap (λ rs. r ∷ rs) (records_of-numbe
 line_number : (number : ℕ) → number ≤ most_lines → nat_lt most_lines number ≡ false
 line_number number few = le-ltb most_lines number few
 
--- a line within the limits
+-- a line within the limits has no condition of a limit
 pub within : (number : ℕ) (line : List ℕ) → number ≤ most_lines → length line ≤ longest_line → NoneHolds (limit_condition number line)
 within number line few short f LineLimit h = true≢false (sym h ∙ and_right (f == 0) (nat_lt most_lines number) (line_number number few))
 within number line few short f LineTooLong h = true≢false (sym h ∙ and_right (f == 0) (nat_lt longest_line (length line)) (le-ltb longest_line (length line) short))
 within number line few short f reason h = true≢false (sym h)
 
--- a line after the last that may be
+-- the line after the last allowed one
 too_many : (kind : TextKind) (earlier : List Record) (number : ℕ) (line : List ℕ) → most_lines < number → FirstOf (Condition kind earlier number line) places (at 0 LineLimit)
 too_many kind earlier number line above =
     first_limit kind earlier number line 0 LineLimit (is_first (test_at (limit_condition number line)) limit_places (at 0 LineLimit) (rw (lt-ltb most_lines number above) refl))
@@ -62,7 +62,7 @@ said_each kind (line ∷ lines) (None ∷ said) h = ap suc (said_each kind lines
 said_each kind (line ∷ lines) (Some r ∷ said) h = ap suc (said_each kind lines said h.2)
 said_each kind lines said h = absurd h
 
--- the records of n lines stand before the next one
+-- the records of n lines are before the next line
 all_before : (n : ℕ) (said : List (Option Record)) (line : ℕ) → n + length said ≤ line → AreBefore line (numbered n said)
 all_before n [] line h = All-nil _
 all_before n (None ∷ said) line h = all_before (suc n) said line (omega (arith, h))
@@ -77,7 +77,7 @@ take_skip kind before said number line stands_for done h stands skip = (
   subst stands_for (sym (numbered-append 1 said (None ∷ []) ∙ append-nil (numbered 1 said))) stands,
 )
 
--- a record that was taken, or is refused
+-- a record is taken or refused
 pub take_record : (kind : TextKind) (before : List (List ℕ)) (said : List (Option Record)) (number : ℕ) (line : List ℕ) (r : Record) (old new : List LineRecord → Type 0) (result : Result Unit TakeError)
     → ComesAfter kind before said number line → old (numbered 1 said) → is_skip (texts_in line) ≡ false → SpellsRecord kind (texts_in line) r
     → OnOk result ((rs : List LineRecord) → old rs → IsAllowed (records_of rs) r)
@@ -100,7 +100,7 @@ take_record kind before said number line r old new (Err (take_errors.Refused fau
     first_record kind (records_in said) (length before + 1) line r fault.field fault.reason few solid spells first
 take_record kind before said number line r old new (Err take_errors.Memory) h stands solid spells allowed taken refused = tt
 
--- a line of another shape
+-- a line of a wrong shape
 pub take_fault : (kind : TextKind) (before : List (List ℕ)) (said : List (Option Record)) (number : ℕ) (line : List ℕ) (fault : LineFault) (stands_for : List LineRecord → Type 0)
     → ComesAfter kind before said number line → ReadsLine kind (texts_in line) (Err fault) → TakesLine kind before said line stands_for (Err (take_errors.Refused fault))
 take_fault kind before said number line fault stands_for h reads =
@@ -112,7 +112,7 @@ read_end kind all count new left stands_for end h =
     let all_is : all ≡ h.before = h.all_is ∙ (ap (λ ls. h.before ++ ls) (end.none h.rest h.left_is) ∙ append-nil h.before) in
     record { said = h.said; counted = h.counted ∙ ap length (sym all_is); clean = subst (λ ls. IsClean kind ls h.said) (sym all_is) h.clean; stands = h.stands }
 
--- the line that was given stands after those that were read
+-- the given line comes after those that were read
 pub comes_after : (kind : TextKind) (all : List (List ℕ)) (old new : State) (left later : Option (List ℕ)) (number : ℕ) (stands_for : List LineRecord → Type 0) → GivesLine old new left later number
     → (h : IsReadSoFar kind all old.given left stands_for) → ComesAfter kind h.before h.said number new.line
 comes_after kind all old new left later number stands_for given h = record { clean = h.clean; next = given.next ∙ ap (λ n. n + 1) h.counted; few = given.few; short = given.short }
@@ -121,7 +121,7 @@ abbrev pub at_number : ℕ → Result Unit TakeError → Result (Option ℕ) Rea
 at_number number (Ok done) = Ok (Some number)
 at_number number (Err error) = Err (read_error number error)
 
--- the line that was given was taken, or it is where the text has its fault
+-- the given line is taken, or the text has its fault there
 pub read_one : (kind : TextKind) (all : List (List ℕ)) (old new : State) (left later : Option (List ℕ)) (number : ℕ) (before_stands stands_for : List LineRecord → Type 0) (result : Result Unit TakeError)
     → GivesLine old new left later number → (h : IsReadSoFar kind all old.given left before_stands) → TakesLine kind h.before h.said new.line stands_for result → ReadsNext kind all old.given later stands_for (at_number number result)
 read_one kind all old new left later number before_stands stands_for (Ok done) given h takes =
@@ -158,7 +158,7 @@ line_of : (ls : List (List ℕ)) → ls ≢ [] → some_line ls
 line_of [] h = absurd (h refl)
 line_of (line ∷ rest) h = (line, rest, refl)
 
--- where a limit is passed, the text has its fault
+-- if a limit is exceeded, the text has its fault there
 pub stopped : (kind : TextKind) (all : List (List ℕ)) (old new : State) (left later : Option (List ℕ)) (before_stands stands_for : List LineRecord → Type 0) (error : LinesError)
     → Stops old new left error → IsReadSoFar kind all old.given left before_stands → ReadsNext kind all old.given later stands_for (Err (lines_error error))
 stopped kind all old new left later before_stands stands_for (line_errors.TooMany number) stops h =
@@ -203,7 +203,7 @@ read_nothing kind lines_new text coming stands_for empty h stands = record {
   stands = stands;
 }
 
--- all lines were read, and their records give a value
+-- all lines are read, and their records give a value
 pub read_value : {V : Type 0} (kind : TextKind) (gives : List LineRecord → V → Type 0) (all : List (List ℕ)) (count : ℕ) (stands_for : List LineRecord → Type 0) (v : V) → IsReadWhole kind all count stands_for
     → ((rs : List LineRecord) → stands_for rs → gives rs v) → ((rs : List LineRecord) → stands_for rs → IsComplete kind (records_of rs)) → GiveValue kind gives all v
 read_value kind gives all count stands_for v h given complete = record {
@@ -212,13 +212,13 @@ read_value kind gives all count stands_for v h given complete = record {
   given = given (numbered 1 h.said) h.stands;
 }
 
--- or one of the lines is where the text has its fault
+-- one of the lines has the text's fault
 pub read_fault : {V : Type 0} (kind : TextKind) (gives : List LineRecord → V → Type 0) (all : List (List ℕ)) (error : ReadError) → RefusesLine kind all error → ReadsLines kind gives all (Err error)
 read_fault kind gives all (read_errors.Refused place reason) h = inl h
 read_fault kind gives all read_errors.Device h = tt
 read_fault kind gives all read_errors.Memory h = tt
 
--- or the text has its fault at its end
+-- the text has its fault at its end
 pub read_end_fault : {V : Type 0} (kind : TextKind) (gives : List LineRecord → V → Type 0) (all : List (List ℕ)) (count : ℕ) (stands_for : List LineRecord → Type 0) (error : TakeError) → IsReadWhole kind all count stands_for
     → ((rs : List LineRecord) → stands_for rs → RefusesEnd kind (records_of rs) error) → ReadsLines kind gives all (Err (read_error (count + 1) error))
 read_end_fault kind gives all count stands_for (take_errors.Refused fault) h refused =

@@ -14,7 +14,7 @@ use Rattle.dimacs_records.proofs.FirstLemmas.{first_unique}
 use Rattle.dimacs_records.proofs.SpellLaws.{spells_one}
 use Rattle.dimacs_records.proofs.SplitLemmas.{same, sooner, later, two_places}
 
--- lines say one thing
+-- lines spell only one list of records
 pub say_same : (kind : TextKind) (lines : List (List ℕ)) (said said' : List (Option Record)) → Spell kind lines said → Spell kind lines said' → said ≡ said'
 say_same kind [] [] [] a b = refl
 say_same kind (line ∷ lines) (None ∷ more) (None ∷ more') a b = ap (λ t. None ∷ t) (say_same kind lines more more' a.1 b.1)
@@ -28,7 +28,7 @@ say_same kind (line ∷ lines) (x ∷ more) [] a b = absurd b
 say_same kind [] [] (x ∷ more) a b = absurd b
 say_same kind lines said said' a b = absurd a
 
--- clean lines have no faulty one among them
+-- no clean line is faulty
 clean_not_faulty : (kind : TextKind) (lines fore after : List (List ℕ)) (said : List (Option Record)) (l f : ℕ) (r : Reason) (h : FaultyLine kind lines l f r) → IsClean kind fore said
     → ¬ (fore ≡ h.before ++ h.line ∷ after)
 clean_not_faulty kind lines fore after said l f r h clean e = clean.none h.before after h.line h.said (at f r) e h.clean.spell (rw h.number at h.first.holds)

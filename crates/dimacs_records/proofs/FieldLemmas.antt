@@ -1,4 +1,4 @@
--- What a field says, and why it is refused.
+-- The content of a field, and why it is refused.
 use Rattle.std.proofs.Common.{◌≡◌, ℕ, ◌∷◌, [], List, Bool, true, false, Option, Some, None, Err, length, refl, arith, inl, inr}
 use Rattle.std.proofs.Common.{SFits, w64, ◌^◌, ◌-◌}
 use Rattle.std.specs.Prelude.{ℤ, pos, neg_ℤ, ◌≤ℤ◌, int_lt, ◌||◌, not, nat_lt}
@@ -62,7 +62,7 @@ pub same_bytes : (w : List ℕ) → bytes_eq w w ≡ true
 same_bytes [] = refl
 same_bytes (b ∷ bs) = rw (eq-eqb b b refl) (same_bytes bs)
 
--- a field that says what it should has no reason to be refused
+-- a field with a content has no reason to be refused
 pub field_reason-said : (type : FieldType) (text : List ℕ) (part : Part) → Says type text part → field_reason type text ≡ None
 field_reason-said (Word w) text (Text said) h = rw (h.0, same_bytes w) refl
 field_reason-said (Either v w) text (Text said) h = elim h.0 [
@@ -74,24 +74,24 @@ field_reason-said (Word w) text (Amount n) h = absurd h
 field_reason-said (Either v w) text (Amount n) h = absurd h
 field_reason-said (Number low high) text (Text said) h = absurd h
 
--- a field that spells no number, or one outside the range
+-- a field with no number, or one outside the range
 pub field_reason-refused : (low high : ℤ) (text : List ℕ) (fault : NumberFault) → ReadsNumber low high text (Err fault) → field_reason (Number low high) text ≡ Some (number_reason fault)
 field_reason-refused low high text number_faults.BadNumber h = rw (no_number text h) refl
 field_reason-refused low high text number_faults.NumberRange h = rw (number_to text h.0, outside low high (number_in text) h.1) refl
 
--- a field that spells a number below or above the range
+-- a field with a number below or above the range
 pub field_reason-low : (low high n : ℤ) (text : List ℕ) → Spells text n → int_lt n low ≡ true → field_reason (Number low high) text ≡ Some NumberRange
 field_reason-low low high n text h below = rw (number_to text h.0, ← h.1, below) refl
 
 pub field_reason-high : (low high n : ℤ) (text : List ℕ) → Spells text n → int_lt n low ≡ false → int_lt high n ≡ true → field_reason (Number low high) text ≡ Some NumberRange
 field_reason-high low high n text h not_below above = rw (number_to text h.0, ← h.1, not_below, above) refl
 
--- what is no number of i64 is none of a range within it
+-- a text that is no 64-bit number isn't one of a smaller range
 pub refused_within : (low high : ℤ) (text : List ℕ) (fault : NumberFault) → SFits w64 low → SFits w64 high → ReadsNumber (neg_ℤ (pos (2 ^ 63))) (pos (2 ^ 63 - 1)) text (Err fault) → ReadsNumber low high text (Err fault)
 refused_within low high text number_faults.BadNumber f g h = h
 refused_within low high text number_faults.NumberRange f g h = (h.0, λ within. h.1 (omega (arith, ints, within.0, f.sfits), omega (arith, ints, within.1, g.sfits)))
 
--- what is no wide number is no RADIUS
+-- a text that is no 128-bit number is no RADIUS
 pub refused_radius : (text : List ℕ) (fault : NumberFault) → ReadsNumber (neg_ℤ (pos (10 ^ 30))) (pos (10 ^ 30)) text (Err fault) → ReadsNumber (pos 0) (pos (10 ^ 30)) text (Err fault)
 refused_radius text number_faults.BadNumber h = h
 refused_radius text number_faults.NumberRange h = (h.0, λ within. h.1 (omega (arith, ints, within.0), within.1))

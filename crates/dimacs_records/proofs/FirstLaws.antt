@@ -1,14 +1,14 @@
--- What comes first in a part of a list comes first in the whole.
+-- The first item of a part of a list is the first of the whole list.
 use Rattle.std.proofs.Common.{◌∷◌, ◌++◌, List, get_or, ap, refl, sym, ◌∙◌, append_assoc, arith}
 use Rattle.std.specs.List.{All, Contains}
 use Rattle.std.proofs.lemmas.List.Elements.{All-append, Contains-append_left, Contains-append_right, Contains-get_or}
 use Rattle.dimacs_records.specs.Order.{FirstOf}
 
--- it is in the list
+-- the first item is in the list
 pub first_listed : {X : Type 0} (P : X → Type 0) (all : List X) (x : X) → FirstOf P all x → Contains all x
 first_listed P all x h = rw h.all_is (Contains-append_right h.before (x ∷ h.after) x (0, omega arith, refl))
 
--- after others that lack the property
+-- the same after other items without the property
 pub first_after : {X : Type 0} (P : X → Type 0) (front all : List X) (x : X) → All (λ y. ¬ P y) front → FirstOf P all x → FirstOf P (front ++ all) x
 first_after P front all x none h = record {
   before = front ++ h.before;
@@ -18,7 +18,7 @@ first_after P front all x none h = record {
   holds = h.holds;
 }
 
--- before any others, and of another property that is no wider within the list, and that x has too
+-- the same before other items, and for a property that x has and that is no wider within the list
 pub first_before : {X : Type 0} (P Q : X → Type 0) (all back : List X) (x : X)
     → ((y : X) → Contains all y → Q y → P y) → (P x → Q x) → FirstOf P all x → FirstOf Q (all ++ back) x
 first_before P Q all back x narrow holds h = record {

@@ -1,16 +1,16 @@
--- The first of a list, found by a search.
+-- The first item of a list, by a search.
 use Rattle.std.proofs.Common.{◌≡◌, ◌++◌, ◌∷◌, [], List, Bool, true, false, Option, Some, None, refl, ap, sym, ◌∙◌, subst}
 use Rattle.std.specs.Prelude.{IsTrue, if◌then◌else◌}
 use Rattle.std.specs.List.{All}
 use Rattle.std.proofs.lemmas.List.Elements.{All-nil, All-cons, All-head, All-tail}
 use Rattle.dimacs_records.specs.Order.{FirstOf}
 
--- the first of a list that passes a test
+-- the first item that passes a test
 abbrev pub first_by : {X : Type 0} → (X → Bool) → List X → Option X
 first_by test [] = None
 first_by test (x ∷ xs) = if test x then Some x else first_by test xs
 
--- at most one is the first
+-- only one item is the first
 unique : {X : Type 0} (P : X → Type 0) (before before' after after' : List X) (x y : X) → before ++ x ∷ after ≡ before' ++ y ∷ after' → All (λ z. ¬ P z) before → All (λ z. ¬ P z) before' → P x → P y → x ≡ y
 unique P [] [] after after' x y e n n' p q = cc
 unique P [] (b ∷ bs) after after' x y e n n' p q = let same : x ≡ b = cc in absurd (All-head (λ z. ¬ P z) b bs n' (subst P same p))
@@ -42,7 +42,7 @@ none_at : {X : Type 0} (test : X → Bool) (y : X) (all : List X) (b : Bool) →
 none_at test y all true h e = let found : first_by test (y ∷ all) ≡ Some y = rw h refl in absurd (cc)
 none_at test y all false h e = let past : first_by test (y ∷ all) ≡ first_by test all = rw h refl in (h, sym past ∙ e)
 
--- nothing is found where nothing passes
+-- if none is found, none passes
 pub none_is : {X : Type 0} (test : X → Bool) (all : List X) → first_by test all ≡ None → All (λ z. ¬ IsTrue (test z)) all
 none_is test [] e = All-nil (λ z. ¬ IsTrue (test z))
 none_is test (y ∷ all) e = let p = none_at test y all (test y) refl e in All-cons (λ z. ¬ IsTrue (test z)) y all (ne_false (test y) p.0) (none_is test all p.1)

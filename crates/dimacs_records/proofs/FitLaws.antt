@@ -1,4 +1,4 @@
--- What a spelled record's fields satisfy.
+-- The fields of a spelled record have their types.
 use Rattle.std.proofs.Common.{◌≡◌, ℕ, suc, ◌∷◌, [], List, Some, length, ap, refl}
 use Rattle.dimacs_records.specs.declared.kinds.TextKind.{TextKind}
 use Rattle.dimacs_records.specs.declared.records.Record.{Record}
@@ -20,7 +20,7 @@ fit_all_said [] [] [] h = tt
 fit_all_said (type ∷ types) (text ∷ texts) (part ∷ parts) h = (fits_said type text part h.0, fit_all_said types texts parts h.1)
 fit_all_said types texts parts h = absurd h
 
--- the fields of a record of the kind fit the types that the kind has for so many after its letter
+-- the contents of a record's fields fit the types that its kind has for so many after the letter
 pub fits_of : (kind : TextKind) (r : Record) (types : List FieldType) → IsOfKind kind r → types_in (forms kind) (letter_of r) (length (parts_of r)) ≡ Some types → FitAll types (parts_of r)
 fits_of kind r types h found =
     let s = h.spelled in
@@ -33,7 +33,7 @@ as_many_fit [] [] h = refl
 as_many_fit (type ∷ types) (part ∷ parts) h = ap suc (as_many_fit types parts h.1)
 as_many_fit types parts h = absurd h
 
--- so do those of a record that can be spelled
+-- the same for a record that can be spelled
 pub fits_spelled : (kind : TextKind) (r : Record) (types : List FieldType) → CanBeSpelled kind r → types_in (forms kind) (letter_of r) (length (parts_of r)) ≡ Some types → FitAll types (parts_of r)
 fits_spelled kind r types can found =
     let known : types_in (forms kind) (letter_of r) (length (parts_of r)) ≡ Some can.form.types = rw (can.letter, as_many_fit can.form.types (parts_of r) can.fit) (form_types kind can.form can.of_kind) in

@@ -1,4 +1,4 @@
--- What the fields after a letter give, taken one after another.
+-- The fields after a letter, taken one after another.
 use Rattle.std.proofs.Common.{◌≡◌, ℕ, suc, ◌∷◌, [], List, Bool, true, false, Option, Some, None, Result, Err, length, map, refl, ap, sym, ◌∙◌, subst, arith}
 use Rattle.std.specs.Prelude.{◌==◌, if◌then◌else◌}
 use Rattle.std.proofs.lemmas.Bool.{eq-eqb, eqb-true, ne_eqb}
@@ -17,7 +17,7 @@ use Rattle.dimacs_records.specs.Spelling.{Part, SayAll, kind_of, letter_of, part
 use Rattle.dimacs_records.specs.inside.FieldReader.{field_reason, fault_at, fault_in, fields_fault, TakesField, TakesNext, without_fault, finished, IsUntouched, ReadsForm, text_of_run, texts_left}
 use Rattle.dimacs_records.proofs.FieldLemmas.{or_else-none}
 
--- fields of these types were taken one after another, the first being field f, and say this
+-- fields of these types were taken one after another, from field f on, with these contents
 abbrev pub TakesAll : ℕ → List FieldType → FieldReader → List Part → FieldReader → Type 0
 TakesAll f [] old [] new = new ≡ old
 TakesAll f (type ∷ types) old (part ∷ parts) new = (mid : FieldReader) × TakesField f type old part mid × TakesAll (suc f) types mid parts new
@@ -31,14 +31,14 @@ pub missing_next : (f : ℕ) (type : FieldType) (runs : List Run) (old : FieldRe
 missing_next f type [] old part new h taken = taken
 missing_next f type (run ∷ runs) old part new h taken = taken.1 ∙ h
 
--- a field that was missing stays so
+-- after a missing field, the line stays incomplete
 missing_all : (f : ℕ) (types : List FieldType) (old : FieldReader) (parts : List Part) (new : FieldReader) → old.missing ≡ true → TakesAll f types old parts new → new.missing ≡ true
 missing_all f [] old [] new h taken = rw taken h
 missing_all f [] old (part ∷ parts) new h taken = absurd taken
 missing_all f (type ∷ types) old [] new h taken = absurd taken
 missing_all f (type ∷ types) old (part ∷ parts) new h taken = missing_all (suc f) types taken.0 parts new (missing_next f type old.scan old part taken.0 h taken.1) taken.2
 
--- what was taken, from a state in which nothing is missing
+-- the result of the fields, from a state in which none is missing
 abbrev outcome : ℕ → List FieldType → Option LineFault → List Run → Record → Result (Option Record) LineFault
 outcome f types fault runs r = if length types == length runs then without_fault (or_else fault (fields_fault f types (map text_of_run runs))) r else Err (fault_at 0 FieldCount)
 
@@ -101,7 +101,7 @@ form_answer kind letter types runs r of_kind of_letter says = by_length (length 
     by_length true e = by_fault (fields_fault 2 types (map text_of_run runs)) (eqb-true (length types) (length runs) e) refl
     by_length false e = rw (length-map runs text_of_run, e) refl
 
--- the fields after a letter, taken by its types and finished
+-- the result of the fields after a letter, taken by their types
 pub reads_form : (kind : TextKind) (letter : List ℕ) (types : List FieldType) (s new : FieldReader) (r : Record) (result : Result (Option Record) LineFault)
     → kind_of r ≡ kind → letter_of r ≡ letter → IsUntouched s → TakesAll 2 types s (parts_of r) new → result ≡ finished new r → ReadsForm kind letter types (texts_left s) result
 reads_form kind letter types s new r result of_kind of_letter fresh taken h =

@@ -1,4 +1,4 @@
--- Reading the plain lines that are held.
+-- Reading the lines in plain form that are in the buffer.
 use Rattle.std.proofs.Common.{◌≡◌, ◌+◌, ◌<◌, ◌++◌, ◌∷◌, [], ℕ, List, Option, None, Some, Result, take, drop, refl, ap, sym, ◌∙◌, arith, append_assoc, length-append}
 use Rattle.std.specs.Prelude.{IfErr, OnOk}
 use Rattle.dimacs_lines.specs.Devices.{before_piece}
@@ -16,7 +16,7 @@ use Rattle.dimacs_records.specs.inside.Plain.{SaysFirst}
 use Rattle.dimacs_records.specs.Readings.{LineRecord, on_line, records_of, AreBefore, IsAllowed, RefusesRecord}
 use Rattle.dimacs_records.proofs.DriverLemmas.{at_number, comes_after, read_one, take_record}
 
--- the states of a reader before and after a line that it holds
+-- a line reader's state before and after one of the lines that it holds
 abbrev state : List ℕ → ℕ → List ℕ → State
 state held given line = record { held = held; given = given; line = line; progress = Open }
 
@@ -32,7 +32,7 @@ first_given bytes line size there first (Some later) text is =
     some_is : ◌≡◌ {A = Option (List ℕ)} (Some (bytes ++ later)) (Some text) → text ≡ bytes ++ later
     some_is e = cc
 
--- what is held begins with a line, as if it were given
+-- the bytes held begin with this line, as if it had been given
 given_line : (kind : TextKind) (bytes : List ℕ) (r : Record) (size given : ℕ) (coming : Option (List ℕ)) → (h : SaysFirst kind bytes r size) → given < most_lines
     → GivesLine (state bytes given []) (state (drop size bytes) (given + 1) h.line) (before_piece bytes coming) (before_piece (drop size bytes) coming) (given + 1)
 given_line kind bytes r size given coming h few = record {
@@ -44,7 +44,7 @@ given_line kind bytes r size given coming h few = record {
   first = first_given bytes h.line size h.there h.first coming;
 }
 
--- one more plain line is taken, or it is where the text has its fault
+-- one more line in plain form is taken, or the text has its fault there
 pub plain_step : (kind : TextKind) (all : List (List ℕ)) (bytes : List ℕ) (given size : ℕ) (coming : Option (List ℕ)) (r : Record) (old new : List LineRecord → Type 0) (result : Result Unit TakeError)
     → SaysFirst kind bytes r size → given < most_lines → IsReadSoFar kind all given (before_piece bytes coming) old
     → OnOk result ((rs : List LineRecord) → old rs → IsAllowed (records_of rs) r)
@@ -60,7 +60,7 @@ plain_step kind all bytes given size coming r old new result says few so_far all
     let there = comes_after kind all before after left later (given + 1) old line so_far in
     read_one kind all before after left later (given + 1) old new result line so_far (take_record kind so_far.before so_far.said (given + 1) says.line r old new result there so_far.stands says.reads.0 says.reads.1 allowed taken refused)
 
--- after whole lines, the first line of what follows them makes one more
+-- whole lines and the first line after them are one more whole line
 pub one_more_whole : (kind : TextKind) (held : List ℕ) (bytes count size : ℕ) (r : Record) → AreWholeLines (take bytes held) count → SaysFirst kind (drop bytes held) r size → AreWholeLines (take (bytes + size) held) (count + 1)
 one_more_whole kind held bytes count size r before says =
     let line = says.line ++ 10 ∷ [] in

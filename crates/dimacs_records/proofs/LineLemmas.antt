@@ -1,4 +1,4 @@
--- What a line that begins with a letter gives.
+-- The line of a letter.
 use Rattle.std.proofs.Common.{◌≡◌, ℕ, suc, ◌≤◌, ◌∷◌, [], List, Bool, true, false, Option, Some, None, Result, Ok, Err, length, refl, ap, sym, ◌∙◌, subst, arith}
 use Rattle.std.specs.Prelude.{IsTrue, ◌==◌, nat_le}
 use Rattle.std.specs.List.{Contains, list_all}
@@ -20,7 +20,7 @@ use Rattle.std.proofs.lemmas.Bool.{leb-true}
 use Rattle.std.proofs.lemmas.List.Sums.{AllPass-from_list_all}
 use Rattle.std.proofs.lemmas.Slice.Eq.{bytes_eq-Decides}
 
--- a form of this letter and these types
+-- a form with this letter and these types
 record FormOf (all : List Form) (letter : List ℕ) (types : List FieldType) : Type 0 where
   form : Form
   contained : Contains all form
@@ -76,7 +76,7 @@ to_place kind letter types after fault known h =
     let found : first_by (test_at (letter_condition (Some types) after)) shape_places ≡ Some (place_of fault) = first_of_shape types after short ∙ ap place_in h in
     is_first (test_at (shape_condition kind (letter ∷ after))) shape_places (place_of fault) (rw known found)
 
--- the line of a letter that the kind knows
+-- the line of a letter that the kind has
 form_line : (kind : TextKind) (letter : List ℕ) (types : List FieldType) (after : List (List ℕ)) (result : Result (Option Record) LineFault) → is_skip (letter ∷ after) ≡ false
     → types_in (forms kind) letter (length after) ≡ Some types → ReadsForm kind letter types after result → ReadsLine kind (letter ∷ after) result
 form_line kind letter types after (Ok None) solid known h = absurd h
@@ -92,7 +92,7 @@ types_line kind letter None after result solid unknown h =
     subst (ReadsLine kind (letter ∷ after)) (sym h) (solid, first)
 types_line kind letter (Some types) after result solid known h = form_line kind letter types after result solid known h
 
--- a line of these fields, the first being no comment's
+-- a line of these fields that is no comment
 pub reads_line : (kind : TextKind) (letter : List ℕ) (after : List (List ℕ)) (result : Result (Option Record) LineFault) → is_skip (letter ∷ after) ≡ false
     → ReadsLetter kind letter after result → ReadsLine kind (letter ∷ after) result
 reads_line kind letter after result solid h = types_line kind letter (types_in (forms kind) letter (length after)) after result solid refl h

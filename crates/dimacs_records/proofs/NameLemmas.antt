@@ -1,4 +1,4 @@
--- Lists of nodes with numbers, one more of them, and the maps that they make.
+-- Nodes with numbers as lists, one more of them, and as maps.
 use Rattle.std.proofs.Common.{◌≡◌, ◌≢◌, ◌≤◌, ℕ, ◌∷◌, ◌++◌, ◌||◌, [], List, map, Bool, true, false, Option, Some, None, is_some, refl, ap, ap₂, sym, ◌∙◌, cond, arith}
 use Rattle.std.specs.Prelude.{ℤ, count_by, not, pos, unwrap_or}
 use Rattle.std.specs.List.{filter, list_any}
@@ -19,7 +19,7 @@ not_zero n some = false_from_ne_true (int_eq n (pos 0)) (λ e. some ((signed_Dec
 pub isnt_zero : (n : ℤ) → int_eq n (pos 0) ≡ false → n ≢ pos 0
 isnt_zero n e is = absurd (cc (e, (signed_Decides n (pos 0)).1 is))
 
--- what is found, unless it is 0
+-- the value found, unless it is 0
 abbrev pub unless_zero : Option ℤ → Option ℤ
 unless_zero found = cond (is_nonzero (unwrap_or found (pos 0))) found None
 
@@ -49,7 +49,7 @@ value-without_zeros m id = ap (λ o. unwrap_or o (pos 0)) (get-without_zeros m i
 pub without_zeros-empty : without_zeros empty ≡ empty
 without_zeros-empty = same_map nat_cmp_total nat_cmp-IsAntisymmetric (without_zeros empty) empty (λ id. get-without_zeros empty id ∙ ap unless_zero (get-empty nat_cmp id) ∙ sym (get-empty nat_cmp id))
 
--- a node is found where a line names it
+-- a node is found if a line names it
 is_some-find_named : (id : ℕ) (named : List (ℕ × ℤ)) → is_some (find nat_cmp id named) ≡ list_any (is_of id) named
 is_some-find_named id named = is_some-find nat_cmp id named ∙ same named
   where
@@ -64,7 +64,7 @@ none_found id named new = not_some (find nat_cmp id named) (is_some-find_named i
     not_some None e = refl
     not_some (Some v) e = absurd (cc)
 
--- what is found among the lines that don't say 0, where no node stands twice
+-- what is found among the lines with a number other than 0, if no node occurs twice
 find_valued : (id : ℕ) (named : List (ℕ × ℤ)) → count_by (is_of id) named ≤ 1 → find nat_cmp id (filter has_value named) ≡ unless_zero (find nat_cmp id named)
 find_valued id [] once = refl
 find_valued id (n ∷ ns) once =
@@ -81,11 +81,11 @@ find_valued id (n ∷ ns) once =
     by_tests false false apart none rest = rest
 
 module _ (named : List (ℕ × ℤ)) where
-  -- the map of these lines knows the nodes that they name
+  -- the map of these lines has the nodes that they name
   pub has-from_entries : (id : ℕ) → is_some (get (from_entries {R = nat_cmp} named) id) ≡ list_any (is_of id) named
   has-from_entries id = ap is_some (get-from_entries nat_cmp_total named id) ∙ is_some-find_named id named
 
-  -- and without its zeros it has the numbers that they say
+  -- without zeros it has their numbers other than 0
   pub without_zeros-named : (nodes : ℕ) → NameNodes nodes named → without_zeros (from_entries named) ≡ from_entries (filter has_value named)
   without_zeros-named nodes are =
       same_map nat_cmp_total nat_cmp-IsAntisymmetric _ _ (λ id.
@@ -94,7 +94,7 @@ module _ (named : List (ℕ × ℤ)) where
       ∙ sym (find_valued id named (are.once id))
       ∙ sym (get-from_entries nat_cmp_total (filter has_value named) id))
 
-  -- one line more
+  -- with one more line
   module _ (id : ℕ) (n : ℤ) (new : list_any (is_of id) named ≡ false) where
     pub named_more : (nodes : ℕ) → NameNodes nodes named → IsNode nodes id → NameNodes nodes (named ++ (id, n) ∷ [])
     named_more nodes are node = record {

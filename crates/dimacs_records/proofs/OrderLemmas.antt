@@ -1,4 +1,4 @@
--- The first fault, by what is told of the earlier records.
+-- The first fault, by what the tests know about the earlier records.
 use Rattle.std.proofs.Common.{◌≡◌, [], List, false, true, Option, Some, None, Err, refl, ◌∙◌}
 use Rattle.dimacs_records.specs.declared.kinds.TextKind.{TextKind}
 use Rattle.dimacs_records.specs.declared.kinds.TextKind.TheVariants.{Max, Labels, Distances, Solution}
@@ -18,7 +18,7 @@ use Rattle.dimacs_records.specs.Spelling.{kind_of}
 use Rattle.dimacs_records.specs.Tests.{Passes, PassesEnd, answer_at, answer_at_end, place_told, reason_told, told_at_end, told_of}
 use Rattle.dimacs_records.proofs.ConditionLemmas.{first_place, first_reason_at_end, is_allowed, is_complete, is_first_at_end, is_first_condition}
 
--- what is told of the earlier records gives the first condition
+-- what the tests know gives the first condition
 told : (e : Earlier) (earlier : List Record) (r : Record) → e ≡ told_of earlier r → first_place earlier r ≡ place_told e r
 told e earlier (LabelsNode id dist pred) so = rw so refl
 told e earlier (DistancesNode id dist) so = rw so refl
@@ -33,13 +33,13 @@ refused_at earlier r (Some p) error is answer =
 pub refused_told : (e : Earlier) (earlier : List Record) (r : Record) (error : TakeError) → Err error ≡ answer_at (place_told e r) → e ≡ told_of earlier r → RefusesRecord earlier r error
 refused_told e earlier r error answer so = refused_at earlier r (place_told e r) error (told e earlier r so) answer
 
--- a record is allowed that passes the tests
+-- a record that passes the tests is allowed
 pub allowed_told : (e : Earlier) (earlier : List Record) (r : Record) → Passes e r → e ≡ told_of earlier r → IsAllowed earlier r
 allowed_told e earlier r p so =
     is_allowed earlier r (told e earlier r so
     ∙ rw (p.after_problem, p.one_problem, p.placed, p.second_within, p.third_within, p.fourth_within, p.new_node, p.new_end, p.both_ends, p.low, p.cap, p.room, p.full_block, p.one_value, p.pred_known, p.near) refl)
 
--- the same of the end
+-- the same at the end
 end_told : (kind : TextKind) (e : Earlier) (all : List Record) → e ≡ told_at_end kind all → first_reason_at_end kind all ≡ reason_told kind e
 end_told Max e all so = rw so refl
 end_told Labels e all so = rw so refl
@@ -59,7 +59,7 @@ end_refused_told kind e all error answer so = refused_at_end kind all (reason_to
 pub complete_told : (kind : TextKind) (e : Earlier) (all : List Record) → PassesEnd kind e → e ≡ told_at_end kind all → IsComplete kind all
 complete_told kind e all p so = is_complete kind all (end_told kind e all so ∙ rw (p.problem, p.ends, p.finished, p.value) refl)
 
--- the first record of a text that begins with a problem line
+-- the first record of a text that begins without its problem line
 pub first_missing : (r : Record) → is_problem r ≡ false → needs_problem (kind_of r) ≡ true → IsFirstCondition [] r (record { field = 0; reason = ProblemMissing })
 first_missing r other needs = is_first_condition [] r (record { field = 0; reason = ProblemMissing }) (rw (needs, other) refl)
 

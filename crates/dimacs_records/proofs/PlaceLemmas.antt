@@ -1,4 +1,4 @@
--- The first fault of a line's fields, as the first condition in the order of places.
+-- The first fault of a line's fields is the first condition in the order.
 use Rattle.std.proofs.Common.{◌≡◌, ℕ, zero, suc, ◌≤◌, ◌∷◌, ◌++◌, [], List, Bool, true, false, Option, Some, None, length, refl, ◌∙◌, arith}
 use Rattle.std.specs.Prelude.{◌==◌, not, if◌then◌else◌}
 use Rattle.std.specs.List.{All}
@@ -21,7 +21,7 @@ abbrev pub place_in : Option LineFault → Option Place
 place_in None = None
 place_in (Some fault) = Some (place_of fault)
 
--- the places of k fields from field n on
+-- the places of k fields, from field n on
 abbrev places_from : ℕ → ℕ → List Place
 places_from n zero = []
 places_from n (suc k) = field_places n ++ places_from (suc n) k
@@ -53,7 +53,7 @@ none_first : {X : Type 0} (xs : List X) → first_by (λ x. false) xs ≡ None
 none_first [] = refl
 none_first (x ∷ xs) = none_first xs
 
--- places after a field are those of the fields after it
+-- the places after a field are those of the later fields
 past_first : (n : ℕ) (type : FieldType) (types : List FieldType) (text : List ℕ) (texts : List (List ℕ)) (ps : List Place) → All (IsFrom (suc n)) ps
     → All (λ p. test_at (fields_condition n (type ∷ types) (text ∷ texts)) p ≡ test_at (fields_condition (suc n) types texts) p) ps
 past_first n type types text texts [] h = All-nil _
@@ -82,7 +82,7 @@ other_field (Word w) text = (refl, refl)
 other_field (Either v w) text = (refl, refl)
 other_field (Number low high) text = (refl, refl)
 
--- a letter that the kind knows is not refused
+-- a letter that the kind has isn't refused
 known : (n : ℕ) (types : List FieldType) (texts : List (List ℕ)) (f : ℕ) → fields_condition n types texts f UnknownLine ≡ false
 known n [] texts f = refl
 known n (type ∷ types) [] f = refl
@@ -96,7 +96,7 @@ by_count : (b : Bool) (fault : Option LineFault) → (if not b then Some (at 0 F
 by_count true fault = refl
 by_count false fault = refl
 
--- the first condition of the shape after a letter that the kind knows
+-- the first condition of the shape after a letter that the kind has
 pub first_of_shape : (types : List FieldType) (texts : List (List ℕ)) → length types ≤ 5 → first_by (test_at (letter_condition (Some types) texts)) shape_places ≡ place_in (form_fault types texts)
 first_of_shape types texts short =
     let rest : first_by (test_at (letter_condition (Some types) texts)) (places_from 2 5) ≡ place_in (fields_fault 2 types texts) = first_of_fields 2 5 types texts short in

@@ -1,4 +1,4 @@
--- The forms of each kind have plain words and short numbers, and so do their records.
+-- The forms of each kind have printable words and short numbers, and so do their records.
 use Rattle.std.proofs.Common.{◌≡◌, ◌≤◌, ◌∷◌, [], ℕ, suc, List, Bool, true, false, length, map, refl, ap, sym, subst, arith, inl, inr}
 use Rattle.std.specs.Prelude.{ℤ, ◌&&◌, not, nat_lt, nat_le, int_le}
 use Rattle.std.specs.List.{Contains, list_all}
@@ -19,7 +19,7 @@ use Rattle.dimacs_records.proofs.DecimalLemmas.{lowest, highest, spells_signed_d
 abbrev is_plain : List ℕ → Bool
 is_plain text = nat_lt 0 (length text) && (list_all is_ascii_graphic text && nat_le (length text) 40)
 
--- all that a field of this type can say is plain
+-- each content of a field of this type is printable and short
 abbrev pub is_plain_type : FieldType → Bool
 is_plain_type (Word w) = is_plain w
 is_plain_type (Either v w) = is_plain v && is_plain w
@@ -45,7 +45,7 @@ plain_from text test =
     let rest = and_parts (list_all is_ascii_graphic text) _ some.1 in
     record { some = ltb-true 0 (length text) some.0; visible = AllPass-from_list_all is_ascii_graphic text rest.0; short = leb-true (length text) 40 rest.1 }
 
--- a form with a plain letter that begins no comment, and at most five fields of plain types
+-- a form whose letter begins no comment, with at most five fields of such types
 pub record IsPlainForm (form : Form) : Type 0 where
   pub letter : IsPlain form.letter
   pub no_comment : is_comment form.letter ≡ false
@@ -89,7 +89,7 @@ plain_parts (type ∷ types) (part ∷ parts) test fit =
     (plain_part type part tests.0 fit.0, plain_parts types parts tests.1 fit.1)
 plain_parts types parts test fit = absurd fit
 
--- what fits is said by the texts of the canonical form
+-- contents that fit are those of the canonical texts
 pub parts_say : (types : List FieldType) (parts : List Part) → list_all is_plain_type types ≡ true → FitAll types parts → SayAll types (map text_of parts) parts
 parts_say [] [] test fit = tt
 parts_say (type ∷ types) (part ∷ parts) test fit =

@@ -1,4 +1,4 @@
--- Plain texts, and the line that they make with one blank between them.
+-- Short printable texts, and the line of such texts with one blank between them.
 use Rattle.std.proofs.Common.{◌≡◌, ◌+◌, ◌*◌, ◌<◌, ◌≤◌, ◌++◌, ◌∷◌, [], ℕ, suc, List, true, false, length, map, refl, ap, ◌∙◌, arith, length-append}
 use Rattle.std.specs.Prelude.{◌==◌}
 use Rattle.std.specs.List.{All, flat_map}
@@ -12,7 +12,7 @@ use Rattle.dimacs_records.specs.Spelling.{texts_in}
 use Rattle.dimacs_records.specs.inside.FieldReader.{text_of_run}
 use Rattle.dimacs_records.specs.Printed.{after_blank}
 
--- a printed ASCII character, of which none is a blank or a line end
+-- a printable ASCII byte: no blank and no line end
 abbrev pub IsVisible : ℕ → Type 0
 IsVisible b = is_ascii_graphic b ≡ true
 
@@ -35,7 +35,7 @@ IsNoEnd b = is_end b ≡ false
 no_end : (b : ℕ) → IsVisible b → IsNoEnd b
 no_end b h = grind (arith, nat_tests)
 
--- the first run starts at place i or after it
+-- the first run starts at place i or later
 abbrev StartsFrom : ℕ → List Run → Type 0
 StartsFrom i [] = Unit {0}
 StartsFrom i (run ∷ runs) = i ≤ run.start
@@ -54,7 +54,7 @@ runs_start i (b ∷ bs) =
     let later = runs_from (suc i) bs in
     cond_both (is_blank b) _ _ (StartsFrom i) (λ e. starts_later i later (runs_start (suc i) bs)) (λ e. onto_starts b i later)
 
--- nothing stands here, or a blank stands first
+-- nothing stands here, or first a blank
 abbrev BeginsBlank : List ℕ → Type 0
 BeginsBlank [] = Unit {0}
 BeginsBlank (b ∷ bs) = is_blank b ≡ true
@@ -63,7 +63,7 @@ past_blank : (i : ℕ) (rest : List ℕ) → BeginsBlank rest → StartsFrom (su
 past_blank i [] blank = tt
 past_blank i (b ∷ bs) blank = rw blank (runs_start (suc i) bs)
 
--- a byte is a run alone where the next run does not start right after it
+-- a byte is a run by itself if the next run doesn't start right after it
 alone : (b i : ℕ) (runs : List Run) → StartsFrom (suc (suc i)) runs → onto_runs b i runs ≡ record { text = b ∷ []; start = i } ∷ runs
 alone b i [] starts = refl
 alone b i (run ∷ runs) starts = let apart : (run.start == suc i) ≡ false = ne_eqb run.start (suc i) (λ e. omega arith) in rw apart refl
@@ -86,7 +86,7 @@ texts_from i (b ∷ bs) (text ∷ texts) plain more =
     ap (map text_of_run) (first_run i next b bs (flat_map after_blank (text ∷ texts)) plain.visible refl refl)
     ∙ ap (λ more. (b ∷ bs) ∷ more) (texts_from (suc next) text texts more.0 more.1)
 
--- the fields of a line with one blank between plain texts
+-- the fields of a line of such texts with one blank between them
 pub texts_in-spaced : (text : List ℕ) (texts : List (List ℕ)) → IsPlain text → ArePlain texts → texts_in (text ++ flat_map after_blank texts) ≡ text ∷ texts
 texts_in-spaced = texts_from 0
 

@@ -1,4 +1,4 @@
--- What a line in the plain form says.
+-- The record of a line in the plain form.
 use Rattle.std.proofs.Common.{◌≡◌, ◌+◌, ◌-◌, ◌^◌, ◌<◌, ◌≤◌, ◌++◌, ◌∷◌, [], ℕ, List, Bool, true, false, length, drop, refl, ap, sym, ◌∙◌, subst, arith, append_assoc, SFits, w64}
 use Rattle.std.specs.Prelude.{◌==◌, ◌||◌, if◌then◌else◌, ℤ, pos, neg_ℤ}
 use Rattle.std.specs.List.{All, flat_map, list_all, Contains}
@@ -24,7 +24,7 @@ use Rattle.dimacs_records.proofs.PlainLines.{IsVisible, IsPlain, ArePlain, texts
 visible_sign : (b : ℕ) → (b == 43 || b == 45) ≡ true → IsVisible b
 visible_sign b h = grind (arith, nat_tests)
 
--- a number is made of visible bytes
+-- a number consists of visible bytes
 spells_plain : (text : List ℕ) (n : ℤ) → Spells text n → length text ≤ 40 → IsPlain text
 spells_plain [] n h short = absurd (omega (arith, h.0.0))
 spells_plain (b ∷ bs) n h short = by_test (b == 43 || b == 45) refl h.0
@@ -58,7 +58,7 @@ record StandsSo (bytes : List ℕ) (at : ℕ) (body : List ℕ) (next : ℕ) : T
   passed : next ≡ at + length body + 1
   within : next ≤ length bytes
 
--- texts that stand one after another, as one
+-- texts that stand one after another, as one text
 stand_so : (bytes : List ℕ) (at : ℕ) (text : List ℕ) (texts : List (List ℕ)) (next : ℕ) → Stand bytes at (text ∷ texts) next → StandsSo bytes at (text ++ flat_map after_blank texts) next
 stand_so bytes at text [] next ends =
     let whole : text ≡ text ++ [] = sym (append-nil text) in
@@ -72,7 +72,7 @@ stand_so bytes at text (other ∷ texts) next (mid, ends, more) =
       within = later.within;
     }
 
--- a line of a form of the kind, whose fields are numbers
+-- a line of one of the kind's forms, with only numbers
 module _ (kind : TextKind) (form : Form) (bytes : List ℕ) (letter : ℕ) (size : ℕ) (r : Record) where
   spaced : (text : List ℕ) (texts : List (List ℕ)) → Contains (forms kind) form → kind_of r ≡ kind → letter_of r ≡ form.letter → form.letter ≡ letter ∷ [] → list_all is_number form.types ≡ true
       → bytes ≡ letter ∷ 32 ∷ drop 2 bytes → Stand bytes 2 (text ∷ texts) size → All IsShort (text ∷ texts) → SayAll form.types (text ∷ texts) (parts_of r) → length texts ≤ 40 → SaysFirst kind bytes r size
@@ -116,7 +116,7 @@ as_many [] [] [] say = refl
 as_many (type ∷ types) (text ∷ texts) (part ∷ parts) say = omega (arith, as_many types texts parts say.1)
 as_many types texts parts say = absurd say
 
--- a plain line of a form of its kind says its record
+-- a plain line with a form of its kind spells its record
 pub plain_says : (kind : TextKind) (form : Form) (bytes : List ℕ) (letter : ℕ) (size : ℕ) (r : Record) → Contains (forms kind) form → kind_of r ≡ kind → letter_of r ≡ form.letter → form.letter ≡ letter ∷ [] → list_all is_number form.types ≡ true
     → IsPlainLine bytes letter form.types (parts_of r) size → SaysFirst kind bytes r size
 plain_says kind form bytes letter size r among of_kind of_letter is_letter numbers h =
@@ -129,7 +129,7 @@ within_id id some few = (omega (arith, ints), omega (arith, ints))
 within_whole : (n : ℤ) → SFits w64 n → IsWithin (neg_ℤ (pos (2 ^ 63))) (pos (2 ^ 63 - 1)) n
 within_whole n fits = (omega (arith, ints, fits.sfits), omega (arith, ints, fits.sfits))
 
--- two nodes and a number, with a blank after each node and a line end after the number
+-- two nodes and a number: a blank after each node, a line end after the number
 pub ends_stand : (bytes : List ℕ) (letter tail head after_tail after_head size : ℕ) (n : ℤ) → bytes ≡ letter ∷ 32 ∷ drop 2 bytes → StandsAt bytes 2 32 (pos tail) after_tail → (1 ≤ tail) × (tail < 100000000)
     → StandsAt bytes after_tail 32 (pos head) after_head → (1 ≤ head) × (head < 100000000) → StandsAt bytes after_head 10 n size → SFits w64 n
     → IsPlainLine bytes letter (Id ∷ Id ∷ Whole ∷ []) (Amount (pos tail) ∷ Amount (pos head) ∷ Amount n ∷ []) size
@@ -161,7 +161,7 @@ widened id n (text ∷ []) say = absurd say.1
 widened id n (text ∷ other ∷ []) say = (say.0, ((say.1.0.0, within_wide n say.1.0.1), tt))
 widened id n (text ∷ other ∷ third ∷ texts) say = absurd say.1.1
 
--- where a number may be wide
+-- a 64-bit number in place of a 128-bit one
 pub value_widened : (bytes : List ℕ) (letter id : ℕ) (n : ℤ) (size : ℕ) → IsPlainLine bytes letter (Id ∷ Whole ∷ []) (Amount (pos id) ∷ Amount n ∷ []) size → IsPlainLine bytes letter (Id ∷ Wide ∷ []) (Amount (pos id) ∷ Amount n ∷ []) size
 value_widened bytes letter id n size line = record { texts = line.texts; begins = line.begins; stand = line.stand; short = line.short; says = widened (pos id) n line.texts line.says }
 

@@ -1,4 +1,4 @@
--- A text has no fault exactly where its lines are spelled and nothing refuses their records; so what a reader answers is exact.
+-- A text has no fault exactly if its lines are spelled and no condition holds for their records.
 use Rattle.std.proofs.Common.{◌≡◌, ℕ, suc, ◌<◌, ◌≤◌, ◌+◌, ◌∷◌, ◌++◌, [], List, Option, Some, None, Result, Ok, Err, length, get_or, take, drop, refl, ap, sym, ◌∙◌, arith, inl, inr, length-take, length-append}
 use Rattle.std.proofs.Math.Seq.{split_at, get_or-append_seam}
 use Rattle.std.proofs.lemmas.Bool.{true≢false, ltb-false, false_from_ne_true, cases_lt}
@@ -20,7 +20,7 @@ use Rattle.dimacs_records.proofs.FaultLaws.{say_same, one_fault, no_fault}
 use Rattle.dimacs_records.proofs.CleanLines.{NoneHolds, records_in-append}
 use Rattle.dimacs_records.proofs.DriverLemmas.{within, records_of-numbered}
 
--- what the lines before a line say, what it says, and the rest of what all of them say
+-- what the lines before a line spell, what it spells, and what those after it spell
 record SaidAt (kind : TextKind) (before : List (List ℕ)) (line : List ℕ) (said : List (Option Record)) : Type 0 where
   earlier : List (Option Record)
   here : Option Record
@@ -40,25 +40,25 @@ said_at kind (first ∷ before) after line (Some r ∷ said) h =
     record { earlier = Some r ∷ rest.earlier; here = rest.here; more = rest.more; said_is = ap (λ t. Some r ∷ t) rest.said_is; spell = (h.0, h.1, rest.spell); spell_here = rest.spell_here }
 said_at kind before after line said h = absurd h
 
--- at no line of a clean text the condition of a limit holds
+-- no line of a clean text exceeds a limit
 no_limit : (kind : TextKind) (all before after : List (List ℕ)) (line : List ℕ) (said : List (Option Record)) → IsClean kind all said → all ≡ before ++ line ∷ after
     → NoneHolds (limit_condition (length before + 1) line)
 no_limit kind all before after line said clean e f reason h =
     let s = said_at kind before after line said (rw e at clean.spell) in
     clean.none before after line s.earlier (at f reason) e s.spell (of_limit h)
 
--- a line at which neither limit's condition holds
+-- if neither limit's condition holds, both limits do
 limits_of : (number : ℕ) (line : List ℕ) → NoneHolds (limit_condition number line) → (number ≤ most_lines) × (length line ≤ longest_line)
 limits_of number line none = (ltb-false most_lines number (false_from_ne_true _ (none 0 LineLimit)), ltb-false longest_line (length line) (false_from_ne_true _ (none 0 LineTooLong)))
 
--- each line of a clean text lies within the limits
+-- each line of a clean text is within the limits
 clean_limits : (kind : TextKind) (all : List (List ℕ)) (said : List (Option Record)) (k : ℕ) (d : List ℕ) → IsClean kind all said → k < length all
     → (k < most_lines) × (length (get_or all k d) ≤ longest_line)
 clean_limits kind all said k d clean below =
     let limits = limits_of _ _ (no_limit kind all (take k all) (drop (suc k) all) (get_or all k d) said clean (split_at all k d below)) in
     (omega (arith, limits.0, length-take k all), limits.1)
 
--- no limit's condition at any line gives the two limits
+-- a text without a fault is spelled
 pub spelled_of_faultless : (kind : TextKind) (all : List (List ℕ)) (said : List (Option Record)) → IsFaultless kind all said → AreSpelled kind all said
 spelled_of_faultless kind all said h = record {
   few = elim (cases_lt most_lines (length all)) [ inl more ↦ absurd (omega (arith, (clean_limits kind all said most_lines [] h.clean more).0)) | inr few ↦ few ];
@@ -66,7 +66,7 @@ spelled_of_faultless kind all said h = record {
   spell = h.clean.spell;
 }
 
--- a line within the limits that says what the earlier records allow has no condition
+-- a line within the limits whose record is allowed has no condition
 no_condition : (kind : TextKind) (earlier : List Record) (number : ℕ) (line : List ℕ) (x : Option Record) (p : Place) → Spell kind (line ∷ []) (x ∷ [])
     → NoneHolds (limit_condition number line) → ((r : Record) → x ≡ Some r → IsAllowed earlier r) → ¬ Condition kind earlier number line p
 no_condition kind earlier number line None p says within_limits allowed c = elim c [
@@ -80,12 +80,12 @@ no_condition kind earlier number line (Some r) p says within_limits allowed c = 
   | of_record s solid other h ↦ allowed s (ap Some (spells_one kind (texts_in line) r s says.1 other)) p h
 ]
 
--- the record of a line, and those before it and after it
+-- the record of a line, with those before it and after it
 records_at : (kind : TextKind) (before : List (List ℕ)) (line : List ℕ) (said earlier : List (Option Record)) (s : SaidAt kind before line said) (r : Record)
     → s.earlier ≡ earlier → s.here ≡ Some r → records_in said ≡ records_in earlier ++ r ∷ records_in s.more
 records_at kind before line said earlier s r same here = ap records_in s.said_is ∙ rw (here, same) (records_in-append earlier (Some r ∷ s.more))
 
--- spelled lines have no condition of a limit or a shape, and their records none
+-- spelled lines whose records have no condition have no fault
 pub faultless_of_spelled : (kind : TextKind) (all : List (List ℕ)) (said : List (Option Record)) → AreSpelled kind all said → AreFaultless kind (records_in said) → IsFaultless kind all said
 faultless_of_spelled kind all said spelled faultless = record { clean = record { spell = spelled.spell; none = none_at }; none_at_end = faultless.complete }
   where
@@ -100,7 +100,7 @@ faultless_of_spelled kind all said spelled faultless = record { clean = record {
         let allowed : (r : Record) → s.here ≡ Some r → IsAllowed (records_in earlier) r = λ r here. faultless.allowed _ _ r (records_at kind before line said earlier s r same here) in
         no_condition kind (records_in earlier) (length before + 1) line s.here p s.spell_here within_limits allowed
 
--- what a reader answers is exact, where a value's records are refused for nothing, and give no other value
+-- the result of a reader is exact if records that give a value have no fault and give no other value
 pub reads_exactly : {V : Type 0} (kind : TextKind) (gives : List LineRecord → V → Type 0) (all : List (List ℕ)) (result : Result V ReadError)
     → ((rs : List LineRecord) (v : V) → gives rs v → AreFaultless kind (records_of rs))
     → ((rs : List LineRecord) (v w : V) → gives rs v → gives rs w → v ≡ w)
@@ -122,7 +122,7 @@ reads_exactly kind gives all (Err (read_errors.Refused place reason)) faultless 
 reads_exactly kind gives all (Err read_errors.Device) faultless same h = tt
 reads_exactly kind gives all (Err read_errors.Memory) faultless same h = tt
 
--- a text spells one value, where records give one
+-- a text spells one value if its records give one
 pub spells_one_value : {V : Type 0} (kind : TextKind) (gives : List LineRecord → V → Type 0) (all : List (List ℕ)) (v w : V) → ((rs : List LineRecord) (v w : V) → gives rs v → gives rs w → v ≡ w)
     → SpellsValue kind gives all v → SpellsValue kind gives all w → v ≡ w
 spells_one_value kind gives all v w same s t =

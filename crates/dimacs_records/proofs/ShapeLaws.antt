@@ -24,7 +24,7 @@ field_tests type text h =
     let range = if_none (field_condition type text NumberRange) NumberRange _ number.1 in
     (number.0, range.0, (if_none (field_condition type text BadWord) BadWord None range.1).0)
 
--- a field with no first reason to be refused has no reason at all
+-- a field without a first reason to be refused has none
 field_condition-none : (type : FieldType) (text : List ℕ) (reason : Reason) → field_reason type text ≡ None → field_condition type text reason ≡ false
 field_condition-none type text BadNumber h = (field_tests type text h).0
 field_condition-none type text NumberRange h = (field_tests type text h).1

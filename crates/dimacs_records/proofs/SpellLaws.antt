@@ -19,7 +19,7 @@ use Rattle.dimacs_records.specs.Spelling.{Part, Text, Amount, kind_of, letter_of
 use Rattle.dimacs_records.specs.Shapes.{types_in, types_or}
 use Rattle.dimacs_records.proofs.FieldLemmas.{same_bytes}
 
--- these forms have other letters or not as many fields
+-- these forms differ in the letter or the number of fields
 abbrev differs : Form → Form → Bool
 differs form other = not (bytes_eq form.letter other.letter && (length form.types == length other.types))
 
@@ -59,11 +59,11 @@ types_at (form ∷ more) (suc k) d apart below =
     by_tests true false types others h = refl
     by_tests false same_count types others h = refl
 
--- a form's letter and the number of its fields tell their types
+-- the letter of a form and the number of its fields determine their types
 pub form_types : (kind : TextKind) (form : Form) → Contains (forms kind) form → types_in (forms kind) form.letter (length form.types) ≡ Some form.types
 form_types kind form c = subst (λ (f : Form). types_in (forms kind) f.letter (length f.types) ≡ Some f.types) c.2 (types_at (forms kind) c.0 form (forms_apart kind) c.1)
 
--- what a field of this type says, if it says anything
+-- the content of a field of this type, if it has one
 abbrev said_by : FieldType → List ℕ → Part
 said_by (Word w) text = Text w
 said_by (Either v w) text = Text text
@@ -84,7 +84,7 @@ parts_said [] [] [] h = refl
 parts_said (type ∷ types) (text ∷ texts) (part ∷ parts) h = rw (part_said type text part h.0, parts_said types texts parts h.1) refl
 parts_said types texts parts h = absurd h
 
--- as many fields as types
+-- there are as many fields as types
 pub as_many : (types : List FieldType) (texts : List (List ℕ)) (parts : List Part) → SayAll types texts parts → (length texts ≡ length types) × (length parts ≡ length types)
 as_many [] [] [] h = (refl, refl)
 as_many (type ∷ types) (text ∷ texts) (part ∷ parts) h = let rest = as_many types texts parts h.1 in (ap suc rest.0, ap suc rest.1)
@@ -96,7 +96,7 @@ end_of word = if bytes_eq word (codes "s") then Source else Sink
 abbrev query_kind_of : List ℕ → QueryKind
 query_kind_of word = if bytes_eq word (codes "ss") then Sources else Pairs
 
--- the record of this kind with this letter and these parts; but for blocks and labels the parts tell the letter
+-- the record of this kind with this letter and these contents, if there is one
 abbrev record_of : TextKind → List ℕ → List Part → Option Record
 record_of Max letter (Text word ∷ Amount nodes ∷ Amount arcs ∷ []) = Some (MaxProblem (nat_abs nodes) (nat_abs arcs))
 record_of Max letter (Amount id ∷ Text end ∷ []) = Some (MaxNode (nat_abs id) (end_of end))
@@ -150,7 +150,7 @@ record_of-parts_of (DistancesProblem nodes blocks) = refl
 record_of-parts_of (DistancesBlock source count) = refl
 record_of-parts_of (DistancesNode id dist) = refl
 
--- the record that fields of these types spell, if they spell one
+-- the record that fields of these types spell, if any
 abbrev typed_record : TextKind → List ℕ → Option (List FieldType) → List (List ℕ) → Option Record
 typed_record kind letter None after = None
 typed_record kind letter (Some types) after = record_of kind letter (all_said_by types after)
@@ -159,7 +159,7 @@ abbrev spelled_record : TextKind → List (List ℕ) → Option Record
 spelled_record kind [] = None
 spelled_record kind (letter ∷ after) = typed_record kind letter (types_in (forms kind) letter (length after)) after
 
--- a spelled line's fields have the types of its form
+-- the fields of a spelled line have the types of its form
 pub spelled_types : (kind : TextKind) (texts : List (List ℕ)) (r : Record) (h : SpellsRecord kind texts r) → types_in (forms kind) h.form.letter (length h.after) ≡ Some h.form.types
 spelled_types kind texts r h = rw ((as_many h.form.types h.after (parts_of r) h.says).0) (form_types kind h.form h.of_kind)
 

@@ -1,8 +1,8 @@
--- Places of a list.
+-- Positions in a list.
 use Rattle.std.proofs.Common.{◌≡◌, ◌∙◌, ◌∷◌, ◌++◌, [], List, length, map, refl, ap, arith, length-append, All}
 use Rattle.std.proofs.lemmas.List.Elements.{All-contains, Contains-append_right}
 
--- how two elements of one list lie, each after others: they are the same one, or one of them comes sooner
+-- two items of one list: they are the same one, or one comes earlier
 pub data TwoPlaces {X : Type 0} (before before' : List X) (x x' : X) : Type 0 where
   same : before ≡ before' → x ≡ x' → TwoPlaces before before' x x'
   sooner : (rest : List X) → before' ≡ before ++ x ∷ rest → TwoPlaces before before' x x'
@@ -20,7 +20,7 @@ two_places (b ∷ bs) (c ∷ cs) after after' x x' e =
       | later rest longer ↦ later rest (cc)
     ]
 
--- a list of images, cut at one of them
+-- the image of a list, split at one item
 pub record ImageAt {A B : Type 0} (f : A → B) (xs : List A) (before : List B) (y : B) : Type 0 where
   pub front : List A
   pub x : A
@@ -37,6 +37,6 @@ image_at f (x ∷ xs) (b ∷ bs) after y e =
     let first : b ≡ f x = cc in
     record { front = x ∷ rest.front; x = rest.x; back = rest.back; xs_are = ap (λ t. x ∷ t) rest.xs_are; before_is = ap (λ t. t ∷ bs) first ∙ ap (λ ts. f x ∷ ts) rest.before_is; y_is = rest.y_is }
 
--- what holds of all elements holds of one of them
+-- what holds of all items holds of this one
 pub All-at : {A : Type 0} (P : A → Type 0) (xs front back : List A) (x : A) → xs ≡ front ++ x ∷ back → All P xs → P x
 All-at P xs front back x e all = All-contains P xs x all (rw e (Contains-append_right front (x ∷ back) x (0, omega arith, refl)))

@@ -1,4 +1,4 @@
--- Records that lines may spell, over any source.
+-- Records that lines can spell, for any source.
 use Rattle.std.proofs.Common.{ℕ, ◌<◌, ◌≤◌, ◌+◌, ◌++◌, ◌∷◌, [], List, Result, Ok, Err, arith}
 use Rattle.std.specs.Prelude.{OnOk}
 use Rattle.std.proofs.lemmas.List.Elements.{All-nil, All-push, All-weaker}
@@ -16,7 +16,7 @@ IsSpelled kind r = IsOfKind kind r.says
 later : (line more : ℕ) (rs : List LineRecord) → line ≤ more → AreBefore line rs → AreBefore more rs
 later line more rs no_less before = All-weaker (λ (r : LineRecord). r.line < line) (λ (r : LineRecord). r.line < more) (λ r h. omega (arith, h, no_less)) rs before
 
--- they stand before any later line too
+-- they are also before any later line
 pub taken_before : (kind : TextKind) (line more : ℕ) (stands_for : List LineRecord → Type 0) → line ≤ more → HasTaken kind line stands_for → HasTaken kind more stands_for
 taken_before kind line more stands_for no_less (rs, stands, are) =
     (rs, stands, record { of_kind = are.of_kind; before = later line more rs no_less are.before; few = omega (arith, are.few, no_less) })
@@ -25,7 +25,7 @@ taken_before kind line more stands_for no_less (rs, stands, are) =
 pub none_taken : (kind : TextKind) (stands_for : List LineRecord → Type 0) → stands_for [] → HasTaken kind 1 stands_for
 none_taken kind stands_for stands = ([], stands, record { of_kind = All-nil (IsSpelled kind); before = All-nil (λ (r : LineRecord). r.line < 1); few = omega arith })
 
--- one more was taken
+-- one more record was taken
 pub one_taken : (kind : TextKind) (number : ℕ) (r : Record) (old new : List LineRecord → Type 0) → IsOfKind kind r
     → ((rs : List LineRecord) → old rs → AreBefore number rs → new (rs ++ on_line number r ∷ [])) → HasTaken kind number old → HasTaken kind (number + 1) new
 one_taken kind number r old new is taken (rs, stands, are) = (
@@ -43,7 +43,7 @@ pub one_taken_or_not : (kind : TextKind) (number : ℕ) (r : Record) (old new : 
 one_taken_or_not kind number r old new (Ok done) is taken = one_taken kind number r old new is taken
 one_taken_or_not kind number r old new (Err error) is taken = tt
 
--- what a reading gives at the end
+-- the value that a reading gives at the end
 pub given_by_lines : {V : Type 0} (kind : TextKind) (gives : List LineRecord → V → Type 0) (v : V) (count : ℕ) (stands_for : List LineRecord → Type 0) → count ≤ most_lines
     → ((rs : List LineRecord) → stands_for rs → gives rs v) → HasTaken kind (count + 1) stands_for → IsGivenByLines kind gives v
 given_by_lines kind gives v count stands_for few given taken =

@@ -12,11 +12,11 @@ use Rattle.dimacs_records.specs.Canonical.{AreLines, canonical_line, canonical_t
 pub canonical_text-append : (rs more : List Record) → canonical_text (rs ++ more) ≡ canonical_text rs ++ canonical_text more
 canonical_text-append rs more = flat_map-append canonical_line rs more
 
--- one record after other texts
+-- one record after other text
 pub line_after : (start new : Written) (page : PageState) (text : List ℕ) (r : Record) → IsWritten start (text ++ canonical_line r) new page → IsWritten start (text ++ canonical_text (r ∷ [])) new page
 line_after start new page text r h = subst (λ t. IsWritten start (text ++ t) new page) (sym (append-nil (canonical_line r))) h
 
--- more records after other texts
+-- more records after other text
 pub lines_after : (start new : Written) (page : PageState) (text : List ℕ) (before more all : List Record) → all ≡ before ++ more → IsWritten start ((text ++ canonical_text before) ++ canonical_text more) new page → IsWritten start (text ++ canonical_text all) new page
 lines_after start new page text before more all is h =
     let same : (text ++ canonical_text before) ++ canonical_text more ≡ text ++ canonical_text all = append_assoc text (canonical_text before) (canonical_text more) ∙ ap (λ t. text ++ t) (sym (ap canonical_text is ∙ canonical_text-append before more)) in
@@ -27,7 +27,7 @@ next_line [] i within = absurd (omega (arith, within))
 next_line (r ∷ rs) zero within = refl
 next_line (r ∷ rs) (suc i) within = ap (λ some. r ∷ some) (next_line rs i (omega (arith, within)))
 
--- a line for each of a list
+-- a line for each record of a list
 pub lines_of_list : (says : ℕ → Option Record → Type 0) (n : ℕ) (rs : List Record) → n ≤ length rs → ((i : ℕ) (said : Option Record) → i < n → says i said → said ≡ slice_get rs i) → AreLines says n (λ i. take i rs)
 lines_of_list says n rs few each = record {
   none = refl;
@@ -38,6 +38,6 @@ lines_of_list says n rs few each = record {
 pub lines_of_items : {A : Type 0} (f : A → Record) (says : ℕ → Option Record → Type 0) (n : ℕ) (xs : List A) → n ≤ length xs → ((i : ℕ) (said : Option Record) → i < n → says i said → said ≡ option_map f (slice_get xs i)) → AreLines says n (λ i. take i (map f xs))
 lines_of_items f says n xs few each = lines_of_list says n (map f xs) (omega (arith, few, length-map xs f)) (λ i said within e. each i said within e ∙ sym (slice_get-map f xs i))
 
--- they are all of them
+-- these are all of them
 pub all_items : {A : Type 0} (f : A → Record) (n : ℕ) (xs : List A) → n ≡ length xs → take n (map f xs) ≡ map f xs
 all_items f n xs is = take_all n (map f xs) (omega (arith, is, length-map xs f))

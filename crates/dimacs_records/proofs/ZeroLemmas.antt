@@ -1,4 +1,4 @@
--- A value that is set, among those that aren't 0.
+-- Setting one value among those that aren't 0.
 use Rattle.std.proofs.Common.{◌≡◌, ℕ, ◌==◌, Bool, true, false, Option, Some, None, cond, refl, sym, ◌∙◌, ap}
 use Rattle.std.specs.Prelude.{ℤ, pos, not, if◌then◌else◌}
 use Rattle.std.specs.Ordering.{nat_cmp, int_eq}
@@ -13,7 +13,7 @@ get-set m id n other = get-insert nat_cmp_total m id n other ∙ ap (λ b. cond 
 pub get-removed : (m : FinMap nat_cmp ℤ) (id other : ℕ) → get (remove m id) other ≡ cond (other == id) None (get m other)
 get-removed m id other = get-remove nat_cmp_total m id other ∙ ap (λ b. cond b None (get m other)) (unsigned_tied other id)
 
--- to set a value is to change one potential
+-- setting a value changes one potential
 pub without_zeros-insert : (m : FinMap nat_cmp ℤ) (id : ℕ) (n : ℤ) → without_zeros (insert m id n) ≡ (if int_eq n (pos 0) then remove (without_zeros m) id else insert (without_zeros m) id n)
 without_zeros-insert m id n = by_test (int_eq n (pos 0)) refl
   where

@@ -1,4 +1,4 @@
--- The blocks of labels, or of distances, among the earlier records of a text.
+-- The blocks of labels or distances among the earlier records of a text.
 use Rattle.std.specs.Prelude.{ℕ, ◌==◌, Bool, List, [], ◌∷◌, ◌++◌, Option, Some, None, length, nat_lt, nat_le, ℤ, int_lt}
 use Rattle.std.specs.List.{fold, list_any}
 use Rattle.dimacs_records.specs.Earlier.{is_so}
@@ -16,7 +16,7 @@ abbrev pub with_labelled : Option Block → ℕ → Option Block
 with_labelled None id = None
 with_labelled (Some block) id = Some (record block { ids = block.ids ++ id ∷ [] })
 
--- the last block, after one more record
+-- the last block after one more record
 abbrev pub block_after : Option Block → Record → Option Block
 block_after block (LabelsBlock source count radius) = Some (record { source = source; count = count; radius = radius; ids = [] })
 block_after block (LabelsNode id dist pred) = with_labelled block id
@@ -28,22 +28,22 @@ block_after block r = block
 abbrev pub block_in : List Record → Option Block
 block_in rs = fold block_after None rs
 
--- the block's source, or the ID of one of its `d` lines
+-- the ID is the block's source or is on one of its `d` lines
 abbrev pub is_labelled : Option Block → ℕ → Bool
 is_labelled block id = is_so (λ (b : Block). list_any (λ other. other == id) (b.source ∷ b.ids)) block
 
--- no fewer `d` lines than the block declares
+-- the block has as many `d` lines as it declares, or more
 abbrev pub is_full_block : Option Block → Bool
 is_full_block block = is_so (λ (b : Block). nat_le b.count (length b.ids)) block
 
--- fewer `d` lines than the block declares
+-- the block has fewer `d` lines than it declares
 abbrev pub is_short_block : Option Block → Bool
 is_short_block block = is_so (λ (b : Block). nat_lt (length b.ids) b.count) block
 
--- greater than a radius, where there is one
+-- there is a radius, and the distance is greater
 abbrev pub is_past : Option ℤ → ℤ → Bool
 is_past radius dist = is_so (λ (most : ℤ). int_lt most dist) radius
 
--- greater than the block's RADIUS
+-- the distance is greater than the block's RADIUS
 abbrev pub is_past_block : Option Block → ℤ → Bool
 is_past_block block dist = is_so (λ (b : Block). is_past b.radius dist) block

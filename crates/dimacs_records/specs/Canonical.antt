@@ -1,4 +1,4 @@
--- The line that spells a record in the canonical form.
+-- The canonical form of records.
 use Rattle.std.specs.Prelude.{ℕ, ◌≡◌, ◌<◌, ◌+◌, ◌⊎◌, List, [], ◌∷◌, ◌++◌, map, Option, Some, None}
 use Rattle.std.specs.List.{flat_map, Contains}
 use Rattle.std.specs.Fmt.{signed_decimal}
@@ -19,7 +19,7 @@ line_of letter parts = spaced_line letter (map text_of parts)
 abbrev pub canonical_line : Record → List ℕ
 canonical_line r = line_of (letter_of r) (parts_of r)
 
--- the lines of these records
+-- the canonical lines of these records, one after another
 abbrev pub canonical_text : List Record → List ℕ
 canonical_text rs = flat_map canonical_line rs
 
@@ -27,12 +27,12 @@ abbrev pub said_lines : Option Record → List Record
 said_lines None = []
 said_lines (Some r) = r ∷ []
 
--- the lines of the numbers below each number, where these say a line or none
+-- `below i` has the records of the numbers below i, each with one record or none
 pub record AreLines (says : ℕ → Option Record → Type 0) (count : ℕ) (below : ℕ → List Record) : Type 0 where
   pub none : below 0 ≡ []
   pub more : (i : ℕ) (said : Option Record) → i < count → says i said → below (i + 1) ≡ below i ++ said_lines said
 
--- a field of this type can say this
+-- a field of this type can have this content
 abbrev pub Fits : FieldType → Part → Type 0
 Fits (Word w) (Text said) = said ≡ w
 Fits (Either v w) (Text said) = (said ≡ v) ⊎ (said ≡ w)
@@ -44,7 +44,7 @@ FitAll [] [] = Unit {0}
 FitAll (type ∷ types) (part ∷ parts) = Fits type part × FitAll types parts
 FitAll types parts = ⊥
 
--- some line of the kind can spell the record: its numbers lie within their ranges
+-- some line of the kind can spell the record: its numbers are within their ranges
 pub record CanBeSpelled (kind : TextKind) (r : Record) : Type 0 where
   pub form : Form
   pub of_kind : Contains (forms kind) form

@@ -1,4 +1,4 @@
--- What holds of the canonical texts.
+-- The theorem about canonical texts.
 use Rattle.std.specs.Prelude.{◌≤◌, List, Some, length, map}
 use Rattle.std.specs.List.{All}
 use Rattle.dimacs_lines.specs.Lines.{lines}
@@ -8,6 +8,6 @@ use Rattle.dimacs_records.specs.declared.records.Record.{Record}
 use Rattle.dimacs_records.specs.Canonical.{canonical_text, CanBeSpelled}
 use Rattle.dimacs_records.specs.Texts.{AreSpelled}
 
--- the canonical lines of records whose numbers lie within their ranges are lines within the limits that spell just these records
+-- if lines of the kind can spell these records, their canonical lines are within the limits and spell exactly them
 abbrev pub CanonicalLaw : Type 0
 CanonicalLaw = (kind : TextKind) (rs : List Record) → All (CanBeSpelled kind) rs → length rs ≤ most_lines → AreSpelled kind (lines (canonical_text rs)) (map (λ (r : Record). Some r) rs)

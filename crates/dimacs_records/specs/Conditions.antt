@@ -1,4 +1,4 @@
--- Why a record is refused after the earlier ones, reason by reason.
+-- When a record is refused after the earlier ones, by reason.
 use Rattle.std.specs.Prelude.{ℕ, ◌==◌, Bool, true, false, ◌&&◌, ◌||◌, not, List, [], ◌∷◌, Option, is_some, is_none, if◌then◌else◌, nat_lt, length, count_by, pos, int_lt}
 use Rattle.std.specs.List.{list_any}
 use Rattle.dimacs_lines.specs.Limits.{longest_line, most_lines}
@@ -14,18 +14,18 @@ use Rattle.dimacs_records.specs.Spelling.{kind_of}
 use Rattle.dimacs_records.specs.Earlier.{problem_in, is_problem, is_above, is_full, is_short, is_counted, counted_in, asks_for, names, is_max_node, is_end_node, is_flow_arc, is_value}
 use Rattle.dimacs_records.specs.Blocks.{block_in, is_labelled, is_full_block, is_short_block, is_past_block}
 
--- at field f of a line with this number the condition of a limit holds
+-- the condition of a limit holds for field f of the line with this number
 abbrev pub limit_condition : ℕ → List ℕ → ℕ → Reason → Bool
 limit_condition number line f LineLimit = (f == 0) && nat_lt most_lines number
 limit_condition number line f LineTooLong = (f == 0) && nat_lt longest_line (length line)
 limit_condition number line f reason = false
 
--- a solution alone has no problem line
+-- whether a text of the kind has a problem line; only a solution has none
 abbrev pub needs_problem : TextKind → Bool
 needs_problem Solution = false
 needs_problem kind = true
 
--- the IDs of a line that NODES bounds, each with its field
+-- the IDs of a record that must not be above NODES, each with its field
 abbrev pub bounded_ids : Record → List (ℕ × ℕ)
 bounded_ids (MaxNode id end) = (2, id) ∷ []
 bounded_ids (MaxArc tail head cap) = (2, tail) ∷ (3, head) ∷ []
@@ -45,17 +45,17 @@ abbrev pub is_above_at : ℕ → Option Declared → List (ℕ × ℕ) → Bool
 is_above_at f p [] = false
 is_above_at f p ((g, id) ∷ more) = if f == g then is_above p id else is_above_at f p more
 
--- fewer than two node lines
+-- there were fewer than two node lines
 abbrev pub lacks_end : List Record → Bool
 lacks_end rs = nat_lt (count_by is_max_node rs) 2
 
--- the bound in field f is out of order: a negative one, or CAP below LOW
+-- the bound in field f is wrong: negative, or CAP below LOW
 abbrev pub is_bound_wrong : ℕ → Record → Bool
 is_bound_wrong f (MaxArc tail head cap) = (f == 4) && int_lt cap (pos 0)
 is_bound_wrong f (MinArc tail head low cap cost) = if f == 4 then int_lt low (pos 0) else (f == 5) && int_lt cap low
 is_bound_wrong f r = false
 
--- record r is refused after the earlier ones for this reason, which tells of one field alone
+-- record r is refused after the earlier ones for a reason that can hold at only one field
 abbrev pub is_refused_for : Reason → List Record → Record → Bool
 is_refused_for ProblemMissing earlier r = (needs_problem (kind_of r) && not (is_problem r)) && is_none (problem_in earlier)
 is_refused_for ProblemTwice earlier r = is_problem r && is_some (problem_in earlier)
@@ -85,13 +85,13 @@ is_refused_for PredUnknown earlier (LabelsNode id dist pred) = not (is_labelled 
 is_refused_for PastRadius earlier (LabelsNode id dist pred) = is_past_block (block_in earlier) dist
 is_refused_for reason earlier r = false
 
--- after the earlier records the condition of a reason holds of record r: at field f, where the reason tells of several fields
+-- the condition of a reason holds for record r after the earlier ones; only two reasons depend on the field
 abbrev pub condition : List Record → Record → ℕ → Reason → Bool
 condition earlier r f NodeRange = is_above_at f (problem_in earlier) (bounded_ids r)
 condition earlier r f BoundOrder = is_bound_wrong f r
 condition earlier r f reason = is_refused_for reason earlier r
 
--- at the end of a text of these records the condition of a reason holds: in the last block there may be fewer labels than declared
+-- the condition of a reason holds at the end of a text of these records; the last block may lack labels
 abbrev pub end_condition : TextKind → List Record → Reason → Bool
 end_condition kind all ProblemMissing = needs_problem kind && is_none (problem_in all)
 end_condition Max all EndMissing = lacks_end all

@@ -1,4 +1,4 @@
--- What the earlier records of a text say.
+-- The earlier records of a text.
 use Rattle.std.specs.Prelude.{ℕ, ◌==◌, Bool, true, false, List, [], ◌∷◌, Option, Some, None, is_some, length, nat_lt, nat_le}
 use Rattle.std.specs.List.{filter}
 use Rattle.dimacs_records.specs.declared.order.Declared.{Declared}
@@ -9,7 +9,7 @@ use Rattle.dimacs_records.specs.declared.records.QueryKind.TheVariants.{Sources,
 use Rattle.dimacs_records.specs.declared.records.Record.{Record}
 use Rattle.dimacs_records.specs.declared.records.Record.TheVariants.{MaxProblem, MaxNode, MaxArc, MinProblem, MinNode, MinArc, GraphProblem, GraphArc, QueriesProblem, SourceQuery, PairQuery, SolutionValue, CutProblem, CutNode, PotentialsProblem, PotentialsNode, LabelsProblem, LabelsBlock, DistancesProblem, DistancesBlock}
 
--- what a problem line declares; that of queries has no NODES
+-- what a problem line declares; queries have no NODES
 abbrev pub declares : ℕ → ℕ → Option Declared
 declares nodes count = Some (record { nodes = Some nodes; count = count })
 
@@ -36,24 +36,24 @@ abbrev pub problem_in : List Record → Option Declared
 problem_in [] = None
 problem_in (r ∷ rs) = or_else (problem_of r) (problem_in rs)
 
--- there is one, and this is so of it
+-- there is a value, and it passes the test
 abbrev pub is_so : {X : Type 0} → (X → Bool) → Option X → Bool
 is_so f None = false
 is_so f (Some x) = f x
 
--- above NODES
+-- the ID is above NODES
 abbrev pub is_above : Option Declared → ℕ → Bool
 is_above p id = is_so (λ (q : Declared). is_so (λ (nodes : ℕ). nat_lt nodes id) q.nodes) p
 
--- not below the declared count
+-- no fewer than declared
 abbrev pub is_full : Option Declared → ℕ → Bool
 is_full p n = is_so (λ (q : Declared). nat_le q.count n) p
 
--- below the declared count
+-- fewer than declared
 abbrev pub is_short : Option Declared → ℕ → Bool
 is_short p n = is_so (λ (q : Declared). nat_lt n q.count) p
 
--- a line that the problem line counts
+-- the problem line counts this line
 abbrev pub is_counted : Record → Bool
 is_counted (MaxArc tail head cap) = true
 is_counted (MinArc tail head low cap cost) = true
@@ -69,13 +69,13 @@ is_counted r = false
 abbrev pub counted_in : List Record → ℕ
 counted_in rs = length (filter is_counted rs)
 
--- a problem line of these queries
+-- the problem line of queries of this kind
 abbrev pub asks_for : QueryKind → Record → Bool
 asks_for Sources (QueriesProblem Sources count) = true
 asks_for Pairs (QueriesProblem Pairs count) = true
 asks_for asks r = false
 
--- a line that names this node as its own: a node line, or that of a block
+-- the line has this node as its own: a node line, or the `t` line of a block
 abbrev pub names : ℕ → Record → Bool
 names id (MaxNode other end) = other == id
 names id (MinNode other supply) = other == id

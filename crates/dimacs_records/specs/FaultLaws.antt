@@ -1,4 +1,4 @@
--- What holds of the faults of every text.
+-- Theorems about the faults of texts.
 use Rattle.std.specs.Prelude.{ℕ, ◌≡◌, List, Option}
 use Rattle.dimacs_records.specs.declared.kinds.TextKind.{TextKind}
 use Rattle.dimacs_records.specs.declared.records.Record.{Record}
@@ -9,6 +9,6 @@ use Rattle.dimacs_records.specs.Faults.{Fault, IsFaultless}
 abbrev pub OneFaultLaw : Type 0
 OneFaultLaw = (kind : TextKind) (lines : List (List ℕ)) (l f l' f' : ℕ) (r r' : Reason) → Fault kind lines l f r → Fault kind lines l' f' r' → (l ≡ l') × (f ≡ f') × (r ≡ r')
 
--- a text at which no condition holds has no fault
+-- a text without a condition that holds has no fault
 abbrev pub NoFaultLaw : Type 0
 NoFaultLaw = (kind : TextKind) (lines : List (List ℕ)) (said : List (Option Record)) (l f : ℕ) (r : Reason) → IsFaultless kind lines said → ¬ Fault kind lines l f r

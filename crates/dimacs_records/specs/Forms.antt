@@ -1,4 +1,4 @@
--- What the lines of each kind of text look like.
+-- The forms of the lines of each kind of text.
 use Rattle.std.specs.Prelude.{ℕ, ◌^◌, ◌-◌, List, [], ◌∷◌, ℤ, pos, neg_ℤ, codes}
 use Rattle.dimacs_lines.specs.Limits.{most_count, most_nodes}
 use Rattle.dimacs_records.specs.declared.kinds.TextKind.{TextKind}
@@ -28,7 +28,7 @@ Wide = Number (neg_ℤ (pos (10 ^ 30))) (pos (10 ^ 30))
 abbrev pub Radius : FieldType
 Radius = Number (pos 0) (pos (10 ^ 30))
 
--- a line's letter, and the types of the fields after it; the forms of one letter differ in how many these are
+-- the letter of a line and the types of the fields after it; forms with the same letter differ in the number of fields
 pub record Form : Type 0 where
   pub letter : List ℕ
   pub types : List FieldType
@@ -36,7 +36,7 @@ pub record Form : Type 0 where
 abbrev pub form : List ℕ → List FieldType → Form
 form letter types = record { letter = letter; types = types }
 
--- the lines of each kind of text
+-- the forms of the lines of each kind
 abbrev pub forms : TextKind → List Form
 forms Max = form (codes "p") (Word (codes "max") ∷ Nodes ∷ Count ∷ [])
     ∷ form (codes "n") (Id ∷ Either (codes "s") (codes "t") ∷ [])

@@ -1,4 +1,4 @@
--- What the reader of a line answers.
+-- The result of reading a line.
 use Rattle.std.specs.Prelude.{ℕ, ◌≡◌, true, false, List, Option, Some, None, Result, Ok, Err, IsTrue}
 use Rattle.dimacs_records.specs.declared.kinds.TextKind.{TextKind}
 use Rattle.dimacs_records.specs.declared.records.Record.{Record}
@@ -7,7 +7,7 @@ use Rattle.dimacs_records.specs.Spelling.{SpellsRecord, is_skip}
 use Rattle.dimacs_records.specs.Shapes.{shape_condition}
 use Rattle.dimacs_records.specs.Order.{Place, at, shape_places, FirstOf}
 
--- a skipped line, the record that the fields spell, or the first condition of their shape
+-- a skipped line, the record that the fields spell, or the first condition of the shape
 abbrev pub ReadsLine : TextKind → List (List ℕ) → Result (Option Record) LineFault → Type 0
 ReadsLine kind texts (Ok None) = is_skip texts ≡ true
 ReadsLine kind texts (Ok (Some r)) = (is_skip texts ≡ false) × SpellsRecord kind texts r

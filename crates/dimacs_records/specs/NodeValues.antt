@@ -1,4 +1,4 @@
--- Lines that name nodes, each with a number.
+-- Lines with a node and a number.
 use Rattle.std.specs.Prelude.{ℕ, ℤ, ◌==◌, ◌≤◌, Bool, not, List, count_by, pos, unwrap_or}
 use Rattle.std.specs.List.{All}
 use Rattle.std.specs.Ordering.{int_eq, nat_cmp}
@@ -14,7 +14,7 @@ is_nonzero n = not (int_eq n (pos 0))
 abbrev pub has_value : ℕ × ℤ → Bool
 has_value n = is_nonzero n.1
 
--- the lines name nodes, and no node twice
+-- the lines name nodes of the network, each node at most once
 pub record NameNodes (nodes : ℕ) (named : List (ℕ × ℤ)) : Type 0 where
   pub within : All (λ (n : ℕ × ℤ). IsNode nodes n.0) named
   pub once : (id : ℕ) → count_by (is_of id) named ≤ 1

@@ -1,4 +1,4 @@
--- The order of the conditions at a line, and what comes first in an order.
+-- The order of the conditions at a line, and the first of a list.
 use Rattle.std.specs.Prelude.{ℕ, ◌≡◌, List, [], ◌∷◌, ◌++◌, IsTrue}
 use Rattle.std.specs.List.{All, Contains}
 use Rattle.dimacs_records.specs.declared.records.Record.{Record}
@@ -6,7 +6,7 @@ use Rattle.dimacs_records.specs.declared.reasons.Reason.{Reason}
 use Rattle.dimacs_records.specs.Conditions.{condition}
 use Rattle.dimacs_records.specs.declared.reasons.Reason.TheVariants.{LineTooLong, UnknownLine, FieldCount, BadNumber, NumberRange, BadWord, ProblemMissing, ProblemTwice, RecordOrder, NodeRange, NodeTwice, EndTwice, EndMissing, BoundOrder, TooMany, TooFew, SolutionMissing, SolutionTwice, PredUnknown, LineLimit, PastRadius}
 
--- a field, 0 being the whole line, and a reason
+-- a field, 0 for the whole line, and a reason
 pub record Place : Type 0 where
   pub field : ℕ
   pub reason : Reason
@@ -20,11 +20,11 @@ limit_places = at 0 LineLimit ∷ at 0 LineTooLong ∷ []
 abbrev pub field_places : ℕ → List Place
 field_places f = at f BadNumber ∷ at f NumberRange ∷ at f BadWord ∷ []
 
--- the shape, and then the fields from left to right
+-- first the letter, then the number of fields, then the fields from left to right
 abbrev pub shape_places : List Place
 shape_places = at 1 UnknownLine ∷ at 0 FieldCount ∷ (field_places 2 ++ (field_places 3 ++ (field_places 4 ++ (field_places 5 ++ (field_places 6 ++ [])))))
 
--- what the earlier records decide; where one reason fits several fields, the leftmost comes first
+-- the conditions after earlier records; if one holds at several fields, the leftmost comes first
 abbrev pub record_places : List Place
 record_places = at 0 ProblemMissing ∷ at 0 ProblemTwice ∷ at 0 RecordOrder
     ∷ at 2 NodeRange ∷ at 3 NodeRange ∷ at 4 NodeRange
@@ -32,11 +32,11 @@ record_places = at 0 ProblemMissing ∷ at 0 ProblemTwice ∷ at 0 RecordOrder
     ∷ at 4 BoundOrder ∷ at 5 BoundOrder
     ∷ at 0 TooMany ∷ at 0 TooFew ∷ at 0 SolutionTwice ∷ at 0 PredUnknown ∷ at 3 PastRadius ∷ []
 
--- at this place of the order record r is refused after the earlier ones
+-- record r is refused after the earlier ones at this place of the order
 abbrev pub IsRefusedAt : List Record → Record → Place → Type 0
 IsRefusedAt earlier r p = Contains record_places p × IsTrue (condition earlier r p.field p.reason)
 
--- the order at a line
+-- the order of all conditions at a line
 abbrev pub places : List Place
 places = limit_places ++ (shape_places ++ record_places)
 
@@ -44,7 +44,7 @@ places = limit_places ++ (shape_places ++ record_places)
 abbrev pub end_reasons : List Reason
 end_reasons = ProblemMissing ∷ EndMissing ∷ TooFew ∷ SolutionMissing ∷ []
 
--- the first of a list with a property: none before it has the property
+-- x is the first of a list with a property
 pub record FirstOf {X : Type 0} (P : X → Type 0) (all : List X) (x : X) : Type 0 where
   pub before : List X
   pub after : List X

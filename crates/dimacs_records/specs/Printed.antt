@@ -1,4 +1,4 @@
--- Lines as they are printed, field by field.
+-- Printed lines, field by field.
 use Rattle.std.specs.Prelude.{ℕ, List, [], ◌∷◌, ◌++◌, codes, map}
 use Rattle.std.specs.List.{flat_map}
 use Rattle.std.specs.Fmt.{signed_decimal}
@@ -8,11 +8,11 @@ use Rattle.dimacs_records.specs.declared.printed.Part.TheVariants.{Word, Number,
 abbrev pub after_blank : List ℕ → List ℕ
 after_blank field = 32 ∷ field
 
--- a line of these fields: one blank between them, and byte 10
+-- these fields with one blank between them, then byte 10
 abbrev pub spaced_line : List ℕ → List (List ℕ) → List ℕ
 spaced_line first fields = first ++ (flat_map after_blank fields ++ 10 ∷ [])
 
--- the line that tells what a text is
+-- the line that `show` puts
 abbrev pub shown : List (List ℕ) → List ℕ
 shown parts = spaced_line (codes "i") parts
 

@@ -1,4 +1,4 @@
--- What a reading stands for, and what it answers.
+-- The records that a reading stands for, and the results of its calls.
 use Rattle.std.specs.Prelude.{ℕ, suc, ◌+◌, ◌≡◌, ◌<◌, List, [], ◌∷◌, length, map, Option, Some, None, Result, Ok, Err, IsTrue}
 use Rattle.std.specs.List.{All}
 use Rattle.dimacs_lines.specs.Devices.{one_more}
@@ -16,7 +16,7 @@ use Rattle.dimacs_records.specs.Conditions.{condition, end_condition}
 use Rattle.dimacs_records.specs.Order.{IsRefusedAt, Place, at, record_places, FirstOf}
 use Rattle.dimacs_records.specs.Faults.{IsFaultless, FirstAtEnd, Fault}
 
--- a record of a text, and the number of its line
+-- a record and the number of its line
 pub record LineRecord : Type 0 where
   pub line : ℕ
   pub says : Record
@@ -27,39 +27,39 @@ on_line line r = record { line = line; says = r }
 abbrev pub records_of : List LineRecord → List Record
 records_of rs = map (λ (r : LineRecord). r.says) rs
 
--- the records among what lines say, where the first line has number n
+-- the records of lines, of which the first has number n
 abbrev pub numbered : ℕ → List (Option Record) → List LineRecord
 numbered n [] = []
 numbered n (None ∷ more) = numbered (suc n) more
 numbered n (Some r ∷ more) = on_line n r ∷ numbered (suc n) more
 
--- the records stand before this line
+-- all records are on lines before this one
 abbrev pub AreBefore : ℕ → List LineRecord → Type 0
 AreBefore line rs = All (λ (r : LineRecord). r.line < line) rs
 
--- a record that some line of the kind spells
+-- some line of the kind spells the record
 pub record IsOfKind (kind : TextKind) (r : Record) : Type 0 where
   pub texts : List (List ℕ)
   pub spelled : SpellsRecord kind texts r
 
--- records that lines before this one may spell
+-- lines before this one can spell these records
 pub record AreSpelledBefore (kind : TextKind) (line : ℕ) (rs : List LineRecord) : Type 0 where
   pub of_kind : All (λ (r : LineRecord). IsOfKind kind r.says) rs
   pub before : AreBefore line rs
   pub few : length rs < line
 
--- records that the lines of a text may spell give this value
+-- this value is given by records that the lines of a text can spell
 abbrev pub IsGivenByLines : {V : Type 0} → TextKind → (List LineRecord → V → Type 0) → V → Type 0
 IsGivenByLines kind gives v = (rs : List LineRecord) × gives rs v × AreSpelledBefore kind (most_lines + 1) rs
 
--- a record is refused at no place after the earlier ones
+-- after the earlier records no condition holds for this one
 abbrev pub IsAllowed : List Record → Record → Type 0
 IsAllowed earlier r = (p : Place) → ¬ IsRefusedAt earlier r p
 
 abbrev pub IsFirstCondition : List Record → Record → LineFault → Type 0
 IsFirstCondition earlier r fault = FirstOf (λ (p : Place). IsTrue (condition earlier r p.field p.reason)) record_places (at fault.field fault.reason)
 
--- why a record is not taken after the earlier ones
+-- the record's first condition after the earlier ones, or out of memory
 abbrev pub RefusesRecord : List Record → Record → TakeError → Type 0
 RefusesRecord earlier r (take_errors.Refused fault) = IsFirstCondition earlier r fault
 RefusesRecord earlier r take_errors.Memory = Unit {0}
@@ -68,7 +68,7 @@ RefusesRecord earlier r take_errors.Memory = Unit {0}
 abbrev pub IsComplete : TextKind → List Record → Type 0
 IsComplete kind all = (reason : Reason) → ¬ IsTrue (end_condition kind all reason)
 
--- why these records give no value
+-- the first condition at the end, or out of memory
 abbrev pub RefusesEnd : TextKind → List Record → TakeError → Type 0
 RefusesEnd kind all (take_errors.Refused fault) = (fault.field ≡ 0) × FirstAtEnd kind all fault.reason
 RefusesEnd kind all take_errors.Memory = Unit {0}
@@ -79,14 +79,14 @@ pub record GiveValue {V : Type 0} (kind : TextKind) (gives : List LineRecord →
   pub faultless : IsFaultless kind all said
   pub given : gives (numbered 1 said) v
 
--- a value of lines without a fault, or their fault
+-- the value of lines without a fault, or their fault
 abbrev pub ReadsLines : {V : Type 0} → TextKind → (List LineRecord → V → Type 0) → List (List ℕ) → Result V ReadError → Type 0
 ReadsLines kind gives all (Ok v) = GiveValue kind gives all v
 ReadsLines kind gives all (Err (read_errors.Refused place reason)) = Fault kind all place.line place.field reason
 ReadsLines kind gives all (Err read_errors.Device) = Unit {0}
 ReadsLines kind gives all (Err read_errors.Memory) = Unit {0}
 
--- the count of faults after a reading: one more where it told of a device, else the same
+-- the source's faults after a reading: one more after the error `Device`, otherwise the same
 abbrev pub CountsRead : {V : Type 0} → Result V ReadError → ℕ → ℕ → Type 0
 CountsRead (Ok v) old new = new ≡ old
 CountsRead (Err (read_errors.Refused place reason)) old new = new ≡ old

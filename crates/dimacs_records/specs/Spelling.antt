@@ -1,4 +1,4 @@
--- Which line spells which record.
+-- Which lines spell which records.
 use Rattle.std.specs.Prelude.{ℕ, ◌≡◌, ◌==◌, ◌⊎◌, Bool, true, false, List, [], ◌∷◌, map, Option, Some, None, ℤ, pos, codes}
 use Rattle.std.specs.List.{Contains}
 use Rattle.dimacs_lines.specs.Fields.{Run, fields_of}
@@ -13,7 +13,7 @@ use Rattle.dimacs_records.specs.declared.records.Record.{Record}
 use Rattle.dimacs_records.specs.declared.records.Record.TheVariants.{MaxProblem, MaxNode, MaxArc, MinProblem, MinNode, MinArc, GraphProblem, GraphArc, QueriesProblem, SourceQuery, PairQuery, SolutionValue, SolutionEntry, CutProblem, CutNode, PotentialsProblem, PotentialsNode, LabelsProblem, LabelsBlock, LabelsNode, DistancesProblem, DistancesBlock, DistancesNode}
 use Rattle.dimacs_records.specs.Forms.{FieldType, Word, Either, Number, Form, forms}
 
--- what a field of a record says: a word or a number
+-- the content of a field: a word or a number
 pub data Part : Type 0 where
   Text : List ℕ → Part
   Amount : ℤ → Part
@@ -26,12 +26,12 @@ abbrev pub query_word : QueryKind → List ℕ
 query_word Sources = codes "ss"
 query_word Pairs = codes "p2p"
 
--- the RADIUS of a block, which may be left out
+-- the RADIUS of a block, if it has one
 abbrev pub radius_parts : Option ℤ → List Part
 radius_parts None = []
 radius_parts (Some radius) = Amount radius ∷ []
 
--- the line that tells a record: its kind of text, its letter, and what the fields after the letter say
+-- a record as a line: its kind of text, its letter, and the contents of the fields after the letter
 pub record RecordLine : Type 0 where
   pub kind : TextKind
   pub letter : List ℕ
@@ -74,7 +74,7 @@ letter_of r = (record_line r).letter
 abbrev pub parts_of : Record → List Part
 parts_of r = (record_line r).parts
 
--- a field of this type says this
+-- a field of this type with this text has this content
 abbrev pub Says : FieldType → List ℕ → Part → Type 0
 Says (Word w) text (Text said) = (text ≡ w) × (said ≡ w)
 Says (Either v w) text (Text said) = ((text ≡ v) ⊎ (text ≡ w)) × (said ≡ text)
@@ -87,7 +87,7 @@ SayAll [] [] [] = Unit {0}
 SayAll (type ∷ types) (text ∷ texts) (part ∷ parts) = Says type text part × SayAll types texts parts
 SayAll types texts parts = ⊥
 
--- the fields have one of the kind's forms, and say what the record has
+-- the fields have a form of the kind, and their contents are the record's
 pub record SpellsRecord (kind : TextKind) (texts : List (List ℕ)) (r : Record) : Type 0 where
   pub form : Form
   pub after : List (List ℕ)
@@ -97,11 +97,11 @@ pub record SpellsRecord (kind : TextKind) (texts : List (List ℕ)) (r : Record)
   pub begins : texts ≡ form.letter ∷ after
   pub says : SayAll form.types after (parts_of r)
 
--- what the fields of a line say, byte by byte
+-- the texts of a line's fields
 abbrev pub texts_in : List ℕ → List (List ℕ)
 texts_in line = map (λ (run : Run). run.text) (fields_of line)
 
--- a first field that begins with `c`
+-- the first field begins with `c`
 abbrev pub is_comment : List ℕ → Bool
 is_comment [] = false
 is_comment (b ∷ bs) = b == 99

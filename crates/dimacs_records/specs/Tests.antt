@@ -1,4 +1,4 @@
--- What is told of the earlier records, and what a record has that passes the tests.
+-- The tests of one more record by what is known of the earlier ones.
 use Rattle.std.specs.Prelude.{ℕ, ◌≡◌, ◌&&◌, ◌||◌, Bool, true, false, List, [], ◌∷◌, Option, Some, None, is_some, is_none, not, if◌then◌else◌, Result, Ok, Err}
 use Rattle.std.specs.List.{list_any}
 use Rattle.dimacs_records.specs.declared.faults.TakeError.{TakeError}
@@ -21,17 +21,17 @@ use Rattle.dimacs_records.specs.Spelling.{kind_of}
 abbrev pub earlier_of : Option Declared → ℕ → Earlier
 earlier_of problem counted = record { problem = problem; counted = counted; misplaced = false; named = false; end_named = false; lacks_end = false; block_full = false; block_short = false; valued = false; pred_unknown = false; past_radius = false }
 
--- after these records, for one that asks for their lines alone
+-- after these records, if only their number matters
 abbrev pub after_records : List Record → Earlier
 after_records rs = earlier_of (problem_in rs) (counted_in rs)
 
--- a label in a block that has as many as it declares
+-- the record is a label, and its block has as many as it declares
 abbrev pub is_full_label : List Record → Record → Bool
 is_full_label earlier (LabelsNode id dist pred) = is_full_block (block_in earlier)
 is_full_label earlier (DistancesNode id dist) = is_full_block (block_in earlier)
 is_full_label earlier r = false
 
--- what the earlier records say of one more
+-- what the tests of record r have to know about the earlier records
 abbrev pub told_of : List Record → Record → Earlier
 told_of earlier r = record {
   problem = problem_in earlier;
@@ -47,7 +47,7 @@ told_of earlier r = record {
   past_radius = is_refused_for PastRadius earlier r;
 }
 
--- what all records of a text say of its end
+-- what the tests at the end have to know about the records
 abbrev pub told_at_end : TextKind → List Record → Earlier
 told_at_end Max all = record (after_records all) { lacks_end = lacks_end all }
 told_at_end Labels all = record (after_records all) { block_short = is_short_block (block_in all) }
@@ -60,7 +60,7 @@ is_too_many_told e (LabelsNode id dist pred) = e.block_full
 is_too_many_told e (DistancesNode id dist) = e.block_full
 is_too_many_told e r = is_counted r && is_full e.problem e.counted
 
--- the first whose test fails: it is true where something is wrong
+-- the first item whose test fails; `true` stands for a failure
 abbrev pub first_failing : {X : Type 0} → List X → List Bool → Option X
 first_failing (x ∷ xs) (wrong ∷ more) = if wrong then Some x else first_failing xs more
 first_failing xs tests = None
@@ -79,12 +79,12 @@ abbrev pub needs_value : TextKind → Bool
 needs_value Solution = true
 needs_value kind = false
 
--- the reason of the first test of the end that fails
+-- the reason of the first test at the end that fails
 abbrev pub reason_told : TextKind → Earlier → Option Reason
 reason_told kind e =
     first_failing end_reasons ((needs_problem kind && is_none e.problem) ∷ e.lacks_end ∷ (e.block_short || is_short e.problem e.counted) ∷ (needs_value kind && not e.valued) ∷ [])
 
--- what is answered of a place, or of the end
+-- a refusal at this place, if there is one
 abbrev pub answer_at : Option Place → Result Unit TakeError
 answer_at None = Ok tt
 answer_at (Some p) = Err (Refused (record { field = p.field; reason = p.reason }))
@@ -112,7 +112,7 @@ pub record Passes (e : Earlier) (r : Record) : Type 0 where
   pub pred_known : e.pred_unknown ≡ false
   pub near : e.past_radius ≡ false
 
--- no test of the end fails
+-- no test at the end fails
 pub record PassesEnd (kind : TextKind) (e : Earlier) : Type 0 where
   pub problem : (needs_problem kind && is_none e.problem) ≡ false
   pub ends : e.lacks_end ≡ false

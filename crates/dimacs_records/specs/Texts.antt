@@ -1,4 +1,4 @@
--- What a text spells, with no word of faults; and what a reader answers.
+-- What a text spells, defined without faults, and the result of reading it.
 use Rattle.std.specs.Prelude.{ℕ, ◌≡◌, ◌≤◌, List, length, Option, Result, Ok, Err, ◌∷◌, ◌++◌}
 use Rattle.std.specs.List.{All}
 use Rattle.dimacs_lines.specs.Limits.{longest_line, most_lines}
@@ -10,7 +10,7 @@ use Rattle.dimacs_records.specs.declared.faults.ReadError.TheVariants as read_er
 use Rattle.dimacs_records.specs.Faults.{Spell}
 use Rattle.dimacs_records.specs.Readings.{LineRecord, numbered, IsAllowed, IsComplete}
 
--- the lines lie within the limits, and each is skipped or spells the record beside it
+-- the lines are within the limits, and each is skipped or spells the record at its position
 pub record AreSpelled (kind : TextKind) (all : List (List ℕ)) (said : List (Option Record)) : Type 0 where
   pub few : length all ≤ most_lines
   pub short : All (λ (line : List ℕ). length line ≤ longest_line) all
@@ -22,19 +22,19 @@ pub record SpellsValue {V : Type 0} (kind : TextKind) (gives : List LineRecord �
   pub spelled : AreSpelled kind all said
   pub given : gives (numbered 1 said) v
 
--- the one value that is spelled, where there is no fault; or the one fault, where no value is spelled
+-- the only value that is spelled, and then there is no fault; or the only fault, and then no value is spelled
 abbrev pub Reads : {V : Type 0} → (V → Type 0) → (ℕ → ℕ → Reason → Type 0) → Result V ReadError → Type 0
 Reads spells fault (Ok v) = spells v × ((other : _) → spells other → other ≡ v) × ((l f : ℕ) (r : Reason) → ¬ fault l f r)
 Reads spells fault (Err (read_errors.Refused place reason)) = fault place.line place.field reason × ((l f : ℕ) (r : Reason) → fault l f r → (l ≡ place.line) × (f ≡ place.field) × (r ≡ reason)) × ((v : _) → ¬ spells v)
 Reads spells fault (Err read_errors.Device) = Unit {0}
 Reads spells fault (Err read_errors.Memory) = Unit {0}
 
--- what a reader answers whose value says this
+-- the same for a reader whose result stands for a value
 abbrev pub ReadsAs : {T V : Type 0} → (T → V) → (V → Type 0) → (ℕ → ℕ → Reason → Type 0) → Result T ReadError → Type 0
 ReadsAs said spells fault (Ok value) = Reads spells fault (Ok (said value))
 ReadsAs said spells fault (Err error) = Reads spells fault (Err error)
 
--- no condition holds at any record, nor at the end
+-- no condition holds for any record or at the end
 pub record AreFaultless (kind : TextKind) (all : List Record) : Type 0 where
   pub allowed : (before after : List Record) (r : Record) → all ≡ before ++ r ∷ after → IsAllowed before r
   pub complete : IsComplete kind all

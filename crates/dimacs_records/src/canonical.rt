@@ -1,4 +1,4 @@
-//! Records as lines in the canonical form: one blank between fields, numbers in decimal, a line end.
+//! Writing records in the canonical form: one blank between fields, numbers in decimal, a line end.
 
 ghost use Rattle.std.specs.Prelude.{◌≡◌, ◌<◌, ℕ, List, [], ◌∷◌, ◌++◌, length, slice_get, pos, codes};
 ghost use Rattle.dimacs_lines.specs.Puts.{Puts};
@@ -21,7 +21,7 @@ pub fn put_record<S: Sink>(sink: &mut S, said: &Record) -> Result<(), DeviceFaul
     page.finish(sink)
 }
 
-/// Puts a text of these lines, and then of those that are said at the numbers below this one.
+/// Puts these lines, then a line for each number below `count` for which `line` gives a record.
 pub fn put_text<S: Sink, F: Fn(usize) -> Option<Record>>(
     sink: &mut S,
     first: &[Record],
@@ -38,7 +38,7 @@ pub fn put_text<S: Sink, F: Fn(usize) -> Option<Record>>(
     page.finish(sink)
 }
 
-/// Writes the lines of these records. It is apart, since `write_record` is large where the record isn't known.
+/// Writes the lines of these records. A function by itself: `write_record` is large if the kind of record isn't known.
 #[inline(never)]
 fn write_all<S: Sink>(page: &mut Page, sink: &mut S, records: &[Record])
     ensures { Appends (canonical_text records.now) (S.seen sink.old) page.old (S.seen sink.new) page.new }
@@ -54,7 +54,7 @@ fn write_all<S: Sink>(page: &mut Page, sink: &mut S, records: &[Record])
     );
 }
 
-/// Writes the lines that are said at the numbers below this one, in their order.
+/// Writes a line for each number below `count`, in order, for which `line` gives a record.
 #[inline(always)]
 pub fn write_lines<S: Sink, F: Fn(usize) -> Option<Record>>(
     page: &mut Page,
@@ -81,7 +81,7 @@ fn write_said<S: Sink>(page: &mut Page, sink: &mut S, said: Option<Record>)
     }
 }
 
-/// Writes the line of a record after what was written before.
+/// Writes the line of a record through a buffer.
 #[inline(always)]
 pub fn write_record<S: Sink>(page: &mut Page, sink: &mut S, said: &Record)
     ensures { Appends (canonical_line said.now) (S.seen sink.old) page.old (S.seen sink.new) page.new }
@@ -168,7 +168,7 @@ pub fn write_record<S: Sink>(page: &mut Page, sink: &mut S, said: &Record)
     }
 }
 
-/// Writes a problem line that declares nodes and a count.
+/// Writes a problem line with a number of nodes and a count.
 #[inline(always)]
 fn write_problem<S: Sink>(page: &mut Page, sink: &mut S, word: &[u8], nodes: u32, count: u32)
     ensures { Appends (line_of (codes "p") (Text word.now ∷ Amount (pos nodes) ∷ Amount (pos count) ∷ []))
@@ -182,7 +182,7 @@ fn write_problem<S: Sink>(page: &mut Page, sink: &mut S, word: &[u8], nodes: u32
     );
 }
 
-/// Writes a line of two ends and a number.
+/// Writes a line of tail, head and a number.
 #[inline(always)]
 fn write_arc<S: Sink>(page: &mut Page, sink: &mut S, letter: u8, tail: u32, head: u32, n: i64)
     ensures { Appends (line_of (letter ∷ []) (Amount (pos tail) ∷ Amount (pos head) ∷ Amount n ∷ []))

@@ -1,4 +1,4 @@
-//! Texts that begin with a problem line: one reading for all of their kinds.
+//! Reading texts that begin with a problem line: one reading for all of their kinds.
 
 ghost use Rattle.std.specs.Prelude.{◌≡◌, ◌++◌, ◌∷◌, [], ℕ, List, None, Some, IfErr, IfOk, OnOk, OnErr, true};
 ghost use Rattle.dimacs_lines.specs.Lines.{lines};
@@ -24,64 +24,67 @@ use crate::records::Record;
 use dimacs_lines::{Memory, Source};
 use std::alloc::Global;
 
-/// What a text says from its problem line on, as far as it was read.
+/// What is known of a text after its problem line, and after each further record. A kind of text implements this to be
+/// read by `CountedReading`.
 pub trait Begun: Drop {
+    /// What the text is read into.
     type Value;
 
     ghost kind: { TextKind };
 
-    /// These records may have been taken.
+    /// Which records may have been taken.
     ghost begun_by: { Self → List Record → Type 0 };
 
-    /// What they say of one more.
+    /// What they contribute to the tests of one more record.
     ghost told: { Self → Record → Earlier };
 
-    /// What they say of the end.
+    /// What they contribute to the tests at the end.
     ghost told_end: { Self → Earlier };
 
-    /// The value that the records of a text give.
+    /// Which value the records of a text give.
     ghost gives: { List LineRecord → Self.Value → Type 0 };
 
-    /// Records that give a value are refused for nothing, and give no other.
+    /// The kind of text. Records that give a value have no fault, and give no other value.
     fn kind() -> TextKind
         ensures kind { result ≡ kind }
         ensures faultless { (rs : List LineRecord) (value : Self.Value) → gives rs value → AreFaultless kind (records_of rs) }
         ensures one { (rs : List LineRecord) (value other : Self.Value) → gives rs value → gives rs other → value ≡ other };
 
-    /// What a problem line begins.
+    /// Begins with a problem line.
     fn begin(alloc: Global, problem: Record) -> Self
         requires of_kind { IsOfKind kind problem }
         requires declares { is_problem problem ≡ true }
         ensures { begun_by result (problem ∷ []) };
 
-    /// What the records that were taken say of one more.
+    /// What the taken records contribute to the tests of one more.
     fn before(&self, said: Record) -> Earlier
         requires { IsOfKind kind said }
         ensures told { result ≡ told self.now said }
         ensures so { (rs : List Record) → begun_by self.now rs → result ≡ told_of rs said };
 
-    /// Keeps a record that no test refuses.
+    /// Keeps a record that passed all tests.
     fn keep(&mut self, said: Record) -> Result<(), Memory>
         requires of_kind { IsOfKind kind said }
         requires passes { Passes (told self.old said) said }
         ensures kept { OnOk result ((rs : List Record) → begun_by self.old rs → begun_by self.new (rs ++ said ∷ [])) }
         ensures unchanged { OnErr result (self.new ≡ self.old) };
 
-    /// What the records that were taken say of the end.
+    /// What the taken records contribute to the tests at the end.
     fn before_end(&self) -> Earlier
         ensures told { result ≡ told_end self.now }
         ensures so { (rs : List Record) → begun_by self.now rs → result ≡ told_at_end kind rs };
 
-    /// The value of all records, which no test refuses.
+    /// The value of all records, which have passed all tests.
     fn value(self, alloc: Global) -> Result<Self::Value, Memory>
         requires { PassesEnd kind (told_end self) }
         ensures { IfOk result (λ value. (rs : List LineRecord) → begun_by self (records_of rs) → gives rs value) };
 
-    /// Texts of the kind begin with a problem line.
+    /// This kind of text begins with a problem line.
     ghost has_problem: { needs_problem kind ≡ true };
 }
 
-/// Makes a value of the records of a text that begins with a problem line.
+/// Reads the records of a text that begins with a problem line, and makes a value of them. It makes all tests, in their
+/// order, and leaves the rest to `B`.
 #[derive(Drop)]
 pub struct CountedReading<B: Begun> {
     alloc: Global,
@@ -89,6 +92,7 @@ pub struct CountedReading<B: Begun> {
 }
 
 impl<B: Begun> CountedReading<B> {
+    /// A reading before the first record.
     pub fn new(alloc: Global) -> CountedReading<B>
         ensures { result.begun ≡ None }
     {
@@ -130,7 +134,7 @@ impl<B: Begun> Reading for CountedReading<B> {
     }
 }
 
-/// Reads a text of the kind.
+/// Reads a text that begins with a problem line: its value or its first fault.
 pub fn read_counted<B: Begun, S: Source>(
     alloc: Global,
     source: &mut S,
@@ -141,7 +145,7 @@ pub fn read_counted<B: Begun, S: Source>(
     read_text(alloc, B::kind(), CountedReading::<B>::new(alloc), source)
 }
 
-/// Tests the first record of a text that begins with a problem line.
+/// Tests the first record: it has to be a problem line.
 fn test_first(said: Record) -> Result<(), TakeError>
     ensures problem { OnOk result (is_problem said ≡ true) }
     ensures allowed { OnOk result (IsAllowed [] said) }

@@ -22,9 +22,9 @@ use crate::reasons::Reason;
 use dimacs_lines::{Lines, LinesError, MAX_HELD, MAX_LINES, Source};
 use std::alloc::Global;
 
-/// Reads a text of this kind: the value that its records give, or its first fault.
+/// Reads a whole text: the value that its records give, or its first fault.
 ///
-/// Nothing is pulled once there is an error. How far past a refused line the source was pulled is open.
+/// After an error nothing more is pulled. How far the source was pulled past a refused line is left open.
 pub fn read_text<R: Reading, S: Source>(
     alloc: Global,
     kind: TextKind,
@@ -47,7 +47,7 @@ pub fn read_text<R: Reading, S: Source>(
     }
 }
 
-/// Reads the lines that are left, and answers how many the text has.
+/// Reads the remaining lines. Returns how many lines the text has.
 fn read_lines<R: Reading, S: Source>(
     kind: TextKind,
     lines: &mut Lines,
@@ -75,7 +75,8 @@ fn read_lines<R: Reading, S: Source>(
     }
 }
 
-/// Takes the plain lines that are held. Near the limit on lines none is taken here.
+/// Takes the lines in plain form at the front of the buffer. Close to the limit on lines it takes none, and leaves the
+/// test to `Lines`.
 #[inline(always)]
 fn take_held<R: Reading>(
     kind: TextKind,
@@ -103,7 +104,7 @@ fn take_held<R: Reading>(
     Ok(())
 }
 
-/// Gives the reading what the plain lines say that stand first among the bytes held, up to a line of another form.
+/// Gives the reading the records of the lines in plain form at the front of the held bytes, up to the first other line.
 #[inline(always)]
 fn take_plain<R: Reading>(
     kind: TextKind,
@@ -137,7 +138,7 @@ fn take_plain<R: Reading>(
     Ok(PlainLines { bytes, lines })
 }
 
-/// Reads the next line, and answers its number.
+/// Reads the next line. Returns its number; none at the end.
 #[inline(never)]
 fn read_line<R: Reading, S: Source>(
     kind: TextKind,
@@ -167,7 +168,7 @@ fn read_line<R: Reading, S: Source>(
     }
 }
 
-/// Gives the reading what a line says.
+/// Gives the reading the record of a line, if it has one.
 #[inline(always)]
 fn take_line<R: Reading>(
     kind: TextKind,
@@ -190,7 +191,7 @@ fn take_line<R: Reading>(
     }
 }
 
-/// How a refusal at a line is told.
+/// The refusal of a record, with its line.
 fn at_line(line: u64, error: TakeError) -> ReadError
     ensures { result ≡ read_error line error }
 {
@@ -203,7 +204,7 @@ fn at_line(line: u64, error: TakeError) -> ReadError
     }
 }
 
-/// How an error of the lines is told.
+/// The refusal or the error of a reader of lines.
 fn of_lines(error: LinesError) -> ReadError
     ensures { result ≡ lines_error error }
 {

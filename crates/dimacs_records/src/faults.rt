@@ -1,4 +1,4 @@
-//! Where a text is refused, and what else may stop a reading.
+//! Where a text is refused, and what else may stop reading.
 
 ghost use Rattle.std.specs.Prelude.{◌≡◌};
 ghost use Rattle.dimacs_records.specs.declared.faults.TakeError.TheVariants.{Refused};
@@ -7,28 +7,32 @@ use crate::reasons::Reason;
 use dimacs_lines::Memory;
 use std::alloc::AllocFailed;
 
-/// A fault at a line: the field, counted from 1, or 0 for the whole line; and the reason.
+/// A fault within a line: the field, counted from 1, or 0 for the whole line; and the reason.
 #[derive(Clone, Copy, Debug, PartialEq, Eq)]
 pub struct LineFault {
     pub field: u32,
     pub reason: Reason,
 }
 
-/// A place of a text: the line, counted from 1, and the field as in [`LineFault`].
+/// A place in a text: the line, counted from 1, and the field as in [`LineFault`]. A fault at the end of a text has the
+/// number of lines plus one, and field 0.
 #[derive(Clone, Copy, Debug, PartialEq, Eq)]
 pub struct At {
     pub line: u64,
     pub field: u32,
 }
 
-/// Why a reading does not take a record, or has no value.
+/// Why a record isn't taken, or the records give no value.
 #[derive(Clone, Copy, Debug, PartialEq, Eq)]
 pub enum TakeError {
+    /// The record has this fault.
     Refused(LineFault),
+    /// Out of memory.
     Memory,
 }
 
 impl TakeError {
+    /// A refusal at this field; 0 for the whole line.
     pub fn refused(field: u32, reason: Reason) -> TakeError
         ensures { result ≡ Refused (record { field = field; reason = reason }) }
     {
@@ -56,14 +60,14 @@ impl<T: Drop> From<AllocFailed<T>> for TakeError {
     }
 }
 
-/// Why a text is not read.
+/// Why a text couldn't be read.
 #[derive(Clone, Copy, Debug, PartialEq, Eq)]
 pub enum ReadError {
     /// The text's first fault.
     Refused(At, Reason),
-    /// A pull failed.
+    /// I/O error: a pull failed.
     Device,
-    /// A growth was refused.
+    /// Out of memory.
     Memory,
 }
 

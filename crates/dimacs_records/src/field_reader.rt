@@ -1,6 +1,6 @@
-//! Typed fields, taken from a line one after another.
+//! Reads the fields of a line one after another, each by its type.
 //!
-//! A fault is kept until the line is finished, since a wrong number of fields comes before it.
+//! A fault is reported only when the line is finished: a wrong number of fields comes before it.
 
 ghost use Rattle.std.specs.Prelude.{◌≡◌, ◌≤ℤ◌, ◌≤◌, pos, neg_ℤ, ◌^◌, codes};
 ghost use Rattle.dimacs_lines.specs.Number.{IsWithin};
@@ -17,7 +17,7 @@ use dimacs_lines::{NumberFault, Scan, Token};
 /// The greatest NODES, and so the greatest ID.
 pub const MAX_NODES: u32 = 134_217_728;
 
-/// The greatest count of lines that a problem line may declare.
+/// The greatest number of lines that a problem line may declare.
 pub const MAX_COUNT: u32 = 268_435_456;
 
 /// One of two words.
@@ -27,7 +27,7 @@ enum Choice {
     Latter,
 }
 
-/// The fields of a line that are not taken yet, and the first fault among those that were.
+/// The fields that aren't taken yet, and the first fault of those that were.
 #[derive(Drop)]
 pub(crate) struct FieldReader<'a> {
     scan: Scan<'a>,
@@ -36,7 +36,7 @@ pub(crate) struct FieldReader<'a> {
 }
 
 impl<'a> FieldReader<'a> {
-    /// The fields after a letter.
+    /// The fields after the line's letter.
     #[inline(always)]
     pub(crate) fn new(scan: Scan<'a>) -> FieldReader<'a>
         ensures fresh { IsUntouched result }
@@ -49,6 +49,7 @@ impl<'a> FieldReader<'a> {
         }
     }
 
+    /// Takes a field that has to be this word.
     #[inline(always)]
     pub(crate) fn word(&mut self, field: u32, word: &[u8])
         ensures { TakesField field (Word word.now) self.old (Text word.now) self.new }
@@ -60,6 +61,7 @@ impl<'a> FieldReader<'a> {
         }
     }
 
+    /// Takes `s` or `t`; after a fault, returns the source.
     pub(crate) fn end(&mut self, field: u32) -> End
         ensures { TakesField field (Either (codes "s") (codes "t")) self.old (Text (end_word result)) self.new }
     {
@@ -69,6 +71,7 @@ impl<'a> FieldReader<'a> {
         }
     }
 
+    /// Takes `ss` or `p2p`; after a fault, returns `ss`.
     pub(crate) fn query_kind(&mut self, field: u32) -> QueryKind
         ensures { TakesField field (Either (codes "ss") (codes "p2p")) self.old (Text (query_word result)) self.new }
     {
@@ -78,6 +81,7 @@ impl<'a> FieldReader<'a> {
         }
     }
 
+    /// Takes NODES; after a fault, returns 0.
     #[inline(always)]
     pub(crate) fn nodes(&mut self, field: u32) -> u32
         ensures { TakesField field Nodes self.old (Amount (pos result)) self.new }
@@ -85,6 +89,7 @@ impl<'a> FieldReader<'a> {
         self.range(field, 0, i64::from(MAX_NODES)) as u32
     }
 
+    /// Takes a declared count; after a fault, returns 0.
     #[inline(always)]
     pub(crate) fn count(&mut self, field: u32) -> u32
         ensures { TakesField field Count self.old (Amount (pos result)) self.new }
@@ -92,6 +97,7 @@ impl<'a> FieldReader<'a> {
         self.range(field, 0, i64::from(MAX_COUNT)) as u32
     }
 
+    /// Takes an ID; after a fault, returns 1.
     #[inline(always)]
     pub(crate) fn id(&mut self, field: u32) -> u32
         ensures { TakesField field Id self.old (Amount (pos result)) self.new }
@@ -99,6 +105,7 @@ impl<'a> FieldReader<'a> {
         self.range(field, 1, i64::from(MAX_NODES)) as u32
     }
 
+    /// Takes a 64-bit number; after a fault, returns the least.
     #[inline(always)]
     pub(crate) fn whole(&mut self, field: u32) -> i64
         ensures { TakesField field Whole self.old (Amount result) self.new }
@@ -106,6 +113,7 @@ impl<'a> FieldReader<'a> {
         self.range(field, i64::MIN, i64::MAX)
     }
 
+    /// Takes a 128-bit number from -10^30 to 10^30; after a fault, returns 0.
     #[inline(always)]
     pub(crate) fn wide(&mut self, field: u32) -> i128
         ensures { TakesField field Wide self.old (Amount result) self.new }
@@ -123,7 +131,7 @@ impl<'a> FieldReader<'a> {
         }
     }
 
-    /// A RADIUS, which may be left out: the last field of its line.
+    /// Takes a RADIUS, if the line has one more field.
     pub(crate) fn radius(&mut self, field: u32) -> Option<i128>
         ensures { TakesLast field self.old.scan self.old result self.new }
     {
@@ -137,7 +145,7 @@ impl<'a> FieldReader<'a> {
         }
     }
 
-    /// The record, where each field was there and has no fault, and no other one is left.
+    /// The record, if every field was there without a fault and none is left. A wrong number of fields comes first.
     #[inline(always)]
     pub(crate) fn finish(mut self, spelled: Record) -> Result<Option<Record>, LineFault>
         ensures { result ≡ finished self.entry spelled }
@@ -154,7 +162,7 @@ impl<'a> FieldReader<'a> {
         }
     }
 
-    /// Which of two words a field is; after a fault, the former.
+    /// Takes one of two words; after a fault, returns the former.
     fn either(&mut self, field: u32, former: &[u8], latter: &[u8]) -> Choice
         ensures { TakesField field (Either former.now latter.now) self.old (Text (word_of former.now latter.now result)) self.new }
     {
@@ -172,7 +180,7 @@ impl<'a> FieldReader<'a> {
         }
     }
 
-    /// A number from `low` to `high`; after a fault, `low`.
+    /// Takes a number from `low` to `high`; after a fault, returns `low`.
     #[inline(always)]
     fn range(&mut self, field: u32, low: i64, high: i64) -> i64
         requires { low ≤ℤ high }
@@ -192,7 +200,7 @@ impl<'a> FieldReader<'a> {
         }
     }
 
-    /// Keeps the fault where it is the first.
+    /// Keeps a fault if it is the first.
     fn refuse(&mut self, field: u32, reason: Reason)
         ensures fields { self.new.scan ≡ self.old.scan }
         ensures missing { self.new.missing ≡ self.old.missing }
@@ -204,7 +212,7 @@ impl<'a> FieldReader<'a> {
     }
 }
 
-/// The number from `low` to `high` that a field spells.
+/// Reads a field as a number from `low` to `high`.
 #[inline(always)]
 fn amount(token: &Token<'_>, low: i64, high: i64) -> Result<i64, Reason>
     ensures { ReadsAmount low high token.now.field.text.now result }
@@ -217,7 +225,7 @@ fn amount(token: &Token<'_>, low: i64, high: i64) -> Result<i64, Reason>
     }
 }
 
-/// The wide number that a field spells.
+/// Reads a field as a 128-bit number.
 #[inline(always)]
 fn wide_amount(token: &Token<'_>) -> Result<i128, Reason>
     ensures { ReadsAmount (neg_ℤ (pos (10 ^ 30))) (pos (10 ^ 30)) token.now.field.text.now result }
@@ -228,7 +236,7 @@ fn wide_amount(token: &Token<'_>) -> Result<i128, Reason>
     }
 }
 
-/// The RADIUS that a field spells.
+/// Reads a field as a RADIUS.
 fn radius_amount(token: &Token<'_>) -> Result<i128, Reason>
     ensures { ReadsAmount (pos 0) (pos (10 ^ 30)) token.now.field.text.now result }
 {
@@ -239,7 +247,7 @@ fn radius_amount(token: &Token<'_>) -> Result<i128, Reason>
     }
 }
 
-/// Why a field is refused that spells no number in its range.
+/// Why a field that spells no number of its range is refused.
 fn number_reason(fault: NumberFault) -> Reason
     ensures { result ≡ number_reason fault }
 {

@@ -1,24 +1,24 @@
-//! The kinds of text.
+//! The nine kinds of text.
 
-/// What a text is: an instance, a query, a claim or a certificate.
+/// The kind of a text: an instance, queries, a claim or a certificate.
 #[derive(Clone, Copy, Debug, PartialEq, Eq)]
 pub enum TextKind {
-    /// An instance of maximum flow, of the first challenge.
+    /// An instance of maximum flow, as in the first DIMACS challenge.
     Max,
-    /// An instance of minimum cost flow, of the first challenge.
+    /// An instance of minimum cost flow, as in the first DIMACS challenge.
     Min,
-    /// A graph for shortest paths, of the ninth challenge (`.gr`).
+    /// A graph for shortest paths, as in the ninth DIMACS challenge (`.gr`).
     Graph,
-    /// Queries for shortest paths, of the ninth challenge (`.ss` and `.p2p`).
+    /// Shortest path queries, as in the ninth DIMACS challenge (`.ss` and `.p2p`).
     Queries,
-    /// A flow and its value or cost, of the first challenge.
+    /// A claimed flow with its value or cost, as in the first DIMACS challenge.
     Solution,
-    /// A set of nodes, as a certificate.
+    /// A set of nodes: the certificate of a maximum flow or of infeasibility.
     Cut,
-    /// Node potentials, as a certificate.
+    /// Node potentials: the certificate of a minimum cost flow.
     Potentials,
-    /// Distance labels from some sources, as a certificate.
+    /// Distance labels with predecessors, in a block for each source: a certificate.
     Labels,
-    /// Distances from some sources, as a claim.
+    /// Distances without predecessors, in a block for each source: a claim.
     Distances,
 }

@@ -1,4 +1,6 @@
-//! What holds of every text: of its faults, and of canonical texts.
+//! Theorems about all texts: their faults and canonical form.
+//!
+//! A function here is a theorem. Its contract states it, and its body is empty on purpose: there is nothing to compute.
 
 ghost use Rattle.dimacs_records.specs.CanonicalLaw.{CanonicalLaw};
 ghost use Rattle.dimacs_records.specs.FaultLaws.{OneFaultLaw, NoFaultLaw};
@@ -8,13 +10,13 @@ pub fn one_fault()
     ensures { OneFaultLaw }
 {}
 
-/// A text has no fault where no condition holds at its lines and at its end.
+/// A text has no fault if no condition holds at any of its lines or at its end.
 pub fn no_fault()
     ensures { NoFaultLaw }
 {}
 
-/// The canonical text of records that lines of one kind can spell, at most `MAX_LINES` of them, has just one line for
-/// each, in their order: it has at most `MAX_LINE` bytes, is not skipped, and spells that record.
+/// Take at most `MAX_LINES` records that lines of one kind can spell. Their canonical text has exactly one line for
+/// each, in their order. This line has at most `MAX_LINE` bytes, is no comment, and spells that record.
 pub fn canonical_texts()
     ensures { CanonicalLaw }
 {}

@@ -1,8 +1,8 @@
-//! The records that lines spell, and the driver that reads a whole text into a value.
+//! Records, which lines spell, and the driver that reads a whole text into a value.
 //!
-//! A kind of text is a table of line forms, and a table of the reasons for which it is refused. `record` reads a line
-//! by the first table; a `Reading` keeps what the earlier records said, and refuses by the second. `read_text` gives
-//! the reading the records of a text one by one, and its promise is stated for every reading.
+//! A kind of text is defined by two tables: the forms of its lines, and the reasons for which it is refused. `record`
+//! reads a line by the first table. A `Reading` keeps what it needs of the earlier records, and refuses by the second.
+//! `read_text` passes the records of a text to the reading one by one; its contract holds for every reading.
 #![tactic(auto)]
 
 mod canonical;

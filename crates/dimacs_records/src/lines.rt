@@ -1,4 +1,4 @@
-//! The record that a line spells.
+//! Reading a line as a record.
 
 ghost use Rattle.std.specs.Prelude.{◌≡◌};
 ghost use Rattle.dimacs_records.specs.declared.reasons.Reason.TheVariants.{UnknownLine};
@@ -23,7 +23,8 @@ use crate::reasons::Reason;
 use crate::records::Record;
 use dimacs_lines::Scan;
 
-/// What a line of a text of this kind says: `None` for a comment and for a line without fields.
+/// Reads a line of a text of this kind: its record, or `None` for a comment or a line without fields; or its first
+/// fault of shape. Tests that need earlier lines aren't made here.
 #[inline(always)]
 pub fn record(kind: TextKind, line: &[u8]) -> Result<Option<Record>, LineFault>
     ensures { ReadsLine kind (texts_in line.now) result }
@@ -46,7 +47,7 @@ fn is_comment(first: &[u8]) -> bool
     first.first() == Some(&b'c')
 }
 
-/// What a line says that begins with this field.
+/// The record of a line that begins with this letter.
 #[inline(always)]
 fn letter_record(
     kind: TextKind,
@@ -69,7 +70,7 @@ fn letter_record(
     }
 }
 
-/// The fault of a line that begins with no letter of its kind.
+/// The fault of a line whose first field is no letter of its kind.
 fn unknown_line() -> LineFault
     ensures { result ≡ fault_at 1 UnknownLine }
 {

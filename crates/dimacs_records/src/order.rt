@@ -1,4 +1,4 @@
-//! Which fault comes first: the tests of one more record, and those of the end of a text, in their order.
+//! The tests of one more record and of the end of a text, in the order in which faults are named.
 
 ghost use Rattle.std.specs.Prelude.{◌≡◌, ◌&&◌, ◌||◌, not, false, true, Option, None, is_some, is_none, OnOk, OnErr, IfErr};
 ghost use Rattle.dimacs_records.specs.declared.faults.TakeError.TheVariants.{Refused};
@@ -15,41 +15,43 @@ use crate::kinds::TextKind;
 use crate::reasons::Reason;
 use crate::records::Record;
 
-/// What a problem line declares; that of queries has no NODES.
+/// What a problem line declares; queries have no NODES.
 #[derive(Clone, Copy)]
 pub struct Declared {
     pub nodes: Option<u32>,
     pub count: u32,
 }
 
-/// What the earlier records of a text say, as far as the tests of one more record ask for it, or those of the end.
+/// What the tests of one more record, or of the end, have to know about the earlier records. "The record" is the one
+/// that is tested. A field that its tests don't use is false.
 #[derive(Clone, Copy)]
 pub struct Earlier {
+    /// The problem line, if there was one.
     pub problem: Option<Declared>,
-    /// How many lines came that the problem line counts.
+    /// How many lines there were of those that the problem line counts.
     pub counted: u32,
-    /// The record comes too late, or isn't what the text asks for, or belongs to no block.
+    /// The record comes too late, isn't of the kind that the problem line announces, or belongs to no block.
     pub misplaced: bool,
-    /// The node that the record names was named.
+    /// An earlier line has the record's node as its own; for a label, an earlier line of its block.
     pub named: bool,
-    /// The end that the record names was named.
+    /// An earlier node line has the record's end.
     pub end_named: bool,
-    /// An end was not named.
+    /// Source or sink isn't named yet.
     pub lacks_end: bool,
-    /// The block has as many labels as it declares.
+    /// The record's block has as many labels as it declares.
     pub block_full: bool,
-    /// The block has fewer labels than it declares.
+    /// The last block has fewer labels than it declares, and no more can come.
     pub block_short: bool,
-    /// The value of a solution came.
+    /// The solution's value was given.
     pub valued: bool,
-    /// The predecessor of a label has none in the block.
+    /// The label's predecessor has no label in the block.
     pub pred_unknown: bool,
-    /// The distance of a label is greater than the block's RADIUS.
+    /// The label's distance is greater than the block's RADIUS.
     pub past_radius: bool,
 }
 
 impl Earlier {
-    /// After a problem line and so many lines that it counts, or after none.
+    /// After this problem line, if any, and so many lines that it counts. All tests are false.
     #[inline(always)]
     pub fn of(problem: Option<Declared>, counted: u32) -> Earlier
         ensures { result ≡ earlier_of problem counted }
@@ -69,7 +71,7 @@ impl Earlier {
         }
     }
 
-    /// No problem line came before this record, which has to come after one.
+    /// The record needs a problem line before it, and there is none.
     #[inline(always)]
     fn is_without_problem(self, said: Record) -> bool
         ensures { result ≡ ((needs_problem (kind_of said) && not (is_problem said)) && is_none self.problem) }
@@ -80,7 +82,7 @@ impl Earlier {
         }
     }
 
-    /// A problem line came before this one.
+    /// The record is a second problem line.
     #[inline(always)]
     fn is_second_problem(self, said: Record) -> bool
         ensures { result ≡ (is_problem said && is_some self.problem) }
@@ -91,7 +93,7 @@ impl Earlier {
         }
     }
 
-    /// As many lines came as are declared, or as many labels in the block.
+    /// The text has as many lines as it declares, or the block as many labels, and the record is one more.
     #[inline(always)]
     fn is_full_for(self, said: Record) -> bool
         ensures { result ≡ is_too_many_told self said }
@@ -102,7 +104,7 @@ impl Earlier {
         }
     }
 
-    /// No problem line came, and the kind needs one.
+    /// The kind needs a problem line, and there is none.
     #[inline(always)]
     fn is_without_any(self, kind: TextKind) -> bool
         ensures { result ≡ (needs_problem kind && is_none self.problem) }
@@ -113,7 +115,7 @@ impl Earlier {
         }
     }
 
-    /// Fewer lines came than are declared, or fewer labels in the last block.
+    /// The text has fewer lines than it declares, or the last block fewer labels.
     #[inline(always)]
     fn is_unfinished(self) -> bool
         ensures { result ≡ (self.block_short || is_short self.problem self.counted) }
@@ -121,7 +123,7 @@ impl Earlier {
         self.block_short || self.is_short()
     }
 
-    /// No value came, and the kind needs one.
+    /// The kind needs a value, and there is none.
     #[inline(always)]
     fn is_without_value(self, kind: TextKind) -> bool
         ensures { result ≡ (needs_value kind && not self.valued) }
@@ -132,7 +134,7 @@ impl Earlier {
         }
     }
 
-    /// An ID is above NODES.
+    /// The ID is above NODES.
     #[inline(always)]
     fn is_above(self, id: u32) -> bool
         ensures { result ≡ is_above self.problem id }
@@ -148,7 +150,7 @@ impl Earlier {
         }
     }
 
-    /// There is such an ID, and it is above NODES.
+    /// There is an ID, and it is above NODES.
     #[inline(always)]
     fn has_above(self, id: Option<u32>) -> bool
         ensures { result ≡ is_so (is_above self.problem) id }
@@ -159,7 +161,7 @@ impl Earlier {
         }
     }
 
-    /// As many lines came as are declared.
+    /// There are as many lines as declared.
     #[inline(always)]
     fn is_full(self) -> bool
         ensures { result ≡ is_full self.problem self.counted }
@@ -170,7 +172,7 @@ impl Earlier {
         }
     }
 
-    /// Fewer lines came than are declared.
+    /// There are fewer lines than declared.
     #[inline(always)]
     fn is_short(self) -> bool
         ensures { result ≡ is_short self.problem self.counted }
@@ -182,7 +184,7 @@ impl Earlier {
     }
 }
 
-/// Tests one more record, in the order in which its faults are named.
+/// Tests one more record, in the order in which its faults are named. Returns the first fault.
 #[inline(always)]
 pub fn test_record(earlier: Earlier, said: Record) -> Result<(), TakeError>
     ensures passes { OnOk result (Passes earlier said) }
@@ -207,7 +209,8 @@ pub fn test_record(earlier: Earlier, said: Record) -> Result<(), TakeError>
     Ok(())
 }
 
-/// Tests the end of a text, in the order in which its faults are named. A solution's value is missing where `valued` is false.
+/// Tests the end of a text, in the order in which its faults are named. Returns the first fault. A solution is refused
+/// if `valued` is false.
 #[inline(always)]
 pub fn test_end(kind: TextKind, earlier: Earlier) -> Result<(), TakeError>
     ensures passes { OnOk result (PassesEnd kind earlier) }
@@ -220,7 +223,7 @@ pub fn test_end(kind: TextKind, earlier: Earlier) -> Result<(), TakeError>
     Ok(())
 }
 
-/// A fault, where there is one.
+/// Refuses if `wrong`.
 #[inline(always)]
 fn refuse_if(wrong: bool, field: u32, reason: Reason) -> Result<(), TakeError>
     ensures right { OnOk result (wrong ≡ false) }
@@ -234,7 +237,7 @@ fn refuse_if(wrong: bool, field: u32, reason: Reason) -> Result<(), TakeError>
     }
 }
 
-/// A text of the kind begins with a problem line; a solution has its value instead.
+/// Whether texts of the kind begin with a problem line; a solution doesn't.
 #[inline(always)]
 fn needs_problem(kind: TextKind) -> bool
     ensures { result ≡ needs_problem kind }
@@ -245,7 +248,7 @@ fn needs_problem(kind: TextKind) -> bool
     }
 }
 
-/// A record that has to come after a problem line.
+/// Whether the record has to come after a problem line.
 #[inline(always)]
 fn wants_problem(said: Record) -> bool
     ensures { result ≡ (needs_problem (kind_of said) && not (is_problem said)) }
@@ -256,7 +259,7 @@ fn wants_problem(said: Record) -> bool
     }
 }
 
-/// A problem line.
+/// Whether the record is a problem line.
 #[inline(always)]
 pub(crate) fn declares(said: Record) -> bool
     ensures { result ≡ is_problem said }
@@ -274,7 +277,7 @@ pub(crate) fn declares(said: Record) -> bool
     }
 }
 
-/// The ID in field 2, where NODES bounds it.
+/// The ID in field 2, if NODES bounds it.
 #[inline(always)]
 fn second_id(said: Record) -> Option<u32>
     ensures { (p : Option Declared) → is_above_at 2 p (bounded_ids said) ≡ is_so (is_above p) result }
@@ -293,7 +296,7 @@ fn second_id(said: Record) -> Option<u32>
     }
 }
 
-/// The ID in field 3, where NODES bounds it.
+/// The ID in field 3, if NODES bounds it.
 #[inline(always)]
 fn third_id(said: Record) -> Option<u32>
     ensures { (p : Option Declared) → is_above_at 3 p (bounded_ids said) ≡ is_so (is_above p) result }
@@ -305,7 +308,7 @@ fn third_id(said: Record) -> Option<u32>
     }
 }
 
-/// The ID in field 4, where NODES bounds it.
+/// The ID in field 4, if NODES bounds it.
 #[inline(always)]
 fn fourth_id(said: Record) -> Option<u32>
     ensures { (p : Option Declared) → is_above_at 4 p (bounded_ids said) ≡ is_so (is_above p) result }
@@ -316,7 +319,7 @@ fn fourth_id(said: Record) -> Option<u32>
     }
 }
 
-/// A bound in field 4 is negative.
+/// Whether the bound in field 4 is negative.
 #[inline(always)]
 fn has_wrong_low(said: Record) -> bool
     ensures { result ≡ is_bound_wrong 4 said }
@@ -328,7 +331,7 @@ fn has_wrong_low(said: Record) -> bool
     }
 }
 
-/// CAP is below LOW.
+/// Whether CAP is below LOW.
 #[inline(always)]
 fn has_wrong_cap(said: Record) -> bool
     ensures { result ≡ is_bound_wrong 5 said }
@@ -339,7 +342,7 @@ fn has_wrong_cap(said: Record) -> bool
     }
 }
 
-/// A line that the problem line counts.
+/// Whether the problem line counts this line.
 #[inline(always)]
 fn counts(said: Record) -> bool
     ensures { result ≡ is_counted said }

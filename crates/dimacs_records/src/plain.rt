@@ -1,5 +1,5 @@
-//! Lines in the plain form, which most lines have: a letter, one blank before each number, and the line's end right after
-//! the last. Their records are read straight from the bytes that are held; any other line is left to `record`.
+//! Fast reading of lines in the plain form, which most lines have: a letter, one blank before each number, and the
+//! line's end right after the last. They are read straight from the buffer; every other line is left to `record`.
 
 ghost use Rattle.std.specs.Prelude.{◌≡◌, ◌≤◌, ◌∷◌, [], pos, length, drop, IfSome, IsTrue};
 ghost use Rattle.dimacs_records.specs.declared.kinds.TextKind.TheVariants.{Min, Potentials, Labels, Distances};
@@ -12,21 +12,21 @@ use crate::reading::Reading;
 use crate::records::Record;
 use dimacs_lines::{plain_id, plain_whole};
 
-/// Some of the first lines that are held, with their ends.
+/// The length of some of the first lines in the buffer, with their ends.
 #[derive(Clone, Copy)]
 pub(crate) struct PlainLines {
     pub(crate) bytes: usize,
     pub(crate) lines: u64,
 }
 
-/// A record, and how many bytes its line takes with its end.
+/// A record, and the number of bytes of its line with its end.
 #[derive(Clone, Copy)]
 pub(crate) struct PlainLine {
     pub(crate) size: usize,
     pub(crate) said: Record,
 }
 
-/// A line of a node and a number.
+/// The fields of a line with a node and a number.
 #[derive(Clone, Copy)]
 struct NodeLine {
     size: usize,
@@ -34,9 +34,9 @@ struct NodeLine {
     number: i64,
 }
 
-/// What the first line says, where it has the plain form.
+/// Reads the first line, if it has the plain form.
 ///
-/// Each reading R has a copy of its own, in which the kind is constant, so that the forms of the others fall away.
+/// Each reading `R` gets its own copy, in which the kind is a constant; the compiler drops the forms of other kinds.
 #[inline]
 pub(crate) fn plain_line<R: Reading>(kind: TextKind, bytes: &[u8]) -> Option<PlainLine>
     ensures { IfSome result (λ line. SaysFirst kind bytes.now line.said line.size) }
@@ -52,7 +52,7 @@ pub(crate) fn plain_line<R: Reading>(kind: TextKind, bytes: &[u8]) -> Option<Pla
     }
 }
 
-/// A node or an arc of a minimum cost flow.
+/// A node or an arc line of an instance of minimum cost flow.
 #[inline(always)]
 fn min_line(bytes: &[u8]) -> Option<PlainLine>
     ensures { IfSome result (λ line. SaysFirst Min bytes.now line.said line.size) }
@@ -65,7 +65,7 @@ fn min_line(bytes: &[u8]) -> Option<PlainLine>
     Some(PlainLine { size, said })
 }
 
-/// A node of potentials.
+/// A node line of potentials.
 #[inline(always)]
 fn potentials_line(bytes: &[u8]) -> Option<PlainLine>
     ensures { IfSome result (λ line. SaysFirst Potentials bytes.now line.said line.size) }
@@ -78,7 +78,7 @@ fn potentials_line(bytes: &[u8]) -> Option<PlainLine>
     Some(PlainLine { size, said })
 }
 
-/// A node of a block of distances.
+/// A node line of distances.
 #[inline(always)]
 fn distances_line(bytes: &[u8]) -> Option<PlainLine>
     ensures { IfSome result (λ line. SaysFirst Distances bytes.now line.said line.size) }
@@ -91,7 +91,7 @@ fn distances_line(bytes: &[u8]) -> Option<PlainLine>
     Some(PlainLine { size, said })
 }
 
-/// A label of a block.
+/// A node line of labels.
 #[inline(always)]
 fn labels_line(bytes: &[u8]) -> Option<PlainLine>
     ensures { IfSome result (λ line. SaysFirst Labels bytes.now line.said line.size) }
@@ -110,7 +110,7 @@ fn labels_line(bytes: &[u8]) -> Option<PlainLine>
     Some(PlainLine { size, said })
 }
 
-/// An arc with its bounds and its cost.
+/// An arc line with bounds and cost.
 #[inline(always)]
 fn bounds_line(bytes: &[u8]) -> Option<PlainLine>
     ensures { IfSome result (λ line. SaysFirst Min bytes.now line.said line.size) }
@@ -161,7 +161,7 @@ fn arc_line(kind: TextKind, letter: u8, bytes: &[u8]) -> Option<PlainLine>
     Some(PlainLine { size, said })
 }
 
-/// What a line of two nodes and a number says, where the kind has such lines of the letter.
+/// The record of a line with two nodes and a number, if the kind has such lines with this letter.
 #[inline(always)]
 fn arc_record(kind: TextKind, letter: u8, tail: u32, head: u32, number: i64) -> Option<Record>
     ensures { IfSome result (λ said. SaysArc kind letter tail head number said) }
@@ -186,7 +186,7 @@ fn arc_record(kind: TextKind, letter: u8, tail: u32, head: u32, number: i64) -> 
     }
 }
 
-/// Whether a letter and a blank stand in front.
+/// Whether the bytes begin with this letter and a blank.
 #[inline(always)]
 fn begins_with(bytes: &[u8], letter: u8) -> bool
     ensures { IsTrue result → bytes.now ≡ letter ∷ 32 ∷ drop 2 bytes.now }

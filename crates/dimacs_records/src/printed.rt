@@ -1,4 +1,4 @@
-//! Lines of words and numbers.
+//! Writing lines of words and numbers.
 
 ghost use Rattle.std.specs.Prelude.{◌++◌};
 ghost use Rattle.dimacs_lines.specs.Pages.{Appends};
@@ -7,7 +7,7 @@ ghost use Rattle.dimacs_records.specs.Printed.{after_blank, printed, printed_lin
 
 use dimacs_lines::{DeviceFault, Page, Sink};
 
-/// A field after the first word of a line.
+/// A field after the first word of a printed line.
 #[derive(Clone, Copy)]
 pub enum Part<'a> {
     Word(&'a [u8]),
@@ -15,7 +15,7 @@ pub enum Part<'a> {
     Wide(i128),
 }
 
-/// Puts a line: a word, and the fields after it with one blank between them.
+/// Puts a line: a word, then the fields, each after one blank.
 pub fn put_line<S: Sink>(sink: &mut S, word: &[u8], parts: &[Part<'_>]) -> Result<(), DeviceFault>
     ensures { Puts result (S.seen sink.old) (printed_line word.now parts.now) (S.seen sink.new) }
 {
@@ -24,7 +24,7 @@ pub fn put_line<S: Sink>(sink: &mut S, word: &[u8], parts: &[Part<'_>]) -> Resul
     page.finish(sink)
 }
 
-/// Writes a line after what was written before.
+/// Writes such a line through a buffer.
 pub fn write_line<S: Sink>(page: &mut Page, sink: &mut S, word: &[u8], parts: &[Part<'_>])
     ensures { Appends (printed_line word.now parts.now) (S.seen sink.old) page.old (S.seen sink.new) page.new }
 {
@@ -35,7 +35,7 @@ pub fn write_line<S: Sink>(page: &mut Page, sink: &mut S, word: &[u8], parts: &[
     page.write(sink, b"\n");
 }
 
-/// Writes a blank and a field.
+/// Writes a blank and then the field.
 #[inline(always)]
 fn write_part<S: Sink>(page: &mut Page, sink: &mut S, part: &Part<'_>)
     ensures { Appends (after_blank (printed part.now)) (S.seen sink.old) page.old (S.seen sink.new) page.new }

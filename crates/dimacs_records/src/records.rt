@@ -1,9 +1,9 @@
-//! What a line says.
+//! Records: lines without their spelling.
 
 ghost use Rattle.std.specs.Prelude.{◌≡◌};
 ghost use Rattle.dimacs_records.specs.Spelling.{end_word, query_word};
 
-/// A line of a text, without its blanks and spellings. IDs count from 1.
+/// What a line of a text spells, whatever its blanks and the form of its numbers. IDs count from 1.
 #[derive(Clone, Copy, Debug, PartialEq, Eq)]
 pub enum Record {
     /// `p max NODES ARCS`
@@ -128,7 +128,7 @@ pub enum Record {
     },
 }
 
-/// An end of a maximum flow.
+/// Source or sink of a maximum flow.
 #[derive(Clone, Copy, Debug, PartialEq, Eq)]
 pub enum End {
     Source,
@@ -136,7 +136,7 @@ pub enum End {
 }
 
 impl End {
-    /// The word of a node line.
+    /// The word for it on a node line: `s` or `t`.
     pub fn word(self) -> &'static [u8]
         ensures { result.now ≡ end_word self }
     {
@@ -147,17 +147,17 @@ impl End {
     }
 }
 
-/// What the queries of a text ask for.
+/// What the queries of a text ask.
 #[derive(Clone, Copy, Debug, PartialEq, Eq)]
 pub enum QueryKind {
-    /// The distances from a source to all nodes.
+    /// `ss`: the distances from one node to all nodes.
     Sources,
-    /// The distance from one node to another.
+    /// `p2p`: the distance from one node to another.
     Pairs,
 }
 
 impl QueryKind {
-    /// The word of a problem line.
+    /// The word for it on a problem line.
     pub fn word(self) -> &'static [u8]
         ensures { result.now ≡ query_word self }
     {

@@ -1,4 +1,4 @@
-//! What each kind of text has in common: it is read, written and shown.
+//! What all kinds of text have in common: a value can be read, written and shown.
 
 ghost use Rattle.std.specs.Prelude.{◌≡◌, ℕ, List, Some, IfOk};
 ghost use Rattle.dimacs_lines.specs.Lines.{lines};
@@ -13,37 +13,44 @@ use crate::kinds::TextKind;
 use dimacs_lines::{DeviceFault, Sink, Source};
 use std::alloc::Global;
 
-/// A value that texts of one kind spell.
+/// A value that texts of one kind spell: it is read, written in the canonical form, and shown on one line.
 pub trait Text: Drop {
+    /// The kind of text.
     ghost kind: { TextKind };
 
+    /// The mathematical value.
     ghost Said: { Type 0 };
 
-    /// What the value says, whatever room its lists have.
+    /// The mathematical value of this one; it doesn't depend on capacities of lists.
     ghost said: { Self → Said };
 
+    /// Which bytes spell which value.
     ghost spells: { List ℕ → Said → Type 0 };
 
-    /// What holds of every value that was read.
+    /// What holds of every value that was read from a text.
     ghost lawful: { Said → Type 0 };
 
+    /// The canonical text of a value.
     ghost canonical: { Said → List ℕ };
 
+    /// The line that `show` puts.
     ghost shown: { Said → List ℕ };
 
+    /// The kind of text, as a value.
     fn kind() -> TextKind
         ensures { result ≡ kind };
 
+    /// Reads a whole text: its value, or its first fault.
     fn read<S: Source>(alloc: Global, source: &mut S) -> Result<Self, ReadError>
         ensures reads { (bytes : List ℕ) → S.coming source.old ≡ Some bytes → ReadsAs said (spells bytes) (Fault kind (lines bytes)) result }
         ensures device { CountsRead result (S.faults source.old) (S.faults source.new) }
         ensures lawful { IfOk result (λ value. lawful (said value)) };
 
-    /// Puts the canonical text.
+    /// Puts the canonical text of the value.
     fn write<K: Sink>(&self, sink: &mut K) -> Result<(), DeviceFault>
         ensures puts { Puts result (K.seen sink.old) (canonical (said self.now)) (K.seen sink.new) };
 
-    /// Puts a line about the value.
+    /// Puts one line about the value, which begins with `i`.
     fn show<K: Sink>(&self, sink: &mut K) -> Result<(), DeviceFault>
         ensures puts { Puts result (K.seen sink.old) (shown (said self.now)) (K.seen sink.new) };
 }

@@ -1,4 +1,4 @@
--- The blocks of all sources, and that they pass the judge's tests.
+-- The blocks of all sources pass the judge's tests.
 use Rattle.std.proofs.Common.{◌≡◌, inl, ℕ, ◌+◌, ◌<◌, ◌≤◌, true, false, cond, List, [], ◌∷◌, ◌++◌, All, length, refl, sym, ap, subst, ◌∙◌, arith, Some, None, ℤ, pos}
 use Rattle.std.specs.Prelude.{◌==◌, ◌||◌, ◌+ℤ◌, map}
 use Rattle.std.specs.List.{list_any, flat_map}
@@ -27,7 +27,7 @@ use Rattle.dimacs_solve.specs.inside.Blocks.{AddsBlock, AreSolved}
 use Rattle.dimacs_solve.specs.Paths.{AreProduced, IsNearestFirst, block_source, distinct_after, noted}
 use Rattle.dimacs_solve.specs.inside.Search.{IsMade, IsPathTree}
 
--- ---- a search's labels pass
+-- ---- the labels of one search pass
 module _ (g : NetworkValue) (a : Adjacency) (by : IsAdjacencyOf g.nodes g.arcs a) (b : BlockValue) (tree : IsPathTree a b.source b) where
   made_tight : (l : Label) → IsMade a b l → HasTightArc g.arcs b l
   made_tight l is =
@@ -111,7 +111,7 @@ new_source source blocks none b from other (k, inside, is) same =
     let some = list_any-from_Any (has_source source) blocks (k, other, inside, is, eq-eqb other.source source (same ∙ from)) in
     cc
 
--- ---- the nodes that are asked for
+-- ---- the nodes asked for
 pairs_within : (nodes : ℕ) (pairs : List (ℕ × ℕ)) → All AreIds pairs → All (λ id. id ≤ nodes) (flat_map ends_of pairs) → All (IsNode nodes) (map (λ (pair : ℕ × ℕ). pair.0) pairs)
 pairs_within nodes [] ids within = All-nil (IsNode nodes)
 pairs_within nodes (p ∷ pairs) ids within =
@@ -123,7 +123,7 @@ pub sources_are_nodes : (nodes : ℕ) (q : QueriesValue) → HaveIds q → All (
 sources_are_nodes nodes (Sources ids) are within = λ k d h. ((are k d h).0, within k d h)
 sources_are_nodes nodes (Pairs pairs) are within = pairs_within nodes pairs are within
 
--- ---- queries are served by blocks without a radius
+-- ---- blocks without a radius answer all queries
 has_full : (blocks : List BlockValue) (source : ℕ) → All (λ (b : BlockValue). b.radius ≡ None) blocks → HasBlock blocks source → HasFullBlock blocks source
 has_full blocks source unbounded has =
     let (i, b, inside, there, found, same) = block_found blocks source has in
@@ -133,7 +133,7 @@ served : (q : QueriesValue) (blocks : List BlockValue) (sources : List ℕ) → 
 served (Sources ids) blocks sources unbounded found = All-weaker (HasBlock blocks) (HasFullBlock blocks) (λ source. has_full blocks source unbounded) sources found
 served (Pairs pairs) blocks sources unbounded found = found
 
--- ---- the whole
+-- ---- all together
 pub produced : (g : NetworkValue) (q : QueriesValue) (a : Adjacency) (labels : LabelsValue) → PassingShowsLaw → IsAdjacencyOf g.nodes g.arcs a → All (λ id. id ≤ g.nodes) (nodes_asked q) → AreSolved a (sources_asked q) labels → AreProduced g q labels
 produced g q a labels passing_shows by within is =
     let T : BlockValue → Type 0 = λ b. IsPathTree a b.source b in

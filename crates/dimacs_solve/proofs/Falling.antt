@@ -1,4 +1,4 @@
--- One better flow more.
+-- One more, better flow.
 use Rattle.std.proofs.Common.{Bool, true, false, ◌≡◌, inl, inr, ℕ, suc, zero, ◌+◌, ◌<◌, ℤ, pos, ◌≤ℤ◌, List, [], ◌∷◌, ◌++◌, All, length, map, refl, arith}
 use Rattle.std.proofs.lemmas.Int.{ints}
 use Rattle.std.specs.Int.Signed.{lt_z}
@@ -29,14 +29,14 @@ part_zero z e = rw e refl
 excess_none : (i : MinValue) (x : List ℤ) → FeasibleMin i x → total_excess i x ≡ pos 0
 excess_none i x f = sum_none (λ v. pos (positive_part (surplus_at i x v))) i.nodes (λ v h. part_zero (surplus_at i x v) (omega (arith, ints, f.balanced v h)))
 
--- ---- better than what is better
+-- ---- being better is transitive
 pub better_then : (i : MinValue) (x y z : List ℤ) → IsBetter i x y → IsBetter i y z → IsBetter i x z
 better_then i x y z (inl a) (inl b) = inl (omega (arith, ints, a, b))
 better_then i x y z (inl a) (inr b) = inl (omega (arith, ints, a, excess_none i y b.0, excess_none i z b.1))
 better_then i x y z (inr a) (inl b) = absurd (omega (arith, ints, b, excess_none i y a.1, excess_some i z))
 better_then i x y z (inr a) (inr b) = inr (a.0, b.1, omega (arith, ints, a.2, b.2))
 
--- ---- the flows so far, and the one that is asked about next
+-- ---- the flows so far, and the one to test next
 pub record IsAtStep (i : MinValue) (n : ℕ) (now : List ℤ) : Type 0 where
   pub earlier : List (List ℤ)
   pub count : length earlier ≡ n
@@ -68,7 +68,7 @@ first_of : (i : MinValue) (earlier : List (List ℤ)) (now : List ℤ) → Start
 first_of i [] now starts none = starts
 first_of i (x ∷ earlier) now starts none = absurd (omega (arith, none))
 
--- without a step, the flow is the one to start from
+-- without a step, the flow is the start flow
 pub at_start : (i : MinValue) (n : ℕ) (now : List ℤ) → IsAtStep i n now → n ≡ 0 → now ≡ start_flow i.arcs
 at_start i n now at none = first_of i at.earlier now at.starts (omega (arith, at.count, none))
 
@@ -80,7 +80,7 @@ out_of_steps i n limit now e at below = record {
   falling = falling_push i at.earlier now at.falling at.better at.within below;
 }
 
--- ---- the start
+-- ---- the start flow
 between : (test : Bool) (low cap : ℤ) → low ≤ℤ cap → (low ≤ℤ (if test then cap else low)) × ((if test then cap else low) ≤ℤ cap)
 between true low cap h = (h, omega (arith, ints))
 between false low cap h = (omega (arith, ints), h)

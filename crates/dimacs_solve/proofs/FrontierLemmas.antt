@@ -1,4 +1,4 @@
--- The order of the ways that wait.
+-- The order of walks in the queue.
 use Rattle.std.proofs.Common.{◌≡◌, ℕ, ◌≤◌, List, [], ◌∷◌, map, false}
 use Rattle.std.specs.BinaryHeap.{IsUpperBound, lt_by_cmp}
 use Rattle.std.specs.Ordering.{nat_cmp, ordering_then}
@@ -10,7 +10,7 @@ use Rattle.dimacs_solve.specs.declared.frontier.Reach.{Reach}
 use Rattle.dimacs_solve.specs.Frontiers.{reach_cmp, way_in}
 use Rattle.dimacs_solve.specs.inside.Frontiers.{IsNearest}
 
--- the order of the ends of two ways
+-- the order by end and predecessor
 abbrev ends_cmp : ℕ × ℕ → ℕ × ℕ → Ordering
 ends_cmp a b = ordering_then (nat_cmp a.0 b.0) (nat_cmp a.1 b.1)
 

@@ -1,4 +1,4 @@
--- What is known of the nodes, when a mark comes.
+-- The table after one more mark.
 use Rattle.std.proofs.Common.{◌≡◌, ◌≢◌, ℕ, ◌≤◌, inl, inr, sym, subst, Result, Ok, Err}
 use Rattle.std.specs.Prelude.{OnOk, OnErr}
 use Rattle.std.proofs.lemmas.Bool.{cases_eq}
@@ -6,7 +6,7 @@ use Rattle.dimacs_nodes.specs.declared.node_table.NodeTable.{NodeTable}
 use Rattle.dimacs_nodes.specs.Tables.{SameValues, value_of}
 use Rattle.dimacs_solve.specs.declared.marks.Mark.{Mark}
 
--- no mark is later than the round, also after one was set
+-- no mark is from a later round, and it stays so after one is set
 module _ {D : Type 0} (round : ℕ) (old new : NodeTable (Mark D)) (earlier : (v : ℕ) → (value_of old v).round ≤ round) (node : ℕ) (mark : Mark D) (within : mark.round ≤ round) where
   no_later_set : value_of new node ≡ mark → ((v : ℕ) → v ≢ node → value_of new v ≡ value_of old v) → (v : ℕ) → (value_of new v).round ≤ round
   no_later_set here there v =

@@ -42,7 +42,7 @@ times_more k m = ap (λ n. n * m) (add-one k) ∙ suc-mul k m
 lt_or_le : (m n : ℕ) → (m ≤ n) ⊎ (n < m)
 lt_or_le m n = elim (cases_order m n) [ inl l ↦ inl (omega (arith, l)) | inr h ↦ elim h [ inl l ↦ inl (omega (arith, l)) | inr l ↦ inr l ] ]
 
--- ---- what waits, when one way comes or goes
+-- ---- the queue with one walk more or less
 module _ (e : Reach ℕ) (few more : List (Reach ℕ)) (moved : IsPermutation (e ∷ few) more) where
   has_new : Contains more e
   has_new = Contains-permutation (e ∷ few) more e moved (cons_first e few)
@@ -69,7 +69,7 @@ off_from k h = elim (settled_tells k) [ inl on ↦ absurd (h on.1) | inr off ↦
 on_from : (k : Known) → IsSettled k → is_settled k ≡ true
 on_from k h = elim (settled_tells k) [ inl on ↦ on.0 | inr off ↦ absurd (off.1 h) ]
 
--- ---- how many are settled
+-- ---- how many nodes are settled
 abbrev ones : Bool → ℕ
 ones b = cond b 1 0
 
@@ -90,7 +90,7 @@ settled_count-same old new (suc n) same =
     let here = ap ones (same (suc n) (omega arith) (omega arith)) in
     omega (arith, before, here)
 
--- one more
+-- one more node is settled
 settled_count-more : (old new : ℕ → Known) (node n : ℕ) → IsNode n node → ((v : ℕ) → v ≢ node → new v ≡ old v) → is_settled (old node) ≡ false → is_settled (new node) ≡ true → settled_count new n ≡ settled_count old n + 1
 unfolding settled_count
 settled_count-more old new node zero is others off on = absurd (omega (arith, is.0, is.1))
@@ -114,7 +114,7 @@ settled_count-none marks (suc n) none =
     let here = ap ones (off_from (marks (suc n)) (none (suc n))) in
     omega (arith, before, here)
 
--- ---- marks that fall
+-- ---- marks don't rise
 pub lowers_none : (marks : ℕ → Known) → Lowers marks marks
 lowers_none marks = record { kept = λ v s. refl; none = λ v s. refl; within = λ v d w. w }
 
@@ -152,7 +152,7 @@ waiting_stays a floor old new l o w = record {
   bound = subst (λ n. o.dist ≤ a.greatest * n) (sym (lowers_count old new a.nodes l)) w.bound;
 }
 
--- ---- the marks and the ways after an offer
+-- ---- the marks and the queue after an offer
 record IsOffered (a : Adjacency) (floor : ℕ) (e : Reach ℕ) (marks : ℕ → Known) (front : List (Reach ℕ)) (marks' : ℕ → Known) (front' : List (Reach ℕ)) : Type 0 where
   waits : IsFront a floor marks' front'
   lowers : Lowers marks marks'
@@ -237,7 +237,7 @@ out_few a v = simp (length-take, length-drop) (omega arith)
 pub hop_at : (a : Adjacency) (node : ℕ) (hops : List Hop) (i : ℕ) (d : Hop) → AreByNode a → hops ≡ out a node → i < length hops → IsHop a.nodes a.greatest (get_or hops i d)
 hop_at a node hops i d is from inside = All-get_or (IsHop a.nodes a.greatest) hops i d inside (rw from (out_hops a node is))
 
--- ---- a step of a relaxation
+-- ---- one step of relaxing a node
 pub record IsRelaxing (a : Adjacency) (dist : ℕ) (old : ℕ → Known) (ways : List (Reach ℕ)) (hops : List Hop) (i : ℕ) (marks : ℕ → Known) (front : List (Reach ℕ)) : Type 0 where
   pub waits : IsFront a dist marks front
   pub lowers : Lowers old marks
@@ -279,14 +279,14 @@ relaxing_all a dist node old ways hops i marks front from all is = record {
   few = omega (arith, is.few, all, ap length from, out_few a node);
 }
 
--- a hop more from a settled node stays below the limit
+-- the distance after one more hop from a settled node stays below the limit
 pub hop_within : (a : Adjacency) (node dist limit : ℕ) (marks : ℕ → Known) (front : List (Reach ℕ)) (hop : Hop) → IsReady a node dist marks front → a.nodes * a.greatest < limit → IsHop a.nodes a.greatest hop → dist + hop.weight < limit
 hop_within a node dist limit marks front hop ready room lawful =
     let most : a.greatest * settled_count marks a.nodes ≤ a.greatest * a.nodes = mul-le-mul_left a.greatest (settled_count-le marks a.nodes) in
     omega (arith, room, ready.bound, lawful.weight, most)
 
--- ---- labels, with one more
--- what a label more does to the labels, as `Block::add` says
+-- ---- one more label
+-- the labels with one more, as `Block::add` promises
 abbrev pub AddsLabel : BlockValue → Label → Type 0
 AddsLabel b l = (v : ℕ) → label (with_label b l) v ≡ (if l.id == v then Some l.dist else label b v)
 
@@ -312,7 +312,7 @@ module _ (b : BlockValue) (l : Label) (fresh : label b l.id ≡ None) (adds : Ad
   made_stays : (a : Adjacency) (m : Label) → IsMade a b m → IsMade a (with_label b l) m
   made_stays a m is = record { base = is.base; weight = is.weight; pred = label_stays m.pred (pos is.base) is.pred; hop = is.hop; adds = is.adds }
 
--- ---- the label of a mark
+-- ---- the label of a settled node
 label_of_settled : (k : Known) → IsSettled k → settled_label k ≡ Some (pos k.dist)
 label_of_settled k h = ap (λ b. if b then Some (pos k.dist) else None) (on_from k h)
 
@@ -338,7 +338,7 @@ nearest_first_more ls l is low k d h = elim (cases_lt (k + 1) (length ls)) [
       rw (last, get_or_append_left ls (l ∷ []) d k (omega (arith, at))) (low k d (omega (arith, at)))
 ]
 
--- ---- a way that was taken
+-- ---- the walk that was removed from the queue
 module _ (a : Adjacency) (b : BlockValue) (marks : ℕ → Known) (e : Reach ℕ) (front : List (Reach ℕ)) (p : IsPopped a b marks e front) where
   abbrev is : IsPathSearch a b marks p.before
   is = p.search
@@ -360,7 +360,7 @@ module _ (a : Adjacency) (b : BlockValue) (marks : ℕ → Known) (e : Reach ℕ
         | inr old ↦ (q.0, old)
       ]
 
-  -- its node was settled before
+  -- its node was settled already
   pub popped_again : IsSettled (marks e.node) → IsPathSearch a b marks front
   popped_again s = record {
     floor = is.floor;
@@ -396,7 +396,7 @@ module _ (a : Adjacency) (b : BlockValue) (marks : ℕ → Known) (e : Reach ℕ
     pub has_none : label b e.node ≡ None
     has_none = is.labelled e.node ∙ label_of_other (marks e.node) not_before
 
-    -- no shorter way to its node was known
+    -- no shorter walk to its node was found
     nearest_known : e.dist ≤ (marks e.node).dist
     nearest_known =
         let q = is.waits.pending e.node popped_waits.within.0 fresh in
@@ -540,7 +540,7 @@ module _ (a : Adjacency) (b : BlockValue) (marks : ℕ → Known) (e : Reach ℕ
             passed = passed_after;
           }
 
--- ---- the beginning
+-- ---- the start of a search
 module _ (a : Adjacency) (source : ℕ) (marks started : ℕ → Known) (is : AreByNode a) (node : IsNode a.nodes source) (unknown : AreUnknown marks) (sets : Sets marks source (settled 0) started) where
   unsettled_before : (v : ℕ) → ¬ IsSettled (marks v)
   unsettled_before v s = let f = s.0 in let g = unknown v in cc
@@ -611,7 +611,7 @@ module _ (a : Adjacency) (source : ℕ) (marks started : ℕ → Known) (is : Ar
           subst (λ w. All (IsHopPassed marks' (marks' w).dist) (out a w)) (sym same) (subst (λ (k : Known). All (IsHopPassed marks' k.dist) (out a source)) (sym mark) r.passed);
     }
 
--- ---- the end
+-- ---- the end of a search
 module _ (a : Adjacency) (b : BlockValue) (marks : ℕ → Known) (is : IsPathSearch a b marks []) where
   over_positive : (v : ℕ) (z : ℤ) → label b v ≡ Some z → (d : ℕ) × (z ≡ pos d)
   over_positive v z h = elim (settled_tells (marks v)) [

@@ -1,4 +1,4 @@
--- What solving maximum flow answers.
+-- The result of solving maximum flow.
 use Rattle.std.specs.Prelude.{ℕ, ◌<◌, Result, Ok, Err}
 use Rattle.dimacs_claims.specs.Cuts.{CutValue}
 use Rattle.dimacs_claims.specs.SolutionTexts.{SolutionValue, claimed}
@@ -11,11 +11,11 @@ use Rattle.dimacs_solve.specs.declared.error.SolveError.TheVariants.{NegativeWei
 use Rattle.dimacs_solve.specs.Climbing.{GivesUp}
 use Rattle.dimacs_judge.specs.Entries.{IsSolutionOf}
 
--- the solution has an entry for every arc, and the cut shows that it is maximum
+-- the solution has an entry for every arc, and the cut shows that its flow is maximum
 abbrev pub IsOptimal : MaxValue → SolutionValue → CutValue → Type 0
 IsOptimal i s cut = IsSolutionOf i.arcs s × ShowsMaximum i s cut
 
--- what is answered: with the limit 0, that it gave up; want of memory says nothing, and there is no other error
+-- the result; with limit 0 it gives up; out of memory leaves the instance open, and no other error comes
 abbrev pub SolvesMax : MaxValue → ℕ → Result MaxAnswer SolveError → Type 0
 SolvesMax i limit (Ok (Optimal solution cut)) = (0 < limit) × IsOptimal i (claimed solution) cut
 SolvesMax i limit (Ok GaveUp) = GivesUp i limit

@@ -1,4 +1,4 @@
--- What solving minimum cost flow answers.
+-- The result of solving minimum cost flow.
 use Rattle.std.specs.Prelude.{ℕ, ◌≡◌, Result, Ok, Err}
 use Rattle.dimacs_claims.specs.Potentials.{PotentialsValue}
 use Rattle.dimacs_claims.specs.SolutionTexts.{SolutionValue, claimed}
@@ -13,11 +13,11 @@ use Rattle.dimacs_solve.specs.declared.least.MinAnswer.TheVariants.{Optimal, Inf
 use Rattle.dimacs_solve.specs.Descending.{GivesUpMin, start_flow}
 use Rattle.dimacs_judge.specs.Entries.{IsSolutionOf}
 
--- the solution has an entry for every arc, and the potentials show that it costs least; with the limit 0 it carries the flow to start from
+-- an entry for every arc, and potentials that show that the flow costs least; with limit 0 it is the start flow
 abbrev pub IsLeastAnswer : MinValue → ℕ → SolutionValue → PotentialsValue → Type 0
 IsLeastAnswer i limit s p = IsSolutionOf i.arcs s × ShowsLeast i s p × (limit ≡ 0 → Carries i.arcs s.entries (start_flow i.arcs))
 
--- what is answered; want of memory says nothing, and there is no other error
+-- the result; out of memory leaves the instance open, and no other error comes
 abbrev pub SolvesMin : MinValue → ℕ → Result MinAnswer SolveError → Type 0
 SolvesMin i limit (Ok (Optimal solution potentials)) = IsLeastAnswer i limit (claimed solution) potentials
 SolvesMin i limit (Ok (Infeasible set)) = ShowsNoFlow i set

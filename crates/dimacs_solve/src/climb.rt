@@ -1,4 +1,4 @@
-//! A maximum flow, by one better flow after another.
+//! Finding a maximum flow by successive improvements.
 
 ghost use Rattle.std.specs.Prelude.{IfOk};
 ghost use Rattle.dimacs_solve.specs.Climbing.{Climbs};
@@ -12,16 +12,17 @@ use dimacs_lines::Memory;
 use dimacs_network::Network;
 use std::alloc::Global;
 
-/// Where a climb ends.
+/// The end of a climb.
 #[derive(Drop)]
 pub enum Ascent {
-    /// At a maximum flow, with a tight cut.
+    /// A maximum flow, with a cut that is tight for it.
     Top(Flow, Cut),
-    /// At none: so many flows were asked about, and none is maximum.
+    /// The limit was reached: so many flows were tested, and none of them is maximum.
     GaveUp,
 }
 
-/// Goes from the zero flow to one better flow after another, as long as there may be another question.
+/// Starts at the zero flow, and goes to a flow of greater value until it is maximum. It tests at most `limit` flows for
+/// being maximum; with `limit` 0 it gives up at once. Between two tests a heuristic may improve the flow further.
 pub fn solve_max_flow<N: Network>(
     alloc: Global,
     instance: &MaxInstance<N>,

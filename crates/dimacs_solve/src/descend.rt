@@ -1,4 +1,4 @@
-//! A flow of least cost, by one better flow after another.
+//! Finding a flow of least cost by successive improvements.
 
 ghost use Rattle.std.specs.Prelude.{◌≡◌, ◌+◌, length, map, take, IfOk};
 ghost use Rattle.dimacs_solve.specs.Descending.{start_amount, start_flow};
@@ -14,18 +14,19 @@ use dimacs_lines::Memory;
 use dimacs_network::{ArcView, Network};
 use std::alloc::Global;
 
-/// Where a descent ends.
+/// The end of a descent.
 #[derive(Drop)]
 pub enum Descent {
-    /// At a flow of least cost, with potentials that show it.
+    /// A flow of least cost, with potentials that are slack for it.
     Bottom(Flow, Potentials),
-    /// At a set that shows that no flow is feasible.
+    /// No flow is feasible; the set shows it.
     Nowhere(Cut),
-    /// At none: after so many steps, each to a better flow, the flow is still not least.
+    /// The limit was reached: after so many steps, each to a better flow, the flow still isn't least.
     GaveUp,
 }
 
-/// Goes from the start flow to its end, in one step where there may be one, else as `descend_by_steps`.
+/// Goes from the start flow to a flow of least cost. If `limit` allows a step, it first tries a heuristic, which may
+/// reach the end in one step; otherwise `descend_by_steps`.
 pub fn solve_min_flow<N: Network>(
     alloc: Global,
     instance: &MinInstance<N>,
@@ -41,7 +42,7 @@ pub fn solve_min_flow<N: Network>(
     descend_by_steps(alloc, instance, limit)
 }
 
-/// Goes from the start flow to one better flow after another, as long as there may be another step.
+/// Starts at the start flow, and goes to a better flow until it is least, in at most `limit` steps.
 fn descend_by_steps<N: Network>(
     alloc: Global,
     instance: &MinInstance<N>,
@@ -66,7 +67,7 @@ fn descend_by_steps<N: Network>(
     }
 }
 
-/// The flow to start from.
+/// The start flow: each arc carries its capacity if its cost is negative, otherwise its lower bound.
 fn started<N: Network>(alloc: Global, network: &N) -> Result<Flow, Memory>
     ensures { IfOk result (λ flow. flow ≡ start_flow (N.list network.now)) }
 {
@@ -77,7 +78,7 @@ fn started<N: Network>(alloc: Global, network: &N) -> Result<Flow, Memory>
     Ok(flow)
 }
 
-/// What an arc carries at the start.
+/// The amount on an arc in the start flow.
 fn started_at(arc: ArcView) -> i64
     ensures { result ≡ start_amount arc }
 {

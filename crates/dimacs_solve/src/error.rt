@@ -1,17 +1,17 @@
-//! Why a producer gives no answer.
+//! The errors of solvers.
 
 use dimacs_judge::Where;
 use dimacs_lines::Memory;
 use dimacs_records::Reason;
 
-/// Why a producer gives no answer.
+/// Why a solver returns no answer.
 #[derive(Clone, Copy, Debug, PartialEq, Eq)]
 pub enum SolveError {
-    /// The first arc of negative weight, from 1. `solve_paths` alone refuses it.
+    /// A weight is negative; the number is that of the first such arc, from 1. Only `solve_paths` refuses it.
     NegativeWeight(u32),
-    /// The first query that names a node above the number of nodes.
+    /// A query names a node above the number of nodes; the place is the first such node.
     Refused(Where, Reason),
-    /// A growth was refused.
+    /// Out of memory.
     Memory,
 }
 

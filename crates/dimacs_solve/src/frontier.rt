@@ -1,4 +1,4 @@
-//! The nodes that a search has come to, the nearest first.
+//! The priority queue of a search: nodes with tentative distances, the nearest first.
 
 ghost use Rattle.std.specs.Prelude.{◌≡◌, ◌∷◌, [], OnOk, MatchOption, IsPermutation};
 ghost use Rattle.dimacs_solve.specs.Frontiers.{way_of};
@@ -11,7 +11,7 @@ use std::cmp::Reverse;
 use std::collections::BinaryHeap;
 use std::marker::Model;
 
-/// A way to a node: how far it is from the source, and the node before it.
+/// A walk that the search found: its end, the walk's length, and the node before the end.
 #[derive(Clone, Copy, PartialEq, Eq, PartialOrd, Ord)]
 pub(crate) struct Reach<D> {
     pub dist: D,
@@ -19,7 +19,7 @@ pub(crate) struct Reach<D> {
     pub pred: u32,
 }
 
-/// Ways that wait, in any order.
+/// The priority queue of a search. A node may be in it more than once.
 #[derive(Drop)]
 pub(crate) struct Frontier<D: Distance> {
     heap: BinaryHeap<Reverse<Reach<D>>>,
@@ -39,7 +39,7 @@ impl<D: Distance> Model for Frontier<D> {
 }
 
 impl<D: Distance> Frontier<D> {
-    /// No ways.
+    /// The empty queue.
     pub(crate) fn new(alloc: Global) -> Frontier<D>
         ensures { result ≡ [] }
     {
@@ -48,6 +48,7 @@ impl<D: Distance> Frontier<D> {
         }
     }
 
+    /// Adds a walk.
     #[inline]
     pub(crate) fn push(&mut self, reach: Reach<D>) -> Result<(), Memory>
         ensures { OnOk result (IsPermutation (way_of D.value reach ∷ self.old) self.new) }
@@ -56,7 +57,7 @@ impl<D: Distance> Frontier<D> {
         Ok(())
     }
 
-    /// Takes the nearest.
+    /// Removes the nearest; none if the queue is empty.
     #[inline]
     pub(crate) fn pop(&mut self) -> Option<Reach<D>>
         ensures { MatchOption result ((self.old ≡ []) × (self.new ≡ [])) (λ reach. IsPermutation self.old

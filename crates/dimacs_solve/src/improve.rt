@@ -1,4 +1,4 @@
-//! Improving a flow between two questions, by code of which nothing is believed.
+//! Improving a flow between two tests, by a heuristic.
 
 ghost use Rattle.std.specs.Prelude.{◌≡◌, ◌≤ℤ◌, length, IsTrue};
 ghost use Rattle.dimacs_judge.specs.Feasible.{FeasibleMax, value};
@@ -9,8 +9,8 @@ use dimacs_methods::raise_value;
 use dimacs_network::Network;
 use std::alloc::Global;
 
-/// A feasible flow of no less value: what the preflows make of this one, if it passes the test; else, and where memory
-/// runs out, this one.
+/// Returns a feasible flow with at least the value of this one. The preflow method proposes one; it is tested. If it
+/// fails the test, or memory runs out, the flow itself is returned.
 pub fn improve_max<N: Network>(alloc: Global, instance: &MaxInstance<N>, flow: Flow) -> Flow
     requires { FeasibleMax instance.now flow }
     ensures feasible { FeasibleMax instance.now result }
@@ -25,7 +25,7 @@ pub fn improve_max<N: Network>(alloc: Global, instance: &MaxInstance<N>, flow: F
     flow
 }
 
-/// Whether a flow is feasible and has no less value than another. `false` also where there is no memory for the test.
+/// Whether `other` is feasible and has at least the value of `flow`. False, too, if there is no memory for the test.
 fn is_no_worse<N: Network>(
     alloc: Global,
     instance: &MaxInstance<N>,

@@ -1,4 +1,4 @@
-//! A step to the end of a descent, by code of which nothing is believed.
+//! Reaching the end of a descent in one step, by a heuristic.
 
 ghost use Rattle.std.specs.Prelude.{◌<◌, ℕ, IfOk, IfSome};
 ghost use Rattle.dimacs_decide.specs.Bounds.{KeepsBounds};
@@ -15,7 +15,7 @@ use dimacs_methods::make_least_flow;
 use dimacs_network::Network;
 use std::alloc::Global;
 
-/// Where one step may lead to, if the flow that the method makes is least, or shows that no flow is feasible.
+/// The end that one step reaches, if the heuristic's flow is least or shows that no flow is feasible; otherwise none.
 pub(crate) fn jump<N: Network>(
     alloc: Global,
     instance: &MinInstance<N>,
@@ -30,7 +30,7 @@ pub(crate) fn jump<N: Network>(
     settled(alloc, instance, flow, made.potentials)
 }
 
-/// What it leads to, if the reply about this flow ends the descent.
+/// The end of the descent, if the reply about this flow is one.
 fn settled<N: Network>(
     alloc: Global,
     instance: &MinInstance<N>,

@@ -15,19 +15,21 @@ use dimacs_judge::{Flow, min_solution};
 use dimacs_network::Network;
 use std::alloc::Global;
 
-/// A least flow with potentials that show it, a set of nodes that shows that there is no feasible flow, or neither.
+/// The answer to a minimum cost flow instance.
 #[derive(Drop)]
 pub enum MinAnswer {
+    /// A flow of least cost, with an entry for every arc, and potentials that show it.
     Optimal(Solution, Potentials),
+    /// No feasible flow; the set of nodes shows it.
     Infeasible(Cut),
+    /// Neither was found within the limit, or the least cost is out of range.
     GaveUp,
 }
 
-/// A least flow with an entry for every arc, by at most `limit` steps, each to a better flow.
+/// Finds a flow of least cost in at most `limit` steps, each to a better flow.
 ///
-/// It starts where each arc carries its lower bound, or its capacity if it costs less than nothing. `GaveUp` where one
-/// more step than `limit` would be needed, or where the least cost is out of range. `Memory` where a growth was
-/// refused; no other error comes.
+/// The start flow gives each arc its lower bound, or its capacity if its cost is negative. `GaveUp` comes if more than
+/// `limit` steps would be needed, or if the least cost is outside -10^30 to 10^30. `Memory` is the only error.
 pub fn solve_min<N: Network>(
     alloc: Global,
     instance: &MinInstance<N>,
@@ -42,7 +44,7 @@ pub fn solve_min<N: Network>(
     }
 }
 
-/// The solution of a least flow, where its cost is in range.
+/// The answer for a flow of least cost; `GaveUp` if its cost is out of range.
 fn told<N: Network>(
     alloc: Global,
     instance: &MinInstance<N>,

@@ -1,4 +1,4 @@
-//! Producers: answers to flow and shortest path instances that pass the judge's tests.
+//! Solvers: they make answers to flow and shortest path instances that pass the judge's tests.
 #![tactic(auto)]
 
 mod adjacency;

@@ -1,4 +1,4 @@
-//! What a search knows of the nodes.
+//! The table of a search: what it knows about the nodes.
 
 ghost use Rattle.std.specs.Prelude.{◌≡◌, ◌≤◌, ◌<◌, ◌+◌, ℕ, IsTrue, OnOk, ◌↔◌};
 ghost use Rattle.dimacs_nodes.specs.Tables.{value_of};
@@ -8,7 +8,7 @@ use dimacs_lines::Memory;
 use dimacs_nodes::NodeTable;
 use std::alloc::Global;
 
-/// What a search knows of a node. A mark of an earlier round says nothing.
+/// What a search knows about a node. A mark from an earlier round counts as none.
 #[derive(Clone, Copy)]
 struct Mark<D> {
     dist: D,
@@ -16,7 +16,7 @@ struct Mark<D> {
     settled: bool,
 }
 
-/// What the search of this round knows of the nodes. A new round costs nothing, and memory is kept from round to round.
+/// What the current search knows about the nodes. A new round takes no time and keeps the memory.
 #[derive(Drop)]
 pub(crate) struct Marks<D> {
     round: u32,
@@ -27,7 +27,7 @@ pub(crate) struct Marks<D> {
 impl<D: Distance> Marks<D> {
     ghost use Rattle.dimacs_solve.specs.inside.Marks.{AreUnknown, IsSettled, IsReachedWithin, Sets, known, reached, settled};
 
-    /// Round 0, in which nothing is marked. Takes no memory.
+    /// Round 0, without marks. Allocates nothing.
     pub(crate) fn new(alloc: Global) -> Marks<D>
         ensures { result.round ≡ 0 }
     {
@@ -42,7 +42,7 @@ impl<D: Distance> Marks<D> {
         }
     }
 
-    /// Forgets all nodes.
+    /// Begins a new round: forgets all nodes.
     pub(crate) fn next_round(&mut self)
         requires { self.old.round + 1 < 4294967296 }
         ensures round { self.new.round ≡ self.old.round + 1 }
@@ -51,7 +51,7 @@ impl<D: Distance> Marks<D> {
         self.round += 1;
     }
 
-    /// Whether a way to the node was marked that is no longer than this.
+    /// Whether a walk of at most this length to the node was found.
     #[inline]
     pub(crate) fn is_within(&self, node: u32, dist: D) -> bool
         ensures { IsTrue result ↔ IsReachedWithin (known D.value self.now node) (D.value dist) }
@@ -60,6 +60,7 @@ impl<D: Distance> Marks<D> {
         mark.round == self.round && mark.dist <= dist
     }
 
+    /// Whether the node's distance is final.
     #[inline]
     pub(crate) fn is_settled(&self, node: u32) -> bool
         ensures { IsTrue result ↔ IsSettled (known D.value self.now node) }
@@ -68,7 +69,7 @@ impl<D: Distance> Marks<D> {
         mark.round == self.round && mark.settled
     }
 
-    /// Marks a way to a node.
+    /// Marks the node with the length of a walk to it.
     #[inline]
     pub(crate) fn reach(&mut self, node: u32, dist: D) -> Result<(), Memory>
         ensures round { OnOk result (self.new.round ≡ self.old.round) }
@@ -84,7 +85,7 @@ impl<D: Distance> Marks<D> {
         Ok(())
     }
 
-    /// Marks a node whose distance is this.
+    /// Marks the node with its distance, as final.
     #[inline]
     pub(crate) fn settle(&mut self, node: u32, dist: D) -> Result<(), Memory>
         ensures round { OnOk result (self.new.round ≡ self.old.round) }

@@ -10,14 +10,17 @@ use dimacs_judge::max_solution;
 use dimacs_network::Network;
 use std::alloc::Global;
 
-/// A maximum flow and a cut that shows it, or none within the limit.
+/// The answer to a maximum flow instance.
 #[derive(Drop)]
 pub enum MaxAnswer {
+    /// A maximum flow, with an entry for every arc, and a cut that shows it.
     Optimal(Solution, Cut),
+    /// None of the flows within the limit is maximum.
     GaveUp,
 }
 
-/// A maximum flow, from the zero flow on; each of at most `limit` flows is asked about.
+/// Finds a maximum flow, starting at the zero flow. It tests at most `limit` flows for being maximum. `Memory` is the
+/// only error.
 pub fn solve_max<N: Network>(
     alloc: Global,
     instance: &MaxInstance<N>,

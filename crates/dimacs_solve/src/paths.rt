@@ -1,4 +1,4 @@
-//! Labels for queries.
+//! Making labels for queries.
 
 ghost use Rattle.std.specs.Prelude.{◌≡◌, ◌<◌, ◌≤◌, ◌*◌, [], ℕ, All, length, IfOk, OnOk, MatchOption};
 ghost use Rattle.dimacs_lines.specs.Limits.{most_count, IsNode};
@@ -23,14 +23,15 @@ use dimacs_network::Network;
 use dimacs_nodes::NodeSet;
 use std::alloc::Global;
 
-/// Labels that pass the judge's tests, by Dijkstra's search: a block for each source that is asked for, in the order of
-/// first use, its labels the nearest first. It never gives up, and no sum leaves its range.
+/// Makes labels that pass the judge's tests, by Dijkstra's algorithm: a block for each source that is asked for, in the
+/// order of first use, with its labels the nearest first. It never gives up, and no sum overflows.
 ///
-/// `Refused` exactly where a query names a node above the number of nodes, FROM before TO, at the first one; else
-/// `NegativeWeight` exactly where a weight is negative, at the first arc of one; else labels, unless memory runs out.
+/// `Refused` comes exactly if a query names a node above the number of nodes, and names the first such node, FROM
+/// before TO. Otherwise `NegativeWeight` comes exactly if a weight is negative, and names the first such arc. Otherwise
+/// the result is labels, unless memory runs out.
 ///
-/// The arcs are ordered by their tails once. A block then takes time and memory by what it reaches, whatever the number
-/// of nodes is. Distances are held in 64 bits where the number of nodes by the greatest weight fits them, else in 128.
+/// The adjacency lists are made once. A block then takes time and memory for what it reaches, however many nodes there
+/// are. Distances have 64 bits if the greatest weight times the number of nodes fits, otherwise 128.
 pub fn solve_paths<N: Network>(
     alloc: Global,
     graph: &Graph<N>,
@@ -54,7 +55,7 @@ pub fn solve_paths<N: Network>(
     Ok(labels)
 }
 
-/// The first arc of negative weight, from 1.
+/// The first arc with a negative weight, counted from 1.
 fn first_negative<N: Network>(network: &N) -> Option<u32>
     ensures { MatchOption result (All HasNoNegativeWeight (N.list network.now)) (IsFirstNegative (N.list network.now)) }
 {
@@ -66,7 +67,7 @@ fn first_negative<N: Network>(network: &N) -> Option<u32>
     None
 }
 
-/// A block for each source that is asked for.
+/// Makes a block for each source that is asked for.
 fn solve_all<D: Distance>(
     alloc: Global,
     adjacency: &Adjacency,
@@ -100,7 +101,7 @@ fn solve_all<D: Distance>(
     Ok(labels)
 }
 
-/// Adds the block of a source that has none.
+/// Adds the block of a source that has none yet.
 fn solve_one<D: Distance>(
     alloc: Global,
     adjacency: &Adjacency,

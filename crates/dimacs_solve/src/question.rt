@@ -1,4 +1,5 @@
-//! Whether a flow is least, asked in two steps: whether it is feasible, and whether it costs least.
+//! Testing whether a flow within its bounds costs least: first whether it is feasible, then whether a feasible flow
+//! costs less.
 
 ghost use Rattle.std.specs.Prelude.{IfOk};
 ghost use Rattle.dimacs_judge.specs.Feasible.{FeasibleMin};
@@ -18,18 +19,18 @@ use dimacs_lines::Memory;
 use dimacs_network::Network;
 use std::alloc::Global;
 
-/// What is replied about a flow that keeps the bounds.
+/// The reply about a flow within its bounds.
 #[derive(Drop)]
 pub(crate) enum Reply {
-    /// It is least, by these potentials.
+    /// It has least cost; the potentials show it.
     Least(Potentials),
-    /// No flow is feasible, by this set.
+    /// No flow is feasible; the set shows it.
     Infeasible(Cut),
-    /// This one is better.
+    /// It isn't least; this flow is better.
     Better(Flow),
 }
 
-/// Asks about a flow. Where it is feasible, potentials from which it may be found quickly that it is least are a help.
+/// Replies about a flow. `potentials` are a hint, used if the flow is feasible: good ones make the test fast.
 pub(crate) fn ask<N: Network>(
     alloc: Global,
     instance: &MinInstance<N>,
@@ -43,7 +44,7 @@ pub(crate) fn ask<N: Network>(
     answered(alloc, instance, flow, decision, potentials)
 }
 
-/// Asks over the arcs by their ends, which several questions can share.
+/// Replies about a flow. `incidence` has the arcs of the network by their ends; several questions can share it.
 pub(crate) fn ask_over<N: Network>(
     alloc: Global,
     instance: &MinInstance<N>,
@@ -59,7 +60,7 @@ pub(crate) fn ask_over<N: Network>(
     answered(alloc, instance, flow, decision, nothing_known)
 }
 
-/// The reply about a flow of which it is decided whether it is feasible.
+/// The reply, once it is known whether the flow is feasible.
 fn answered<N: Network>(
     alloc: Global,
     instance: &MinInstance<N>,
@@ -77,7 +78,7 @@ fn answered<N: Network>(
     }
 }
 
-/// Asks about a feasible flow.
+/// Replies about a feasible flow.
 fn ask_cost<N: Network>(
     alloc: Global,
     instance: &MinInstance<N>,

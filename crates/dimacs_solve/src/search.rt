@@ -1,4 +1,4 @@
-//! A search from one source: labels of the nodes that walks lead to, the nearest first.
+//! Dijkstra's search from one source.
 
 ghost use Rattle.std.specs.Prelude.{◌≡◌, ◌<◌, ◌≤◌, ◌+◌, ◌*◌, [], IfOk, OnOk};
 ghost use Rattle.dimacs_lines.specs.Limits.{IsNode};
@@ -15,9 +15,8 @@ use dimacs_claims::{Block, Label};
 use dimacs_lines::Memory;
 use std::alloc::Global;
 
-/// The labels of all nodes that walks lead to from a source, in the order in which the search settles them: a node is
-/// settled where the nearest way that waits leads to it, and the ways that lead on from it are offered. Takes time and
-/// memory by what it reaches.
+/// Labels all nodes that can be reached from a source, in the order in which they are settled. The nearest entry of the
+/// queue settles its node, and the arcs from this node are relaxed. Takes time and memory for what it reaches.
 pub(crate) fn search<D: Distance>(
     alloc: Global,
     adjacency: &Adjacency,
@@ -44,7 +43,7 @@ pub(crate) fn search<D: Distance>(
     Ok(block)
 }
 
-/// Settles the node of the nearest way, if it is not settled.
+/// Settles the node of the nearest entry, unless it is settled already, and relaxes its arcs.
 fn visit<D: Distance>(
     adjacency: &Adjacency,
     reach: Reach<D>,
@@ -72,7 +71,7 @@ fn visit<D: Distance>(
     Ok(())
 }
 
-/// Offers the ways that lead on from a settled node.
+/// Relaxes the arcs from a settled node.
 fn relax<D: Distance>(
     adjacency: &Adjacency,
     node: u32,
@@ -97,7 +96,7 @@ fn relax<D: Distance>(
     Ok(())
 }
 
-/// Takes a way up, where it is shorter than those before it to its node.
+/// Puts a walk into the queue, if it is shorter than those found to its node before.
 #[inline(always)]
 fn offer<D: Distance>(
     reach: Reach<D>,

@@ -1,18 +1,18 @@
--- Inside: distances that numbers hold, and weights between them.
+-- Inside: distances in numbers of a fixed width, and weights between them.
 use Rattle.std.specs.Prelude.{◌≡◌, ◌⊎◌, if◌then◌else◌, Option, Some, None, ℤ, ◌+ℤ◌, ◌<ℤ◌, ◌≤ℤ◌, int_lt}
 
--- what lies between these ends
+-- d is from `low` up to `end`, without `end`
 abbrev pub Fits : ℤ → ℤ → ℤ → Type 0
 Fits low end d = (low ≤ℤ d) × (d <ℤ end)
 
--- what a number says that holds distances below the end
+-- the distance in a number: none from `end` on
 abbrev pub below : ℤ → ℤ → Option ℤ
 below end d = if int_lt d end then Some d else None
 
--- there is the one distance, and the other is none, or greater than that and the weight
+-- `from` is a distance, and `to` is none or greater than `from + weight`
 abbrev pub LeadsAside : Option ℤ → Option ℤ → ℤ → Type 0
 LeadsAside from to weight = (a : ℤ) × (from ≡ Some a) × ((to ≡ None) ⊎ ((b : ℤ) × (to ≡ Some b) × ((a +ℤ weight) <ℤ b)))
 
--- there are both, and the other is the one and the weight
+-- both are distances, and `to` is `from + weight`
 abbrev pub LeadsTo : Option ℤ → Option ℤ → ℤ → Type 0
 LeadsTo from to weight = (a : ℤ) × (from ≡ Some a) × (to ≡ Some (a +ℤ weight))

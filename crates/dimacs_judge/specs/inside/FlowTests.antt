@@ -1,4 +1,4 @@
--- Inside: the tests of a flow: its bounds and its balances.
+-- Inside: the tests of a flow: bounds and balances.
 use Rattle.std.specs.Prelude.{ℕ, List, Option, Result, Ok, Err, ℤ}
 use Rattle.dimacs_network.specs.declared.network.ArcView.{ArcView}
 use Rattle.dimacs_judge.specs.Tests.{AllClear, First}

@@ -1,4 +1,4 @@
--- Inside: marks of the nodes that a block labels.
+-- Inside: a judge's table with the labels of a block.
 use Rattle.std.specs.Prelude.{ℕ, ◌≡◌, ◌≢◌, ◌<◌, ◌≤◌, ◌^◌, ◌⊎◌, ◌↔◌, Bool, true, false, List, Contains, count_by, Option, Some, None, IfSome, ℤ, ◌+ℤ◌, ◌-◌, pos, nat_le}
 use Rattle.dimacs_nodes.specs.declared.node_table.NodeTable.{NodeTable}
 use Rattle.dimacs_nodes.specs.Tables.{blank_of, value_of}
@@ -16,13 +16,13 @@ use Rattle.dimacs_judge.specs.Labels.{HasTightArc}
 use Rattle.dimacs_judge.specs.Tests.{Clear, ClearBelow}
 use Rattle.dimacs_judge.specs.inside.Distances.{below}
 
--- what is known of the weights holds
+-- what is known of the weights is true
 abbrev pub AreAsTested : List ArcView → Weights → Type 0
 AreAsTested arcs Untested = Unit {0}
 AreAsTested arcs NotNegative = Clear (negative_row arcs)
 
--- what is known of a node: the distance, where it has a label, and the predecessor, with 2^31 more once an arc was found
--- that makes the label
+-- the entry of a node: its distance if it has a label, and its predecessor, plus 2^31 once a tight arc for the label
+-- was found
 pub record Known : Type 0 where
   pub dist : Option ℤ
   pub pred : ℕ
@@ -33,15 +33,15 @@ known_by value mark = record { dist = value mark.dist; pred = mark.pred }
 abbrev pub known : {D : Type 0} → (D → Option ℤ) → NodeTable (Mark D) → ℕ → Known
 known value marks v = known_by value (value_of marks v)
 
--- an arc that makes the label was found, or none has to be
+-- a tight arc for the label was found, or none is needed
 abbrev pub is_made : Known → Bool
 is_made k = nat_le (2 ^ 31) k.pred
 
--- no node that wasn't marked has a label
+-- a node that wasn't marked has no label
 abbrev pub IsBlank : {D : Type 0} → (D → Option ℤ) → NodeTable (Mark D) → Type 0
 IsBlank value marks = value (blank_of marks).dist ≡ None
 
--- nor any other
+-- no node is marked
 pub record AreBlank {D : Type 0} (value : D → Option ℤ) (marks : NodeTable (Mark D)) : Type 0 where
   pub blank : IsBlank value marks
   pub all : (v : ℕ) → (known value marks v).dist ≡ None
@@ -51,15 +51,15 @@ pub record AllBlank (tables : Tables) : Type 0 where
   pub middle : AreBlank (below (pos (2 ^ 63 - 1))) tables.middle
   pub far : AreBlank (below (pos (2 ^ 127 - 1))) tables.far
 
--- distances within their range
+-- the distances are in their range
 abbrev pub AreWide : (ℕ → Known) → Type 0
 AreWide at = (v : ℕ) → IfSome (at v).dist IsWide
 
--- no label is known to be made but those that an arc makes
+-- only labels with a tight arc are known to have one
 abbrev pub AreMadeAlone : List ArcView → BlockValue → (ℕ → Known) → Type 0
 AreMadeAlone arcs b at = (l : Label) → Contains b.labels l → is_made (at l.id) ≡ true → HasTightArc arcs b l
 
--- what is known are the labels of the block
+-- the table has the labels of the block, and nothing else
 pub record IsKnown (arcs : List ArcView) (b : BlockValue) (at : ℕ → Known) : Type 0 where
   pub labels : (v : ℕ) → (at v).dist ≡ label b v
   pub named : (l : Label) → Contains b.labels l → label b l.id ≡ Some l.dist
@@ -67,12 +67,12 @@ pub record IsKnown (arcs : List ArcView) (b : BlockValue) (at : ℕ → Known) :
   pub source : is_made (at b.source) ≡ true
   pub sound : AreMadeAlone arcs b at
 
--- the marks say what the labels of the block say, and of no other node anything
+-- the marks are the labels of the block, and nothing else
 pub record IsMarked {D : Type 0} (value : D → Option ℤ) (arcs : List ArcView) (b : BlockValue) (marks : NodeTable (Mark D)) : Type 0 where
   pub blank : IsBlank value marks
   pub known : IsKnown arcs b (known value marks)
 
--- the arc leads from the label's predecessor to its node, and from the one's distance to the other's
+-- the arc is tight for the label: it leads there from the predecessor, and its weight is the labels' difference
 pub record Makes (b : BlockValue) (a : ArcView) (l : Label) : Type 0 where
   pub base : ℤ
   pub known : label b l.pred ≡ Some base
@@ -80,23 +80,23 @@ pub record Makes (b : BlockValue) (a : ArcView) (l : Label) : Type 0 where
   pub to : a.head ≡ l.id
   pub adds : (base +ℤ a.cost) ≡ l.dist
 
--- the labels that this arc makes are known to be made
+-- all labels for which this arc is tight are known to have a tight arc
 abbrev pub MarksMade : BlockValue → (ℕ → Known) → ArcView → Type 0
 MarksMade b at a = (l : Label) → Contains b.labels l → Makes b a l → is_made (at l.id) ≡ true
 
--- those that the first n arcs make
+-- the same for the first n arcs
 abbrev pub AreMadeBelow : List ArcView → BlockValue → ℕ → (ℕ → Known) → Type 0
 AreMadeBelow arcs b n at = (k : ℕ) → k < n → MarksMade b at (arc_at arcs k)
 
--- the labels that an arc makes are known to be made, and no others
+-- exactly the labels with a tight arc are known to have one
 abbrev pub AreMade : List ArcView → BlockValue → (ℕ → Known) → Type 0
 AreMade arcs b at = (l : Label) → Contains b.labels l → (is_made (at l.id) ≡ true) ↔ HasTightArc arcs b l
 
--- how many labels are
+-- how many labels are known to have one
 abbrev pub made_count : BlockValue → (ℕ → Known) → ℕ
 made_count b at = count_by (λ (l : Label). is_made (at l.id)) b.labels
 
--- by what is known of its ends the arc makes the label of its head, as none before it
+-- by the table, the arc is tight for the label of its head, and no earlier arc was
 pub record IsTight (a : ArcView) (at : ℕ → Known) : Type 0 where
   pub base : ℤ
   pub tail : (at a.tail).dist ≡ Some base
@@ -104,18 +104,18 @@ pub record IsTight (a : ArcView) (at : ℕ → Known) : Type 0 where
   pub pred : (at a.head).pred ≡ a.tail
   pub unmade : is_made (at a.head) ≡ false
 
--- what may say more of whether a label is made
+-- the same entry, in which a tight arc may have been found
 pub record SaysSame (old new : Known) : Type 0 where
   pub dist : new.dist ≡ old.dist
   pub pred : is_made new ≡ false → new.pred ≡ old.pred
 
--- the label of the arc's head is made also where the arc makes it, and nothing else changes
+-- the entry of the arc's head has a tight arc if it had one or this arc is tight, and nothing else changes
 pub record MarksArc (a : ArcView) (old new : ℕ → Known) : Type 0 where
   pub others : (v : ℕ) → v ≢ a.head → new v ≡ old v
   pub head : SaysSame (old a.head) (new a.head)
   pub made : (is_made (new a.head) ≡ true) ↔ ((is_made (old a.head) ≡ true) ⊎ IsTight a old)
 
--- the first n arcs hold, it is known what they make, and so many of the labels were counted as made
+-- the first n arcs are relaxed without a failure, and so many labels at least have a tight arc
 pub record ArePassedBelow {D : Type 0} (value : D → Option ℤ) (arcs : List ArcView) (b : BlockValue) (n counted : ℕ) (marks : NodeTable (Mark D)) : Type 0 where
   pub marked : IsMarked value arcs b marks
   pub made : AreMadeBelow arcs b n (known value marks)

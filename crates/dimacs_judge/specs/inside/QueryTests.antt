@@ -1,4 +1,4 @@
--- Inside: the tests of queries: their nodes, and the blocks of their sources.
+-- Inside: the tests of queries: their nodes, and the blocks that answer them.
 use Rattle.std.specs.Prelude.{ℕ, ◌≡◌, List, Result, Ok, Err}
 use Rattle.std.specs.List.{position}
 use Rattle.std.specs.Ordering.{nat_cmp}
@@ -14,7 +14,7 @@ use Rattle.dimacs_judge.specs.QueryTests.{block_row}
 abbrev pub AreNumbers : List BlockValue → FinMap nat_cmp ℕ → Type 0
 AreNumbers blocks numbers = (source : ℕ) → get numbers source ≡ position (has_source source) blocks
 
--- the numbers of the blocks, where every query is served; else the first query that isn't
+-- the numbers of the blocks if each query has a block that answers it; otherwise the first that has none
 abbrev pub TellsBlocks : List BlockValue → QueriesValue → Result (FinMap nat_cmp ℕ) JudgeError → Type 0
 TellsBlocks blocks queries (Ok numbers) = AreNumbers blocks numbers × Clear (block_row blocks queries)
 TellsBlocks blocks queries (Err error) = Refuses (FirstOfRow (block_row blocks queries)) error

@@ -1,4 +1,4 @@
--- Inside: how large numbers grow.
+-- Inside: the sizes of numbers.
 use Rattle.std.specs.Prelude.{ℕ, ℤ, pos, neg_ℤ}
 use Rattle.dimacs_lines.specs.Number.{IsWithin}
 

@@ -6,23 +6,23 @@ use Rattle.dimacs_judge.specs.declared.verdict.JudgeError.{JudgeError}
 use Rattle.dimacs_judge.specs.declared.verdict.JudgeError.TheVariants.{Refused, Memory}
 use Rattle.dimacs_judge.specs.Tests.{Row, AllClear, First}
 
--- what the tests of rows answer: that all pass, or the first that fails
+-- the result of rows of tests: all pass, or the first that fails
 abbrev pub Tells : List Row → Result Unit (Where × Reason) → Type 0
 Tells rows (Ok done) = AllClear rows
 Tells rows (Err refusal) = First rows refusal.0 refusal.1
 
--- what tests of rows that take memory answer; want of it says nothing of the tests
+-- the same for tests that allocate; out of memory leaves them open
 abbrev pub TellsAll : List Row → Result Unit JudgeError → Type 0
 TellsAll rows (Ok done) = AllClear rows
 TellsAll rows (Err (Refused place reason)) = First rows place reason
 TellsAll rows (Err Memory) = Unit
 
--- the reason for which a single test fails, where it does
+-- the reason why a single test fails, if it does
 abbrev pub TellsReason : (Reason → Type 0) → Option Reason → Type 0
 TellsReason fails None = (reason : Reason) → ¬ fails reason
 TellsReason fails (Some reason) = fails reason
 
--- what a judge's refusal names; want of memory says nothing of the tests
+-- the test that a judge's refusal names; out of memory leaves the tests open
 abbrev pub Refuses : (Where → Reason → Type 0) → JudgeError → Type 0
 Refuses first (Refused place reason) = first place reason
 Refuses first Memory = Unit

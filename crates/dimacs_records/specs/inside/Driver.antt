@@ -1,4 +1,4 @@
--- Inside: how far a text is read.
+-- Inside: how far a text has been read.
 use Rattle.std.specs.Prelude.{ℕ, ◌+◌, ◌≡◌, ◌≤◌, List, [], ◌∷◌, ◌++◌, length, Option, Some, None, Result, Ok, Err}
 use Rattle.dimacs_lines.specs.Lines.{lines}
 use Rattle.dimacs_records.specs.declared.kinds.TextKind.{TextKind}
@@ -15,7 +15,7 @@ use Rattle.dimacs_records.specs.Order.{at, places, FirstOf}
 use Rattle.dimacs_records.specs.Faults.{Condition, IsClean, FaultyLine, records_in}
 use Rattle.dimacs_records.specs.Readings.{LineRecord, numbered, AreSpelledBefore}
 
--- so many lines were read and are clean, the reading stands for their records, and this text is left
+-- the first `count` lines are read and clean, the reading stands for their records, and this text is left
 pub record IsReadSoFar (kind : TextKind) (all : List (List ℕ)) (count : ℕ) (left : Option (List ℕ)) (stands_for : List LineRecord → Type 0) : Type 0 where
   pub before : List (List ℕ)
   pub said : List (Option Record)
@@ -26,58 +26,58 @@ pub record IsReadSoFar (kind : TextKind) (all : List (List ℕ)) (count : ℕ) (
   pub clean : IsClean kind before said
   pub stands : stands_for (numbered 1 said)
 
--- the reading stands for some records that lines before this one may spell
+-- the reading stands for some records that lines before this one can spell
 abbrev pub HasTaken : TextKind → ℕ → (List LineRecord → Type 0) → Type 0
 HasTaken kind line stands_for = (rs : List LineRecord) × stands_for rs × AreSpelledBefore kind line rs
 
--- all lines were read
+-- all lines are read
 pub record IsReadWhole (kind : TextKind) (all : List (List ℕ)) (count : ℕ) (stands_for : List LineRecord → Type 0) : Type 0 where
   pub said : List (Option Record)
   pub counted : count ≡ length all
   pub clean : IsClean kind all said
   pub stands : stands_for (numbered 1 said)
 
--- why a line is refused; nothing is said of a device or of memory
+-- why a line is refused; I/O errors and out of memory are left open
 abbrev pub RefusesLine : TextKind → List (List ℕ) → ReadError → Type 0
 RefusesLine kind all (read_errors.Refused place reason) = FaultyLine kind all place.line place.field reason
 RefusesLine kind all read_errors.Device = Unit {0}
 RefusesLine kind all read_errors.Memory = Unit {0}
 
--- what the reading of one more line answers
+-- the result of reading one more line
 abbrev pub ReadsNext : TextKind → List (List ℕ) → ℕ → Option (List ℕ) → (List LineRecord → Type 0) → Result (Option ℕ) ReadError → Type 0
 ReadsNext kind all count left stands_for (Ok (Some number)) = IsReadSoFar kind all number left stands_for
 ReadsNext kind all count left stands_for (Ok None) = IsReadWhole kind all count stands_for
 ReadsNext kind all count left stands_for (Err error) = RefusesLine kind all error
 
--- what the reading of some lines answers
+-- the result of reading some lines
 abbrev pub ReadsSome : TextKind → List (List ℕ) → ℕ → Option (List ℕ) → (List LineRecord → Type 0) → Result Unit ReadError → Type 0
 ReadsSome kind all count left stands_for (Ok done) = IsReadSoFar kind all count left stands_for
 ReadsSome kind all count left stands_for (Err error) = RefusesLine kind all error
 
--- what the reading of all lines answers: how many they are
+-- the result of reading all lines: how many there are
 abbrev pub ReadsAll : TextKind → List (List ℕ) → (List LineRecord → Type 0) → Result ℕ ReadError → Type 0
 ReadsAll kind all stands_for (Ok count) = IsReadWhole kind all count stands_for
 ReadsAll kind all stands_for (Err error) = RefusesLine kind all error
 
--- one more line was read and is clean, and the reading stands for its record too; or why it is refused
+-- the result of taking one more line: it is clean and the reading stands for its record too; or its first condition
 abbrev pub TakesLine : TextKind → List (List ℕ) → List (Option Record) → List ℕ → (List LineRecord → Type 0) → Result Unit TakeError → Type 0
 TakesLine kind before said line stands_for (Ok done) = (more : List (Option Record)) × IsClean kind (before ++ line ∷ []) more × stands_for (numbered 1 more)
 TakesLine kind before said line stands_for (Err (take_errors.Refused fault)) = FirstOf (Condition kind (records_in said) (length before + 1) line) places (at fault.field fault.reason)
 TakesLine kind before said line stands_for (Err take_errors.Memory) = Unit {0}
 
--- lines that were read, and a line after them within the limits
+-- a line within the limits, after lines that were read
 pub record ComesAfter (kind : TextKind) (before : List (List ℕ)) (said : List (Option Record)) (number : ℕ) (line : List ℕ) : Type 0 where
   pub clean : IsClean kind before said
   pub next : number ≡ length before + 1
   pub few : number ≤ most_lines
   pub short : length line ≤ longest_line
 
--- how a refusal at a line is told
+-- the refusal of a record, with its line
 abbrev pub read_error : ℕ → TakeError → ReadError
 read_error line (take_errors.Refused fault) = read_errors.Refused (record { line = line; field = fault.field }) fault.reason
 read_error line take_errors.Memory = read_errors.Memory
 
--- how an error of the lines is told
+-- the refusal or the error of a reader of lines
 abbrev pub lines_error : LinesError → ReadError
 lines_error (line_errors.TooMany line) = read_errors.Refused (record { line = line; field = 0 }) LineLimit
 lines_error (line_errors.TooLong line) = read_errors.Refused (record { line = line; field = 0 }) LineTooLong

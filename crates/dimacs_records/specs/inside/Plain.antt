@@ -15,13 +15,13 @@ use Rattle.dimacs_records.specs.LineReader.{ReadsLine}
 use Rattle.dimacs_records.specs.Readings.{LineRecord}
 use Rattle.dimacs_records.specs.Spelling.{Part, Amount, SayAll, kind_of, letter_of, parts_of, texts_in}
 
--- these texts stand there one after another: a blank after each but the last, and a line end after that
+-- these texts stand one after another, with a blank after each but the last, and a line end after the last
 abbrev pub Stand : List ℕ → ℕ → List (List ℕ) → ℕ → Type 0
 Stand bytes at [] next = ⊥
 Stand bytes at (text ∷ []) next = EndsAt bytes at 10 text next
 Stand bytes at (text ∷ other ∷ texts) next = (mid : ℕ) × EndsAt bytes at 32 text mid × Stand bytes mid (other ∷ texts) next
 
--- the bytes begin with a line of this letter, whose fields have these types and say these parts; with its end it takes so many bytes
+-- the bytes begin with a line of `size` bytes, its end counted, with this letter and fields of these types and contents
 pub record IsPlainLine (bytes : List ℕ) (letter : ℕ) (types : List FieldType) (parts : List Part) (size : ℕ) : Type 0 where
   pub texts : List (List ℕ)
   pub begins : bytes ≡ letter ∷ 32 ∷ drop 2 bytes
@@ -29,14 +29,14 @@ pub record IsPlainLine (bytes : List ℕ) (letter : ℕ) (types : List FieldType
   pub short : All (λ (text : List ℕ). length text ≤ 40) texts
   pub says : SayAll types texts parts
 
--- lines of the kind have this letter, two nodes and a number, and the record is what such a line says
+-- lines of the kind may have this letter, two nodes and a number; the record is that of such a line
 pub record SaysArc (kind : TextKind) (letter tail head : ℕ) (n : ℤ) (r : Record) : Type 0 where
   pub among : Contains (forms kind) (form (letter ∷ []) (Id ∷ Id ∷ Whole ∷ []))
   pub of_kind : kind_of r ≡ kind
   pub of_letter : letter_of r ≡ letter ∷ []
   pub parts : parts_of r ≡ Amount (pos tail) ∷ Amount (pos head) ∷ Amount n ∷ []
 
--- the first line of the bytes is whole and within the limits, and says this record; with its end it takes so many bytes
+-- the first line is whole and within the limits, spells this record, and has `size` bytes with its end
 pub record SaysFirst (kind : TextKind) (bytes : List ℕ) (r : Record) (size : ℕ) : Type 0 where
   pub line : List ℕ
   pub there : bytes ≡ line ++ 10 ∷ drop size bytes
@@ -46,7 +46,7 @@ pub record SaysFirst (kind : TextKind) (bytes : List ℕ) (r : Record) (size : �
   pub short : length line ≤ longest_line
   pub reads : ReadsLine kind (texts_in line) (Ok (Some r))
 
--- the first lines of the bytes held were read, and what follows them is left; or why one of them is refused
+-- the result of reading the first lines held: they are read and the rest is left, or one of them is refused
 abbrev pub TakesPlain : TextKind → List (List ℕ) → ℕ → List ℕ → Option (List ℕ) → (List LineRecord → Type 0) → Result PlainLines ReadError → Type 0
 TakesPlain kind all given held coming stands_for (Ok taken) = IsReadSoFar kind all (given + taken.lines) (before_piece (drop taken.bytes held) coming) stands_for
 TakesPlain kind all given held coming stands_for (Err error) = RefusesLine kind all error

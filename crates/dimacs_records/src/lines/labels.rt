@@ -1,4 +1,4 @@
-//! The lines of distance labels.
+//! Reading the lines of distance labels.
 
 ghost use Rattle.std.specs.Prelude.{◌∷◌, [], codes};
 ghost use Rattle.dimacs_records.specs.declared.kinds.TextKind.TheVariants.{Labels};
@@ -10,7 +10,7 @@ use crate::faults::LineFault;
 use crate::field_reader::FieldReader;
 use crate::records::Record;
 
-/// What a line says that begins with this field.
+/// Reads a line that begins with this letter.
 #[inline(always)]
 pub(super) fn record(letter: &[u8], fields: FieldReader) -> Result<Option<Record>, LineFault>
     requires { IsUntouched fields }

@@ -8,7 +8,7 @@ use Rattle.dimacs_solve.specs.declared.adjacency.Adjacency.{Adjacency}
 use Rattle.dimacs_solve.specs.Paths.{block_source, distinct_after}
 use Rattle.dimacs_solve.specs.inside.Search.{IsPathTree}
 
--- one block more, of this source
+-- the block of this source was added
 pub record AddsBlock (a : Adjacency) (source : ℕ) (old new : LabelsValue) : Type 0 where
   pub block : BlockValue
   pub with : new ≡ with_block old block
@@ -16,7 +16,7 @@ pub record AddsBlock (a : Adjacency) (source : ℕ) (old new : LabelsValue) : Ty
   pub lawful : AreLabels new
   pub sources : (sources : set.FinSet nat_cmp) → AreSources sources old.blocks → AreSources (set.insert sources source) new.blocks
 
--- a block for each of the sources
+-- exactly the sources have a block
 pub record AreSolved (a : Adjacency) (sources : List ℕ) (labels : LabelsValue) : Type 0 where
   pub lawful : AreLabels labels
   pub nodes : labels.nodes ≡ a.nodes

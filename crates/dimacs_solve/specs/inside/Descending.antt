@@ -1,4 +1,4 @@
--- Inside: one better flow after another.
+-- Inside: one step of a descent.
 use Rattle.std.specs.Prelude.{◌≡◌, List, ℤ}
 use Rattle.dimacs_claims.specs.Potentials.{potential_of}
 use Rattle.dimacs_instance.specs.MinFlows.{MinValue}
@@ -10,7 +10,7 @@ use Rattle.dimacs_solve.specs.declared.question.Reply.{Reply}
 use Rattle.dimacs_solve.specs.declared.question.Reply.TheVariants as replies
 use Rattle.dimacs_solve.specs.Descending.{IsBetter}
 
--- what is replied about a flow
+-- the reply about a flow
 abbrev pub IsReply : MinValue → List ℤ → Reply → Type 0
 IsReply i x (replies.Least p) = Least i x × Slack i.arcs x (potential_of p) × (p.nodes ≡ i.nodes)
 IsReply i x (replies.Infeasible set) = ShowsNoFlow i set

@@ -1,20 +1,20 @@
--- Inside: what a search knows of the nodes.
+-- Inside: the table of a search.
 use Rattle.std.specs.Prelude.{ℕ, ◌≡◌, ◌≢◌, ◌≤◌, ◌==◌, Bool, true, false}
 use Rattle.dimacs_solve.specs.declared.marks.Mark.{Mark}
 use Rattle.dimacs_solve.specs.declared.marks.Marks.{Marks}
 use Rattle.dimacs_nodes.specs.Tables.{value_of}
 
--- what is known of a node: whether a way to it was found, how far the shortest one is, and whether there is no shorter one
+-- what is known about a node: whether a walk was found, the length of the shortest one, and whether that is final
 pub record Known : Type 0 where
   pub found : Bool
   pub dist : ℕ
   pub final : Bool
 
--- what a mark says in this round
+-- a mark, read in this round
 abbrev pub known_by : {D : Type 0} → (D → ℕ) → ℕ → Mark D → Known
 known_by value round m = record { found = m.round == round; dist = value m.dist; final = m.settled }
 
--- what the marks say of a node in their round
+-- the mark of a node, read in the current round
 abbrev pub known : {D : Type 0} → (D → ℕ) → Marks D → ℕ → Known
 known value m v = known_by value m.round (value_of m.marks v)
 
@@ -24,18 +24,18 @@ reached d = record { found = true; dist = d; final = false }
 abbrev pub settled : ℕ → Known
 settled d = record { found = true; dist = d; final = true }
 
--- a way of at most d was found
+-- a walk of length d or less was found
 abbrev pub IsReachedWithin : Known → ℕ → Type 0
 IsReachedWithin k d = (k.found ≡ true) × (k.dist ≤ d)
 
 abbrev pub IsSettled : Known → Type 0
 IsSettled k = (k.found ≡ true) × (k.final ≡ true)
 
--- this is known of the node, and of the others what was known before
+-- this is known about the node now; about the others, what was known before
 pub record Sets (old : ℕ → Known) (node : ℕ) (now : Known) (new : ℕ → Known) : Type 0 where
   pub here : new node ≡ now
   pub there : (other : ℕ) → other ≢ node → new other ≡ old other
 
--- nothing is known of any node
+-- nothing is known about any node
 abbrev pub AreUnknown : (ℕ → Known) → Type 0
 AreUnknown at = (v : ℕ) → (at v).found ≡ false

@@ -1,4 +1,4 @@
--- Inside: a search from one source.
+-- Inside: Dijkstra's search from one source.
 use Rattle.std.specs.Prelude.{ℕ, zero, suc, ◌≡◌, ◌≤◌, ◌+◌, ◌-◌, ◌*◌, ◌⊎◌, ◌&&◌, if◌then◌else◌, cond, Bool, true, false, List, ◌∷◌, All, Contains, Option, Some, None, length, IsPermutation, ℤ, pos, ◌≤ℤ◌}
 use Rattle.dimacs_lines.specs.Limits.{IsNode}
 use Rattle.dimacs_claims.specs.declared.block.Label.{Label}
@@ -15,16 +15,16 @@ use Rattle.dimacs_solve.specs.Paths.{IsNearestFirst}
 abbrev pub is_settled : Known → Bool
 is_settled k = k.found && k.final
 
--- how many of the nodes up to n are settled
+-- how many of the nodes 1 to n are settled
 unfoldable pub settled_count : (ℕ → Known) → ℕ → ℕ
 settled_count marks zero = 0
 settled_count marks (suc n) = settled_count marks n + cond (is_settled (marks (suc n))) 1 0
 
--- the distance of a node that is settled
+-- the distance of a settled node; none for the others
 abbrev pub settled_label : Known → Option ℤ
 settled_label k = if is_settled k then Some (pos k.dist) else None
 
--- a hop from a settled node leads this way
+-- the walk ends with a hop from a settled node
 pub record IsWay (a : Adjacency) (marks : ℕ → Known) (e : Reach ℕ) : Type 0 where
   pub weight : ℕ
   pub node : IsNode a.nodes e.pred
@@ -32,41 +32,41 @@ pub record IsWay (a : Adjacency) (marks : ℕ → Known) (e : Reach ℕ) : Type 
   pub hop : Contains (out a e.pred) (hop_to e.node weight)
   pub adds : e.dist ≡ (marks e.pred).dist + weight
 
--- a way that waits is no shorter than the floor, and no shorter than the node's mark says
+-- a walk in the queue: at least as long as the floor, and as the mark of its node
 pub record IsWayWaiting (a : Adjacency) (floor : ℕ) (marks : ℕ → Known) (e : Reach ℕ) : Type 0 where
   pub way : IsWay a marks e
   pub beyond : floor ≤ e.dist
   pub within : IsReachedWithin (marks e.node) e.dist
   pub bound : e.dist ≤ a.greatest * settled_count marks a.nodes
 
--- a way to v of this length waits
+-- the queue has a walk to v of this length
 abbrev pub IsPending : List (Reach ℕ) → ℕ → ℕ → Type 0
 IsPending front v d = (p : ℕ) × Contains front (record { dist = d; node = v; pred = p })
 
--- the marks and the ways that wait, where no settled node is beyond the floor
+-- the marks and the queue agree, and no settled node is farther than the floor
 pub record IsFront (a : Adjacency) (floor : ℕ) (marks : ℕ → Known) (front : List (Reach ℕ)) : Type 0 where
   pub adjacent : AreByNode a
   pub waiting : (e : Reach ℕ) → Contains front e → IsWayWaiting a floor marks e
   pub pending : (v : ℕ) → (marks v).found ≡ true → (marks v).final ≡ false → IsPending front v (marks v).dist
   pub below : (v : ℕ) → IsSettled (marks v) → (marks v).dist ≤ floor
 
--- settled nodes stay as they are, no more are settled, and no mark rises
+-- settled nodes stay settled as they were, no others become settled, and no mark rises
 pub record Lowers (old new : ℕ → Known) : Type 0 where
   pub kept : (v : ℕ) → IsSettled (old v) → new v ≡ old v
   pub none : (v : ℕ) → IsSettled (new v) → new v ≡ old v
   pub within : (v d : ℕ) → IsReachedWithin (old v) d → IsReachedWithin (new v) d
 
--- a way is taken up where it is shorter than the node's mark
+-- a walk is put into the queue if it is shorter than its node's mark
 abbrev pub Offers : Reach ℕ → (ℕ → Known) → List (Reach ℕ) → (ℕ → Known) → List (Reach ℕ) → Type 0
 Offers e marks front marks' front' =
     (IsReachedWithin (marks e.node) e.dist × (marks' ≡ marks) × (front' ≡ front))
     ⊎ ((¬ IsReachedWithin (marks e.node) e.dist) × Sets marks e.node (reached e.dist) marks' × IsPermutation (e ∷ front) front')
 
--- the hop's head is reached, at no more than d and the weight
+-- the head of the hop has a mark of at most d plus the weight
 abbrev pub IsHopPassed : (ℕ → Known) → ℕ → Hop → Type 0
 IsHopPassed marks d hop = IsReachedWithin (marks hop.head) (d + hop.weight)
 
--- the node was settled at this distance, no settled node is farther, and a hop more stays below the product
+-- the node was settled at this distance, no settled node is farther, and one more hop stays below the limit
 pub record IsReady (a : Adjacency) (v dist : ℕ) (marks : ℕ → Known) (front : List (Reach ℕ)) : Type 0 where
   pub node : IsNode a.nodes v
   pub settled : IsSettled (marks v)
@@ -74,14 +74,14 @@ pub record IsReady (a : Adjacency) (v dist : ℕ) (marks : ℕ → Known) (front
   pub bound : dist + a.greatest ≤ a.greatest * settled_count marks a.nodes
   pub waits : IsFront a dist marks front
 
--- the ways that lead on from the node were offered
+-- all hops from the node were relaxed
 pub record Relaxes (a : Adjacency) (v dist : ℕ) (old : ℕ → Known) (ways : List (Reach ℕ)) (new : ℕ → Known) (front : List (Reach ℕ)) : Type 0 where
   pub waits : IsFront a dist new front
   pub lowers : Lowers old new
   pub passed : All (IsHopPassed new dist) (out a v)
   pub few : length front ≤ length ways + length a.hops.items
 
--- a hop from the label's predecessor makes it
+-- the label has a tight hop from its predecessor
 pub record IsMade (a : Adjacency) (b : BlockValue) (l : Label) : Type 0 where
   pub base : ℕ
   pub weight : ℕ
@@ -89,7 +89,7 @@ pub record IsMade (a : Adjacency) (b : BlockValue) (l : Label) : Type 0 where
   pub hop : Contains (out a l.pred) (hop_to l.id weight)
   pub adds : l.dist ≡ pos (base + weight)
 
--- between two ways
+-- the state of the search between two entries of the queue
 pub record IsPathSearch (a : Adjacency) (b : BlockValue) (marks : ℕ → Known) (front : List (Reach ℕ)) : Type 0 where
   pub floor : ℕ
   pub waits : IsFront a floor marks front
@@ -102,22 +102,22 @@ pub record IsPathSearch (a : Adjacency) (b : BlockValue) (marks : ℕ → Known)
   pub nearest_first : IsNearestFirst b.labels
   pub passed : (u : ℕ) → IsSettled (marks u) → All (IsHopPassed marks (marks u).dist) (out a u)
 
--- the nearest way was taken from those that waited
+-- the nearest walk was removed from the queue
 pub record IsPopped (a : Adjacency) (b : BlockValue) (marks : ℕ → Known) (e : Reach ℕ) (front : List (Reach ℕ)) : Type 0 where
   pub before : List (Reach ℕ)
   pub moved : IsPermutation before (e ∷ front)
   pub nearest : IsNearest e front
   pub search : IsPathSearch a b marks before
 
--- how much is left to do
+-- a number that falls with each step of the search
 abbrev pub work : Adjacency → (ℕ → Known) → List (Reach ℕ) → ℕ
 work a marks front = (a.nodes - settled_count marks a.nodes) * (length a.hops.items + 1) + length front
 
--- where v has a label, each hop from it leads to a node with a label, which is at most the label of v and the weight
+-- each hop from a labelled node leads to a node with a label, which is at most the first label plus the weight
 abbrev pub IsClosed : Adjacency → BlockValue → Type 0
 IsClosed a b = (u d : ℕ) → label b u ≡ Some (pos d) → All (λ hop. (e : ℕ) × (label b hop.head ≡ Some (pos e)) × (e ≤ d + hop.weight)) (out a u)
 
--- the labels of a search that is over
+-- the labels at the end of a search
 pub record IsPathTree (a : Adjacency) (source : ℕ) (b : BlockValue) : Type 0 where
   pub from : b.source ≡ source
   pub unbounded : b.radius ≡ None

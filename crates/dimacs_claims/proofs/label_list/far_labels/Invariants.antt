@@ -2,6 +2,6 @@ use Rattle.std.proofs.Common.{◌≡◌, map, take}
 use Rattle.dimacs_claims.specs.LabelLists.{widened}
 use Rattle.dimacs_claims.proofs.label_list.far_labels.Given as goal
 
--- those so far
+-- the labels so far
 abbrev pub invariant-loop-label : goal.invariant-loop-label
 invariant-loop-label l = l.far ≡ map widened (take l.label-index l.near)

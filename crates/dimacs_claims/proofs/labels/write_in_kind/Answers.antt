@@ -11,7 +11,7 @@ use Rattle.dimacs_claims.specs.LabelTexts.{block_lines}
 use Rattle.dimacs_records.proofs.WrittenLemmas.{line_after, lines_after}
 use Rattle.dimacs_claims.proofs.labels.write_in_kind.Goals as goal
 
--- one block more
+-- one more block
 next_block : (f : Record → Record) (first : Record) (bs : List BlockValue) (i : ℕ) (d : BlockValue) → i < length bs
     → map f (first ∷ flat_map block_lines (take (i + 1) bs)) ≡ map f (first ∷ flat_map block_lines (take i bs)) ++ map f (block_lines (get_or bs i d))
 next_block f first bs i d below =

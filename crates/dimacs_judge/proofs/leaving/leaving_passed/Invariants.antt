@@ -2,7 +2,7 @@ use Rattle.dimacs_judge.specs.inside.Marks.{IsBlank, known}
 use Rattle.dimacs_judge.proofs.LeavingLemmas.{ArePassedFirst}
 use Rattle.dimacs_judge.proofs.leaving.leaving_passed.Given as goal
 
--- the arcs that leave the source and the nodes of the labels so far are passed
+-- the arcs that leave the source and the nodes of the labels so far are relaxed
 abbrev pub invariant-loop-i : goal.invariant-loop-i
 invariant-loop-i g l = record {
   blank : IsBlank g.D.Distance.value l.marks;

@@ -6,7 +6,7 @@ use Rattle.dimacs_network.specs.Arcs.{arc_at}
 use Rattle.dimacs_judge.proofs.LeavingLemmas.{ArePassedOn}
 use Rattle.dimacs_judge.proofs.leaving.node_passed.Given as goal
 
--- the arcs of the node from `next` on are passed
+-- the arcs of the node at the places from `next` on are relaxed
 abbrev pub invariant-loop-next : goal.invariant-loop-next
 invariant-loop-next g l = record {
   marked : IsMarked g.D.Distance.value (g.N.Network.list l.network) l.block l.marks;

@@ -8,7 +8,7 @@ use Rattle.dimacs_lines.proofs.PutLemmas.{after_piece-take, AcceptsFront-take}
 use Rattle.dimacs_lines.proofs.device.put_all.Goals as goal
 use Rattle.dimacs_lines.proofs.device.put_all.Goals.{In_ok-count}
 
--- what the put took follows what was taken before it
+-- what this put accepted follows what was accepted before
 taken : (g : _) (c : In_ok-count g) → (g.S.Sink.seen c.put.new.self).accepted ≡ after_piece (g.S.Sink.seen c.args.sink.now).accepted (take (c.loop-done.done + c.in_ok-count.count) c.args.bytes.now)
 taken g c =
     let seen = g.S.Sink.seen in

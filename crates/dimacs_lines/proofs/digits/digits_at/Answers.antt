@@ -12,7 +12,7 @@ use Rattle.dimacs_lines.proofs.Lanes.{AllBytes-to_le_bytes}
 use Rattle.dimacs_lines.proofs.PlaceSums.{number_from_digits-zeros, All-turned, AllPass-take, AllPass-turned, prefix_len-digits, prefix_len-padded}
 use Rattle.dimacs_lines.proofs.digits.digits_at.Goals as goal
 
--- what is counted stands within the line
+-- the counted digits stand within the line
 take-padded : (n : ℕ) (bs : List ℕ) → n ≡ prefix_len is_ascii_digit (take 8 bs) → take n (take 8 (bs ++ replicate 8 0)) ≡ take n bs
 take-padded n bs counted =
     let within : n ≤ min 8 (length bs) = omega (arith, prefix_len-le-length is_ascii_digit (take 8 bs), length-take 8 bs) in

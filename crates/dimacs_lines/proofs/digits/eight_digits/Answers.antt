@@ -15,7 +15,7 @@ fours n = bit_and (n * 6553601 % 2 ^ 64 / 2 ^ 16) 0x0000ffff0000ffff
 abbrev eight : ℕ → ℕ
 eight n = n * 42949672960001 % 2 ^ 64 / 2 ^ 32
 
--- the steps at eight digits
+-- the three steps on eight digits
 eight-word_of : (a b c d e f g h : ℕ) → let ds = a ∷ b ∷ c ∷ d ∷ e ∷ f ∷ g ∷ h ∷ [] in AllBelowBase 10 ds
     → eight (fours (twos (word_of 8 ds))) ≡ number_from_digits 10 ds
 eight-word_of a b c d e f g h digits =

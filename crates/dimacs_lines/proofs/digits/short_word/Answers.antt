@@ -6,13 +6,13 @@ use Rattle.std.proofs.lemmas.List.Elements.{All-from_get_or, All-append, All-rep
 use Rattle.std.proofs.lemmas.Nat.{le_bytes_8}
 use Rattle.dimacs_lines.proofs.digits.short_word.Goals as goal
 
--- past the end too
+-- also past the end
 get_or-lt : (bs : List ℕ) → All (λ b. b < 256) bs → (i : ℕ) → get_or bs i 0 < 256
 get_or-lt [] h i = omega arith
 get_or-lt (b ∷ bs) h zero = All-head (λ b. b < 256) b bs h
 get_or-lt (b ∷ bs) h (suc i) = get_or-lt bs (All-tail (λ b. b < 256) b bs h) i
 
--- the array once the bytes are copied to its front
+-- the array after the bytes are copied to its front
 append-drop-replicate : (bytes : List ℕ) → length bytes < 8 → bytes ++ drop (length bytes) (replicate 8 0) ≡ take 8 (bytes ++ replicate 8 0)
 append-drop-replicate bytes short =
     let n = length bytes in

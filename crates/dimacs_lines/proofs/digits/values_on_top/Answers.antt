@@ -7,7 +7,7 @@ use Rattle.std.proofs.lemmas.List.Elements.{All-append, All-replicate, All-map, 
 use Rattle.dimacs_lines.proofs.Lanes.{AllBytes, word_of, word_of-zeros, word_of-take, word_of-map, to_le_bytes-word_of, word_of-to_le_bytes, AllBytes-to_le_bytes}
 use Rattle.dimacs_lines.proofs.digits.values_on_top.Goals as goal
 
--- the bytes of a word whose lanes move up by j
+-- the bytes of a word whose lanes were moved up by j
 to_le_bytes-shl : (j k : ℕ) (ds : List ℕ) → j + k ≡ 8 → k ≤ length ds → AllBytes ds
     → to_le_bytes w64 (word_of 8 ds * 2 ^ (8 * j) % 2 ^ 64) ≡ replicate j 0 ++ take k ds
 to_le_bytes-shl j k ds whole enough bytes =

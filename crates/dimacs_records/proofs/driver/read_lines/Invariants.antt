@@ -5,7 +5,7 @@ use Rattle.dimacs_lines.specs.Limits.{most_lines}
 use Rattle.dimacs_records.specs.inside.Driver.{HasTaken, IsReadSoFar}
 use Rattle.dimacs_records.proofs.driver.read_lines.Given as goal
 
--- so many lines were read, without a fault of the source
+-- so many lines were read without an I/O error
 abbrev pub invariant-loop-lines : goal.invariant-loop-lines
 invariant-loop-lines g l = record {
   kind : g.R.Reading.kind l.reading ≡ l.kind;

@@ -4,7 +4,7 @@ use Rattle.dimacs_lines.specs.Lines.{AreWholeLines}
 use Rattle.dimacs_records.specs.inside.Driver.{HasTaken, IsReadSoFar}
 use Rattle.dimacs_records.proofs.driver.take_plain.Given as goal
 
--- so many lines were taken, and these bytes of what is held
+-- so many lines and bytes of the buffer were taken
 abbrev pub invariant-loop-line : goal.invariant-loop-line
 invariant-loop-line g l = record {
   kind : g.R.Reading.kind l.reading ≡ l.kind;

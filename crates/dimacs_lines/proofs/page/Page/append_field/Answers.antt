@@ -6,7 +6,7 @@ use Rattle.std.proofs.lemmas.Int.{to_z-of_z}
 use Rattle.std.proofs.lemmas.List.{length-append}
 use Rattle.dimacs_lines.proofs.page.Page.append_field.Goals as goal
 
--- the digits of a number of 64 bits, and its sign
+-- a 64-bit number has at most 20 bytes, with its sign
 length-signed : (n : ℤ) → SFits w64 n → length (signed_decimal n) ≤ 20
 length-signed (pos n) fits = let few : length (decimal n) ≤ 19 = length-decimal-le 19 n (omega arith) (omega arith) (omega (arith, fits.sfits)) in omega (arith, few)
 length-signed (negsuc n) fits = let few : length (decimal (suc n)) ≤ 19 = length-decimal-le 19 (suc n) (omega arith) (omega arith) (omega (arith, fits.sfits)) in omega (arith, few)

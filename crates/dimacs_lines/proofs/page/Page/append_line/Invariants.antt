@@ -3,7 +3,7 @@ use Rattle.std.specs.List.{flat_map}
 use Rattle.dimacs_lines.specs.Pages.{number_field}
 use Rattle.dimacs_lines.proofs.page.Page.append_line.Given as goal
 
--- so many of the numbers are written
+-- the first n numbers are written
 abbrev pub invariant-loop-n : goal.invariant-loop-n
 invariant-loop-n l = record {
   kept : l.self.kept ≡ l.initial.self.kept ++ flat_map number_field (take l.n-index l.numbers);

@@ -4,7 +4,7 @@ use Rattle.std.proofs.lemmas.List.{drop-take, drop-drop}
 use Rattle.std.proofs.lemmas.List.Edits.{length-between}
 use Rattle.dimacs_lines.proofs.reader.Lines.skip.Goals as goal
 
--- what is left of a part of a list
+-- the rest of a part of a list
 later_part : (xs : List ℕ) (start end n : ℕ) → n ≤ end - start → slice_range xs (start + n) end ≡ drop n (slice_range xs start end)
 later_part xs start end n few =
     let left = end - (start + n) in
