@@ -28,7 +28,7 @@ use Rattle.dimacs_solve.specs.SolveMin.{SolvesMin}
 use Rattle.dimacs_runs.specs.declared.outcome.Status.{Status}
 use Rattle.dimacs_runs.specs.declared.outcome.Status.TheVariants.{Refused}
 use Rattle.dimacs_runs.specs.declared.outcome.RunError.{RunError}
-use Rattle.dimacs_runs.specs.declared.outcome.RunError.TheVariants.{Device, Memory}
+use Rattle.dimacs_runs.specs.declared.outcome.RunError.TheVariants.{Device}
 use Rattle.dimacs_runs.specs.declared.produced.Produced.{Produced}
 use Rattle.dimacs_runs.specs.Judgings.{CountsDevices}
 use Rattle.dimacs_runs.specs.Outputs.{MayTell, ReportsAll}

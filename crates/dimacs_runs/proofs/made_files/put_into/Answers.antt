@@ -1,4 +1,4 @@
-use Rattle.std.proofs.Common.{[], ◌∷◌, false, true, refl}
+use Rattle.std.proofs.Common.{[], ◌∷◌, refl}
 use Rattle.dimacs_runs.proofs.MakingLemmas.{puts_no_text, puts_nowhere, puts_text}
 use Rattle.dimacs_runs.proofs.made_files.put_into.Goals as goal
 
