@@ -33,6 +33,7 @@ exit "$status"
 
 # What the examples are judged as: instance, answers, the words of the command up to its files, the line and its class.
 EXAMPLES = """
+bridges.max | bridges-sums.solution | certify-max | x arc 2 AboveCap | claim
 bridges.max | bridges.solution bridges.cut | judge-max | v max 8 |
 canning.min | canning.solution canning.pot | judge-min | v min 153675 |
 detroit.min | detroit.cut | judge-infeasible | v infeasible |
