@@ -17,7 +17,7 @@ pub record HasArcOfWeight (g : List ArcView) (l : Label) (base : ℤ) : Type 0 w
 abbrev pub HasTightArc : List ArcView → BlockValue → Label → Type 0
 HasTightArc g b l = (base : ℤ) × (label b l.pred ≡ Some base) × HasArcOfWeight g l base
 
--- a walk of this length leads to v: the label of v is no greater, or v has none and the length is beyond the radius
+-- a walk of this length to v respects the labels: v's is no greater, or v has none and the length is beyond the radius
 abbrev pub IsReached : BlockValue → ℕ → ℤ → Type 0
 IsReached b v length = ((e : ℤ) × (label b v ≡ Some e) × (e ≤ℤ length)) ⊎ ((label b v ≡ None) × (¬ IsNear b.radius length))
 

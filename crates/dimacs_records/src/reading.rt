@@ -22,8 +22,8 @@ pub trait Reading: Drop {
     /// Which value the records of a text give.
     ghost gives: { List LineRecord → Self.Value → Type 0 };
 
-    /// What the value has from the state of the reading, whatever records came between. A reading that starts empty
-    /// leaves this out.
+    /// A fact that links the final value to the reading it started from, whatever records came between. A reading that
+    /// starts empty leaves this out.
     ghost keeps: { Self → Self.Value → Type 0 } = { λ _ _. ⊤ };
 
     /// Takes the record of the line with this number; lines come in order. It succeeds only if no condition of the kind

@@ -39,7 +39,7 @@ IsNearestFirst labels = (k : ℕ) (d : Label) → k + 1 < length labels → (sli
 abbrev pub block_source : BlockValue → ℕ
 block_source b = b.source
 
--- the labels pass and are distances, the nearest first; exactly the sources asked for have blocks, in order, unbounded
+-- the labels pass and are distances, the nearest first; exactly the sources asked for have blocks, in order, no radius
 pub record AreProduced (g : NetworkValue) (q : QueriesValue) (l : LabelsValue) : Type 0 where
   pub shows : ShowsDistances g q l
   pub nearest_first : All (λ b. IsNearestFirst b.labels) l.blocks

@@ -109,7 +109,7 @@ pub record IsPopped (a : Adjacency) (b : BlockValue) (marks : ℕ → Known) (e 
   pub nearest : IsNearest e front
   pub search : IsPathSearch a b marks before
 
--- a number that falls with each step of the search
+-- a bound on the steps left: it falls with each walk removed from the queue
 abbrev pub work : Adjacency → (ℕ → Known) → List (Reach ℕ) → ℕ
 work a marks front = (a.nodes - settled_count marks a.nodes) * (length a.hops.items + 1) + length front
 
