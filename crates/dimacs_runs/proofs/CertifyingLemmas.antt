@@ -1,4 +1,4 @@
--- What certifying tells of the texts that it was given.
+-- The outcomes of certifying.
 use Rattle.std.proofs.Common.{◌≡◌, ◌≢◌, ◌∙◌, ℕ, ℤ, List, [], ◌∷◌, Option, None, Result, Ok, Err, refl, sym, subst, ap, inl, inr, ◌⊎◌, drop, length}
 use Rattle.std.specs.Prelude.{codes}
 use Rattle.dimacs_lines.specs.Devices.{Written}
@@ -46,7 +46,7 @@ use Rattle.dimacs_runs.specs.inside.Produced.{EndsProducing, MayCertify, accepte
 use Rattle.dimacs_runs.specs.inside.Told.{told_lines, told_status}
 
 -- ---- the claim
--- where one of two kinds of text can be, no test of the claim fails, and the other kind can't be
+-- if a text of one kind exists, no test of the claim fails, and no text of the other kind exists
 record AreApart (shows better : List ℕ → Type 0) (rows : List Row) : Type 0 where
   shown_clear : (text : List ℕ) → shows text → AllClear rows
   better_clear : (text : List ℕ) → better text → AllClear rows
@@ -80,7 +80,7 @@ module _ {shows better : List ℕ → Type 0} {rows : List Row} {verdict refusal
       alike Refused other (inr h) = absurd (none_first rows place reason (apart.better_clear h.0 h.1) first.0)
       alike GaveUp other h = absurd h
 
--- the claim was refused, or memory was
+-- the claim was refused, or memory ran out
 error_tells : {shows better : List ℕ → Type 0} {rows : List Row} {X : Type 0} (apart : AreApart shows better rows) (verdict refusal : List ℕ) (holds : X → Type 0) (error : JudgeError) → Refutes holds rows error
     → MayCertify (CertificateOr shows verdict rows better refusal) (reported (answer_told (Err error)))
 error_tells apart verdict refusal holds (judge_errors.Refused place reason) refutes = failing_tells apart place reason refutes.0
@@ -94,7 +94,7 @@ module _ (i : MaxValue) (law : IsMax i) (s : SolutionValue) where
     one = λ a b says greater. greater.2.not_maximum (subst (λ (f : List ℤ). Maximum i f) (says.1.1.claim.carries.amounts ∙ sym greater.2.claim.carries.amounts) says.1.2);
   }
 
-  -- a cut shows the claim true
+  -- a cut shows the claim
   pub cut_certifies : (cut : CutValue) (value : ℤ) → value ≡ s.value → ShowsMaximum i s cut → MayCertify (CertifiesMaximum i s) (Ok (record { made = Set cut; told = told.Yes (verdicts.Max value) }))
   cut_certifies cut value is shown = rw is (yes_tells cut_apart (canonical_cut cut) (cut, shown, refl))
 
@@ -103,7 +103,7 @@ module _ (i : MaxValue) (law : IsMax i) (s : SolutionValue) where
       → MayCertify (CertifiesMaximum i s) (Ok (record { made = Better solution; told = told.No place NotMaximum }))
   greater_certifies solution place is says = rw is (better_tells cut_apart (canonical_solution (claimed solution)) says)
 
-  -- the claim was refused by a test, or memory was
+  -- a test refused the claim, or memory ran out
   pub maximum_error : (error : JudgeError) → Refutes (CertifiesMax i s) (max_claim_rows i s) error → MayCertify (CertifiesMaximum i s) (reported (answer_told (Err error)))
   maximum_error error refutes = error_tells cut_apart _ _ (CertifiesMax i s) error refutes
 
@@ -115,7 +115,7 @@ module _ (i : MinValue) (s : SolutionValue) where
     one = λ a b says cheaper. cheaper.2.not_least (subst (λ (f : List ℤ). Least i f) (says.1.1.claim.carries.amounts ∙ sym cheaper.2.claim.carries.amounts) says.1.2);
   }
 
-  -- potentials show the claim true
+  -- potentials show the claim
   pub potentials_certify : (potentials : PotentialsValue) (cost : ℤ) → cost ≡ s.value → ShowsLeast i s potentials → MayCertify (CertifiesLeast i s) (Ok (record { made = Slack potentials; told = told.Yes (verdicts.Min cost) }))
   potentials_certify potentials cost is shown = rw is (yes_tells potentials_apart (canonical_potentials potentials) (potentials, shown, refl))
 
@@ -124,11 +124,11 @@ module _ (i : MinValue) (s : SolutionValue) where
       → MayCertify (CertifiesLeast i s) (Ok (record { made = Better solution; told = told.No place NotLeast }))
   cheaper_certifies solution place is says = rw is (better_tells potentials_apart (canonical_solution (claimed solution)) says)
 
-  -- a flow is better, whose cost no solution can say
+  -- a flow is better, but no solution can have its cost
   pub unsaid_certifies : (place : Where) → place ≡ places.Solution s.value_line 2 → SaysCheaper i s [] → MayCertify (CertifiesLeast i s) (Ok (record { made = Nothing; told = told.No place NotLeast }))
   unsaid_certifies place is says = rw is (better_tells potentials_apart [] says)
 
-  -- the claim was refused by a test, or memory was
+  -- a test refused the claim, or memory ran out
   pub least_error : (error : JudgeError) → Refutes (CertifiesMin i s) (min_claim_rows i s) error → MayCertify (CertifiesLeast i s) (reported (answer_told (Err error)))
   least_error error refutes = error_tells potentials_apart _ _ (CertifiesMin i s) error refutes
 
@@ -150,13 +150,13 @@ module _ (i : MinValue) where
       → MayCertify (CertifiesInfeasible i) (Ok (record { made = Better solution; told = text }))
   feasible_certifies solution text status lines says = rw (status, lines) (better_tells set_apart (canonical_solution (claimed solution)) says)
 
-  -- a flow is feasible, whose cost no solution can say
+  -- a flow is feasible, but no solution can have its cost
   pub unsaid_feasible_certifies : (text : Told) → told_status text ≡ Refused → told_lines text ≡ refusal_line (codes "instance") 0 0 Feasible → SaysFeasible i []
       → MayCertify (CertifiesInfeasible i) (Ok (record { made = Nothing; told = text }))
   unsaid_feasible_certifies text status lines says = rw (status, lines) (better_tells set_apart [] says)
 
 module _ (g : NetworkValue) (d : LabelsValue) where
-  -- the distances are of another graph
+  -- the distances are of a graph with another number of nodes
   pub other_nodes_told : (text : Told) → told_status text ≡ Refused → told_lines text ≡ refusal_line (codes "distances") 0 0 NodesDiffer → d.nodes ≢ g.nodes → MayCertify (CertifiesDistances g d) (reported (Ok text))
   other_nodes_told text status lines other = rw (status, lines) ((inl (other, refl)), alike)
     where
@@ -166,7 +166,7 @@ module _ (g : NetworkValue) (d : LabelsValue) where
       alike Refused out (inr h) = absurd (other h.0)
       alike GaveUp out h = absurd h
 
-  -- labels show the distances true
+  -- labels show that the distances are right
   pub labels_certify : (labels : LabelsValue) (sources : ℕ) → sources ≡ length d.blocks → d.nodes ≡ g.nodes → AreAllDistances g d.blocks × AreLabelsOfAll g d.blocks labels
       → MayCertify (CertifiesDistances g d) (Ok (record { made = Distances labels; told = told.Distances sources }))
   labels_certify labels sources count same shown = rw count ((same, (canonical_labels labels, (shown.0, (labels, shown.1, refl)), refl)), alike)
@@ -177,7 +177,7 @@ module _ (g : NetworkValue) (d : LabelsValue) where
       alike Refused out (inr h) = absurd (h.1 shown.0)
       alike GaveUp out h = absurd h
 
-  -- a test fails, or memory was wanting
+  -- a test fails, or memory ran out
   pub distances_error : (error : JudgeError) → d.nodes ≡ g.nodes → CertifiesPaths g d.blocks (Err error) → MayCertify (CertifiesDistances g d) (reported (answer_told (Err error)))
   distances_error (judge_errors.Refused place reason) same refutes = (inr (same, refutes.1, (place, reason, refutes.0.0, refl)), alike)
     where
@@ -188,7 +188,7 @@ module _ (g : NetworkValue) (d : LabelsValue) where
       alike GaveUp out h = absurd h
   distances_error judge_errors.Memory same refutes = tt
 
--- ---- what was put, without a claim
+-- ---- what was written, without a claim
 accepted_after : (texts : List (List ℕ)) (old new : List (Option (List ℕ))) → AcceptAll texts (None ∷ old) (None ∷ new) → AcceptAll (drop 1 texts) old new
 accepted_after [] old new same = cc
 accepted_after (text ∷ texts) old new accepted = accepted.1
@@ -198,11 +198,11 @@ in_turn_after [] old new never = absurd never
 in_turn_after (text ∷ texts) old new (inl (front, same)) = inl same
 in_turn_after (text ∷ texts) old new (inr (whole, more)) = inr more
 
--- a sink that keeps nothing
+-- a sink that keeps no byte
 abbrev pub nowhere : Written
 nowhere = record { accepted = None; faults = 0 }
 
--- what was put of what was produced
+-- all that was produced was written
 pub puts_all : (p : Produced) (result : Result Status RunError) (old new : List Written) → EndsProducing (Ok p) result (nowhere ∷ old) (nowhere ∷ new) → ReportsAll (IsPut p) result (accepted_by old) (accepted_by new)
 puts_all p (Ok status) old new ends = (unclaimed_texts p, (ends.0, refl), accepted_after (produced_texts p) (accepted_by old) (accepted_by new) ends.1)
 puts_all p (Err error) old new ends = elim (in_turn_after (produced_texts p) (accepted_by old) (accepted_by new) ends.1) [

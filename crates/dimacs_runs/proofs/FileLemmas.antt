@@ -1,4 +1,4 @@
--- What was done with files, call by call, and which of them failed.
+-- What was done with files, call by call, and which calls failed.
 use Rattle.std.proofs.Common.{ℕ, ◌≡◌, ◌≢◌, ◌++◌, ◌∙◌, ◌⊎◌, List, [], ◌∷◌, Option, None, Some, Result, Ok, Err, refl, sym, ap, subst, append_assoc, append-nil, arith, eq-zero-or-pos, flat_map, inl, inr, map, ne_eqb}
 use Rattle.std.proofs.lemmas.Grind.{flat_map-append}
 use Rattle.std.specs.Option.{option_or}
@@ -24,7 +24,7 @@ faults_twice : {X : Type 0} (faults : ℕ) (xs ys : List X) → faults_after (fa
 faults_twice faults [] ys = refl
 faults_twice faults (x ∷ xs) ys = faults_twice (one_more faults) xs ys
 
--- these events, and then those
+-- these events, then more
 pub sees_then : (xs ys : List FileEvent) (a b c : FilesSeen) → Sees xs a b → Sees ys b c → Sees (xs ++ ys) a c
 sees_then xs ys a b c first second = record {
   done = second.done ∙ ap (λ (log : Option (List FileEvent)). after_events log ys) first.done ∙ after_twice a.done xs ys;
@@ -37,7 +37,7 @@ sees_two {x} {y} {a} {b} {c} first second = sees_then (x ∷ []) (y ∷ []) a b 
 pub sees_three : {x y z : FileEvent} {a b c d : FilesSeen} → Sees (x ∷ []) a b → Sees (y ∷ []) b c → Sees (z ∷ []) c d → Sees (x ∷ y ∷ z ∷ []) a d
 sees_three {x} {y} {z} {a} {b} {c} {d} first second third = sees_then (x ∷ y ∷ []) (z ∷ []) a c d (sees_two first second) third
 
--- ---- files that were closed, the faults that they tell of, and the first of them
+-- ---- closed files, their faults, and the first fault
 abbrev pub Closed : Type 0
 Closed = ReadFile ⊎ WrittenFile
 
@@ -94,7 +94,7 @@ module _ (faults counted : ℕ) where
     | inr rest ↦ inr (rest.0, rw (no_failure file same, rest.1) refl, rest.2)
   ]
 
-  -- a run told of the device that failed
+  -- the result of a run names the operation that failed
   pub tells_failure : {X : Type 0} (closed : List Closed) (ended : Result X RunError) (failure : Option Failure) → IsFirstOf failure (flat_map failures (closings closed))
       → CountsDevices ended (all_before closed) (all_after closed) → (flat_map failures (closings closed) ≡ failures_told (named ended failure)) × (counted ≡ output_faults (named ended failure) faults)
   tells_failure closed (Ok x) failure first counts = none_failed closed counts
@@ -109,7 +109,7 @@ module _ (faults counted : ℕ) where
   ]
   tells_failure closed (Err Device) (Some Output) first counts = absurd first
 
--- the first failure of these files, or else of those
+-- the first failure of the first files, or otherwise of the others
 first_or : (a b : Option Failure) (xs ys : List (FileCall × List ℕ)) → IsFirstOf a xs → IsFirstOf b ys → IsFirstOf (option_or a b) (xs ++ ys)
 first_or None b xs ys first second = rw first second
 first_or (Some (File call name)) b xs ys first second = (first.0 ++ ys, rw first.1 refl)
@@ -126,7 +126,7 @@ three_first a b c x y z first second third =
     subst (λ (all : List (FileCall × List ℕ)). IsFirstOf (option_or (option_or a b) c) all) (append_assoc (failures x) (failures y) (flat_map failures (z ∷ [])))
     (first_or (option_or a b) c (failures x ++ failures y) (flat_map failures (z ∷ [])) (first_or a b (failures x) (failures y) first second) (one_first c z third))
 
--- ---- a file that is read failed
+-- ---- a file that was read failed
 abbrev pub AnyRead : List Closed → Type 0
 AnyRead [] = ⊥
 AnyRead (inl file ∷ files) = (file.faults ≢ 0) ⊎ AnyRead files
@@ -135,7 +135,7 @@ AnyRead (inr file ∷ files) = AnyRead files
 same_call : (c d : FileCall) (m n : List ℕ) (xs ys : List (FileCall × List ℕ)) → (c, m) ∷ xs ≡ (d, n) ∷ ys → c ≡ d
 same_call c d m n xs ys is = let pair : (c, m) ≡ (d, n) = cc in ap (λ (it : FileCall × List ℕ). it.0) pair
 
--- the first failure among closings is that of a file that was read, or of one that was written
+-- the first failure among closed files is one of reading or of writing
 first_call : (closed : List Closed) (call : FileCall) (name : List ℕ) (rest : List (FileCall × List ℕ)) → flat_map failures (closings closed) ≡ (call, name) ∷ rest
     → ((call ≡ calls.Read) × AnyRead closed) ⊎ (call ≡ calls.Write)
 first_call [] call name rest is = absurd cc
@@ -153,7 +153,7 @@ first_call (inr file ∷ files) call name rest is = elim (eq-zero-or-pos file.se
       inr (same_call call calls.Write name file.name rest (flat_map failures (closings files)) (sym it))
 ]
 
--- where nothing is written there was no memory, or a file that is read failed
+-- if nothing is written, memory ran out or a file that was read failed
 pub why_nothing : (P : Type 0) (closed : List Closed) (ended : Result Status RunError) (failure : Option Failure) → IsFirstOf failure (flat_map failures (closings closed))
     → (ended ≡ Err Memory → P) → (AnyRead closed → P) → WritesNothing (named ended failure) → P
 why_nothing P closed (Err Memory) failure first memory read nothing = memory refl

@@ -1,4 +1,4 @@
--- What is told of texts that are judged.
+-- The reports on judged texts.
 use Rattle.std.proofs.Common.{◌≡◌, ℕ, List, Result, Ok, Err, refl, sym, subst, ap, ◌∙◌, inl, inr}
 use Rattle.dimacs_lines.specs.Devices.{Written}
 use Rattle.dimacs_records.specs.declared.faults.ReadError.{ReadError}
@@ -59,18 +59,18 @@ pub one_placed : {V T : Type 0} (like : V → T → Type 0) (text : TextSays V) 
 one_placed like text (Ok v) w alike read = (v, alike, read)
 one_placed like text (Err error) w alike read = absurd alike
 
--- and one that wasn't
+-- a text that could not be read
 pub none_placed : {V T : Type 0} (like : V → T → Type 0) (text : TextSays V) (told : Result V ReadError) (error : ReadError) → AnswersAlike like told (Err error) → ReadsIn text told → ReadsIn text (Err error)
 none_placed like text (Ok v) error alike read = absurd alike
 none_placed like text (Err other) error alike read = subst (λ (e : ReadError). ReadsIn text (Err e)) alike read
 
--- the verdict of queries has these lines
+-- the lines of the verdict on queries
 pub paths_said : (blocks : List BlockValue) (q : QueriesValue) (verdict : Verdict) → AnswersQueries blocks q verdict → verdict_lines verdict ≡ paths_lines blocks q
 paths_said blocks (queries.Sources ids) (verdicts.Sources count) is = ap sources_line is
 paths_said blocks (queries.Pairs pairs) (verdicts.Pairs answers) is = ap (flat_map answer_line) is
 paths_said blocks q verdict is = absurd is
 
--- what is told alone is reported
+-- the only possible outcome is reported
 pub told_reports : (tells : Status → List ℕ → Type 0) (told : Result Told RunError) (result : Result Status RunError) (old new : Written)
     → ToldAlone tells told → EndsAfter told result old new → Reports tells result old.accepted new.accepted
 told_reports tells (Ok t) (Ok status) old new alone ends = rw ends.0 (told_lines t, alone, ends.1)

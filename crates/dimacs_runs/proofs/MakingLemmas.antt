@@ -1,4 +1,4 @@
--- How a run ends that reads files, and creates one for the text that it made of theirs.
+-- How a run ends that reads files, and creates one for the text that comes of them.
 use Rattle.std.proofs.Common.{ℕ, ◌≡◌, ◌≢◌, ◌++◌, ◌∙◌, List, [], ◌∷◌, Option, None, Some, Result, Ok, Err, refl, sym, ap, append-nil, arith, drop, flat_map, inl, inr, map}
 use Rattle.std.specs.Result.{IsErrAnd}
 use Rattle.std.proofs.lemmas.Grind.{flat_map-append}
@@ -27,14 +27,14 @@ use Rattle.dimacs_runs.proofs.CertifyingLemmas.{nowhere, puts_all}
 use Rattle.dimacs_runs.proofs.FileLemmas.{all_after, all_before, closings, one_first, sees_then, sees_two, tells_failure, why_nothing}
 use Rattle.dimacs_runs.proofs.PlanLemmas.{is_error, opened_none, reports_all_named, sees_nothing}
 
--- ---- what is told of what was put
+-- ---- possible outcomes of what was written
 reports_all_told : {E : Type 0} (a b : Status → List (List ℕ) → Type 0) (result : Result Status E) (old new : List (Option (List ℕ))) → ((s : Status) (o : List (List ℕ)) → a s o → b s o)
     → ReportsAll a result old new → ReportsAll b result old new
 reports_all_told a b (Ok status) old new to reports = (reports.0, to status reports.0 reports.1, reports.2)
 reports_all_told a b (Err error) old new to (inl same) = inl same
 reports_all_told a b (Err error) old new to (inr reports) = inr (reports.0, reports.1, to reports.0 reports.1 reports.2, reports.3)
 
--- ---- the output, beside files that are read
+-- ---- the output, after the files that were read
 one_more_with : (n : ℕ) (old new : List ℕ) → OneMore old new → OneMore (old ++ n ∷ []) (new ++ n ∷ [])
 one_more_with n [] new never = absurd never
 one_more_with n (faults ∷ old) [] never = absurd never
@@ -46,7 +46,7 @@ counts_with (Ok x) n old new counts = rw counts refl
 counts_with (Err Memory) n old new counts = rw counts refl
 counts_with (Err Device) n old new counts = one_more_with n old new counts
 
--- ---- files that were read, and what was produced of their texts
+-- ---- files were read, and something was produced of their texts
 module _ {opened : List (List ℕ)} {holds : Contents} {makes : Making} {result : Result Produced CommandError} {a : FilesSeen} where
   -- a file could not be opened
   pub answers_nothing : {name : List ℕ} {error : CommandError} {b c : FilesSeen} (before after : List (List ℕ)) → opened ≡ before ++ name ∷ after → IsErrAnd result (λ e. e ≡ error)
@@ -93,7 +93,7 @@ module _ {opened : List (List ℕ)} {holds : Contents} {makes : Making} {result 
       may_name texts (Err Device) (Some it) may = tt
       may_name texts (Err Memory) failure may = tt
 
--- ---- what was produced is put
+-- ---- what was produced is written
 module _ (opened created : List (List ℕ)) {holds : Contents} {empty : Option (List ℕ)} {makes : Making} {result : Result Status CommandError} {a b : FilesSeen} {old : Written} where
   -- nothing was produced
   pub makes_nothing : (error : CommandError) → AnswersFiles opened holds makes (Err error) a b → IsErrAnd result (λ e. e ≡ error) → MakesOfFiles (record { opened = opened; created = created }) holds empty makes result (seen_by a old) (seen_by b old)
@@ -115,7 +115,7 @@ module _ (opened created : List (List ℕ)) {holds : Contents} {empty : Option (
     ];
   }
 
-  -- what was produced was put
+  -- what was produced was written
   pub makes_of_files : {c : FilesSeen} {new : Written} (p : Produced) → AnswersFiles opened holds makes (Ok p) a b → PutsMade p created empty result (seen_by b old) (seen_by c new)
       → MakesOfFiles (record { opened = opened; created = created }) holds empty makes result (seen_by a old) (seen_by c new)
   makes_of_files {c} {new} p answers puts = elim answers.ends [
@@ -187,8 +187,8 @@ never_memory p (Ok status) old new ends is = absurd cc
 never_memory p (Err Device) old new ends is = absurd cc
 never_memory p (Err Memory) old new ends is = let never : Memory ≡ Device = ends.0 in absurd cc
 
--- ---- what was produced is put
--- the report alone
+-- ---- writing what was produced
+-- only the report
 pub puts_report : {result : Result Status CommandError} {old new : Written} (p : Produced) (ended : Result Status RunError) → result ≡ named ended None → EndsProducing (Ok p) ended (nowhere ∷ nowhere ∷ old ∷ []) (nowhere ∷ nowhere ∷ new ∷ []) → PutsReport p result old new
 puts_report {result} {old} {new} p ended is ends =
     let counts = without_first ended (0 ∷ old.faults ∷ []) (0 ∷ new.faults ∷ []) (counts_of p ended _ _ ends) in
@@ -252,7 +252,7 @@ module _ {empty : Option (List ℕ)} {result : Result Status CommandError} {old 
         });
       }
 
--- ---- what a certifier makes
+-- ---- what certifying produces
 pub pair_made : (kind : CertifyKind) (a b : List ℕ) (answer : Result Produced RunError) → MayCertify (Certified kind a b) answer → MayMake (MakesCertificate kind) (a ∷ b ∷ []) answer
 pair_made kind a b (Ok p) may = may
 pair_made kind a b (Err error) may = tt
@@ -261,7 +261,7 @@ pub instance_made : (kind : CertifyKind) (a : List ℕ) (answer : Result Produce
 instance_made kind a (Ok p) may = may
 instance_made kind a (Err error) may = tt
 
--- ---- what a run that spreads makes
+-- ---- what dealing out a flow produces
 pub spread_made : (kind : SpreadKind) (a b : List ℕ) (answer : Result Produced RunError) → MaySpread (Spreads kind a b) answer → MayMake (MakesSpread kind) (a ∷ b ∷ []) answer
 spread_made kind a b (Ok p) may = may
 spread_made kind a b (Err error) may = tt

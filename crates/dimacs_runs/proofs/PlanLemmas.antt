@@ -35,7 +35,7 @@ empty_none : (empty : Option (List ℕ)) (names : List (List ℕ)) → flat_map 
 empty_none empty [] = refl
 empty_none empty (name ∷ names) = empty_none empty names
 
--- files were opened and created, and then more was done
+-- no failure is among the files that were opened and created before
 failures_after : (opened created : List (List ℕ)) (more : List FileEvent) → flat_map failures ((map Opened opened ++ map Created created) ++ more) ≡ flat_map failures more
 failures_after opened created more =
     flat_map-append failures (map Opened opened ++ map Created created) more
@@ -114,7 +114,7 @@ module _ {plan : Plan} {holds : Contents} {empty : Option (List ℕ)} {tells : T
         });
       }
 
--- ---- the texts that files hold
+-- ---- the texts in files
 abbrev pub EachText : List (Option (List ℕ)) → (List (List ℕ) → Type 0) → Type 0
 EachText [] P = P []
 EachText (x ∷ xs) P = (a : List ℕ) → x ≡ Some a → EachText xs (λ texts. P (a ∷ texts))
@@ -124,7 +124,7 @@ each_text [] P each [] is = each
 each_text (x ∷ xs) P each (a ∷ more) is = let first : x ≡ Some a = cc in let rest : xs ≡ map Some more = cc in each_text xs (λ texts. P (a ∷ texts)) (each a first) more rest
 each_text xs P each texts is = absurd cc
 
--- ---- what is reported of a run whose failure was named
+-- ---- what a run reports, after its failure was named
 pub reports_named : (tells : Status → List ℕ → Type 0) (ended : Result Status RunError) (failure : Option Failure) (old new : Option (List ℕ)) → Reports tells ended old new → Reports tells (named ended failure) old new
 reports_named tells (Err Device) (Some it) old new reports = reports
 reports_named tells ended failure old new reports = reports
@@ -165,7 +165,7 @@ without_third (Err Memory) p q counted again old new is = let first : counted �
 without_third (Err Device) p q counted again old new (inl (more, same)) = inl (more, same_without q again old new same)
 without_third (Err Device) p q counted again old new (inr (same, more)) = inr (same, one_without q again old new more)
 
--- ---- what is told by the kind of a run
+-- ---- what each kind of run reports
 pub judged_told : (kind : JudgeKind) (a b c : List ℕ) (result : Result Status CommandError) (old new : Option (List ℕ)) → Reports (Judged kind a b c) result old new → TellsJudged kind (a ∷ b ∷ c ∷ []) result (old ∷ []) (new ∷ [])
 judged_told judges.Infeasible a b c result old new reports = reports
 judged_told kind a b c result old new reports = reports

@@ -1,4 +1,4 @@
--- What is told of a text that was read, or refused.
+-- The report on a text that was read or refused.
 use Rattle.std.proofs.Common.{◌≡◌, ℕ, List, Ok, refl, ap, ◌∙◌, inl, inr, ◌⊎◌}
 use Rattle.dimacs_runs.specs.declared.outcome.Status.{Status}
 use Rattle.dimacs_runs.specs.declared.outcome.Status.TheVariants.{Done, Refused, GaveUp}
@@ -26,6 +26,6 @@ module _ {V : Type 0} (text : TextSays V) (told : V → List ℕ) where
   fault_or_value Refused out h = inl (h.0, h.1, h.2, h.3, refl, h.4)
   fault_or_value GaveUp out h = absurd h
 
-  -- none was
+  -- no value was read
   pub unread_alone : (unread : Unread) → StopsAt text unread → ToldAlone tells (error_told unread unread.error)
   unread_alone unread stop = unread_tells alone_way text tells (λ l f r fault. (l, f, r, fault, refl)) fault_or_value unread stop

@@ -1,4 +1,4 @@
--- What a producer tells of the texts that it was given.
+-- The outcomes of solvers.
 use Rattle.std.proofs.Common.{◌≡◌, ◌≢◌, ◌∙◌, ◌+◌, ℕ, List, Result, Ok, Err, refl, sym, ap, inl, inr, arith}
 use Rattle.std.proofs.lemmas.Int.{ints}
 use Rattle.std.proofs.lemmas.Bool.{cases_order}
@@ -37,14 +37,14 @@ use Rattle.dimacs_runs.specs.Solved.{FindsLeast, FindsMaximum, FindsPaths, Refus
 use Rattle.dimacs_runs.specs.inside.Told.{told_status}
 use Rattle.dimacs_runs.specs.Verdicts.{failure_line}
 
--- the producer of a maximum flow answered
+-- the solver of maximum flows answered
 pub maximum_tells : (i : MaxValue) (limit : ℕ) (answer : Result MaxAnswer SolveError) → SolvesMax i limit answer → MayProduce (FindsMaximum i limit) (maximum_produced answer)
 maximum_tells i limit (Ok (answers.Optimal solution cut)) found = ((found.0, claimed solution, cut, found.1, refl), λ refusal never. absurd never)
 maximum_tells i limit (Ok answers.GaveUp) gave_up = ((gave_up, refl), λ refusal never. absurd never)
 maximum_tells i limit (Err solve_errors.Memory) nothing = tt
 maximum_tells i limit (Err other) never = absurd never
 
--- the producer of a flow of least cost answered
+-- the solver of minimum cost flows answered
 pub least_tells : (i : MinValue) (limit : ℕ) (answer : Result MinAnswer SolveError) → SolvesMin i limit answer → MayProduce (FindsLeast i limit) (least_produced answer)
 least_tells i limit (Ok (least.Optimal solution potentials)) found = (inl (claimed solution, potentials, found, refl), λ refusal never. absurd never)
 least_tells i limit (Ok (least.Infeasible set)) found = (inr (set, found, refl), λ refusal never. absurd never)
@@ -71,18 +71,18 @@ module _ (g : NetworkValue) (q : QueriesValue) where
       alone : (refusal : List (List ℕ)) → FindsPaths g q Refused refusal → (Refused ≡ Refused) × (report_alone (failure_line place reason) ≡ refusal)
       alone refusal (other, why, also, is) = let same = same_refusal g q place other reason why refuses also in (refl, sym (is ∙ rw (same.0, same.1) refl))
 
-  -- the producer of labels refused
+  -- the solver of distances refused
   pub error_tells : (error : SolveError) → SolvesPaths g q (Err error) → MayProduce (FindsPaths g q) (reported (refused error))
   error_tells (solve_errors.NegativeWeight arc) (clear, first) = refusal_tells (Arc arc) reasons.NegativeWeight (inr (clear, (arc, first, refl, refl)))
   error_tells (solve_errors.Refused place reason) first = refusal_tells place reason (inl first)
   error_tells solve_errors.Memory nothing = tt
 
--- a run that told of no device counted no fault
+-- a run without an I/O error has no new fault
 pub counts_none : {X : Type 0} (result : Result X RunError) (old new : List ℕ) → result ≢ Err Device → new ≡ old → CountsDevices result old new
 counts_none (Err Device) old new other same = absurd (other refl)
 counts_none result old new other same = same
 
--- what was produced was put
+-- what was produced was written
 pub produced_reports : (tells : Status → List (List ℕ) → Type 0) (produced : Result Produced RunError) (result : Result Status RunError) (old new : List Written)
     → MayProduce tells produced → EndsProducing produced result old new → ReportsAll (MayTell tells) result (accepted_by old) (accepted_by new)
 produced_reports tells (Ok p) (Ok status) old new may ends = rw ends.0 (produced_texts p, may, ends.1)

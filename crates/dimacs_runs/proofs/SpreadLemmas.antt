@@ -1,4 +1,4 @@
--- What is dealt out of a claimed flow, or why nothing is.
+-- The outcomes of dealing out a claimed flow.
 use Rattle.std.proofs.Common.{List, Result, Ok, Err}
 use Rattle.std.specs.Prelude.{ℤ, IfErr, IfOk}
 use Rattle.dimacs_claims.specs.SolutionTexts.{SolutionValue}

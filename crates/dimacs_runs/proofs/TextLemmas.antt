@@ -1,4 +1,4 @@
--- What is told of texts that are read in turn, in each of the ways in which something is told.
+-- Reports on texts that are read one after another, for each form of report.
 use Rattle.std.proofs.Common.{◌≡◌, ◌∙◌, ◌⊎◌, ℕ, List, Result, Ok, Err, refl, sym, subst, ap, inl, inr}
 use Rattle.dimacs_records.specs.declared.faults.ReadError.{ReadError}
 use Rattle.dimacs_records.specs.declared.faults.ReadError.TheVariants as read_errors
@@ -19,7 +19,7 @@ use Rattle.dimacs_runs.specs.inside.Judgings.{ReadsIn, StopsAt, error_told}
 use Rattle.dimacs_runs.specs.inside.Produced.{produced_status, produced_texts, reported, unclaimed_texts}
 use Rattle.dimacs_runs.specs.inside.Told.{IfTold, told_lines, told_status}
 
--- a way to tell what was made: it looks at nothing but what may be told, and tells a refusal that alone may be told
+-- a form of report: it depends only on the possible outcomes, and can report a refusal that is the only one
 pub record Way (R O : Type 0) : Type 1 where
   pub tells : (Status → O → Type 0) → Status → O → Type 0
   pub status : R → Status
@@ -42,7 +42,7 @@ alone_way = record {
   made = λ a told is. is;
 }
 
--- what is told without a claim
+-- only a report
 pub made_alone : {O : Type 0} (tells : (Status → O → Type 0) → Status → O → Type 0) (out : Produced → O) (alone : List ℕ → O) (a : Status → O → Type 0) (told : Result Told RunError)
     → ((t : Told) → out (record { made = Nothing; told = t }) ≡ alone (told_lines t)) → IfTold tells told_status (λ (t : Told). alone (told_lines t)) a told → IfTold tells produced_status out a (reported told)
 made_alone tells out alone a (Ok t) same is = rw (same t) is
@@ -89,11 +89,11 @@ module _ {R O : Type 0} (way : Way R O) where
   Tells a made = IfTold way.tells way.status way.out a made
 
   module _ {V : Type 0} (text : TextSays V) where
-    -- the line of the text's fault is told
+    -- the report is the line of the text's fault
     abbrev pub FaultLine : Status → O → Type 0
     FaultLine s o = (l : ℕ) × (f : ℕ) × (r : Reason) × text.fault l f r × (s ≡ Refused) × (o ≡ way.alone (refusal_line text.name l f r))
 
-    -- of a text that could not be read, its fault is told, where that is told alone
+    -- a text that could not be read is reported by its fault, if that is the only possible outcome
     unread_told : (a : Status → O → Type 0) → ((l f : ℕ) (r : Reason) → text.fault l f r → a Refused (way.alone (refusal_line text.name l f r))) → ((s : Status) (o : O) → a s o → FaultLine s o ⊎ ((v : V) × text.spells v))
         → (unread : Unread) (error : ReadError) → unread.text.now ≡ text.name → ReadsIn text (Err error) → IfTold way.tells told_status (λ (t : Told). way.alone (told_lines t)) a (error_told unread error)
     unread_told a to from unread (read_errors.Refused place reason) is read =
@@ -112,11 +112,11 @@ module _ {R O : Type 0} (way : Way R O) where
     unread_tells a to from unread stop = way.made a (error_told unread unread.error) (unread_told a to from unread unread.error stop.0 stop.1)
 
     module _ (next : V → Status → O → Type 0) where
-      -- or what follows from its value
+      -- or the report follows from the text's value
       abbrev pub FaultThen : Status → O → Type 0
       FaultThen s o = FaultLine s o ⊎ ((v : V) × text.spells v × next v s o)
 
-      -- the text was read, and what follows from its value was told
+      -- the text was read, and what follows from its value was reported
       pub value_tells : (v : V) (made : Result R RunError) → ReadsIn text (Ok v) → Tells (next v) made → Tells FaultThen made
       value_tells v (Ok it) read follows = way.carried (next v) FaultThen (way.status it) (way.out it) (λ s o h. inr (v, read.0, h)) (λ s o h. elim h [
         | inl it ↦ absurd (read.2 it.0 it.1 it.2 it.3)

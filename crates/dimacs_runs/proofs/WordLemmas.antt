@@ -1,4 +1,4 @@
--- Words one by one.
+-- Arguments, one by one.
 use Rattle.std.proofs.Common.{◌≡◌, ◌≢◌, ◌∙◌, ℕ, ◌∷◌, ◌++◌, [], ◌<◌, ◌≤◌, List, Option, Some, None, IfSome, IfNone, length, map, drop, get_or, refl, sym, ap, subst, arith}
 use Rattle.std.specs.Prelude.{codes}
 use Rattle.std.proofs.lemmas.List.{length-map}
@@ -27,12 +27,12 @@ pub three_words : {A : Type 0} (f : A → List ℕ) (words : List A) (a b c : A)
 three_words f (p ∷ q ∷ r ∷ []) a b c x y z least most first second third is_x is_y is_z = sym (rw (is_x, is_y, is_z, first, second, third) refl)
 three_words f words a b c x y z least most first second third is_x is_y is_z = absurd (omega (arith, least, most))
 
--- a claim is read beside the instance, but where no flow is to be feasible
+-- a claim is read after the instance, except for `Infeasible`
 pub reads_two : (kind : CertifyKind) → kind ≢ certifies.Infeasible → certify_reads kind ≡ 2
 reads_two certifies.Infeasible other = absurd (other refl)
 reads_two kind other = refl
 
--- ---- what stands after the files of a producer
+-- ---- the arguments after the files of a solver
 pub limited : (told : Option ℕ) (words : List (List ℕ)) (number : List ℕ) → words ≡ codes "--limit" ∷ number ∷ [] → IfSome told (IsLimit number) → IfSome told (TellLimit words)
 limited (Some limit) words number is read = rw is (refl, read)
 limited None words number is read = tt
@@ -48,13 +48,13 @@ module _ (word : List ℕ) (options : List (List ℕ)) (none : (limit : ℕ) →
   no_min is (Min limit) same = none limit
   no_min is Paths same = absurd cc
 
--- lists that begin with as many members have the same rest
+-- lists whose beginnings have the same length have the same rest
 same_rest : {A : Type 0} (xs ys us vs : List A) → length xs ≡ length us → xs ++ ys ≡ us ++ vs → ys ≡ vs
 same_rest [] ys [] vs long same = same
 same_rest (x ∷ xs) ys (u ∷ us) vs long same = same_rest xs ys us vs (omega (arith, long)) cc
 same_rest xs ys us vs long same = absurd (omega (arith, long))
 
--- the words ask for no producer where what stands after three files isn't an option of one
+-- the arguments ask for no solver if those after three files aren't its options
 pub no_producer : {A : Type 0} (f : A → List ℕ) (verb : List ℕ) (words options : List A) → 3 ≤ length words → options ≡ drop 3 words
     → ((job : SolveJob) → verb ≡ solve_word job → ¬ AreOptions job (map f options)) → (job : SolveJob) (files : List (List ℕ)) → ¬ AsksProducer (verb ∷ map f words) job files
 no_producer f verb (p ∷ q ∷ r ∷ rest) options least is none job files (more, same, count, are) =
@@ -64,7 +64,7 @@ no_producer f verb (p ∷ q ∷ r ∷ rest) options least is none job files (mor
 no_producer f verb words options least is none job files asks = absurd (omega (arith, least))
 
 module _ {A : Type 0} (f : A → List ℕ) (words : List A) (first : A) (rest : List A) (verb : List ℕ) (is : words ≡ first ∷ rest) (is_verb : verb ≡ f first) where
-  -- a word that names no run, and words after it that no judge, no certifier, no run that spreads and no producer takes
+  -- an argument names no run, and those after it suit no judge, no certifier, no spreading and no solver
   pub nothing_asked : (answer : Option Job) → verb ≢ codes "convert" → verb ≢ codes "show" → IfNone answer ((kind : JudgeKind) → verb ≡ judge_word kind → length rest ≢ file_count kind)
       → IfNone answer ((kind : CertifyKind) → verb ≡ certify_word kind → ¬ AreCertifyFiles kind (length rest))
       → IfNone answer ((kind : SpreadKind) → verb ≡ spread_word kind → length rest ≢ 3)

@@ -1,4 +1,4 @@
--- What certifying tells of the bytes of an instance and of a claim: the text of a certificate or of a better solution, and a report. A text that isn't put is empty here.
+-- What certify runs write: a certificate or a better solution, and a report. A text that isn't written is empty here.
 use Rattle.std.specs.Prelude.{ℕ, ◌≡◌, ◌≢◌, ◌⊎◌, List, [], ◌∷◌, Option, None, Some, IsSome, codes, length, ℤ}
 use Rattle.dimacs_records.specs.declared.kinds.TextKind.{TextKind}
 use Rattle.dimacs_records.specs.declared.kinds.TextKind.TheVariants as kinds
@@ -37,18 +37,18 @@ use Rattle.dimacs_runs.specs.Refusals.{refusal_line}
 use Rattle.dimacs_runs.specs.Runs.{says}
 use Rattle.dimacs_runs.specs.Verdicts.{distances_line, failure_line, infeasible_line, max_line, min_line}
 
--- a report, without a certificate
+-- only a report
 abbrev pub uncertified : List ℕ → List (List ℕ)
 uncertified line = [] ∷ line ∷ []
 
--- a text that shows the claim true, and the verdict; the line of the first test of the claim that fails, alone; or a text that tells of better, and a refusal
+-- a text that shows the claim, and the verdict; the line of the first test that fails; or a better text, and a refusal
 abbrev pub CertificateOr : (List ℕ → Type 0) → List ℕ → List Row → (List ℕ → Type 0) → List ℕ → Status → List (List ℕ) → Type 0
 CertificateOr shows verdict rows better refusal Done out = (text : List ℕ) × shows text × (out ≡ text ∷ verdict ∷ [])
 CertificateOr shows verdict rows better refusal Refused out =
     ((place : Where) × (reason : Reason) × First rows place reason × (out ≡ uncertified (failure_line place reason))) ⊎ ((text : List ℕ) × better text × (out ≡ text ∷ refusal ∷ []))
 CertificateOr shows verdict rows better refusal GaveUp out = ⊥
 
--- the line that refuses the claimed value, at its field
+-- the line that refuses the claimed value
 abbrev pub value_refused : SolutionValue → Reason → List ℕ
 value_refused s reason = failure_line (Solution s.value_line 2) reason
 
@@ -56,7 +56,7 @@ value_refused s reason = failure_line (Solution s.value_line 2) reason
 abbrev pub SaysCut : MaxValue → SolutionValue → List ℕ → Type 0
 SaysCut i s text = (c : CutValue) × ShowsMaximum i s c × (text ≡ canonical_cut c)
 
--- the claimed flow isn't maximum, and this is the text of a solution of greater value
+-- the claimed flow isn't maximum, and this is the text of a solution with a greater value
 abbrev pub SaysGreater : MaxValue → SolutionValue → List ℕ → Type 0
 SaysGreater i s text = (x : List ℤ) × (y : List ℤ) × IsMaxImproved i s x y × (better : SolutionValue) × IsMaxSolutionOf i y better × (text ≡ canonical_solution better)
 
@@ -64,11 +64,11 @@ SaysGreater i s text = (x : List ℤ) × (y : List ℤ) × IsMaxImproved i s x y
 abbrev pub SaysPotentials : MinValue → SolutionValue → List ℕ → Type 0
 SaysPotentials i s text = (p : PotentialsValue) × ShowsLeast i s p × (text ≡ canonical_potentials p)
 
--- the text of a solution that carries this flow; none where its costs are out of their range, so that a judge would refuse it
+-- the text of a solution with this flow; empty if its sums of costs are out of range, so that a judge would refuse it
 abbrev pub SaysFlow : MinValue → List ℤ → List ℕ → Type 0
 SaysFlow i y text = ((better : SolutionValue) × IsMinSolutionOf i y better × (text ≡ canonical_solution better)) ⊎ (LeavesCostRange i.arcs y × (text ≡ []))
 
--- the claimed flow isn't least, and this is the text of a flow that costs less
+-- the claimed flow doesn't cost least, and this is the text of a cheaper flow
 abbrev pub SaysCheaper : MinValue → SolutionValue → List ℕ → Type 0
 SaysCheaper i s text = (x : List ℤ) × (y : List ℤ) × IsMinImproved i s x y × SaysFlow i y text
 
@@ -80,7 +80,7 @@ SaysSet i text = (c : CutValue) × ShowsNoFlow i c × (text ≡ canonical_cut c)
 abbrev pub SaysFeasible : MinValue → List ℕ → Type 0
 SaysFeasible i text = (x : List ℤ) × FeasibleMin i x × SaysFlow i x text
 
--- all claimed distances are true, and this is the text of labels that show it
+-- all claimed distances are right, and this is the text of labels that show it
 abbrev pub SaysLabels : NetworkValue → List BlockValue → List ℕ → Type 0
 SaysLabels g blocks text = AreAllDistances g blocks × ((l : LabelsValue) × AreLabelsOfAll g blocks l × (text ≡ canonical_labels l))
 
@@ -90,18 +90,18 @@ CertifiesMaximum i s = CertificateOr (SaysCut i s) (max_line s.value) (max_claim
 abbrev pub CertifiesLeast : MinValue → SolutionValue → Status → List (List ℕ) → Type 0
 CertifiesLeast i s = CertificateOr (SaysPotentials i s) (min_line s.value) (min_claim_rows i s) (SaysCheaper i s) (value_refused s NotLeast)
 
--- nothing is claimed, so no test of a claim fails
+-- there is no claim, so no test of a claim can fail
 abbrev pub CertifiesInfeasible : MinValue → Status → List (List ℕ) → Type 0
 CertifiesInfeasible i = CertificateOr (SaysSet i) infeasible_line [] (SaysFeasible i) (refusal_line (codes "instance") 0 0 Feasible)
 
--- the text of labels, and the verdict; or that the distances are of another number of nodes, or that not all are true, by the first test that fails
+-- the text of labels, and the verdict; or the numbers of nodes differ; or the first test that fails
 abbrev pub CertifiesDistances : NetworkValue → LabelsValue → Status → List (List ℕ) → Type 0
 CertifiesDistances g d Done out = (d.nodes ≡ g.nodes) × ((text : List ℕ) × SaysLabels g d.blocks text × (out ≡ text ∷ distances_line (length d.blocks) ∷ []))
 CertifiesDistances g d Refused out =
     ((d.nodes ≢ g.nodes) × (out ≡ uncertified (refusal_line (codes "distances") 0 0 NodesDiffer))) ⊎ ((d.nodes ≡ g.nodes) × (¬ AreAllDistances g d.blocks) × ((place : Where) × (reason : Reason) × First (distances_rows g d.blocks) place reason × (out ≡ uncertified (failure_line place reason))))
 CertifiesDistances g d GaveUp out = ⊥
 
--- what is told of an instance and of a claim
+-- what is written for an instance and a claim
 abbrev pub Certified : CertifyKind → List ℕ → List ℕ → Status → List (List ℕ) → Type 0
 Certified Max instance claim =
     FaultAloneOr uncertified (says kinds.Max GivesMax instance) (λ i.
@@ -129,6 +129,6 @@ claimed_kind Infeasible = None
 claimed_kind Paths = Some kinds.Distances
 claimed_kind kind = Some kinds.Solution
 
--- the bytes of the claim, where there is one
+-- the bytes of the claim, if there is one
 abbrev pub IsClaimed : CertifyKind → Option (List ℕ) → List ℕ → Type 0
 IsClaimed kind coming bytes = IsSome (claimed_kind kind) → coming ≡ Some bytes

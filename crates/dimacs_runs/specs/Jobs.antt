@@ -1,4 +1,4 @@
--- What the words after the program's name ask for.
+-- What the arguments ask for.
 use Rattle.std.specs.Prelude.{ℕ, ◌≡◌, ◌≤◌, ◌+◌, ◌++◌, List, [], ◌∷◌, codes, map, length, pos}
 use Rattle.std.specs.String.{string_bytes}
 use Rattle.dimacs_lines.specs.Number.{Spells}
@@ -32,7 +32,7 @@ judge_word judges.Min = codes "judge-min"
 judge_word judges.Infeasible = codes "judge-infeasible"
 judge_word judges.Paths = codes "judge-paths"
 
--- an instance, a claim and a certificate; nothing is claimed where no flow is feasible
+-- an instance, a claim and a certificate; `Infeasible` has no claim
 abbrev pub file_count : JudgeKind → ℕ
 file_count judges.Infeasible = 2
 file_count kind = 3
@@ -43,12 +43,12 @@ certify_word certifies.Min = codes "certify-min"
 certify_word certifies.Infeasible = codes "certify-infeasible"
 certify_word certifies.Paths = codes "certify-paths"
 
--- an instance and a claim are read; nothing is claimed where no flow is feasible
+-- an instance and a claim; `Infeasible` has no claim
 abbrev pub certify_reads : CertifyKind → ℕ
 certify_reads certifies.Infeasible = 1
 certify_reads kind = 2
 
--- the files that are read, and one more where a certificate is to be written
+-- the files to read, and perhaps one more for the certificate
 abbrev pub AreCertifyFiles : CertifyKind → ℕ → Type 0
 AreCertifyFiles kind count = (certify_reads kind ≤ count) × (count ≤ certify_reads kind + 1)
 
@@ -65,19 +65,19 @@ solve_word solves.Paths = codes "solve-paths"
 abbrev pub IsLimit : List ℕ → ℕ → Type 0
 IsLimit word limit = Spells word (pos limit) × (limit ≤ 1000000000)
 
--- the limit that these words tell: 10^6 where there are none, else `--limit` and a number
+-- the limit that these arguments give: 10^6 if there are none, otherwise a number after `--limit`
 abbrev pub TellLimit : List (List ℕ) → ℕ → Type 0
 TellLimit [] limit = limit ≡ 1000000
 TellLimit (word ∷ number ∷ []) limit = (word ≡ codes "--limit") × IsLimit number limit
 TellLimit other limit = ⊥
 
--- what may stand after the files: a limit where a flow is made
+-- the arguments after the files: perhaps a limit if a flow is solved, otherwise none
 abbrev pub AreOptions : SolveJob → List (List ℕ) → Type 0
 AreOptions (solves.Max limit) options = TellLimit options limit
 AreOptions (solves.Min limit) options = TellLimit options limit
 AreOptions solves.Paths options = options ≡ []
 
--- three files, and what stands after them
+-- three files, then options
 abbrev pub AsksProducer : List (List ℕ) → SolveJob → List (List ℕ) → Type 0
 AsksProducer words job files = (options : List (List ℕ)) × (words ≡ solve_word job ∷ files ++ options) × (length files ≡ 3) × AreOptions job options
 

@@ -1,4 +1,4 @@
--- What is told of the bytes of an instance, a claim and a certificate.
+-- What judge runs print for the bytes of an instance, a claim and a certificate.
 use Rattle.std.specs.Prelude.{ℕ, ◌≡◌, List, Option, None, Some, IsSome, length, map}
 use Rattle.std.specs.List.{flat_map}
 use Rattle.dimacs_records.specs.declared.kinds.TextKind.{TextKind}
@@ -24,12 +24,12 @@ use Rattle.dimacs_runs.specs.Judgings.{FaultOr, VerdictOr}
 use Rattle.dimacs_runs.specs.Runs.{says}
 use Rattle.dimacs_runs.specs.Verdicts.{max_line, min_line, infeasible_line, sources_line, answer_line}
 
--- the number of sources, or the line of each pair
+-- the number of sources, or a line for each pair
 abbrev pub paths_lines : List BlockValue → QueriesValue → List ℕ
 paths_lines blocks (Sources ids) = sources_line (length ids)
 paths_lines blocks (Pairs pairs) = flat_map answer_line (map (answer_to blocks) pairs)
 
--- the report on three texts: a flow with its cut or with potentials, or queries with labels; and on a set of nodes whose supply can't be met, where nothing is claimed
+-- the report on the texts: a flow with a cut or with potentials, a set of nodes without a claim, or queries with labels
 abbrev pub Judged : JudgeKind → List ℕ → List ℕ → List ℕ → Status → List ℕ → Type 0
 Judged Max instance claim certificate =
     FaultOr (says kinds.Max GivesMax instance) (λ i.
@@ -61,6 +61,6 @@ claim_kind Infeasible = None
 claim_kind Paths = Some kinds.Queries
 claim_kind kind = Some kinds.Solution
 
--- the bytes of the claim, where there is one
+-- the bytes of the claim, if there is one
 abbrev pub IsClaim : JudgeKind → Option (List ℕ) → List ℕ → Type 0
 IsClaim kind coming bytes = IsSome (claim_kind kind) → coming ≡ Some bytes

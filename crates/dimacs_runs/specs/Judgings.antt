@@ -1,4 +1,4 @@
--- What is told of an instance, a claim and a certificate.
+-- What judges report on texts.
 use Rattle.std.specs.Prelude.{ℕ, ◌≡◌, ◌⊎◌, List, [], ◌∷◌, Result, Ok, Err}
 use Rattle.dimacs_lines.specs.Devices.{one_more}
 use Rattle.dimacs_records.specs.declared.reasons.Reason.{Reason}
@@ -12,24 +12,24 @@ use Rattle.dimacs_runs.specs.Refusals.{refusal_line}
 use Rattle.dimacs_runs.specs.Runs.{TextSays}
 use Rattle.dimacs_runs.specs.Verdicts.{failure_line}
 
--- the line of the text's fault is told; or the text spells a value, and what follows from it is told
+-- the text has a fault, and the report is its line; or it spells a value, and the report follows from that
 abbrev pub FaultOr : {V : Type 0} → TextSays V → (V → Status → List ℕ → Type 0) → Status → List ℕ → Type 0
 FaultOr text next status out =
     ((l : ℕ) × (f : ℕ) × (r : Reason) × text.fault l f r × (status ≡ Refused) × (out ≡ refusal_line text.name l f r)) ⊎ ((v : _) × text.spells v × next v status out)
 
--- this holds, and the verdict is told; or the line of the first test that fails
+-- this holds, and the report is the verdict; or the report is the line of the first test that fails
 abbrev pub VerdictOr : Type 0 → List Row → List ℕ → Status → List ℕ → Type 0
 VerdictOr holds rows verdict Done out = holds × (out ≡ verdict)
 VerdictOr holds rows verdict Refused out = (place : Where) × (reason : Reason) × First rows place reason × (out ≡ failure_line place reason)
 VerdictOr holds rows verdict GaveUp out = ⊥
 
--- one count of faults is one more, and the others are as before
+-- one count of faults is one more, and the others are the same
 abbrev pub OneMore : List ℕ → List ℕ → Type 0
 OneMore [] new = ⊥
 OneMore (faults ∷ old) [] = ⊥
 OneMore (faults ∷ old) (counted ∷ new) = ((counted ≡ one_more faults) × (new ≡ old)) ⊎ ((counted ≡ faults) × OneMore old new)
 
--- one device has one more fault where a device is told of, and none has otherwise
+-- one device has one more fault if the result is an I/O error; otherwise none has
 abbrev pub CountsDevices : {X : Type 0} → Result X RunError → List ℕ → List ℕ → Type 0
 CountsDevices (Ok x) old new = new ≡ old
 CountsDevices (Err Memory) old new = new ≡ old

@@ -1,4 +1,4 @@
--- The exit statuses of the command, and the lines on the standard error that tell of them and of a device that failed.
+-- The exit statuses of the command, its complaints on the standard error, and the words for failures.
 use Rattle.std.specs.Prelude.{ℕ, ◌==◌, if◌then◌else◌, List, Option, None, Some, Result, Ok, Err, codes}
 use Rattle.dimacs_runs.specs.declared.failure.Failure.{Failure}
 use Rattle.dimacs_runs.specs.declared.failure.Failure.TheVariants.{File, Output}
@@ -15,7 +15,7 @@ status_number (Ok GaveUp) = 5
 status_number (Err Device) = 3
 status_number (Err Memory) = 4
 
--- the usage line, and those of a device's fault and of want of memory
+-- the lines for wrong usage, an I/O error and out of memory
 abbrev pub complaint_of : ℕ → Option (List ℕ)
 complaint_of status =
     if status == 2 then Some (codes "dimacs: usage")
@@ -28,7 +28,7 @@ abbrev pub failed_device : Failure → List ℕ
 failed_device (File call name) = name.now
 failed_device Output = codes "standard output"
 
--- what could not be done with it
+-- what could not be done, in words
 abbrev pub failed_call : Failure → List ℕ
 failed_call (File calls.Open name) = codes "cannot be opened"
 failed_call (File calls.Create name) = codes "cannot be created"

@@ -1,4 +1,4 @@
--- What a run puts to several sinks, one text to each, in order.
+-- What a run writes to several sinks, one text to each, in order.
 use Rattle.std.specs.Prelude.{◌≡◌, ◌⊎◌, ℕ, List, [], ◌∷◌, Option, Result, Ok, Err}
 use Rattle.dimacs_lines.specs.Devices.{after_piece}
 use Rattle.dimacs_lines.specs.Puts.{AcceptsFront}
@@ -12,28 +12,28 @@ AcceptAll (text ∷ texts) [] new = ⊥
 AcceptAll (text ∷ texts) (held ∷ old) [] = ⊥
 AcceptAll (text ∷ texts) (held ∷ old) (holds ∷ new) = (holds ≡ after_piece held text) × AcceptAll texts old new
 
--- the first sinks have accepted their texts, one a beginning of its own, and those after it nothing
+-- the first sinks have accepted their texts, the next a beginning of its text, and the others nothing
 abbrev pub AcceptInTurn : List (List ℕ) → List (Option (List ℕ)) → List (Option (List ℕ)) → Type 0
 AcceptInTurn [] old new = ⊥
 AcceptInTurn (text ∷ texts) [] new = ⊥
 AcceptInTurn (text ∷ texts) (held ∷ old) [] = ⊥
 AcceptInTurn (text ∷ texts) (held ∷ old) (holds ∷ new) = (AcceptsFront held text holds × (new ≡ old)) ⊎ ((holds ≡ after_piece held text) × AcceptInTurn texts old new)
 
--- this may be told; and where a refusal may be, it is what is told
+-- this is a possible outcome; if a refusal is possible, it is the outcome
 abbrev pub MayTell : (Status → List (List ℕ) → Type 0) → Status → List (List ℕ) → Type 0
 MayTell tells status out = tells status out × ((refusal : List (List ℕ)) → tells Refused refusal → (status ≡ Refused) × (out ≡ refusal))
 
--- the report stands last
+-- the report is the last text
 abbrev pub report_of : List (List ℕ) → List ℕ
 report_of [] = []
 report_of (report ∷ []) = report
 report_of (text ∷ texts) = report_of texts
 
--- this may be told; and all that may be told has this status and this report
+-- this is a possible outcome, and all possible ones have its status and its report
 abbrev pub TellsAlike : (Status → List (List ℕ) → Type 0) → Status → List (List ℕ) → Type 0
 TellsAlike tells status out = tells status out × ((s : Status) (other : List (List ℕ)) → tells s other → (s ≡ status) × (report_of other ≡ report_of out))
 
--- all that is told was put; after an error, nothing or a beginning of it
+-- all texts of a possible outcome were written; after an error, nothing or a beginning of them
 abbrev pub ReportsAll : {E : Type 0} → (Status → List (List ℕ) → Type 0) → Result Status E → List (Option (List ℕ)) → List (Option (List ℕ)) → Type 0
 ReportsAll told (Ok status) old new = (out : List (List ℕ)) × told status out × AcceptAll out old new
 ReportsAll told (Err error) old new = (new ≡ old) ⊎ ((status : Status) × (out : List (List ℕ)) × told status out × AcceptInTurn out old new)

@@ -5,6 +5,6 @@ use Rattle.dimacs_records.specs.declared.reasons.Reason.{Reason}
 use Rattle.dimacs_records.specs.Names.{name_of}
 use Rattle.dimacs_records.specs.Printed.{spaced_line}
 
--- the text, the line, the field and the reason
+-- the word for the text, line, field and reason
 abbrev pub refusal_line : List ℕ → ℕ → ℕ → Reason → List ℕ
 refusal_line text line field reason = spaced_line (codes "x") (text ∷ decimal line ∷ decimal field ∷ name_of reason ∷ [])

@@ -1,4 +1,4 @@
--- What a run puts, and with which status it ends.
+-- What a run writes, and the status with which it ends.
 use Rattle.std.specs.Prelude.{ℕ, ◌≡◌, ◌⊎◌, List, Option, Result, Ok, Err, codes}
 use Rattle.dimacs_lines.specs.Devices.{after_piece}
 use Rattle.dimacs_lines.specs.Lines.{lines}
@@ -24,7 +24,7 @@ use Rattle.dimacs_runs.specs.declared.text.TextForm.{TextForm}
 use Rattle.dimacs_runs.specs.declared.text.TextForm.TheVariants.{Canonical, Summary}
 use Rattle.dimacs_runs.specs.Refusals.{refusal_line}
 
--- the text in the words of a refusal
+-- the word for a kind of text in the lines of refusals
 abbrev pub text_word : TextKind → List ℕ
 text_word Queries = codes "query"
 text_word Solution = codes "solution"
@@ -34,28 +34,28 @@ text_word Labels = codes "certificate"
 text_word Distances = codes "distances"
 text_word instance = codes "instance"
 
--- a text: its name in refusals, which value it spells, and its fault
+-- a text: its word in refusals, the value that it spells, and its fault
 pub record TextSays (V : Type 0) : Type 1 where
   pub name : List ℕ
   pub spells : V → Type 0
   pub fault : ℕ → ℕ → Reason → Type 0
 
--- what the bytes of a text of this kind say, whose records give a value
+-- these bytes as a text of this kind; `gives` relates its records to its value
 abbrev pub says : {V : Type 0} → TextKind → (List LineRecord → V → Type 0) → List ℕ → TextSays V
 says kind gives bytes = record { name = text_word kind; spells = SpellsValue kind gives (lines bytes); fault = Fault kind (lines bytes) }
 
--- of a text that spells a value, that value in other words; of any other, the line of its fault
+-- a text that spells a value is printed by `told`; otherwise the line of its fault is printed
 abbrev pub TellsText : {V : Type 0} → TextSays V → (V → List ℕ) → Status → List ℕ → Type 0
 TellsText text told Done out = (v : _) × text.spells v × (out ≡ told v)
 TellsText text told Refused out = (l : ℕ) × (f : ℕ) × (r : Reason) × text.fault l f r × (out ≡ refusal_line text.name l f r)
 TellsText text told GaveUp out = ⊥
 
--- what is told of a value in a form: its canonical text, or the line about it
+-- how a value is printed: as its canonical text, or as the line that describes it
 abbrev pub in_form : {V : Type 0} → TextForm → (V → List ℕ) → (V → List ℕ) → V → List ℕ
 in_form Canonical canonical shown = canonical
 in_form Summary canonical shown = shown
 
--- what is told of a text in a form, or the line of its fault
+-- what is printed for a text in this form
 abbrev pub Told : TextForm → TextKind → List ℕ → Status → List ℕ → Type 0
 Told form Max bytes = TellsText (says Max GivesMax bytes) (in_form form canonical_max shown_max)
 Told form Min bytes = TellsText (says Min GivesMin bytes) (in_form form canonical_min shown_min)
@@ -67,11 +67,11 @@ Told form Potentials bytes = TellsText (says Potentials GivesPotentials bytes) (
 Told form Labels bytes = TellsText (says Labels GivesLabels bytes) (in_form form canonical_labels shown_labels)
 Told form Distances bytes = TellsText (says Distances GivesDistances bytes) (in_form form canonical_distances shown_distances)
 
--- this is told, and nothing else
+-- this is the only possible outcome
 abbrev pub TellsAlone : (Status → List ℕ → Type 0) → Status → List ℕ → Type 0
 TellsAlone tells status out = tells status out × ((s : Status) (other : List ℕ) → tells s other → (s ≡ status) × (other ≡ out))
 
--- all that is to be told was put; after an error, nothing or a beginning of it
+-- the text of a possible outcome was written; after an error, nothing or a beginning of it
 abbrev pub Reports : {E : Type 0} → (Status → List ℕ → Type 0) → Result Status E → Option (List ℕ) → Option (List ℕ) → Type 0
 Reports tells (Ok status) old new = (out : List ℕ) × TellsAlone tells status out × (new ≡ after_piece old out)
 Reports tells (Err error) old new = (new ≡ old) ⊎ ((status : Status) × (out : List ℕ) × TellsAlone tells status out × AcceptsFront old out new)

@@ -1,4 +1,4 @@
--- What a producer tells of the bytes of an instance, and of queries: the text of a claim, that of its certificate, and a report. A text that isn't put is empty here.
+-- What solvers write: a claim, its certificate and a report. A text that isn't written is empty here.
 use Rattle.std.specs.Prelude.{ℕ, ◌≡◌, ◌<◌, ◌⊎◌, List, [], ◌∷◌, Option, Some}
 use Rattle.std.specs.List.{All}
 use Rattle.dimacs_records.specs.declared.kinds.TextKind.{TextKind}
@@ -36,40 +36,40 @@ use Rattle.dimacs_runs.specs.Refusals.{refusal_line}
 use Rattle.dimacs_runs.specs.Runs.{TextSays, says}
 use Rattle.dimacs_runs.specs.Verdicts.{failure_line, gave_up_line, infeasible_line, max_line, min_line}
 
--- a report, with neither claim nor certificate
+-- only a report
 abbrev pub report_alone : List ℕ → List (List ℕ)
 report_alone line = [] ∷ [] ∷ line ∷ []
 
--- the line of the text's fault is told, alone; or the text spells a value, and what follows from it is told
+-- the text has a fault, and only its line is written; or it spells a value, and the outcome follows from that
 abbrev pub FaultAloneOr : {V : Type 0} → (List ℕ → List (List ℕ)) → TextSays V → (V → Status → List (List ℕ) → Type 0) → Status → List (List ℕ) → Type 0
 FaultAloneOr alone text next status out =
     ((l : ℕ) × (f : ℕ) × (r : Reason) × text.fault l f r × (status ≡ Refused) × (out ≡ alone (refusal_line text.name l f r))) ⊎ ((v : _) × text.spells v × next v status out)
 
--- a solution, a cut that shows it maximum, and the verdict on them; or that none of so many flows is maximum, as where the limit is 0
+-- a solution, a cut that shows it maximum, and the verdict; or none of `limit` flows is maximum
 abbrev pub FindsMaximum : MaxValue → ℕ → Status → List (List ℕ) → Type 0
 FindsMaximum i limit Done out = (0 < limit) × (s : SolutionValue) × (c : CutValue) × IsOptimal i s c × (out ≡ canonical_solution s ∷ canonical_cut c ∷ max_line s.value ∷ [])
 FindsMaximum i limit Refused out = ⊥
 FindsMaximum i limit GaveUp out = GivesUp i limit × (out ≡ report_alone gave_up_line)
 
--- a solution, potentials that show that it costs least, and the verdict on them; a set that shows that no flow is feasible, and the verdict on it; or that none of so many flows is least, or that the least cost is out of range
+-- a solution with potentials or a set of nodes, and the verdict; or no flow is least in `limit` steps, or in range
 abbrev pub FindsLeast : MinValue → ℕ → Status → List (List ℕ) → Type 0
 FindsLeast i limit Done out =
     ((s : SolutionValue) × (p : PotentialsValue) × IsLeastAnswer i limit s p × (out ≡ canonical_solution s ∷ canonical_potentials p ∷ min_line s.value ∷ [])) ⊎ ((c : CutValue) × ShowsNoFlow i c × (out ≡ [] ∷ canonical_cut c ∷ infeasible_line ∷ []))
 FindsLeast i limit Refused out = ⊥
 FindsLeast i limit GaveUp out = GivesUpMin i limit × (out ≡ report_alone gave_up_line)
 
--- the first query that names no node; else the first arc of negative weight
+-- the first query with a node that doesn't exist; otherwise the first arc with a negative weight
 abbrev pub RefusesPaths : NetworkValue → QueriesValue → Where → Reason → Type 0
 RefusesPaths g q place reason = FirstOfRow (query_node_row g.nodes q) place reason ⊎ (Clear (query_node_row g.nodes q) × ((k : ℕ) × IsFirstNegative g.arcs k × (place ≡ Arc k) × (reason ≡ NegativeWeight)))
 
--- labels that are distances, and the verdict on them; or the line of a refusal
+-- labels that are distances, and the verdict; or the line of a refusal
 abbrev pub FindsPaths : NetworkValue → QueriesValue → Status → List (List ℕ) → Type 0
 FindsPaths g q Done out =
     (l : LabelsValue) × (Clear (query_node_row g.nodes q) × All HasNoNegativeWeight g.arcs × AreProduced g q l) × (out ≡ [] ∷ canonical_labels l ∷ paths_lines l.blocks q ∷ [])
 FindsPaths g q Refused out = (place : Where) × (reason : Reason) × RefusesPaths g q place reason × (out ≡ report_alone (failure_line place reason))
 FindsPaths g q GaveUp out = ⊥
 
--- what is told of an instance, and of queries where paths are asked for
+-- what is written for an instance, and for queries if there are any
 abbrev pub Solved : SolveJob → List ℕ → List ℕ → Status → List (List ℕ) → Type 0
 Solved (Max limit) instance queries = FaultAloneOr report_alone (says kinds.Max GivesMax instance) (λ i. FindsMaximum i limit)
 Solved (Min limit) instance queries = FaultAloneOr report_alone (says kinds.Min GivesMin instance) (λ i. FindsLeast i limit)
@@ -78,7 +78,7 @@ Solved Paths instance queries =
     FaultAloneOr report_alone (says kinds.Queries GivesQueries queries) (λ q.
     FindsPaths g q))
 
--- the bytes of the queries, where there are any
+-- the bytes of the queries, if there are any
 abbrev pub AreQueries : SolveJob → Option (List ℕ) → List ℕ → Type 0
 AreQueries Paths coming bytes = coming ≡ Some bytes
 AreQueries job coming bytes = Unit {0}

@@ -1,4 +1,4 @@
--- What a run that spreads makes of the bytes of an instance and of a solution: the text of a solution with an entry for every arc, or a report. A text that isn't put is empty here.
+-- What runs that spread write: a solution with an entry for every arc, or a report. The other text is empty here.
 use Rattle.std.specs.Prelude.{ℕ, ◌≡◌, List, [], ◌∷◌, ℤ, map}
 use Rattle.dimacs_records.specs.declared.kinds.TextKind.TheVariants as kinds
 use Rattle.dimacs_records.specs.declared.reasons.Reason.{Reason}
@@ -19,30 +19,30 @@ use Rattle.dimacs_runs.specs.Runs.{says}
 use Rattle.dimacs_runs.specs.Solved.{FaultAloneOr}
 use Rattle.dimacs_runs.specs.Verdicts.{failure_line}
 
--- the flow carries between any two nodes what is claimed, and keeps the bounds if any such flow does
+-- between any two nodes the flow carries the claimed amount; it keeps the bounds if any such flow does
 pub record SpreadsFlow (arcs : List ArcView) (s : SolutionValue) (x : List ℤ) : Type 0 where
   pub deals : Deals arcs s.entries x
   pub kept : KeepsBoundsIfAny arcs s.entries x
 
--- the solution has the claimed value, and an entry for every arc with its amount
+-- the solution has the claimed value, and an entry for every arc with the amount on it
 pub record IsSpreadOf (arcs : List ArcView) (s : SolutionValue) (x : List ℤ) (t : SolutionValue) : Type 0 where
   pub value : t.value ≡ s.value
   pub all_arcs : IsSolutionOf arcs t
   pub flows : map (λ (e : Entry). e.flow) t.entries ≡ x
 
--- of least cost, no flow with the same sums that keeps the bounds costs less
+-- at least cost: no flow with the same sums and within the bounds costs less
 abbrev pub IsBestOf : SpreadKind → List ArcView → SolutionValue → List ℤ → Type 0
 IsBestOf Max arcs s x = Unit {0}
 IsBestOf Min arcs s x = NoneCheaper arcs s.entries x
 
--- the text of a solution with such a flow, and no report; or the line of the first entry that no arc has, or of a sum that the arcs can't carry
+-- the text of such a solution; or the line of the first entry without an arc, or of a sum that the arcs can't carry
 abbrev pub SpreadsClaim : SpreadKind → List ArcView → SolutionValue → Status → List (List ℕ) → Type 0
 SpreadsClaim kind arcs s Done out =
     (x : List ℤ) × SpreadsFlow arcs s x × IsBestOf kind arcs s x × (t : SolutionValue) × IsSpreadOf arcs s x t × (out ≡ canonical_solution t ∷ [] ∷ [])
 SpreadsClaim kind arcs s Refused out = (place : Where) × (reason : Reason) × IsRefusedAt arcs s.entries place reason × (out ≡ uncertified (failure_line place reason))
 SpreadsClaim kind arcs s GaveUp out = ⊥
 
--- what is made of an instance and of a claimed flow
+-- what is written for an instance and a claimed flow
 abbrev pub Spreads : SpreadKind → List ℕ → List ℕ → Status → List (List ℕ) → Type 0
 Spreads Max instance claim =
     FaultAloneOr uncertified (says kinds.Max GivesMax instance) (λ i.

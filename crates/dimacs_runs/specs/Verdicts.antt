@@ -1,4 +1,4 @@
--- The lines of verdicts, and of a judge's refusals.
+-- The lines of verdicts and refusals.
 use Rattle.std.specs.Prelude.{ℕ, List, [], ◌∷◌, codes, Option, None, Some, ℤ}
 use Rattle.std.specs.Fmt.{decimal, signed_decimal}
 use Rattle.std.specs.List.{flat_map}
@@ -24,15 +24,15 @@ min_line cost = yes_line (codes "min" ∷ signed_decimal cost ∷ [])
 abbrev pub infeasible_line : List ℕ
 infeasible_line = yes_line (codes "infeasible" ∷ [])
 
--- so many sources were asked about
+-- the answer to queries for all distances from this many sources
 abbrev pub sources_line : ℕ → List ℕ
 sources_line count = yes_line (codes "sp" ∷ codes "ss" ∷ decimal count ∷ [])
 
--- the distances from so many sources were certified
+-- the distances from this many sources are certified
 abbrev pub distances_line : ℕ → List ℕ
 distances_line count = yes_line (codes "sp" ∷ codes "distances" ∷ decimal count ∷ [])
 
--- where no distance is told: the target is farther than a radius, or can't be reached
+-- the words in place of a distance: the target is beyond a radius, or unreachable
 abbrev pub far_words : Option ℤ → List (List ℕ)
 far_words None = codes "unreachable" ∷ []
 far_words (Some radius) = codes "more" ∷ signed_decimal radius ∷ []
@@ -44,7 +44,7 @@ distance_words (Some distance) beyond = signed_decimal distance ∷ []
 abbrev pub answer_line : Answer → List ℕ
 answer_line a = yes_line (decimal a.from ∷ decimal a.to ∷ distance_words a.distance a.beyond)
 
--- the lines of a verdict: one, or that of each pair
+-- one line, or a line for each pair
 abbrev pub verdict_lines : Verdict → List ℕ
 verdict_lines (verdicts.Max value) = max_line value
 verdict_lines (verdicts.Min cost) = min_line cost
@@ -52,15 +52,15 @@ verdict_lines verdicts.Infeasible = infeasible_line
 verdict_lines (verdicts.Sources count) = sources_line count
 verdict_lines (verdicts.Pairs answers) = flat_map answer_line answers.items
 
--- the limit was reached
+-- a solver gave up
 abbrev pub gave_up_line : List ℕ
 gave_up_line = spaced_line (codes "g") (codes "limit" ∷ [])
 
--- what fails, its number and the reason
+-- an arc or a node, its number and the reason
 abbrev pub numbered_line : List ℕ → ℕ → Reason → List ℕ
 numbered_line what number reason = spaced_line (codes "x") (what ∷ decimal number ∷ name_of reason ∷ [])
 
--- the line of a test that fails at this place
+-- the line of a test that fails here
 abbrev pub failure_line : Where → Reason → List ℕ
 failure_line (places.Solution line field) reason = refusal_line (codes "solution") line field reason
 failure_line places.Certificate reason = refusal_line (codes "certificate") 0 0 reason

@@ -1,4 +1,4 @@
-//! Certifying a claim of which no certificate is given.
+//! Certifying a claim that comes without a certificate.
 
 ghost use Rattle.std.specs.Prelude.{◌≡◌, ◌≢◌, ◌⊎◌, ◌∷◌, [], ℕ, ℤ, List, Some, Err};
 ghost use Rattle.dimacs_lines.specs.Lines.{lines};
@@ -38,12 +38,16 @@ use dimacs_records::Reason;
 use dimacs_solve::improve_max;
 use std::alloc::Global;
 
-/// Reads an instance and a claim about it, in this order, and puts a certificate with which the judge says yes to the
-/// claim, and its verdict. Where a claimed flow is what it says and there is a better one, it puts a solution with an
-/// entry for every arc that claims such a flow, and the line of a refusal at the claimed value; in the same way a feasible
-/// flow, where it is to show that there is none. Else it puts the line of the first test that fails, of those that the
-/// judge makes before it looks at a certificate, or of the first text's fault, and nothing else. The claim isn't pulled
-/// after an instance that has a fault; where no flow is feasible nothing is claimed, and the claim isn't pulled.
+/// Reads an instance and a claim about it, in this order, decides whether the claim is true, and writes what shows it.
+///
+/// If the claim is true, it writes a certificate with which the judge accepts the claim, then the verdict. If a claimed
+/// flow is feasible and has its claimed value but isn't optimal, it writes a solution of a better flow, with an entry
+/// for every arc, then a refusal at the claimed value. `Infeasible` writes a feasible flow in the same way if there is
+/// one, then a refusal of the instance. No solution is written if its cost is out of range.
+///
+/// Otherwise it writes only a report: the fault of the first text that has one, or the first test of the claim that
+/// fails, of those that the judge makes before it looks at a certificate. The claim isn't read after an instance with a
+/// fault. `Infeasible` needs no claim and never reads one.
 pub fn run_certify<P: Source, Q: Source, C: Sink, K: Sink>(
     alloc: Global,
     kind: CertifyKind,
@@ -70,7 +74,7 @@ pub fn run_certify<P: Source, Q: Source, C: Sink, K: Sink>(
     put_produced(produced, &mut Discard, certificate_out, report)
 }
 
-/// What is told of a claim, and its certificate or what is better.
+/// Certifies a claim: what is to be written of it.
 pub(crate) fn certify_claim<P: Source, Q: Source>(
     alloc: Global,
     kind: CertifyKind,
@@ -90,7 +94,7 @@ pub(crate) fn certify_claim<P: Source, Q: Source>(
     }
 }
 
-/// What is told of a flow that is claimed to be maximum, and a cut or a better flow.
+/// Certifies a claimed maximum flow, by a cut or a better flow.
 fn certify_maximum<P: Source, Q: Source>(
     alloc: Global,
     instance: &mut P,
@@ -111,7 +115,7 @@ fn certify_maximum<P: Source, Q: Source>(
     }
 }
 
-/// The same of a flow that is claimed to cost least, and potentials or a better flow.
+/// Certifies a claimed flow of least cost, by potentials or a better flow.
 fn certify_least<P: Source, Q: Source>(
     alloc: Global,
     instance: &mut P,
@@ -132,7 +136,7 @@ fn certify_least<P: Source, Q: Source>(
     }
 }
 
-/// The answer about a flow that is claimed to be maximum.
+/// Decides about a flow that was claimed to be maximum.
 fn answer_maximum<N: Network>(
     alloc: Global,
     instance: &MaxInstance<N>,
@@ -155,7 +159,7 @@ fn answer_maximum<N: Network>(
     }
 }
 
-/// The answer about a flow that is claimed to cost least.
+/// Decides about a flow that was claimed to cost least.
 fn answer_least<N: Network>(
     alloc: Global,
     instance: &MinInstance<N>,
@@ -177,7 +181,7 @@ fn answer_least<N: Network>(
     }
 }
 
-/// The refusal of a value for which there is this better flow, with a solution that is no worse.
+/// Refuses a claimed value because `flow` is better, with a solution of `flow` or of a still greater flow.
 fn refuse_maximum<N: Network>(
     alloc: Global,
     instance: &MaxInstance<N>,
@@ -198,7 +202,7 @@ fn refuse_maximum<N: Network>(
     })
 }
 
-/// The refusal of a cost for which there is this better flow, with a solution of it, where one can say its cost.
+/// Refuses a claimed cost because `flow` is better, with a solution of `flow` if its cost is in range.
 fn refuse_least<N: Network>(
     alloc: Global,
     instance: &MinInstance<N>,
@@ -218,7 +222,7 @@ fn refuse_least<N: Network>(
     Ok(Produced { made, told })
 }
 
-/// The field of the claimed value.
+/// The field of the claimed value on this line.
 fn at_value(line: u64) -> Where
     ensures { result ≡ Where.Solution line 2 }
 {

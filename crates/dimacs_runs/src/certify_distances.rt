@@ -22,7 +22,7 @@ use dimacs_network::{Network, PlainArcs, WeightArc};
 use dimacs_records::{At, Reason, TextKind};
 use std::alloc::Global;
 
-/// What is told of claimed distances, and labels that show them true.
+/// Certifies claimed distances, by labels.
 pub(crate) fn certify_distances<P: Source, Q: Source>(
     alloc: Global,
     graph: &mut P,
@@ -38,7 +38,7 @@ pub(crate) fn certify_distances<P: Source, Q: Source>(
     }
 }
 
-/// The answer about distances that are claimed of a graph.
+/// Decides about distances claimed of a graph. Refuses distances of a graph with another number of nodes.
 fn answer_distances<N: Network>(
     alloc: Global,
     graph: &Graph<N>,
@@ -55,7 +55,7 @@ fn answer_distances<N: Network>(
     answer_blocks(alloc, graph, distances)
 }
 
-/// The answer about distances of as many nodes as the graph has.
+/// Decides about distances whose number of nodes is the graph's.
 fn answer_blocks<N: Network>(
     alloc: Global,
     graph: &Graph<N>,

@@ -21,7 +21,7 @@ use dimacs_network::{ArcView, Network, PlainArcs};
 use dimacs_records::{At, Reason, TextKind};
 use std::alloc::Global;
 
-/// What is told of an instance that is to have no feasible flow, and a set that shows it or a feasible flow.
+/// Certifies that no flow is feasible, by a set of nodes, or refuses that with a feasible flow.
 pub(crate) fn certify_infeasible<P: Source>(
     alloc: Global,
     instance: &mut P,
@@ -35,7 +35,7 @@ pub(crate) fn certify_infeasible<P: Source>(
     }
 }
 
-/// The answer about the instance.
+/// Decides whether a flow is feasible.
 fn answer_infeasible<N: Network>(
     alloc: Global,
     instance: &MinInstance<N>,
@@ -52,7 +52,7 @@ fn answer_infeasible<N: Network>(
     }
 }
 
-/// The refusal of an instance that has this feasible flow, with a solution of it, where one can say its cost.
+/// Refuses an instance because `flow` is feasible, with a solution of it if its cost is in range.
 fn refuse_infeasible<N: Network>(
     alloc: Global,
     instance: &MinInstance<N>,

@@ -1,4 +1,4 @@
-//! The command, from its words to its exit status.
+//! The command, from its arguments to its exit status.
 
 ghost use Rattle.std.specs.Prelude.{◌≡◌, map};
 ghost use Rattle.std.specs.String.{string_bytes};
@@ -18,7 +18,7 @@ use crate::words::job;
 use dimacs_lines::Sink;
 use std::alloc::Global;
 
-/// The status of words that ask for no run.
+/// The exit status if the arguments ask for no run.
 pub const NO_RUN: u8 = 2;
 
 /// How the command ended.
@@ -26,12 +26,12 @@ pub const NO_RUN: u8 = 2;
 pub struct Ending<'a> {
     /// The exit status.
     pub status: u8,
-    /// What failed, where the status tells of a device.
+    /// The call that failed; some exactly if the status is 3.
     pub failure: Option<Failure<'a>>,
 }
 
 impl<'a> Ending<'a> {
-    /// The end of a command whose run ended so.
+    /// The end of a command by the result of its run.
     fn of(ended: Result<Status, CommandError<'a>>) -> Ending<'a>
         ensures { result ≡ ending_of ended.entry }
     {
@@ -52,9 +52,11 @@ impl<'a> Ending<'a> {
     }
 }
 
-/// Runs what the words after the program's name ask for, and answers how it ended. Files that are read are opened
-/// first, in the order of their words, then those that are written are created; the first that fails ends the run. A
-/// certifier creates its file later: after those that are read were closed, and only where it made a text for it.
+/// Runs what the arguments (without the program's name) ask for. `output` is the standard output.
+///
+/// The files to read are opened first, then those to write are created, each in the order of the arguments. The first
+/// that can't be opened or created ends the run. Certifying and spreading create their file later: after those that
+/// were read are closed, and only if there is a text for it.
 pub fn run_command<'a, F: Files, K: Sink>(
     alloc: Global,
     words: &'a [String],
@@ -74,6 +76,7 @@ pub fn run_command<'a, F: Files, K: Sink>(
     }
 }
 
+/// Runs a job over its files.
 fn run_job<'a, F: Files, K: Sink>(
     alloc: Global,
     job: Job<'a>,

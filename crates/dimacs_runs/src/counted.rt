@@ -1,10 +1,11 @@
-//! Devices whose faults can be asked for.
+//! Sources and sinks that count their faults.
 
 ghost use Rattle.std.specs.Prelude.{◌≡◌};
 
 use dimacs_lines::{DeviceFault, Sink, Source};
 
-/// A source or a sink, and how often it failed since it stands here: a `u64` that wraps.
+/// A source or a sink with the number of its calls that failed, a `u64` that wraps. A `put` that takes no byte of some
+/// counts as failed.
 #[derive(Drop)]
 pub struct Counted<D> {
     device: D,
@@ -12,6 +13,7 @@ pub struct Counted<D> {
 }
 
 impl<D> Counted<D> {
+    /// Wraps a source or a sink, with no fault counted yet.
     pub fn new(device: D) -> Counted<D>
         ensures device { result.device ≡ device }
         ensures faultless { result.faults ≡ 0 }
@@ -19,13 +21,14 @@ impl<D> Counted<D> {
         Counted { device, faults: 0 }
     }
 
+    /// The number of failed calls so far.
     pub fn faults(&self) -> u64
         ensures { result ≡ self.now.faults }
     {
         self.faults
     }
 
-    /// The device as it is now.
+    /// The source or sink inside.
     pub fn device(&self) -> &D
         ensures { result.now ≡ self.now.device }
     {

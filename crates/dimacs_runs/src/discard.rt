@@ -4,7 +4,7 @@ ghost use Rattle.std.specs.Prelude.{None};
 
 use dimacs_lines::{DeviceFault, Sink};
 
-/// Accepts everything, and keeps nothing of it.
+/// Accepts all bytes and keeps none.
 #[derive(Drop)]
 pub(crate) struct Discard;
 

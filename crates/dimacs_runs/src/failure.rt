@@ -1,4 +1,4 @@
-//! Which device failed, and why a command ended early.
+//! Which call failed, and why a command ended early.
 
 ghost use Rattle.std.specs.Prelude.{◌≡◌};
 ghost use Rattle.dimacs_runs.specs.Outcomes.{failed_call, failed_device};
@@ -6,7 +6,7 @@ ghost use Rattle.dimacs_runs.specs.inside.Commands.{named};
 
 use crate::outcome::RunError;
 
-/// A call on a file.
+/// An operation on a file.
 #[derive(Clone, Copy, Debug, PartialEq, Eq)]
 pub enum FileCall {
     Open,
@@ -15,17 +15,17 @@ pub enum FileCall {
     Write,
 }
 
-/// A call of a device that failed.
+/// An operation that failed.
 #[derive(Clone, Copy, Debug, PartialEq, Eq)]
 pub enum Failure<'a> {
-    /// This call, on the file of this name.
+    /// This operation, on the file with this name.
     File(FileCall, &'a str),
-    /// A write to the output.
+    /// A write to the standard output.
     Output,
 }
 
 impl<'a> Failure<'a> {
-    /// The name of the file, or that of the output.
+    /// The name of the file, or `standard output`.
     pub fn device(&self) -> &'a str
         ensures { result.now ≡ failed_device self.now }
     {
@@ -35,7 +35,7 @@ impl<'a> Failure<'a> {
         }
     }
 
-    /// What could not be done with the device.
+    /// What could not be done, as words for a message after the name.
     pub fn call(&self) -> &'static str
         ensures { result.now ≡ failed_call self.now }
     {
@@ -48,17 +48,17 @@ impl<'a> Failure<'a> {
     }
 }
 
-/// Why a command did not put all that it had to.
+/// Why a command did not write all of its output.
 #[derive(Clone, Copy, Debug, PartialEq, Eq)]
 pub enum CommandError<'a> {
-    /// A device failed, by this call.
+    /// An I/O error in this operation.
     Device(Failure<'a>),
-    /// A growth was refused.
+    /// Out of memory.
     Memory,
 }
 
 impl RunError {
-    /// What this is where a file of this name could not be opened or created.
+    /// The error of a command that could not open or create this file.
     pub(crate) fn on_file<'a>(self, call: FileCall, name: &'a str) -> CommandError<'a>
         ensures device { self ≡ RunError.Device → result ≡ CommandError.Device (Failure.File call name.entry) }
         ensures memory { self ≡ RunError.Memory → result ≡ CommandError.Memory }
@@ -70,7 +70,8 @@ impl RunError {
     }
 }
 
-/// The end of a run over files, of which one failed so. Where none did, the device that failed was the output.
+/// Adds to the end of a run which operation failed: the given one, or, if none is given, a write to the standard
+/// output.
 pub(crate) fn name_failure<'a, X>(
     ended: Result<X, RunError>,
     failure: Option<Failure<'a>>,

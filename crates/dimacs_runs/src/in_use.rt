@@ -1,4 +1,4 @@
-//! Files in use, each beside its name.
+//! Open files with their names.
 
 ghost use Rattle.std.specs.Prelude.{◌≡◌, ◌∷◌, [], IfErr, IfOk};
 ghost use Rattle.dimacs_runs.specs.Files.{Created, NotCreated, NotOpened, Opened, Sees, closed_read, closed_written, failures};
@@ -7,14 +7,14 @@ ghost use Rattle.dimacs_runs.specs.inside.Commands.{FailsWith, IsFirstOf};
 use crate::failure::{CommandError, Failure, FileCall};
 use crate::files::Files;
 
-/// A file that was opened or created, beside its name.
+/// An open file with its name.
 #[derive(Drop)]
 pub(crate) struct InUse<'a, D> {
     pub(crate) name: &'a str,
     pub(crate) device: D,
 }
 
-/// Opens the file of this name.
+/// Opens the file with this name.
 pub(crate) fn open<'a, F: Files>(
     files: &mut F,
     name: &'a str,
@@ -32,7 +32,7 @@ pub(crate) fn open<'a, F: Files>(
     }
 }
 
-/// Creates the file of this name.
+/// Creates the file with this name.
 pub(crate) fn create<'a, F: Files>(
     files: &mut F,
     name: &'a str,
@@ -48,7 +48,7 @@ pub(crate) fn create<'a, F: Files>(
     }
 }
 
-/// Closes a file that was read, and tells of it where it had failed.
+/// Closes a file that was read. The failure of its reads, if one failed.
 pub(crate) fn close_read<'a, F: Files>(
     files: &mut F,
     file: InUse<'a, F::Input>,
@@ -63,7 +63,7 @@ pub(crate) fn close_read<'a, F: Files>(
     }
 }
 
-/// Closes a file that was written, and tells of it where it had failed.
+/// Closes a file that was written. The failure of its writes, if one failed.
 pub(crate) fn close_written<'a, F: Files>(
     files: &mut F,
     file: InUse<'a, F::Output>,

@@ -1,4 +1,4 @@
-//! What the command can be asked for.
+//! What the command can do.
 
 ghost use Rattle.std.specs.Prelude.{◌≡◌, IfNone, IfSome, List, map, slice_get, ℕ};
 ghost use Rattle.std.specs.Option.{option_map};
@@ -7,77 +7,77 @@ ghost use Rattle.dimacs_runs.specs.Commands.{WritesTwice};
 
 use dimacs_records::TextKind;
 
-/// What a judge is asked about.
+/// The claims that can be judged, each with its certificate.
 #[derive(Clone, Copy, Debug, PartialEq, Eq)]
 pub enum JudgeKind {
-    /// Whether a flow is maximum.
+    /// A flow is maximum. The certificate is a cut.
     Max,
-    /// Whether a flow costs least.
+    /// A flow costs least. The certificate is potentials.
     Min,
-    /// Whether no flow is feasible.
+    /// No flow is feasible. The certificate is a set of nodes.
     Infeasible,
-    /// Whether labels are distances.
+    /// Labels are distances that answer the queries.
     Paths,
 }
 
-/// What is asked about a claim without a certificate.
+/// The claims that can be certified without a certificate.
 #[derive(Clone, Copy, Debug, PartialEq, Eq)]
 pub enum CertifyKind {
-    /// Whether a flow is maximum.
+    /// A flow is maximum.
     Max,
-    /// Whether a flow costs least.
+    /// A flow costs least.
     Min,
-    /// Whether no flow is feasible.
+    /// No flow is feasible.
     Infeasible,
-    /// Whether distances are true.
+    /// Distances are right.
     Paths,
 }
 
-/// Of which instance a claimed flow is spread.
+/// The kinds of instances whose claimed flows can be dealt out to parallel arcs.
 #[derive(Clone, Copy, Debug, PartialEq, Eq)]
 pub enum SpreadKind {
-    /// Of maximum flow.
+    /// Maximum flow.
     Max,
-    /// Of least cost.
+    /// Minimum cost flow.
     Min,
 }
 
-/// What a producer is asked for.
+/// What can be solved.
 #[derive(Clone, Copy, Debug, PartialEq, Eq)]
 pub enum SolveJob {
-    /// A maximum flow. Flows are improved, from the flow of zeros on; at most so many of them are tried.
+    /// A maximum flow. The limit counts the flows, from the zero flow on, that are tested for being maximum.
     Max(u64),
-    /// A flow of least cost. Paths are added; at most so many of them are.
+    /// A flow of least cost. The limit counts steps, each to a better flow.
     Min(u64),
-    /// Distances.
+    /// Distances that answer queries. There is no limit.
     Paths,
 }
 
-/// A run, and the words of its files.
+/// A run, with the names of its files.
 #[derive(Clone, Copy, Debug, PartialEq, Eq)]
 pub enum Job<'a> {
-    /// Prints the canonical text of a text of this kind.
+    /// Prints the canonical form of a text.
     Convert(TextKind, &'a str),
-    /// Prints a line about a text of this kind.
+    /// Prints a line that describes a text.
     Show(TextKind, &'a str),
-    /// Judges a claim. The files of the instance, the claim and its certificate; nothing is claimed of an instance
-    /// without a feasible flow, so there the certificate is the second.
+    /// Judges a claim. Reads the files of the instance, the claim and its certificate, in this order. `Infeasible` has
+    /// no claim: its files are the instance and the certificate.
     Judge(JudgeKind, &'a [String]),
-    /// Certifies a claim. The files of the instance and of the claim, which are read, and where there is one more that of
-    /// the certificate, or of a better solution, which is written; nothing is claimed of an instance without a feasible
-    /// flow, so there the certificate is the second.
+    /// Certifies a claim. Reads the files of the instance and the claim. If there is a third file, it writes a
+    /// certificate or a better solution to it. `Infeasible` has no claim: it reads the instance, and writes to a second
+    /// file.
     Certify(CertifyKind, &'a [String]),
-    /// Deals a claimed flow out to parallel arcs. The files of the instance and of the claim, which are read, and that of
-    /// the solution, which is written.
+    /// Deals a claimed flow out to parallel arcs. Reads the files of the instance and the claim, and writes a solution
+    /// to the third.
     Spread(SpreadKind, &'a [String]),
-    /// Makes a claim. The file of the instance, which is read, and those of the claim and of its certificate, which are
-    /// written; for distances those of the graph and of the queries, which are read, and that of the labels.
+    /// Solves an instance. `Max` and `Min` read the file of the instance, and write the claim and its certificate to
+    /// the other two. `Paths` reads the files of the graph and the queries, and writes labels to the third.
     Solve(SolveJob, &'a [String]),
 }
 
 impl<'a> Job<'a> {
-    /// The name of a file to which the run writes a claim and its certificate, one over the other; none where it writes
-    /// no file twice.
+    /// The name of a file to which the run writes both the claim and its certificate, so that one destroys the other.
+    /// None if the two names differ; names that differ may still be the same file.
     pub fn written_twice(&self) -> Option<&'a str>
         ensures twice { IfSome result (λ name. WritesTwice self.now name.now) }
         ensures once { IfNone result ((name : List ℕ) → ¬ WritesTwice self.now name) }
@@ -93,7 +93,7 @@ impl<'a> Job<'a> {
     }
 }
 
-/// The word at this place, from 0.
+/// The argument at this place, from 0.
 fn word(words: &[String], place: usize) -> Option<&str>
     ensures { option_map (λ word. word.now) result ≡ slice_get (map string_bytes words.now) place }
 {

@@ -27,9 +27,10 @@ use dimacs_lines::{Sink, Source};
 use dimacs_network::{ArcView, CapacityArc, PlainArcs, WeightArc};
 use std::alloc::Global;
 
-/// Reads an instance, a claim about it and a certificate, in this order, and puts the verdict of the judge, the line of
-/// the first test that fails, or the line of the first text's fault. No text is pulled after one that has a fault; where
-/// no flow is feasible nothing is claimed, and the claim isn't pulled.
+/// Reads an instance, a claim about it and a certificate, in this order, and prints the verdict of the judge. If a text
+/// has a fault, or a test fails, it prints the line of the first instead.
+///
+/// No text is read after one with a fault. `Infeasible` has no claim and never reads one.
 pub fn run_judge<P: Source, Q: Source, R: Source, K: Sink>(
     alloc: Global,
     kind: JudgeKind,
@@ -63,7 +64,7 @@ pub fn run_judge<P: Source, Q: Source, R: Source, K: Sink>(
     put_told(told, sink)
 }
 
-/// What is told of a claimed maximum flow.
+/// Judges a claimed maximum flow, by a cut.
 fn tell_max<P: Source, Q: Source, R: Source>(
     alloc: Global,
     instance: &mut P,
@@ -88,7 +89,7 @@ fn tell_max<P: Source, Q: Source, R: Source>(
     }
 }
 
-/// What is told of a claimed flow of least cost.
+/// Judges a claimed flow of least cost, by potentials.
 fn tell_min<P: Source, Q: Source, R: Source>(
     alloc: Global,
     instance: &mut P,
@@ -118,7 +119,7 @@ fn tell_min<P: Source, Q: Source, R: Source>(
     }
 }
 
-/// What is told of a set of nodes whose supply can't be met.
+/// Judges that no flow is feasible, by a set of nodes whose supply can't be met.
 fn tell_infeasible<P: Source, R: Source>(
     alloc: Global,
     instance: &mut P,
@@ -134,7 +135,7 @@ fn tell_infeasible<P: Source, R: Source>(
     }
 }
 
-/// What is told of queries and labels.
+/// Judges the answers to queries, by labels.
 fn tell_paths<P: Source, Q: Source, R: Source>(
     alloc: Global,
     graph: &mut P,

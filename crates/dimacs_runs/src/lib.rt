@@ -1,4 +1,4 @@
-//! The runs of the command, over any sources and sinks, and what the command's words mean.
+//! The runs of the command `dimacs`, over any sources and sinks, and the meaning of its arguments.
 #![tactic(auto)]
 
 mod certify;

@@ -1,4 +1,4 @@
-//! Files that are created for a text once it is made.
+//! Files that are created only once there is a text for them.
 
 ghost use Rattle.std.specs.Prelude.{◌∷◌, []};
 ghost use Rattle.dimacs_runs.specs.Commands.{seen_by};
@@ -12,8 +12,8 @@ use crate::outcome::Status;
 use crate::produced::{Produced, put_produced};
 use dimacs_lines::Sink;
 
-/// Puts what was produced of a claim of someone else's: its text into a file of this name, which is created where there is
-/// a text, and then the report. Without a name the text goes nowhere.
+/// Writes a produced text to the file with this name, then the report to the output. The file is created only if there
+/// is a text. Without a name the text is dropped.
 pub(crate) fn put_made<'a, F: Files, K: Sink>(
     produced: Produced,
     name: Option<&'a str>,
@@ -30,7 +30,7 @@ pub(crate) fn put_made<'a, F: Files, K: Sink>(
     }
 }
 
-/// Puts what was produced, with its text, where there is one, into a file of this name.
+/// Writes a produced text, if there is one, to the file with this name, then the report to the output.
 fn put_into<'a, F: Files, K: Sink>(
     produced: Produced,
     name: &'a str,
@@ -50,7 +50,7 @@ fn put_into<'a, F: Files, K: Sink>(
     name_failure(ended, failure)
 }
 
-/// Puts the report alone.
+/// Writes the report only.
 fn put_report<'a, K: Sink>(produced: Produced, output: &mut K) -> Result<Status, CommandError<'a>>
     ensures puts { PutsReport produced result (K.seen output.old) (K.seen output.new) }
 {

@@ -5,23 +5,23 @@ ghost use Rattle.dimacs_runs.specs.Outcomes.{complaint_of, status_number};
 
 use dimacs_lines::{DeviceFault, Memory};
 
-/// What was put at the end of a run.
+/// What a run that ended without an error wrote.
 #[derive(Clone, Copy, Debug, PartialEq, Eq)]
 pub enum Status {
-    /// What was asked for.
+    /// What was asked for. A solver that finds that no flow is feasible is done, too.
     Done,
-    /// The line of a refusal.
+    /// A refusal: a text has a fault, or the claim fails a test.
     Refused,
-    /// The line that tells that the limit was reached.
+    /// The line `g limit`: a solver gave up.
     GaveUp,
 }
 
-/// Why a run did not put all that it had to.
+/// Why a run did not write all of its output.
 #[derive(Clone, Copy, Debug, PartialEq, Eq)]
 pub enum RunError {
-    /// A pull or a put failed.
+    /// I/O error: a call of a source or a sink failed.
     Device,
-    /// A growth was refused.
+    /// Out of memory.
     Memory,
 }
 
@@ -45,7 +45,8 @@ impl From<Memory> for RunError {
     }
 }
 
-/// The exit status of the command.
+/// The exit status of the command for the end of its run: 0, 1 and 5 for `Done`, `Refused` and `GaveUp`, 3 and 4 for
+/// `Device` and `Memory`.
 pub fn exit_status(outcome: &Result<Status, RunError>) -> u8
     ensures { result ≡ status_number outcome.now }
 {
@@ -58,7 +59,7 @@ pub fn exit_status(outcome: &Result<Status, RunError>) -> u8
     }
 }
 
-/// The line on the standard error that tells of an exit status, where one does.
+/// The line on the standard error for an exit status; none for 0, 1 and 5.
 pub fn complaint(status: u8) -> Option<&'static str>
     ensures told { IfSome result (λ line. complaint_of status ≡ Some line.now) }
     ensures untold { IfNone result (complaint_of status ≡ None) }

@@ -1,4 +1,4 @@
-//! What a run tells that makes a claim or a certificate, and how it is put.
+//! What a run that makes texts produces, and how it is written.
 
 ghost use Rattle.std.specs.Prelude.{◌≡◌, ◌↔◌, ◌∷◌, [], IfOk, IsTrue};
 ghost use Rattle.dimacs_runs.specs.declared.produced.Made.TheVariants.{Nothing};
@@ -15,33 +15,35 @@ use dimacs_lines::{DeviceFault, Sink};
 use dimacs_records::Reason;
 use dimacs_solve::{MaxAnswer, MinAnswer, SolveError};
 
-/// A claim and what stands beside it, as far as they were made.
+/// The texts that a run made.
 #[derive(Drop)]
 pub(crate) enum Made {
+    /// No text.
     Nothing,
-    /// A maximum flow, and a cut that shows it.
+    /// A maximum flow with a cut as certificate.
     Maximum(Solution, Cut),
-    /// A flow of least cost, and potentials that show it.
+    /// A flow of least cost with potentials as certificate.
     Least(Solution, Potentials),
-    /// A set that shows that there is no flow, or a cut that shows a flow maximum which someone else claimed.
+    /// A certificate only: a set of nodes if no flow is feasible, or a cut for someone else's maximum flow.
     Set(Cut),
-    /// Potentials that show that a flow costs least which someone else claimed.
+    /// A certificate only: potentials for someone else's flow of least cost.
     Slack(Potentials),
-    /// A solution that is better than someone else's, or one where none was to be, in place of a certificate.
+    /// A solution in place of a certificate: a flow better than the claimed one, or any feasible flow, or a claimed
+    /// flow dealt out to parallel arcs.
     Better(Solution),
-    /// Labels. What they answer is claimed by nothing else.
+    /// Labels. They are claim and certificate in one.
     Distances(Labels),
 }
 
 impl Made {
-    /// Whether there is no text to be put.
+    /// Whether there is no text to write.
     pub(crate) fn is_nothing(&self) -> bool
         ensures { IsTrue result ↔ (self.now ≡ Nothing) }
     {
         matches!(self, Made::Nothing)
     }
 
-    /// Puts the claim, and then the certificate.
+    /// Writes the claim, then the certificate.
     fn put<C: Sink, D: Sink>(&self, claim: &mut C, certificate: &mut D) -> Result<(), DeviceFault>
         ensures puts { PutTexts result (made_texts self.now) (C.seen claim.old ∷ D.seen certificate.old ∷ []) (C.seen claim.new ∷ D.seen certificate.new ∷ []) }
         ensures unclaimed { IsClaimless self.now → claim.new ≡ claim.old }
@@ -64,7 +66,7 @@ impl Made {
     }
 }
 
-/// What is to be put: a claim and its certificate, as far as they were made, and a report.
+/// The texts that a run made, and its report.
 #[derive(Drop)]
 pub(crate) struct Produced {
     pub(crate) made: Made,
@@ -72,6 +74,7 @@ pub(crate) struct Produced {
 }
 
 impl Produced {
+    /// Writes the claim, the certificate and the report, in this order.
     fn put<C: Sink, D: Sink, K: Sink>(
         &self,
         claim: &mut C,
@@ -87,7 +90,7 @@ impl Produced {
     }
 }
 
-/// What is told without a claim.
+/// A report without texts.
 pub(crate) fn report_alone(told: Result<Told, RunError>) -> Result<Produced, RunError>
     ensures { result ≡ reported told }
 {
@@ -98,7 +101,7 @@ pub(crate) fn report_alone(told: Result<Told, RunError>) -> Result<Produced, Run
     })
 }
 
-/// What is told of the answer about a maximum flow.
+/// What to write for the solver's answer about a maximum flow.
 pub(crate) fn maximum_answered(answer: Result<MaxAnswer, SolveError>) -> Result<Produced, RunError>
     ensures { result ≡ maximum_produced answer }
 {
@@ -115,7 +118,7 @@ pub(crate) fn maximum_answered(answer: Result<MaxAnswer, SolveError>) -> Result<
     }
 }
 
-/// What is told of the answer about a flow of least cost.
+/// What to write for the solver's answer about a flow of least cost.
 pub(crate) fn least_answered(answer: Result<MinAnswer, SolveError>) -> Result<Produced, RunError>
     ensures { result ≡ least_produced answer }
 {
@@ -136,7 +139,7 @@ pub(crate) fn least_answered(answer: Result<MinAnswer, SolveError>) -> Result<Pr
     }
 }
 
-/// What is told of a producer's error.
+/// The report on a solver's error.
 pub(crate) fn refused(error: SolveError) -> Result<Told, RunError>
     ensures { result ≡ produced.refused error }
 {
@@ -147,7 +150,7 @@ pub(crate) fn refused(error: SolveError) -> Result<Told, RunError>
     }
 }
 
-/// Puts what was produced, where something was: the claim, the certificate and the report, in this order.
+/// Writes what was produced: the claim, the certificate and the report, in this order. Returns an error unchanged.
 pub(crate) fn put_produced<C: Sink, D: Sink, K: Sink>(
     produced: Result<Produced, RunError>,
     claim: &mut C,

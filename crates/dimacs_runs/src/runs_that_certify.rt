@@ -1,4 +1,4 @@
-//! The runs that certify a claim by files.
+//! Certifying a claim in files.
 
 ghost use Rattle.std.specs.Prelude.{◌≤◌, ◌∷◌, [], length, map};
 ghost use Rattle.std.specs.String.{string_bytes};
@@ -19,7 +19,7 @@ use crate::produced::Produced;
 use dimacs_lines::Sink;
 use std::alloc::Global;
 
-/// Certifies a claim by the files of these names.
+/// Certifies a claim in the files with these names.
 pub(crate) fn certify_files<'a, F: Files, K: Sink>(
     alloc: Global,
     kind: CertifyKind,
@@ -38,7 +38,7 @@ pub(crate) fn certify_files<'a, F: Files, K: Sink>(
     }
 }
 
-/// Certifies by the files of these names where one is read, that of the instance.
+/// Certifies that no flow is feasible, in the file of the instance.
 fn certify_by_one<'a, F: Files, K: Sink>(
     alloc: Global,
     names: &'a [String],
@@ -60,7 +60,7 @@ fn certify_by_one<'a, F: Files, K: Sink>(
     }
 }
 
-/// Certifies by the files of these names where two are read, those of the instance and the claim.
+/// Certifies a claim in the files of the instance and the claim.
 fn certify_by_two<'a, F: Files, K: Sink>(
     alloc: Global,
     kind: CertifyKind,
@@ -97,7 +97,7 @@ fn certify_by_two<'a, F: Files, K: Sink>(
     }
 }
 
-/// Certifies by the file of the instance, of which nothing is claimed, and writes that of the set where it is named.
+/// Certifies that no flow is feasible, and writes the set of nodes, or a feasible flow, to a file if one is named.
 fn certify_instance<'a, F: Files, K: Sink>(
     alloc: Global,
     instance: &'a str,
@@ -113,7 +113,7 @@ fn certify_instance<'a, F: Files, K: Sink>(
     put_made(produced, set, files, output)
 }
 
-/// Certifies by the files of the instance and the claim, and writes that of the certificate where it is named.
+/// Certifies a claim, and writes the certificate, or a better solution, to a file if one is named.
 fn certify_pair<'a, F: Files, K: Sink>(
     alloc: Global,
     kind: CertifyKind,
@@ -131,7 +131,7 @@ fn certify_pair<'a, F: Files, K: Sink>(
     put_made(produced, certificate, files, output)
 }
 
-/// What is told by the file of the instance, which is closed then.
+/// Opens the file of the instance, certifies that no flow is feasible, and closes the file.
 fn answer_instance<'a, F: Files>(
     alloc: Global,
     instance: &'a str,
@@ -145,7 +145,7 @@ fn answer_instance<'a, F: Files>(
     name_failure(answer, failure)
 }
 
-/// What is told by the files of the instance and the claim, which are closed then.
+/// Opens the files of the instance and the claim, certifies the claim, and closes the files.
 fn answer_pair<'a, F: Files>(
     alloc: Global,
     kind: CertifyKind,

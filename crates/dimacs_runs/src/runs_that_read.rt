@@ -1,4 +1,4 @@
-//! The runs that read files.
+//! The runs that only read files.
 
 ghost use Rattle.std.specs.Prelude.{◌≡◌, ◌∷◌, [], length, map};
 ghost use Rattle.std.specs.String.{string_bytes};
@@ -18,7 +18,7 @@ use dimacs_lines::{MemorySource, Sink};
 use dimacs_records::TextKind;
 use std::alloc::Global;
 
-/// Tells the text in the file of this name in this form.
+/// Prints the text in the file with this name, in this form.
 pub(crate) fn tell_file<'a, F: Files, K: Sink>(
     alloc: Global,
     form: TextForm,
@@ -37,7 +37,7 @@ pub(crate) fn tell_file<'a, F: Files, K: Sink>(
     name_failure(ended, failure)
 }
 
-/// Judges by the files of these names.
+/// Judges a claim in the files with these names.
 pub(crate) fn judge_files<'a, F: Files, K: Sink>(
     alloc: Global,
     kind: JudgeKind,
@@ -70,7 +70,7 @@ pub(crate) fn judge_files<'a, F: Files, K: Sink>(
     )
 }
 
-/// Judges a claim by the files of the instance, the claim and its certificate.
+/// Judges a claim in the files of the instance, the claim and its certificate.
 fn judge_claim<'a, F: Files, K: Sink>(
     alloc: Global,
     kind: JudgeKind,
@@ -101,7 +101,7 @@ fn judge_claim<'a, F: Files, K: Sink>(
     name_failure(ended, failure)
 }
 
-/// Judges a set of nodes by the files of the instance and the set; nothing is claimed.
+/// Judges that no flow is feasible, in the files of the instance and the set of nodes.
 fn judge_set<'a, F: Files, K: Sink>(
     alloc: Global,
     instance: &'a str,

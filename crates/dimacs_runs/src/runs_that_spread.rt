@@ -1,4 +1,4 @@
-//! The runs that deal a claimed flow out by files.
+//! Dealing out a claimed flow in files.
 
 ghost use Rattle.std.specs.Prelude.{◌≡◌, ◌∷◌, [], length, map};
 ghost use Rattle.std.specs.String.{string_bytes};
@@ -16,7 +16,7 @@ use crate::spread::spread_claim;
 use dimacs_lines::Sink;
 use std::alloc::Global;
 
-/// Deals a claimed flow out by the files of these names.
+/// Deals out a claimed flow in the files with these names.
 pub(crate) fn spread_files<'a, F: Files, K: Sink>(
     alloc: Global,
     kind: SpreadKind,
@@ -43,7 +43,7 @@ pub(crate) fn spread_files<'a, F: Files, K: Sink>(
     )
 }
 
-/// Deals it out by the files of the instance and the claim, and writes that of the solution.
+/// Deals out the claimed flow, and writes the solution to its file.
 fn spread_into<'a, F: Files, K: Sink>(
     alloc: Global,
     kind: SpreadKind,
@@ -61,7 +61,7 @@ fn spread_into<'a, F: Files, K: Sink>(
     put_made(produced, Some(solution), files, output)
 }
 
-/// What is made of the files of the instance and the claim, which are closed then.
+/// Opens the files of the instance and the claim, deals out the flow, and closes the files.
 fn answer_claim<'a, F: Files>(
     alloc: Global,
     kind: SpreadKind,

@@ -1,4 +1,4 @@
-//! The runs that write files.
+//! Solving an instance in files.
 
 ghost use Rattle.std.specs.Prelude.{◌≡◌, ◌≢◌, ◌∷◌, [], length, map};
 ghost use Rattle.std.specs.String.{string_bytes};
@@ -15,7 +15,7 @@ use crate::solve::run_solve;
 use dimacs_lines::{MemorySource, Sink};
 use std::alloc::Global;
 
-/// Makes a claim by the files of these names.
+/// Solves an instance in the files with these names.
 pub(crate) fn solve_files<'a, F: Files, K: Sink>(
     alloc: Global,
     job: SolveJob,
@@ -38,7 +38,7 @@ pub(crate) fn solve_files<'a, F: Files, K: Sink>(
     }
 }
 
-/// Makes a flow, by the files of the instance, the claim and its certificate; nothing is asked.
+/// Solves a flow instance in the files of the instance, the claim and its certificate. It has no queries.
 fn solve_flow<'a, F: Files, K: Sink>(
     alloc: Global,
     job: SolveJob,
@@ -77,7 +77,7 @@ fn solve_flow<'a, F: Files, K: Sink>(
     name_failure(ended, failure)
 }
 
-/// Makes labels, by the files of the graph, the queries and the labels; nothing else is claimed.
+/// Answers queries in the files of the graph, the queries and the labels. The labels are the only claim.
 fn solve_distances<'a, F: Files, K: Sink>(
     alloc: Global,
     graph: &'a str,

@@ -1,4 +1,4 @@
-//! Making a claim about an instance.
+//! Solving an instance.
 
 ghost use Rattle.std.specs.Prelude.{◌≡◌, ◌≢◌, ◌⊎◌, ◌∷◌, [], ℕ, List, Some, Ok, Err, IfOk};
 ghost use Rattle.dimacs_lines.specs.Lines.{lines};
@@ -28,13 +28,14 @@ use dimacs_network::{ArcView, CapacityArc, Network, PlainArcs, WeightArc};
 use dimacs_solve::{solve_max, solve_min, solve_paths};
 use std::alloc::Global;
 
-/// Reads an instance, and puts a claim about it, its certificate and the verdict of the judge on them, in this order; or
-/// the line of a refusal, or the line that tells that a limit was reached, and then nothing else.
+/// Reads an instance, and writes a claim about it, its certificate and the judge's verdict on them, in this order. If
+/// it refuses an instance or gives up, it writes only the line that reports that.
 ///
-/// `Max` puts a solution and a cut; it gives up after so many flows, none of them maximum. `Min` puts a solution and
-/// potentials, or a set alone where there is no flow; it gives up after so many steps, each to a better flow, none of
-/// them least, or where the least cost is out of range. `Paths` reads queries too, after a graph without a fault, and
-/// puts labels alone; it never gives up, and refuses a query that names no node, and then a negative weight.
+/// `Max` writes a solution and a cut. It gives up if the first `limit` flows, from the zero flow on, aren't maximum.
+/// `Min` writes a solution and potentials, or, if no flow is feasible, only a set of nodes. It gives up if `limit`
+/// steps, each to a better flow, don't suffice, or if the least cost is out of range. `Paths` also reads queries,
+/// unless the graph has a fault, and writes only labels. It never gives up; it refuses a query with a node that doesn't
+/// exist, then a negative weight.
 pub fn run_solve<P: Source, Q: Source, C: Sink, D: Sink, K: Sink>(
     alloc: Global,
     job: SolveJob,
@@ -68,7 +69,7 @@ pub fn run_solve<P: Source, Q: Source, C: Sink, D: Sink, K: Sink>(
     put_produced(produced, claim_out, certificate_out, report)
 }
 
-/// A maximum flow and a cut, or what is told in their place.
+/// Finds a maximum flow and a cut.
 fn produce_maximum<P: Source>(
     alloc: Global,
     limit: u64,
@@ -83,7 +84,7 @@ fn produce_maximum<P: Source>(
     }
 }
 
-/// A flow of least cost and potentials, or what is told in their place.
+/// Finds a flow of least cost and potentials, or a set of nodes.
 fn produce_least<P: Source>(
     alloc: Global,
     limit: u64,
@@ -98,7 +99,7 @@ fn produce_least<P: Source>(
     }
 }
 
-/// Labels that answer queries, or what is told in their place.
+/// Reads a graph and queries, and finds labels that answer them.
 fn produce_labels<P: Source, Q: Source>(
     alloc: Global,
     graph: &mut P,
@@ -115,7 +116,7 @@ fn produce_labels<P: Source, Q: Source>(
     }
 }
 
-/// Labels that are distances and answer queries, or what is told in their place.
+/// Finds labels that answer queries, or refuses.
 fn label<N: Network>(
     alloc: Global,
     graph: &Graph<N>,

@@ -25,10 +25,12 @@ use dimacs_network::{ArcView, CapacityArc, Network, PlainArcs};
 use dimacs_spread::{spread_max, spread_min};
 use std::alloc::Global;
 
-/// Reads an instance and a claimed flow, in this order, adds up the entries of each two ends, and puts a solution with an
-/// entry for every arc and the claimed value: each sum is dealt out to the arcs with these ends, within the bounds if that
-/// can be, for an instance of least cost at the least cost. Else it puts the line of the first text's fault, of the first
-/// entry whose ends no arc has, or of a sum that no numbers of 64 bits on the arcs add up to, and nothing else.
+/// Reads an instance and a claimed flow, in this order, and writes a solution with the claimed value and an entry for
+/// every arc. For each ordered pair of nodes it adds up the claimed entries and deals the sum out to the arcs from one
+/// to the other: within their bounds if that is possible, and for a minimum cost instance at the least cost.
+///
+/// Otherwise it writes only a report: the fault of the first text that has one, the first entry without an arc, or a
+/// sum that the arcs can't carry with amounts of 64 bits. It doesn't test whether the flow is feasible.
 pub fn run_spread<P: Source, Q: Source, C: Sink, K: Sink>(
     alloc: Global,
     kind: SpreadKind,
@@ -52,7 +54,7 @@ pub fn run_spread<P: Source, Q: Source, C: Sink, K: Sink>(
     put_produced(produced, &mut Discard, solution_out, report)
 }
 
-/// The solution that is made of a claimed flow, or what is reported in its place.
+/// Deals out a claimed flow.
 pub(crate) fn spread_claim<P: Source, Q: Source>(
     alloc: Global,
     kind: SpreadKind,
@@ -68,7 +70,7 @@ pub(crate) fn spread_claim<P: Source, Q: Source>(
     }
 }
 
-/// That of a maximum flow.
+/// Deals out a claimed maximum flow.
 fn spread_maximum<P: Source, Q: Source>(
     alloc: Global,
     instance: &mut P,
@@ -86,7 +88,7 @@ fn spread_maximum<P: Source, Q: Source>(
     }
 }
 
-/// That of a flow of least cost.
+/// Deals out a claimed flow of least cost.
 fn spread_least<P: Source, Q: Source>(
     alloc: Global,
     instance: &mut P,
@@ -104,7 +106,7 @@ fn spread_least<P: Source, Q: Source>(
     }
 }
 
-/// The solution with this value that carries a flow, or the refusal in its place.
+/// The solution with this value and this flow, or the report of a refusal.
 fn answer_spread<N: Network>(
     alloc: Global,
     network: &N,

@@ -1,4 +1,4 @@
-//! What is told of one text: its canonical form, or a line about it.
+//! Printing one text: its canonical form, or a line that describes it.
 
 ghost use Rattle.std.specs.Prelude.{◌≡◌, ◌≢◌, ◌∷◌, ℕ, List, [], Some, Err};
 ghost use Rattle.dimacs_runs.specs.declared.outcome.RunError.TheVariants.{Memory};
@@ -19,16 +19,16 @@ use dimacs_network::{ArcView, CapacityArc, PlainArcs, WeightArc};
 use dimacs_records::{Text, TextKind};
 use std::alloc::Global;
 
-/// The form in which a text is told.
+/// The forms in which a text is printed.
 #[derive(Clone, Copy, Debug, PartialEq, Eq)]
 pub enum TextForm {
-    /// Its canonical text.
+    /// The canonical text.
     Canonical,
-    /// One line about it.
+    /// One line that describes it.
     Summary,
 }
 
-/// Puts the canonical text of a text of this kind, or one line that says why it is refused.
+/// Reads a text of this kind, and prints its canonical form, or the line of its fault.
 pub fn run_convert<S: Source, K: Sink>(
     alloc: Global,
     kind: TextKind,
@@ -54,7 +54,8 @@ pub fn run_convert<S: Source, K: Sink>(
     }
 }
 
-/// Puts one line about a text of this kind, or one line that says why it is refused.
+/// Reads a text of this kind, and prints one line that describes it, or the line of its fault. Instances aren't kept in
+/// memory.
 pub fn run_show<S: Source, K: Sink>(
     alloc: Global,
     kind: TextKind,
@@ -80,7 +81,7 @@ pub fn run_show<S: Source, K: Sink>(
     }
 }
 
-/// Puts a text of this kind in this form, or one line that says why it is refused.
+/// Reads a text of this kind, and prints it in this form, or the line of its fault.
 pub(crate) fn run_text<S: Source, K: Sink>(
     alloc: Global,
     form: TextForm,
@@ -100,7 +101,7 @@ pub(crate) fn run_text<S: Source, K: Sink>(
     }
 }
 
-/// Puts the canonical text of the value that a text spells.
+/// Reads a value, and prints its canonical text.
 fn convert<T: Text, S: Source, K: Sink>(
     alloc: Global,
     text: &mut S,
@@ -121,7 +122,7 @@ fn convert<T: Text, S: Source, K: Sink>(
     }
 }
 
-/// Puts the line about the value that a text spells.
+/// Reads a value, and prints the line that describes it.
 fn show<T: Text, S: Source, K: Sink>(
     alloc: Global,
     text: &mut S,
@@ -142,7 +143,7 @@ fn show<T: Text, S: Source, K: Sink>(
     }
 }
 
-/// Puts the line about the value that a text spells, of which its summary is kept.
+/// Reads only the summary of a value, and prints the line that describes it.
 fn sum_up<T: Summary, S: Source, K: Sink>(
     alloc: Global,
     text: &mut S,

@@ -1,4 +1,4 @@
-//! Reading the texts of a claim, one after another.
+//! Reading several texts, one after another.
 
 ghost use Rattle.std.specs.Prelude.{◌≡◌, ℕ, List, [], ◌∷◌, Some, IfOk};
 ghost use Rattle.dimacs_records.specs.declared.kinds.TextKind.TheVariants as kinds;
@@ -16,7 +16,7 @@ use dimacs_lines::Source;
 use dimacs_records::{ReadError, Text, TextKind};
 use std::alloc::Global;
 
-/// A text that could not be read, by its name in refusals.
+/// Why a text could not be read, with its word in refusals.
 #[derive(Clone, Copy)]
 pub(crate) struct Unread {
     text: &'static str,
@@ -24,6 +24,7 @@ pub(crate) struct Unread {
 }
 
 impl Unread {
+    /// The error for a text of this kind.
     fn of(kind: TextKind, error: ReadError) -> Unread
         ensures named { result.text.now ≡ text_word kind }
         ensures error { result.error ≡ error }
@@ -34,7 +35,7 @@ impl Unread {
         }
     }
 
-    /// What is told of it.
+    /// The report on the text, or the error of the run.
     pub(crate) fn told(self) -> Result<Told, RunError>
         ensures { result ≡ error_told self self.error }
     {
@@ -59,7 +60,7 @@ pub(crate) fn read<V: Text, P: Source>(alloc: Global, source: &mut P) -> Result<
     }
 }
 
-/// Reads one text, and keeps its summary.
+/// Reads the summary of one text.
 pub(crate) fn read_summary<V: Summary, P: Source>(
     alloc: Global,
     source: &mut P,
@@ -75,7 +76,7 @@ pub(crate) fn read_summary<V: Summary, P: Source>(
     }
 }
 
-/// Reads two texts. The second isn't pulled where the first has a fault.
+/// Reads two texts. The second isn't read if the first has a fault.
 pub(crate) fn read_two<V: Text, W: Text, P: Source, Q: Source>(
     alloc: Global,
     first: &mut P,
@@ -92,7 +93,7 @@ pub(crate) fn read_two<V: Text, W: Text, P: Source, Q: Source>(
     Ok((value, other))
 }
 
-/// Reads three texts. None is pulled after one that has a fault.
+/// Reads three texts. None is read after one with a fault.
 pub(crate) fn read_three<V: Text, W: Text, X: Text, P: Source, Q: Source, R: Source>(
     alloc: Global,
     first: &mut P,
@@ -115,7 +116,7 @@ pub(crate) fn read_three<V: Text, W: Text, X: Text, P: Source, Q: Source, R: Sou
     Ok((value, other, last))
 }
 
-/// Reads a solution into a place, and the text that certifies it. The second isn't pulled where the first has a fault.
+/// Reads a solution, whose entries go to `place`, and its certificate. The second isn't read if the first has a fault.
 pub(crate) fn read_placed<E: Place, W: Text, P: Source, Q: Source>(
     alloc: Global,
     place: E,
@@ -136,7 +137,7 @@ pub(crate) fn read_placed<E: Place, W: Text, P: Source, Q: Source>(
     Ok((placed, certificate))
 }
 
-/// Reads a solution into a place.
+/// Reads a solution, whose entries go to `place`.
 pub(crate) fn place_solution<E: Place, P: Source>(
     alloc: Global,
     place: E,

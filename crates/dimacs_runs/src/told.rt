@@ -1,4 +1,4 @@
-//! What a run tells of a claim, and how it is put.
+//! Reports of runs.
 
 ghost use Rattle.std.specs.Prelude.{◌≡◌};
 ghost use Rattle.dimacs_lines.specs.Puts.{Puts};
@@ -12,24 +12,25 @@ use dimacs_judge::{JudgeError, Verdict, Where};
 use dimacs_lines::{DeviceFault, Sink};
 use dimacs_records::{At, Reason};
 
-/// What is told of an instance and of what is claimed about it.
+/// The report of a run on an instance and on the claim about it.
 #[derive(Drop)]
 pub(crate) enum Told {
-    /// The judge's yes.
+    /// The judge accepts the claim.
     Yes(Verdict),
-    /// The distances from so many sources are true.
+    /// The claimed distances from this many sources are right.
     Distances(u32),
     /// The first test that fails.
     No(Where, Reason),
-    /// The fault of a text.
+    /// The fault of a text, by the word for the text.
     Fault(&'static str, At, Reason),
-    /// A producer reached its limit.
+    /// A solver gave up.
     GaveUp,
-    /// Nothing: the text that was made says it.
+    /// No report, since the written text shows all.
     Nothing,
 }
 
 impl Told {
+    /// The status of a run with this report.
     pub(crate) fn status(&self) -> Status
         ensures { result ≡ told_status self.now }
     {
@@ -40,6 +41,7 @@ impl Told {
         }
     }
 
+    /// Writes the lines of the report.
     pub(crate) fn put<K: Sink>(&self, sink: &mut K) -> Result<(), DeviceFault>
         ensures { Puts result (K.seen sink.old) (told_lines self.now) (K.seen sink.new) }
     {
@@ -54,7 +56,7 @@ impl Told {
     }
 }
 
-/// What is told of a judge's answer.
+/// The report on a judge's answer.
 pub(crate) fn answer_told(answer: Result<Verdict, JudgeError>) -> Result<Told, RunError>
     ensures { result ≡ judgings.answer_told answer }
 {
@@ -65,7 +67,7 @@ pub(crate) fn answer_told(answer: Result<Verdict, JudgeError>) -> Result<Told, R
     }
 }
 
-/// Puts what is told, where something is.
+/// Writes the report. Returns an error unchanged.
 pub(crate) fn put_told<K: Sink>(
     told: Result<Told, RunError>,
     sink: &mut K,

@@ -1,4 +1,4 @@
-//! What the words after the program's name mean.
+//! The meaning of the command's arguments.
 
 ghost use Rattle.std.specs.Prelude.{◌≡◌, ◌≢◌, ◌∷◌, [], ℕ, List, IfSome, IfNone, length, map};
 ghost use Rattle.dimacs_records.specs.declared.kinds.TextKind.{TextKind};
@@ -14,16 +14,17 @@ use crate::jobs::{CertifyKind, Job, JudgeKind, SolveJob, SpreadKind};
 use dimacs_lines::number;
 use dimacs_records::TextKind;
 
-/// The files of a producer's run.
+/// The number of files of a solver's run.
 const PRODUCER_FILES: usize = 3;
 
-/// The limit where none is told.
+/// The limit if none is given.
 const LIMIT: u64 = 1_000_000;
 
 /// The greatest limit.
 const GREATEST_LIMIT: i64 = 1_000_000_000;
 
-/// The run that the words ask for. A file word is any word, also one that begins with `-`.
+/// The run that these arguments (without the program's name) ask for, or none. Any argument may be the name of a file,
+/// even one that begins with `-`.
 pub fn job(words: &[String]) -> Option<Job<'_>>
     ensures asked { IfSome result (λ wanted. Asks (map string_bytes words.now) wanted) }
     ensures not_asked { IfNone result ((wanted : Job) → ¬ Asks (map string_bytes words.now) wanted) }
@@ -42,7 +43,7 @@ pub fn job(words: &[String]) -> Option<Job<'_>>
     }
 }
 
-/// The kind of text and the file that two words name.
+/// The kind of text and the file that two arguments name.
 fn text_words(words: &[String]) -> Option<(TextKind, &str)>
     ensures named { IfSome result (λ named. map string_bytes words.now ≡ kind_word named.0 ∷ named.1.now ∷ []) }
     ensures not_named { IfNone result ((kind : TextKind) (file : List ℕ) → ¬ (map string_bytes words.now ≡ kind_word kind ∷ file ∷ [])) }
@@ -53,7 +54,7 @@ fn text_words(words: &[String]) -> Option<(TextKind, &str)>
     }
 }
 
-/// The run over several files that a word and those after it ask for.
+/// The run over several files that a command and its arguments ask for.
 fn files_job<'a>(verb: &str, words: &'a [String]) -> Option<Job<'a>>
     ensures asked { IfSome result (Asks (verb.now ∷ map string_bytes words.now)) }
     ensures no_judge { IfNone result ((kind : JudgeKind) → verb.now ≡ judge_word kind → length words.now ≢ file_count kind) }
@@ -74,7 +75,7 @@ fn files_job<'a>(verb: &str, words: &'a [String]) -> Option<Job<'a>>
     Some(Job::Solve(solve_job(verb, options)?, files))
 }
 
-/// What a word asks a judge about, with so many files after it.
+/// The claim that a command judges if it has this many files.
 fn judge_kind(word: &str, files: usize) -> Option<JudgeKind>
     ensures named { IfSome result (λ kind. (word.now ≡ judge_word kind) × (files ≡ file_count kind)) }
     ensures not_named { IfNone result ((kind : JudgeKind) → word.now ≡ judge_word kind → files ≢ file_count kind) }
@@ -88,7 +89,7 @@ fn judge_kind(word: &str, files: usize) -> Option<JudgeKind>
     }
 }
 
-/// What a word asks about a claim without a certificate, with so many files after it.
+/// The claim that a command certifies if it has this many files.
 fn certify_kind(word: &str, files: usize) -> Option<CertifyKind>
     ensures named { IfSome result (λ kind. (word.now ≡ certify_word kind) × AreCertifyFiles kind files) }
     ensures not_named { IfNone result ((kind : CertifyKind) → word.now ≡ certify_word kind → ¬ AreCertifyFiles kind files) }
@@ -102,7 +103,7 @@ fn certify_kind(word: &str, files: usize) -> Option<CertifyKind>
     }
 }
 
-/// Of which instance a word asks to spread a flow, with so many files after it.
+/// The kind of instance whose flows a command deals out if it has this many files.
 fn spread_kind(word: &str, files: usize) -> Option<SpreadKind>
     ensures named { IfSome result (λ kind. (word.now ≡ spread_word kind) × (files ≡ 3)) }
     ensures not_named { IfNone result ((kind : SpreadKind) → word.now ≡ spread_word kind → files ≢ 3) }
@@ -114,7 +115,7 @@ fn spread_kind(word: &str, files: usize) -> Option<SpreadKind>
     }
 }
 
-/// What a word asks a producer for, with these words after the files.
+/// What a command solves, with these arguments after its files.
 fn solve_job(word: &str, options: &[String]) -> Option<SolveJob>
     ensures named { IfSome result (λ job. (word.now ≡ solve_word job) × AreOptions job (map string_bytes options.now)) }
     ensures not_named { IfNone result ((job : SolveJob) → word.now ≡ solve_word job → ¬ AreOptions job (map string_bytes options.now)) }
@@ -127,7 +128,7 @@ fn solve_job(word: &str, options: &[String]) -> Option<SolveJob>
     }
 }
 
-/// The limit that these words tell.
+/// The limit that these arguments give.
 fn limit(options: &[String]) -> Option<u64>
     ensures told { IfSome result (TellLimit (map string_bytes options.now)) }
     ensures not_told { IfNone result ((limit : ℕ) → ¬ TellLimit (map string_bytes options.now) limit) }
@@ -139,7 +140,7 @@ fn limit(options: &[String]) -> Option<u64>
     }
 }
 
-/// The limit that a word spells.
+/// The limit that an argument spells: a number from 0 to 10^9.
 fn limit_in(word: &[u8]) -> Option<u64>
     ensures spelled { IfSome result (IsLimit word.now) }
     ensures not_spelled { IfNone result ((limit : ℕ) → ¬ IsLimit word.now limit) }
@@ -150,7 +151,7 @@ fn limit_in(word: &[u8]) -> Option<u64>
     }
 }
 
-/// The kind of text that a word names.
+/// The kind of text that an argument names.
 fn text_kind(word: &str) -> Option<TextKind>
     ensures named { IfSome result (λ kind. word.now ≡ kind_word kind) }
     ensures not_named { IfNone result ((kind : TextKind) → ¬ (word.now ≡ kind_word kind)) }

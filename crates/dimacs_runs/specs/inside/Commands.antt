@@ -1,4 +1,4 @@
--- Inside: what a command does with its files and with the output, from its words to its exit status.
+-- Inside: what a command does with its files and its output.
 use Rattle.std.specs.Prelude.{ℕ, ◌≡◌, List, [], ◌∷◌, Option, None, Some, Result, Ok, Err, length}
 use Rattle.dimacs_runs.specs.declared.failure.CommandError.{CommandError}
 use Rattle.dimacs_runs.specs.declared.failure.CommandError.TheVariants.{Device, Memory}
@@ -13,7 +13,7 @@ use Rattle.dimacs_runs.specs.Commands.{faults_by_error, file_failures}
 use Rattle.dimacs_runs.specs.Files.{FileEvent, FilesSeen, Sees, failures}
 use Rattle.dimacs_runs.specs.Jobs.{AreCertifyFiles, file_count}
 
--- there are as many files as the run has
+-- the job has the right number of files
 abbrev pub HasFiles : Job → Type 0
 HasFiles (Judge kind files) = length files.now ≡ file_count kind
 HasFiles (Certify kind files) = AreCertifyFiles kind (length files.now)
@@ -21,20 +21,20 @@ HasFiles (Spread kind files) = length files.now ≡ 3
 HasFiles (Solve job files) = length files.now ≡ 3
 HasFiles job = Unit {0}
 
--- the end of a run over files one of which failed so, or none
+-- the end of a run over files, with the failed operation, if there is one
 abbrev pub named : {X : Type 0} → Result X RunError → Option Failure → Result X CommandError
 named (Ok x) failure = Ok x
 named (Err run_errors.Device) None = Err (Device Output)
 named (Err run_errors.Device) (Some failure) = Err (Device failure)
 named (Err run_errors.Memory) failure = Err Memory
 
--- this is the first of these failures of files
+-- this is the first of these failed operations
 abbrev pub IsFirstOf : Option Failure → List (FileCall × List ℕ) → Type 0
 IsFirstOf None all = all ≡ []
 IsFirstOf (Some (File call name)) all = (rest : List (FileCall × List ℕ)) × (all ≡ (call, name.now) ∷ rest)
 IsFirstOf (Some Output) all = ⊥
 
--- a file could not be opened or created, which is told of
+-- a file could not be opened or created, and the error names it
 pub record FailsWith (event : RunError → FileEvent) (old new : FilesSeen) (error : CommandError) : Type 0 where
   pub cause : RunError
   pub seen : Sees (event cause ∷ []) old new

@@ -1,4 +1,4 @@
--- Inside: what is told of an instance, a claim and a certificate.
+-- Inside: the reports of judges.
 use Rattle.std.specs.Prelude.{ℕ, ◌≡◌, ◌⊎◌, List, Option, Some, Result, Ok, Err}
 use Rattle.dimacs_lines.specs.Lines.{lines}
 use Rattle.dimacs_records.specs.declared.faults.ReadError.{ReadError}
@@ -18,26 +18,26 @@ use Rattle.dimacs_runs.specs.declared.texts_in_turn.Unread.{Unread}
 use Rattle.dimacs_runs.specs.Judgings.{OneMore}
 use Rattle.dimacs_runs.specs.Runs.{TextSays, text_word}
 
--- what is told of a judge's answer
+-- the report on a judge's answer
 abbrev pub answer_told : Result Verdict JudgeError → Result Told RunError
 answer_told (Ok verdict) = Ok (told.Yes verdict)
 answer_told (Err (judge_errors.Refused place reason)) = Ok (told.No place reason)
 answer_told (Err judge_errors.Memory) = Err Memory
 
--- what is told of a text that could not be read
+-- the report on a text that could not be read
 abbrev pub error_told : Unread → ReadError → Result Told RunError
 error_told unread (read_errors.Refused place reason) = Ok (told.Fault unread.text place reason)
 error_told unread read_errors.Device = Err Device
 error_told unread read_errors.Memory = Err Memory
 
--- what the bytes of a text of this kind say, which spells values so
+-- these bytes as a text of this kind, which spells its values like this
 abbrev pub text_says : {V : Type 0} → TextKind → (List ℕ → V → Type 0) → List ℕ → TextSays V
 text_says kind spells bytes = record { name = text_word kind; spells = spells bytes; fault = Fault kind (lines bytes) }
 
 abbrev pub ReadsIn : {V : Type 0} → TextSays V → Result V ReadError → Type 0
 ReadsIn text answer = Reads text.spells text.fault answer
 
--- this text is the one that could not be read
+-- reading stopped at this text
 abbrev pub StopsAt : {V : Type 0} → TextSays V → Unread → Type 0
 StopsAt text unread = (unread.text.now ≡ text.name) × ReadsIn text (Err unread.error)
 
@@ -45,7 +45,7 @@ abbrev pub ReadsOne : {T V : Type 0} → (T → V) → TextSays V → Result T U
 ReadsOne said text (Ok value) = ReadsIn text (Ok (said value))
 ReadsOne said text (Err unread) = StopsAt text unread
 
--- the texts are read one after another, up to the first that can't be
+-- the texts are read one after another, up to the first that can't be read
 abbrev pub ReadsTwo : {T U V W : Type 0} → (T → V) → (U → W) → TextSays V → TextSays W → Result (T × U) Unread → Type 0
 ReadsTwo f g x y (Ok values) = ReadsIn x (Ok (f values.0)) × ReadsIn y (Ok (g values.1))
 ReadsTwo f g x y (Err unread) = StopsAt x unread ⊎ ((v : _) × ReadsIn x (Ok v) × StopsAt y unread)
@@ -54,12 +54,12 @@ abbrev pub ReadsThree : {T U S V W X : Type 0} → (T → V) → (U → W) → (
 ReadsThree f g h x y z (Ok values) = ReadsIn x (Ok (f values.0)) × ReadsIn y (Ok (g values.1)) × ReadsIn z (Ok (h values.2))
 ReadsThree f g h x y z (Err unread) = StopsAt x unread ⊎ ((v : _) × ReadsIn x (Ok v) × (StopsAt y unread ⊎ ((w : _) × ReadsIn y (Ok w) × StopsAt z unread)))
 
--- a text of a solution is read into a place: it spells a solution that the placed values stand for
+-- the text of a solution is read into a place, whose values stand for the solution
 abbrev pub PlacesOne : {T V : Type 0} → (V → T → Type 0) → TextSays V → Result T Unread → Type 0
 PlacesOne stands text (Ok placed) = (v : _) × stands v placed × ReadsIn text (Ok v)
 PlacesOne stands text (Err unread) = StopsAt text unread
 
--- and another text after it
+-- the same, and another text after it
 abbrev pub ReadsPlaced : {T U V W : Type 0} → (V → T → Type 0) → (U → W) → TextSays V → TextSays W → Result (T × U) Unread → Type 0
 ReadsPlaced stands g x y (Ok values) = (v : _) × stands v values.0 × ReadsIn x (Ok v) × ReadsIn y (Ok (g values.1))
 ReadsPlaced stands g x y (Err unread) = StopsAt x unread ⊎ ((v : _) × ReadsIn x (Ok v) × StopsAt y unread)
@@ -72,6 +72,6 @@ abbrev pub CountsUnread : {X : Type 0} → Result X Unread → List ℕ → List
 CountsUnread (Ok x) old new = new ≡ old
 CountsUnread (Err unread) old new = CountsError unread.error old new
 
--- the bytes to come are a text of this kind that has a fault
+-- the source holds a text of this kind with a fault
 abbrev pub HasFault : TextKind → Option (List ℕ) → Type 0
 HasFault kind coming = (a : List ℕ) × (l : ℕ) × (f : ℕ) × (r : Reason) × (coming ≡ Some a) × Fault kind (lines a) l f r

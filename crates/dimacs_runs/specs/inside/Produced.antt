@@ -1,4 +1,4 @@
--- Inside: what a producer's run puts, in texts and with a status.
+-- Inside: what a run that makes texts writes, and its status.
 use Rattle.std.specs.Prelude.{ℕ, ℤ, ◌≡◌, List, [], ◌∷◌, Option, Result, Ok, Err, drop, map}
 use Rattle.dimacs_lines.specs.Devices.{Written}
 use Rattle.dimacs_lines.specs.declared.device.DeviceFault.{DeviceFault}
@@ -32,7 +32,7 @@ use Rattle.dimacs_runs.specs.Outputs.{AcceptAll, AcceptInTurn, MayTell, TellsAli
 use Rattle.dimacs_runs.specs.Spread.{IsBestOf, SpreadsFlow}
 use Rattle.dimacs_runs.specs.inside.Told.{IfTold, told_lines, told_status}
 
--- the texts of the claim and of the certificate
+-- the texts of the claim and the certificate
 abbrev pub made_texts : Made → List (List ℕ)
 made_texts Nothing = [] ∷ [] ∷ []
 made_texts (Maximum solution cut) = canonical_solution (claimed solution) ∷ canonical_cut cut ∷ []
@@ -42,7 +42,7 @@ made_texts (Slack potentials) = [] ∷ canonical_potentials potentials ∷ []
 made_texts (Better solution) = [] ∷ canonical_solution (claimed solution) ∷ []
 made_texts (Distances labels) = [] ∷ canonical_labels labels ∷ []
 
--- these texts and the report
+-- these texts, then the report
 abbrev pub with_report : List (List ℕ) → List ℕ → List (List ℕ)
 with_report [] report = report ∷ []
 with_report (text ∷ texts) report = text ∷ with_report texts report
@@ -50,20 +50,20 @@ with_report (text ∷ texts) report = text ∷ with_report texts report
 abbrev pub produced_texts : Produced → List (List ℕ)
 produced_texts p = with_report (made_texts p.made) (told_lines p.told)
 
--- nothing is claimed with what shows something of a claim of someone else's, and with labels
+-- what is made has no claim: labels, and texts about someone else's claim
 abbrev pub IsClaimless : Made → Type 0
 IsClaimless (Maximum solution cut) = ⊥
 IsClaimless (Least solution potentials) = ⊥
 IsClaimless other = Unit {0}
 
--- what each sink has accepted, and how often each has failed
+-- what each sink has accepted, and how often it has failed
 abbrev pub accepted_by : List Written → List (Option (List ℕ))
 accepted_by sinks = map (λ (sink : Written). sink.accepted) sinks
 
 abbrev pub faults_by : List Written → List ℕ
 faults_by sinks = map (λ (sink : Written). sink.faults) sinks
 
--- all texts were put, or some of them in turn, and one sink has one fault more
+-- all texts were written; or a beginning of them, and one sink has one more fault
 abbrev pub PutTexts : Result Unit DeviceFault → List (List ℕ) → List Written → List Written → Type 0
 PutTexts (Ok done) texts old new = AcceptAll texts (accepted_by old) (accepted_by new) × (faults_by new ≡ faults_by old)
 PutTexts (Err fault) texts old new = AcceptInTurn texts (accepted_by old) (accepted_by new) × OneMore (faults_by old) (faults_by new)
@@ -72,19 +72,19 @@ abbrev pub reported : Result Told RunError → Result Produced RunError
 reported (Ok t) = Ok (record { made = Nothing; told = t })
 reported (Err error) = Err error
 
--- what is told of a producer's error
+-- the report on a solver's error
 abbrev pub refused : SolveError → Result Told RunError
 refused (solve_errors.NegativeWeight arc) = Ok (told.No (Arc arc) reasons.NegativeWeight)
 refused (solve_errors.Refused place reason) = Ok (told.No place reason)
 refused solve_errors.Memory = Err Memory
 
--- what is told of the answer about a maximum flow
+-- what is produced from the answer about a maximum flow
 abbrev pub maximum_produced : Result MaxAnswer SolveError → Result Produced RunError
 maximum_produced (Ok (answers.Optimal solution cut)) = Ok (record { made = Maximum solution cut; told = told.Yes (verdicts.Max solution.value) })
 maximum_produced (Ok answers.GaveUp) = reported (Ok told.GaveUp)
 maximum_produced (Err error) = reported (refused error)
 
--- what is told of the answer about a flow of least cost
+-- what is produced from the answer about a flow of least cost
 abbrev pub least_produced : Result MinAnswer SolveError → Result Produced RunError
 least_produced (Ok (least.Optimal solution potentials)) = Ok (record { made = Least solution potentials; told = told.Yes (verdicts.Min solution.value) })
 least_produced (Ok (least.Infeasible set)) = Ok (record { made = Set set; told = told.Yes verdicts.Infeasible })
@@ -94,28 +94,28 @@ least_produced (Err error) = reported (refused error)
 abbrev pub produced_status : Produced → Status
 produced_status p = told_status p.told
 
--- what is produced, where something is, may be told
+-- what is produced, if anything is, is a possible outcome
 abbrev pub MayProduce : (Status → List (List ℕ) → Type 0) → Result Produced RunError → Type 0
 MayProduce = IfTold MayTell produced_status produced_texts
 
--- the texts after that of the claim
+-- the texts without the claim
 abbrev pub unclaimed_texts : Produced → List (List ℕ)
 unclaimed_texts p = drop 1 (produced_texts p)
 
--- what is produced of someone else's claim, where something is, may be told
+-- what is produced from someone else's claim, if anything is, is a possible outcome
 abbrev pub MayCertify : (Status → List (List ℕ) → Type 0) → Result Produced RunError → Type 0
 MayCertify = IfTold TellsAlike produced_status unclaimed_texts
 
--- what is made of someone else's claim, where something is, is one of these
+-- what dealing out someone else's claim produces, if anything, is a possible outcome
 abbrev pub MaySpread : (Status → List (List ℕ) → Type 0) → Result Produced RunError → Type 0
 MaySpread = IfTold (λ tells. tells) produced_status unclaimed_texts
 
--- the flow that deals a claim out, or why there is none
+-- the flow that deals out a claim, or why there is none
 abbrev pub DealsOut : SpreadKind → List ArcView → SolutionValue → Result (List ℤ) JudgeError → Type 0
 DealsOut kind arcs s (Ok x) = SpreadsFlow arcs s x × IsBestOf kind arcs s x
 DealsOut kind arcs s (Err error) = IsRefusal arcs s.entries error
 
--- how a run ends that was to put this, or had nothing to tell
+-- how a run ends that is to write this, or has an error
 abbrev pub EndsProducing : Result Produced RunError → Result Status RunError → List Written → List Written → Type 0
 EndsProducing (Ok p) (Ok status) old new = (status ≡ told_status p.told) × AcceptAll (produced_texts p) (accepted_by old) (accepted_by new) × (faults_by new ≡ faults_by old)
 EndsProducing (Ok p) (Err error) old new = (error ≡ Device) × AcceptInTurn (produced_texts p) (accepted_by old) (accepted_by new) × OneMore (faults_by old) (faults_by new)

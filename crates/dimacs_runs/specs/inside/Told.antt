@@ -1,4 +1,4 @@
--- Inside: what a run tells of a claim, in lines and with a status.
+-- Inside: the reports of runs, as lines and a status.
 use Rattle.std.specs.Prelude.{ℕ, ◌≡◌, List, [], Result, Ok, Err}
 use Rattle.dimacs_lines.specs.Devices.{Written, after_piece, one_more}
 use Rattle.dimacs_lines.specs.Puts.{AcceptsFront}
@@ -28,16 +28,16 @@ told_lines (Fault text place reason) = refusal_line text.now place.line place.fi
 told_lines GaveUp = gave_up_line
 told_lines Nothing = []
 
--- what is told, where something is, is told in this way
+-- the outcome, if there is one, is possible in this sense
 abbrev pub IfTold : {R O : Type 0} → ((Status → O → Type 0) → Status → O → Type 0) → (R → Status) → (R → O) → (Status → O → Type 0) → Result R RunError → Type 0
 IfTold Way status out tells (Ok it) = Way tells (status it) (out it)
 IfTold Way status out tells (Err error) = Unit {0}
 
--- it is told alone
+-- it is the only possible one
 abbrev pub ToldAlone : (Status → List ℕ → Type 0) → Result Told RunError → Type 0
 ToldAlone = IfTold TellsAlone told_status told_lines
 
--- how a run ends that was to put this, or had nothing to tell
+-- how a run ends that is to write this, or has an error
 abbrev pub EndsAfter : Result Told RunError → Result Status RunError → Written → Written → Type 0
 EndsAfter (Ok told) (Ok status) old new = (status ≡ told_status told) × (new.accepted ≡ after_piece old.accepted (told_lines told)) × (new.faults ≡ old.faults)
 EndsAfter (Ok told) (Err error) old new = (error ≡ Device) × AcceptsFront old.accepted (told_lines told) new.accepted × (new.faults ≡ one_more old.faults)

@@ -6,7 +6,7 @@ use Rattle.dimacs_decide.specs.CertifiedMin.{CertifiesMin}
 use Rattle.dimacs_runs.proofs.CertifyingLemmas.{least_error, potentials_certify}
 use Rattle.dimacs_runs.proofs.certify.answer_least.Goals as goal
 
--- a better flow is feasible, whatever solution was placed
+-- a better flow is feasible, whichever solution was placed
 pub refuse_least-requires : goal.refuse_least-requires
 refuse_least-requires g c =
     let (s, placed, lawful) = c.requires.placed in

@@ -6,7 +6,7 @@ use Rattle.dimacs_decide.specs.CertifiedMax.{CertifiesMax}
 use Rattle.dimacs_runs.proofs.CertifyingLemmas.{cut_certifies, maximum_error}
 use Rattle.dimacs_runs.proofs.certify.answer_maximum.Goals as goal
 
--- a better flow is feasible, whatever solution was placed
+-- a better flow is feasible, whichever solution was placed
 pub refuse_maximum-requires : goal.refuse_maximum-requires
 refuse_maximum-requires g c =
     let (s, placed, lawful) = c.requires.placed in

@@ -5,7 +5,7 @@ use Rattle.dimacs_runs.specs.Runs.{says}
 use Rattle.dimacs_runs.proofs.TextLemmas.{certifying, stop_tells, value_tells}
 use Rattle.dimacs_runs.proofs.certify_infeasible.certify_infeasible.Goals as goal
 
--- the instance was read, and answered
+-- the instance was read, and the question was answered
 pub returns-in-Ok-clause-certifies : goal.returns-in-Ok-clause-certifies
 returns-in-Ok-clause-certifies g c = λ a coming.
     value_tells certifying (says kinds.Min GivesMin a) (λ i. CertifiesInfeasible i) c.in-Ok.instance c.answer_infeasible.result (c.in-Ok.ensures.reads a coming) c.answer_infeasible.ensures.certifies

@@ -29,7 +29,7 @@ returns-clause-stops_at_instance g c = λ a l f r coming fault.
       | in-Paths w ↦ rw (w.claim-is, w.certificate-is) (w.tell_paths-told.ensures.stops_at_instance (a, l, f, r, coming, (subst (λ (k : JudgeKind). Fault (instance_kind k) (lines a) l f r) w.in-Paths.is fault)))
     ]
 
--- the kind of the claim, where there is one
+-- the kind of the claim, if there is one
 abbrev kind_in : Option TextKind → TextKind
 kind_in (Some kind) = kind
 kind_in None = kinds.Solution

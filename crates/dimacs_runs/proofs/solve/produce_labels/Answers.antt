@@ -7,7 +7,7 @@ use Rattle.dimacs_runs.proofs.SolvingLemmas.{counts_none}
 use Rattle.dimacs_runs.proofs.TextLemmas.{producing, two_stop, two_tell}
 use Rattle.dimacs_runs.proofs.solve.produce_labels.Goals as goal
 
--- the texts were read, and the producer answered
+-- the texts were read, and the solver answered
 pub returns-in-Ok-clause-produces : goal.returns-in-Ok-clause-produces
 returns-in-Ok-clause-produces g c = λ a b first second.
     let read = c.in-Ok.ensures.reads a b first second in

@@ -6,7 +6,7 @@ use Rattle.dimacs_runs.proofs.SolvingLemmas.{maximum_tells}
 use Rattle.dimacs_runs.proofs.TextLemmas.{producing, stop_tells, value_tells}
 use Rattle.dimacs_runs.proofs.solve.produce_maximum.Goals as goal
 
--- the instance was read, and the producer answered
+-- the instance was read, and the solver answered
 pub returns-in-Ok-clause-produces : goal.returns-in-Ok-clause-produces
 returns-in-Ok-clause-produces g c = λ a coming.
     rw c.maximum_answered.ensures (value_tells producing (says kinds.Max GivesMax a) (λ i. FindsMaximum i c.args.limit) c.in-Ok.instance _ (c.in-Ok.ensures.reads a coming)

@@ -12,7 +12,7 @@ use Rattle.dimacs_runs.proofs.SolvingLemmas.{counts_none}
 use Rattle.dimacs_runs.proofs.TextLemmas.{spreading, two_stop, two_tell}
 use Rattle.dimacs_runs.proofs.spread.spread_maximum.Goals as goal
 
--- the texts were read, and the claim was spread
+-- the texts were read, and the claim was dealt out
 pub returns-in-Ok-clause-spreads : goal.returns-in-Ok-clause-spreads
 returns-in-Ok-clause-spreads g c = λ a b first second.
     let read = c.in-Ok.ensures.reads a b first second in
