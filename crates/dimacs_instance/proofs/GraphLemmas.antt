@@ -1,4 +1,4 @@
--- Records after those of a graph that was begun.
+-- One more record of a graph while its text is read.
 use Rattle.std.proofs.Common.{◌≡◌, ℕ, suc, ◌<◌, ◌≤◌, ◌∷◌, ◌++◌, [], List, false, Some, length, map, refl, ap, ap₂, sym, ◌∙◌, arith}
 use Rattle.std.specs.Prelude.{ℤ, pos, codes, nat_lt, nat_le}
 use Rattle.std.specs.List.{All}
@@ -50,7 +50,7 @@ module _ (nodes declared : ℕ) (arcs : List ArcView) where
 pub first_problem : (n m : ℕ) → IsAllowed [] (GraphProblem n m)
 first_problem n m = is_allowed [] (GraphProblem n m) refl
 
--- what is told of the records is so
+-- what the tests know follows from the records
 pub lines_told : (b : GraphBegun) → after_lines b ≡ after_records (graph_begun_records b)
 lines_told b = ap (earlier_of (after_lines b).problem) (sym (counted_in-arcs b.arcs))
 
@@ -63,7 +63,7 @@ arc_allowed : (nodes declared : ℕ) (arcs : List ArcView) (a : ArcView) (before
     → JoinsNodes nodes a → length arcs < declared → IsAllowed before r
 arc_allowed nodes declared arcs a before r before_is r_is joins room = rw (before_is, r_is) (one_more_arc nodes declared arcs a.tail a.head a.cost joins.0.1 joins.1.1 room)
 
--- the records of a graph are refused for nothing
+-- the records of a graph have no fault
 graph_allowed : (g : NetworkValue) → IsGraph g → (before after : List Record) (r : Record) → graph_records g ≡ before ++ r ∷ after → IsAllowed before r
 graph_allowed g is [] after r e = let first : r ≡ GraphProblem g.nodes (length g.arcs) = cc in rw first (first_problem g.nodes (length g.arcs))
 graph_allowed g is (b ∷ bs) after r e =
@@ -76,7 +76,7 @@ graph_allowed g is (b ∷ bs) after r e =
 pub graph_faultless : (rs : List LineRecord) (g : NetworkValue) → GivesGraph rs g → AreFaultless Graph (records_of rs)
 graph_faultless rs g h = rw h.0 (record { allowed = graph_allowed g h.1; complete = all_arcs g.nodes (length g.arcs) g.arcs (omega arith) })
 
--- the arc that a record names, and the graph of a problem line and arcs
+-- the arc of a record, and the graph of a problem line and arcs
 arc_of : Record → ArcView
 arc_of (GraphArc t h w) = weight_arc t h w
 arc_of r = weight_arc 0 0 (pos 0)
@@ -97,7 +97,7 @@ graph_of-graph_records : (g : NetworkValue) → IsGraph g → graph_of (graph_re
 unfolding graph_of
 graph_of-graph_records g is = ap (λ arcs. record { nodes = g.nodes; arcs = arcs }) (arcs_of-graph_arcs g.arcs is.weights)
 
--- the records of a graph are those of no other
+-- records give only one graph
 pub one_graph : (rs : List LineRecord) (g h : NetworkValue) → GivesGraph rs g → GivesGraph rs h → g ≡ h
 one_graph rs g h a b = sym (graph_of-graph_records g a.1) ∙ (ap graph_of (sym a.0 ∙ b.0) ∙ graph_of-graph_records h b.1)
 

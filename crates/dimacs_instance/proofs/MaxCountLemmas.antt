@@ -1,4 +1,4 @@
--- The records of maximum flow instances whose arcs were counted and not kept.
+-- The records of maximum flow instances, with the arcs only counted.
 use Rattle.std.proofs.Common.{◌≡◌, ◌≢◌, ◌⊎◌, ℕ, ◌+◌, ◌<◌, ◌≤◌, ◌∷◌, ◌++◌, [], List, false, length, map, refl, ap, ap₂, sym, ◌∙◌, subst, arith, inl, inr, append_assoc, append-nil}
 use Rattle.std.specs.Prelude.{ℤ, pos, ◌≤ℤ◌}
 use Rattle.std.specs.List.{list_any}
@@ -47,7 +47,7 @@ counted_none nodes declared nodes_few arcs_few = record {
   counts = refl;
 }
 
--- what was begun, whose arcs are kept, is counted too
+-- a state that keeps the arcs is also one that counts them
 pub counted_begun : (b : MaxBegun) → IsMaxBegun b → IsMaxCountedBy (count_of b) (max_begun_records b)
 counted_begun b is = record { begun = b; is_begun = is; records = refl; counts = refl }
 

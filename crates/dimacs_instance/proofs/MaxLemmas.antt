@@ -1,4 +1,4 @@
--- Records after those of a maximum flow instance that was begun.
+-- One more record of a maximum flow instance while its text is read.
 use Rattle.std.proofs.Common.{◌≡◌, ℕ, suc, ◌<◌, ◌≤◌, ◌∷◌, ◌++◌, [], List, Bool, false, length, map, refl, ap, ap₂, sym, ◌∙◌, arith}
 use Rattle.std.specs.Prelude.{ℤ, pos, ◌||◌, nat_lt, nat_le, int_lt}
 use Rattle.std.specs.List.{list_any, filter}
@@ -56,12 +56,12 @@ module _ (nodes declared : ℕ) (ends : EndLines) (arcs : List ArcView) where
   abbrev earlier : List Record
   earlier = max_begun_records (record { nodes = nodes; declared = declared; ends = ends; arcs = arcs })
 
-  -- what no problem line nor arc line passes
+  --   a property of neither problem lines nor arc lines
   among_nodes : (test : Record → Bool) → test (MaxProblem nodes declared) ≡ false → ((a : ArcView) → test (max_arc a) ≡ false) → list_any test earlier ≡ list_any test (end_records ends)
   among_nodes test no_problem none =
       rw no_problem (list_any-append test (end_records ends) (map max_arc arcs) ∙ (ap (λ b. list_any test (end_records ends) || b) (none_of_arcs test none arcs) ∙ or-false (list_any test (end_records ends))))
 
-  -- what no problem line nor node line passes
+  --   a property of neither problem lines nor node lines
   among_arcs : (test : Record → Bool) → test (MaxProblem nodes declared) ≡ false → ((e : EndLine) → test (max_node e) ≡ false) → list_any test earlier ≡ list_any test (map max_arc arcs)
   among_arcs test no_problem none =
       rw no_problem (list_any-append test (end_records ends) (map max_arc arcs) ∙ ap (λ b. b || list_any test (map max_arc arcs)) (none_of_nodes test none ends))
@@ -112,7 +112,7 @@ module _ (nodes declared : ℕ) (ends : EndLines) (arcs : List ArcView) where
 pub first_problem : (n m : ℕ) → IsAllowed [] (MaxProblem n m)
 first_problem n m = is_allowed [] (MaxProblem n m) refl
 
--- what is told of the records is so
+-- what the tests know follows from the records
 lines_told : (b : MaxBegun) → after_lines (count_of b) ≡ after_records (max_begun_records b)
 lines_told b = ap (earlier_of (after_lines (count_of b)).problem) (sym (counted b.nodes b.declared b.ends b.arcs))
 

@@ -1,4 +1,4 @@
--- The records of maximum flow instances, and the texts of these.
+-- The records of maximum flow instances, and their texts.
 use Rattle.std.proofs.Common.{◌≡◌, ◌≢◌, ℕ, ◌<◌, ◌∷◌, ◌++◌, [], List, Bool, true, false, Some, length, map, refl, ap, ap₂, sym, ◌∙◌, arith, inl, inr, length-append}
 use Rattle.std.specs.Prelude.{ℤ, pos, ◌≤ℤ◌, codes, int_lt, nat_lt, if◌then◌else◌}
 use Rattle.std.specs.List.{All, list_any}
@@ -30,7 +30,7 @@ use Rattle.dimacs_instance.specs.MaxTexts.{max_arc, max_records, canonical_max, 
 use Rattle.dimacs_instance.specs.MaxReading.{MaxBegun, IsMaxBegun, max_node, max_begun_records}
 use Rattle.dimacs_instance.proofs.MaxLemmas.{first_problem, one_more_node, one_more_arc, all_arcs, lacking}
 
--- an instance whose node lines come in this order
+-- the state after all lines of an instance, with the node lines in this order
 abbrev read_whole : ℕ → EndLine → EndLine → List ArcView → MaxBegun
 read_whole nodes first second arcs = record { nodes = nodes; declared = length arcs; ends = Both first second; arcs = arcs }
 
@@ -84,7 +84,7 @@ module _ (nodes : ℕ) (first second : EndLine) (arcs : List ArcView) (is : IsMa
       rw (before, at.y_is) (one_more_arc nodes (length arcs) (Both first second) at.front at.x.tail at.x.head at.x.cap joins.0.1 joins.1.1
       (lacking nodes (length arcs) (Both first second) at.front) (not_below_zero at.x.cap alone.2) room)
 
-  -- its records are refused for nothing
+  --   its records have no fault
   all_allowed : (before after : List Record) (r : Record) → max_begun_records (read_whole nodes first second arcs) ≡ before ++ r ∷ after → IsAllowed before r
   all_allowed [] after r e = let problem : r ≡ MaxProblem nodes (length arcs) = cc in rw problem (first_problem nodes (length arcs))
   all_allowed (p ∷ []) after r e =
@@ -178,7 +178,7 @@ max_round_trip m is = by_order (nat_lt m.source m.sink)
       given = (inr (numbered_all (max_records m (MaxNode m.sink Sink, MaxNode m.source Source))), is);
     }
 
--- the arc that a record names, and the instance of a problem line, node lines and arcs
+-- the arc of a record, and the instance of a problem line, node lines and arcs
 arc_of : Record → ArcView
 arc_of (MaxArc t h cap) = capacity_arc t h cap
 arc_of r = capacity_arc 0 0 (pos 0)
@@ -210,6 +210,6 @@ given_by rs m h = elim h.0 [
   | inr by_sink ↦ ap max_of by_sink ∙ by_sink_first m h.1
 ]
 
--- the records of an instance are those of no other
+-- records give only one instance
 pub one_max : (rs : List LineRecord) (g h : MaxValue) → GivesMax rs g → GivesMax rs h → g ≡ h
 one_max rs g h a b = sym (given_by rs g a) ∙ given_by rs h b

@@ -1,4 +1,4 @@
--- The records of minimum cost flow instances whose arcs were counted and not kept.
+-- The records of minimum cost flow instances, with the arcs only counted.
 use Rattle.std.proofs.Common.{◌≡◌, ℕ, ◌+◌, ◌<◌, ◌≤◌, ◌∷◌, ◌++◌, [], List, length, map, refl, ap, sym, ◌∙◌, arith, append_assoc}
 use Rattle.std.specs.Prelude.{ℤ, pos}
 use Rattle.std.specs.FinMap.{empty, insert}
@@ -73,11 +73,11 @@ module _ (c : MinCount) (rs : List Record) (counted : IsMinCountedBy c rs) where
         counts = rw counted.counts refl;
       }
 
--- a node that passes the tests is one of the instance
+-- a node line that passes the tests names a node of the instance
 pub counted_node : (c : MinCount) (id : ℕ) (s : ℤ) → Passes (before c (MinNode id s)) (MinNode id s) → 1 ≤ id → IsNode c.nodes id
 counted_node c id s passes least = (least, grind (arith, nat_tests, passes.second_within))
 
--- the instance without arcs is one
+-- the instance without its arcs is lawful
 pub supplies_law : (c : MinCount) → IsMinBegun (without_arcs c) → IsMin (record { nodes = c.nodes; supplies = without_zeros c.supplies; arcs = [] })
 supplies_law c law = min_law (without_arcs c) law
 

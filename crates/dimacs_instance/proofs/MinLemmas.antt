@@ -1,4 +1,4 @@
--- Records after those of a minimum cost flow instance that was begun.
+-- One more record of a minimum cost flow instance while its text is read.
 use Rattle.std.proofs.Common.{◌≡◌, ℕ, suc, ◌+◌, ◌<◌, ◌≤◌, ◌∷◌, ◌++◌, [], List, false, Option, Some, None, length, map, ◌==◌, ◌||◌, refl, ap, sym, ◌∙◌, subst, arith}
 use Rattle.std.specs.Prelude.{ℤ, pos, ◌≤ℤ◌, is_some, nat_lt, nat_le, int_lt, Result, Ok, Err, OnOk, OnErr}
 use Rattle.std.specs.List.{list_any}
@@ -29,7 +29,7 @@ use Rattle.dimacs_instance.specs.MinReading.{MinBegun, IsMinBegun, IsMinBegunBy,
 use Rattle.dimacs_records.specs.Spelling.{kind_of}
 use Rattle.dimacs_records.proofs.NameLemmas.{get_nonzero, has-from_entries, map_more, named_more, without_zeros-named}
 
--- the lines of arcs, and the node lines before them
+-- arc lines, after node lines
 any_flow_arc : (named : List (ℕ × ℤ)) (arcs : List ArcView) → list_any is_flow_arc (map min_node named ++ map min_arc arcs) ≡ nat_lt 0 (length arcs)
 any_flow_arc [] [] = refl
 any_flow_arc [] (a ∷ arcs) = sym (lt-ltb 0 (suc (length arcs)) (omega arith))
@@ -72,7 +72,7 @@ module _ (nodes declared : ℕ) (named : List (ℕ × ℤ)) (arcs : List ArcView
 pub allows_problem : (n m : ℕ) → IsAllowed [] (MinProblem n m)
 allows_problem n m = is_allowed [] (MinProblem n m) refl
 
--- what is told of the records is so
+-- what the tests know follows from the records
 pub lines_told : (b : MinBegun) (rs : List Record) → IsMinBegunBy b rs → after_lines (count_of b) ≡ after_records rs
 lines_told b rs h = rw h.records (ap (earlier_of (after_lines (count_of b)).problem) (sym (counted h.named b.arcs)))
 
@@ -91,7 +91,7 @@ tells b (MinNode id s) of_kind rs h = rw (arcs_told b rs h, named_told b rs id h
 tells b (MinArc tail head low cap cost) of_kind rs h = lines_told b rs h
 tells b r of_kind rs h = absurd (cc)
 
--- a problem line begins an instance
+-- the state after a problem line
 pub begins : (n m : ℕ) → IsMinBegunBy (record { nodes = n; declared = m; supplies = empty; arcs = [] }) (MinProblem n m ∷ [])
 begins n m = record {
   named = [];
@@ -109,7 +109,7 @@ records_more nodes declared id s rs named arcs is none =
     ∙ ap (λ rs. MinProblem nodes declared ∷ rs) (sym (map-append min_node named ((id, s) ∷ [])) ∙ sym (append-nil (map min_node (named ++ (id, s) ∷ []))))
     ∙ ap (λ (arcs : List ArcView). min_records nodes declared (named ++ (id, s) ∷ []) arcs) (sym none)
 
--- a node that passes the tests is one more
+-- one more node, which passes the tests
 module _ (b : MinBegun) (id : ℕ) (s : ℤ) (least : 1 ≤ id) (passes : Passes (before (count_of b) (MinNode id s)) (MinNode id s)) where
   pub node : IsNode b.nodes id
   node = (least, grind (arith, nat_tests, passes.second_within))
@@ -125,14 +125,14 @@ module _ (b : MinBegun) (id : ℕ) (s : ℤ) (least : 1 ≤ id) (passes : Passes
         records = records_more b.nodes b.declared id s rs h.named b.arcs h.records no_arcs;
       }
 
--- with one arc more
+-- one more arc
 abbrev pub with_arc : MinBegun → ArcView → MinBegun
 with_arc begun arc = record begun { arcs = begun.arcs ++ arc ∷ [] }
 
 not_below : (x y : ℤ) → int_lt x y ≡ false → y ≤ℤ x
 not_below x y test = grind (arith, ints)
 
--- an arc that passes the tests joins nodes, has bounds and finds room
+-- an arc that passes the tests joins nodes, has bounds and is no more than declared
 module _ (b : MinBegun) (a : ArcView) (passes : Passes (after_lines (count_of b)) (min_arc a)) where
   pub arc_joins : 1 ≤ a.tail → 1 ≤ a.head → JoinsNodes b.nodes a
   arc_joins tail head = ((tail, grind (arith, nat_tests, passes.second_within)), (head, grind (arith, nat_tests, passes.third_within)))
@@ -143,7 +143,7 @@ module _ (b : MinBegun) (a : ArcView) (passes : Passes (after_lines (count_of b)
   pub arc_room : length b.arcs < b.declared
   arc_room = grind (arith, nat_tests, passes.room)
 
--- what was begun, without the supplies that are 0
+-- the state without the supplies that are 0
 module _ (b : MinBegun) (law : IsMinBegun b) where
   supply_begun : (id : ℕ) (v : ℤ) → get (without_zeros b.supplies) id ≡ Some v → IsSupply b.nodes (id, v)
   supply_begun id v e =
@@ -164,7 +164,7 @@ module _ (b : MinBegun) (law : IsMinBegun b) where
     bounds = law.bounds;
   }
 
--- what was begun and is whole gives its instance
+-- a complete state gives its instance
 pub gives_min : (b : MinBegun) → IsMinBegun b → PassesEnd Min (after_lines (count_of b)) → (rs : List LineRecord) → IsMinBegunBy b (records_of rs)
     → GivesMin rs (record { nodes = b.nodes; supplies = without_zeros b.supplies; arcs = b.arcs })
 gives_min b law p rs h =
@@ -177,7 +177,7 @@ gives_min b law p rs h =
       is_min = min_law b law;
     }
 
--- the law of what was begun
+-- the laws of states
 pub new_law : (nodes declared : ℕ) → nodes ≤ most_nodes → declared ≤ most_count → IsMinBegun (record { nodes = nodes; declared = declared; supplies = empty; arcs = [] })
 new_law nodes declared nodes_few arcs_few = record {
   nodes_few = nodes_few;
@@ -208,13 +208,13 @@ law_with_arc b a law joined bounds room = record {
   bounds = All-push HasBounds b.arcs a law.bounds bounds;
 }
 
--- where an arc was pushed, or not
+-- if an arc was pushed, and if not
 pub law_after_push : {E : Type 0} (b : MinBegun) (a : ArcView) (now : NetworkValue) (r : Result Unit E) → OnOk r (now ≡ record { nodes = b.nodes; arcs = b.arcs ++ a ∷ [] }) → OnErr r (now ≡ record { nodes = b.nodes; arcs = b.arcs })
     → IsMinBegun b → JoinsNodes b.nodes a → HasBounds a → length b.arcs < b.declared → IsMinBegun (record b { nodes = now.nodes; arcs = now.arcs })
 law_after_push b a now (Ok done) pushed same law joined bounds room = subst (λ (n : NetworkValue). IsMinBegun (record b { nodes = n.nodes; arcs = n.arcs })) (sym pushed) (law_with_arc b a law joined bounds room)
 law_after_push b a now (Err e) pushed same law joined bounds room = subst (λ (n : NetworkValue). IsMinBegun (record b { nodes = n.nodes; arcs = n.arcs })) (sym same) law
 
--- where a value was set, or not
+-- if a value was set, and if not
 pub law_after_set : {E : Type 0} (b : MinBegun) (id : ℕ) (s : ℤ) (supplies : FinMap nat_cmp ℤ) (r : Result Unit E) → OnOk r (supplies ≡ insert b.supplies id s) → OnErr r (supplies ≡ b.supplies)
     → IsMinBegun b → IsNode b.nodes id → IsWhole s → IsMinBegun (record b { supplies = supplies })
 law_after_set b id s supplies (Ok done) set unset law is_node whole = subst (λ (m : FinMap nat_cmp ℤ). IsMinBegun (record b { supplies = m })) (sym set) (law_with_supply b id s law is_node whole)

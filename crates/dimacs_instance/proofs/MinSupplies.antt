@@ -1,4 +1,4 @@
--- Supplies by node: their lines and their sums.
+-- Supplies by node: lines and sums.
 use Rattle.std.proofs.Common.{◌≡◌, ℕ, zero, suc, ◌≤◌, ◌∷◌, ◌++◌, [], List, Option, Some, None, map, ◌+◌, ◌*◌, ◌^◌, cond, refl, ap, ap₂, sym, ◌∙◌, add-one, arith, ◌<◌, Bool, true, false}
 use Rattle.std.specs.Prelude.{ℤ, pos, negsuc, ◌≤ℤ◌, ◌<ℤ◌, ◌+ℤ◌, sum_by, unwrap_or}
 use Rattle.std.specs.List.{filter}
@@ -42,7 +42,7 @@ module _ (m : MinValue) (law : IsMin m) where
   pub whole_supply : (id : ℕ) → IsWhole (supply_of m id)
   whole_supply id = whole_value id (get m.supplies id) refl
 
--- the sum of a part of these supplies
+-- the sum of one part of each of these supplies
 abbrev pub sum_below : (ℤ → ℕ) → MinValue → ℕ → ℕ
 sum_below part m n = sum_by part (map (λ (s : ℕ × ℤ). s.1) (supplies_below m n))
 
@@ -67,7 +67,7 @@ module _ (part : ℤ → ℕ) (nothing : part (pos 0) ≡ 0) (m : MinValue) wher
       let next : sum_below part m (suc n) ≡ sum_below part m n + part (supply_of m n) = ap (sum_below part m) (sym (add-one n)) ∙ sum_next n in
       omega (arith, next, sum_bound few n, few n)
 
-  -- one supply more was added
+  --   one more supply was added
   pub sum_more : (id : ℕ) (old new s : ℤ) → old ≡ pos (sum_below part m id) → s ≡ supply_of m id → new ≡ old +ℤ pos (part s) → new ≡ pos (sum_below part m (id + 1))
   sum_more id old new s old_is s_is new_is = new_is ∙ ap₂ (λ x y. x +ℤ pos (part y)) old_is s_is ∙ ap pos (sym (sum_next id))
 

@@ -28,7 +28,7 @@ use Rattle.dimacs_instance.proofs.MinLemmas.{node_new, one_more_arc, all_arcs, a
 use Rattle.dimacs_records.proofs.CountLemmas.{once_before}
 use Rattle.dimacs_records.proofs.NameLemmas.{not_zero}
 
--- an element of two lists, one after the other, is one of the first or one of the second
+-- an item of two joined lists is in the first or in the second
 pub data InEither {A : Type 0} (xs ys before : List A) (y : A) : Type 0 where
   in_first : (after : List A) → xs ≡ before ++ y ∷ after → InEither xs ys before y
   in_second : (front after : List A) → before ≡ xs ++ front → ys ≡ front ++ y ∷ after → InEither xs ys before y
@@ -62,7 +62,7 @@ arc_allowed m named front back a before r law is before_is r_is =
     let room : length front < length m.arcs = omega (arith, ap length is, length-append front (a ∷ back)) in
     rw (before_is, r_is) (one_more_arc m.nodes (length m.arcs) named front a joined.0.1 joined.1.1 (int_lt_not a.low (pos 0) bounds.0) (int_lt_not a.cap a.low bounds.1) room)
 
--- the records of an instance are refused for nothing
+-- the records of an instance have no fault
 min_allowed : (m : MinValue) (named : List (ℕ × ℤ)) → NameNodes m.nodes named → IsMin m → (before after : List Record) (r : Record) → min_records m.nodes (length m.arcs) named m.arcs ≡ before ++ r ∷ after → IsAllowed before r
 min_allowed m named are law [] after r e = let first : r ≡ MinProblem m.nodes (length m.arcs) = cc in rw first (allows_problem m.nodes (length m.arcs))
 min_allowed m named are law (b ∷ bs) after r e =
@@ -79,7 +79,7 @@ min_allowed m named are law (b ∷ bs) after r e =
 pub min_faultless : (rs : List LineRecord) (m : MinValue) → GivesMin rs m → AreFaultless Min (records_of rs)
 min_faultless rs m h = rw h.records (record { allowed = min_allowed m h.named h.name_nodes h.is_min; complete = all_arcs m.nodes (length m.arcs) h.named m.arcs (omega arith) })
 
--- the node lines and the arcs among records
+-- the node lines and the arcs among some records
 nodes_in : List Record → ℕ
 nodes_in (MinProblem n m ∷ rs) = n
 nodes_in rs = 0
@@ -126,7 +126,7 @@ arcs_in-records : (n c : ℕ) (named : List (ℕ × ℤ)) (arcs : List ArcView) 
 unfolding arcs_in
 arcs_in-records n c named arcs = arcs_in-lines named arcs
 
--- the records of an instance are those of no other
+-- records give only one instance
 pub one_min : (rs : List LineRecord) (g h : MinValue) → GivesMin rs g → GivesMin rs h → g ≡ h
 one_min rs g h a b =
     let same = sym a.records ∙ b.records in

@@ -1,4 +1,4 @@
--- Records after those of queries that were begun.
+-- One more record of queries while their text is read.
 use Rattle.std.proofs.Common.{◌≡◌, ℕ, suc, ◌<◌, ◌≤◌, ◌∷◌, ◌++◌, [], List, true, false, Some, length, map, refl, ap, ap₂, sym, ◌∙◌, arith, inl, inr, ◌⊎◌}
 use Rattle.std.specs.Prelude.{codes, nat_lt, nat_le}
 use Rattle.std.specs.List.{All, list_any}
@@ -35,7 +35,7 @@ counted_in-query_lines : (queries : QueriesValue) → counted_in (query_lines qu
 counted_in-query_lines (Sources ids) = all_counted SourceQuery (λ id. refl) ids
 counted_in-query_lines (Pairs pairs) = all_counted pair_query (λ pair. refl) pairs
 
--- query lines are no problem lines
+-- queries are no problem lines
 no_problem_in_sources : (ids : List ℕ) → list_any (asks_for asks.Pairs) (map SourceQuery ids) ≡ false
 no_problem_in_sources [] = refl
 no_problem_in_sources (id ∷ ids) = no_problem_in_sources ids
@@ -57,11 +57,11 @@ module _ (n : ℕ) (queries : QueriesValue) where
       let counted : nat_lt (counted_in (query_lines queries)) n ≡ false = rw (counted_in-query_lines queries) (grind (arith, nat_tests, full)) in
       is_complete kinds.Queries earlier (rw counted refl)
 
--- what is told of the records is so
+-- what the tests know follows from the records
 pub lines_told : (b : QueriesBegun) → after_lines b ≡ after_records (queries_begun_records b)
 lines_told b = ap (earlier_of (after_lines b).problem) (sym (counted_in-query_lines b.queries))
 
--- the problem line alone says which queries are asked
+-- only the problem line announces the kind of query
 source_told : (id n : ℕ) (queries : QueriesValue) → list_any (asks_for asks.Pairs) (earlier n queries) ≡ are_others (SourceQuery id) queries
 source_told id n (Sources ids) = no_problem_in_sources ids
 source_told id n (Pairs pairs) = refl
@@ -76,7 +76,7 @@ tells b (SourceQuery id) of_kind = ap₂ (λ (e : Earlier) t. record e { misplac
 tells b (PairQuery from to) of_kind = ap₂ (λ (e : Earlier) t. record e { misplaced = t }) (lines_told b) (sym (pair_told from to b.declared b.queries))
 tells b r of_kind = absurd (cc)
 
--- the records of queries are refused for nothing
+-- the records of queries have no fault
 source_allowed : (n : ℕ) (ids : List ℕ) (id : ℕ) → length (map SourceQuery ids) < n → IsAllowed (earlier n (Sources ids)) (SourceQuery id)
 source_allowed n ids id room = is_allowed (earlier n (Sources ids)) (SourceQuery id) (rw (no_problem_in_sources ids, not_full n (Sources ids) room) refl)
 
@@ -100,7 +100,7 @@ queries_allowed (Pairs pairs) = lines_allowed asks.Pairs pair_query pair_allowed
 pub queries_faultless : (rs : List LineRecord) (queries : QueriesValue) → GivesQueries rs queries → AreFaultless kinds.Queries (records_of rs)
 queries_faultless rs queries h = rw h.0 (record { allowed = queries_allowed queries; complete = all_queries (length (query_lines queries)) queries (omega arith) })
 
--- what a record asks, and the queries of a problem line and others
+-- the query of a record, and the queries of a problem line and others
 id_of : Record → ℕ
 id_of (SourceQuery id) = id
 id_of r = 0
@@ -129,7 +129,7 @@ unfolding queries_of
 queries_of-query_records (Sources ids) = ap Sources (ids_of-sources ids)
 queries_of-query_records (Pairs pairs) = ap Pairs (pairs_of-pairs pairs)
 
--- the records of queries are those of no others
+-- records give only one value
 pub one_queries : (rs : List LineRecord) (queries others : QueriesValue) → GivesQueries rs queries → GivesQueries rs others → queries ≡ others
 one_queries rs queries others a b = sym (queries_of-query_records queries) ∙ (ap queries_of (sym a.0 ∙ b.0) ∙ queries_of-query_records others)
 

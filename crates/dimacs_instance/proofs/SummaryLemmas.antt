@@ -1,4 +1,4 @@
--- The records of instances whose arcs were counted and not kept.
+-- The records of instances, with the arcs only counted.
 use Rattle.std.proofs.Common.{◌≡◌, ℕ, ◌+◌, ◌<◌, ◌≤◌, ◌∷◌, ◌++◌, [], List, false, Some, length, map, refl, ap, ap₂, sym, ◌∙◌, subst, arith}
 use Rattle.std.specs.Prelude.{ℤ, Result, Ok, Err}
 use Rattle.std.specs.List.{All}
@@ -94,7 +94,7 @@ one_summary rs s other gives also =
 -- ---- any instance
 module _ {T V : Type 0} (kind : TextKind) (gives : List LineRecord → V → Type 0) (sums_up : T → V → Type 0) (all : List (List ℕ)) (fault : ℕ → ℕ → Reason → Type 0) (one : (rs : List LineRecord) (v w : V) → gives rs v → gives rs w → v ≡ w)
     (value_of : (v : V) → (s : T) × sums_up s v) where
-  -- the summary of what the records give
+  --   the records give this summary
   abbrev pub sum_given : List LineRecord → T → Type 0
   sum_given rs s = (v : V) × gives rs v × sums_up s v
 

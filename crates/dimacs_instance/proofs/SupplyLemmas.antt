@@ -1,4 +1,4 @@
--- The laws of minimum cost flow instances that are built.
+-- Building minimum cost flow instances keeps their laws.
 use Rattle.std.proofs.Common.{◌≡◌, ◌≤◌, ◌<◌, ◌+◌, ◌++◌, ◌∷◌, [], ℕ, List, Bool, true, false, None, Some, cond, length, refl, sym, ◌∙◌, ap, ◌==◌, arith}
 use Rattle.std.specs.Prelude.{ℤ, pos, if◌then◌else◌, Result, Ok, Err, OnOk, OnErr}
 use Rattle.std.specs.List.{All}
@@ -17,7 +17,7 @@ use Rattle.dimacs_network.specs.Arcs.{JoinsNodes}
 use Rattle.dimacs_instance.specs.MinFlows.{MinValue, IsMin, IsSupply, HasBounds, with_supply}
 use Rattle.dimacs_instance.proofs.MinTextLemmas.{no_supply_past}
 
--- the law of an instance without supplies and arcs
+-- an instance without supplies and arcs is lawful
 pub empty_min : (nodes : ℕ) → nodes ≤ most_nodes → IsMin (record { nodes = nodes; supplies = empty; arcs = [] })
 empty_min nodes few = record {
   nodes_few = few;
@@ -61,7 +61,7 @@ module _ (m : MinValue) (law : IsMin m) where
       bounds = law.bounds;
     }
 
--- where a supply was set, or not
+-- if a supply was set, and if not
 module _ (nodes : ℕ) (arcs : List ArcView) (old new : FinMap nat_cmp ℤ) (id : ℕ) (n : ℤ) where
   abbrev with_values : FinMap nat_cmp ℤ → MinValue
   with_values values = record { nodes = nodes; supplies = without_zeros values; arcs = arcs }

@@ -15,11 +15,11 @@ use Rattle.dimacs_records.specs.Texts.{SpellsValue}
 use Rattle.dimacs_network.specs.declared.network.ArcView.{ArcView}
 use Rattle.dimacs_network.specs.Arcs.{NetworkValue, JoinsNodes}
 
--- an arc with a weight alone
+-- an arc with only a weight
 abbrev pub HasWeightAlone : ArcView → Type 0
 HasWeightAlone a = (a.low ≡ pos 0) × (a.cap ≡ pos 0) × IsWhole a.cost
 
--- the counts lie within their limits, and each arc joins nodes of the graph
+-- the counts are in their ranges, and each arc joins nodes of the graph
 pub record IsGraph (g : NetworkValue) : Type 0 where
   pub nodes_few : g.nodes ≤ most_nodes
   pub arcs_few : length g.arcs ≤ most_count
@@ -29,7 +29,7 @@ pub record IsGraph (g : NetworkValue) : Type 0 where
 abbrev pub graph_arc : ArcView → Record
 graph_arc a = GraphArc a.tail a.head a.cost
 
--- the problem line, and then the arcs
+-- the problem line, then the arcs
 abbrev pub graph_records : NetworkValue → List Record
 graph_records g = GraphProblem g.nodes (length g.arcs) ∷ map graph_arc g.arcs
 

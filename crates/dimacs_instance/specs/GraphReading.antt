@@ -1,4 +1,4 @@
--- How far a graph has been read.
+-- A graph while its text is read.
 use Rattle.std.specs.Prelude.{ℕ, ◌≤◌, List, ◌∷◌, map, length, Some}
 use Rattle.std.specs.List.{All}
 use Rattle.dimacs_lines.specs.Limits.{most_count, most_nodes}
@@ -10,13 +10,13 @@ use Rattle.dimacs_instance.specs.Graph.{HasWeightAlone, graph_arc}
 use Rattle.dimacs_records.specs.declared.order.Earlier.{Earlier}
 use Rattle.dimacs_records.specs.Tests.{earlier_of}
 
--- what the problem line declares, and the arcs after it
+-- the declared numbers, and the arcs so far
 pub record GraphBegun : Type 0 where
   pub nodes : ℕ
   pub declared : ℕ
   pub arcs : List ArcView
 
--- a beginning of a graph's arcs
+-- a lawful state
 pub record IsGraphBegun (begun : GraphBegun) : Type 0 where
   pub nodes_few : begun.nodes ≤ most_nodes
   pub arcs_few : begun.declared ≤ most_count
@@ -24,10 +24,10 @@ pub record IsGraphBegun (begun : GraphBegun) : Type 0 where
   pub joined : All (JoinsNodes begun.nodes) begun.arcs
   pub weights : All HasWeightAlone begun.arcs
 
--- the records that were taken
+-- the records so far
 abbrev pub graph_begun_records : GraphBegun → List Record
 graph_begun_records begun = GraphProblem begun.nodes begun.declared ∷ map graph_arc begun.arcs
 
--- after the problem line and the arcs so far
+-- what the tests have to know, after the problem line and these arcs
 abbrev pub after_lines : GraphBegun → Earlier
 after_lines begun = earlier_of (Some (record { nodes = Some begun.nodes; count = begun.declared })) (length begun.arcs)

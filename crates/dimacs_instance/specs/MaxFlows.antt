@@ -1,4 +1,4 @@
--- What maximum flow instances are.
+-- Maximum flow instances.
 use Rattle.std.specs.Prelude.{ℕ, ◌≡◌, ◌≢◌, ◌≤◌, ◌≤ℤ◌, List, length, pos}
 use Rattle.std.specs.List.{All}
 use Rattle.dimacs_lines.specs.Limits.{most_count, most_nodes, IsNode}
@@ -6,11 +6,11 @@ use Rattle.dimacs_records.specs.Ranges.{IsWhole}
 use Rattle.dimacs_network.specs.declared.network.ArcView.{ArcView}
 use Rattle.dimacs_network.specs.Arcs.{JoinsNodes}
 
--- a capacity that isn't negative, and nothing else
+-- an arc with only a capacity, which isn't negative
 abbrev pub HasCapacityAlone : ArcView → Type 0
 HasCapacityAlone a = (a.low ≡ pos 0) × (a.cost ≡ pos 0) × (pos 0 ≤ℤ a.cap) × IsWhole a.cap
 
--- a maximum flow instance
+-- an instance
 pub record MaxValue : Type 0 where
   pub nodes : ℕ
   pub source : ℕ

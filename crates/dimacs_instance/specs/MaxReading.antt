@@ -1,4 +1,4 @@
--- How far a maximum flow instance has been read.
+-- A maximum flow instance while its text is read.
 use Rattle.std.specs.Prelude.{ℕ, ◌≡◌, ◌≢◌, ◌⊎◌, ◌≤◌, List, [], ◌∷◌, ◌++◌, map, length, Some, nat_lt}
 use Rattle.std.specs.List.{All, list_any}
 use Rattle.dimacs_lines.specs.Limits.{most_count, most_nodes, IsNode}
@@ -17,7 +17,7 @@ use Rattle.dimacs_records.specs.Conditions.{lacks_end}
 use Rattle.dimacs_records.specs.Earlier.{is_end_node, names}
 use Rattle.dimacs_records.specs.Tests.{earlier_of}
 
--- what the problem line declares, the node lines and the arcs after it
+-- the declared numbers, and the node lines and arcs so far
 pub record MaxBegun : Type 0 where
   pub nodes : ℕ
   pub declared : ℕ
@@ -27,28 +27,28 @@ pub record MaxBegun : Type 0 where
 abbrev pub max_node : EndLine → Record
 max_node e = MaxNode e.node e.end
 
--- the node lines in their order
+-- the node lines, in their order
 abbrev pub end_records : EndLines → List Record
 end_records Neither = []
 end_records (One first) = max_node first ∷ []
 end_records (Both first second) = max_node first ∷ max_node second ∷ []
 
--- two node lines name different nodes for different ends
+-- two node lines name different nodes and different ends
 abbrev pub EndsAreApart : EndLines → Type 0
 EndsAreApart (Both first second) = (first.node ≢ second.node) × (first.end ≢ second.end)
 EndsAreApart ends = Unit {0}
 
--- the node lines of the source and of the sink, in either order
+-- the node lines of source and sink, in either order
 abbrev pub AreEnds : EndLines → ℕ → ℕ → Type 0
 AreEnds ends source sink = (ends ≡ Both (record { node = source; end = Source }) (record { node = sink; end = Sink })) ⊎ (ends ≡ Both (record { node = sink; end = Sink }) (record { node = source; end = Source }))
 
--- the node lines name nodes
+-- the node lines name nodes of the instance
 abbrev pub AreNodes : ℕ → EndLines → Type 0
 AreNodes nodes Neither = Unit {0}
 AreNodes nodes (One first) = IsNode nodes first.node
 AreNodes nodes (Both first second) = IsNode nodes first.node × IsNode nodes second.node
 
--- a beginning of a maximum flow instance
+-- a lawful state
 pub record IsMaxBegun (begun : MaxBegun) : Type 0 where
   pub nodes_few : begun.nodes ≤ most_nodes
   pub arcs_few : begun.declared ≤ most_count
@@ -61,7 +61,7 @@ pub record IsMaxBegun (begun : MaxBegun) : Type 0 where
 abbrev pub max_begun_records : MaxBegun → List Record
 max_begun_records begun = MaxProblem begun.nodes begun.declared ∷ (end_records begun.ends ++ map max_arc begun.arcs)
 
--- what the problem line declares, the node lines, and how many arcs came after it
+-- the declared numbers, the node lines so far, and how many arcs came
 pub record MaxCount : Type 0 where
   pub nodes : ℕ
   pub declared : ℕ
@@ -71,22 +71,22 @@ pub record MaxCount : Type 0 where
 abbrev pub count_of : MaxBegun → MaxCount
 count_of begun = record { nodes = begun.nodes; declared = begun.declared; ends = begun.ends; arcs = length begun.arcs }
 
--- so many arcs came, of these records
+-- these records may have been taken; their arcs are counted
 pub record IsMaxCountedBy (counted : MaxCount) (rs : List Record) : Type 0 where
   pub begun : MaxBegun
   pub is_begun : IsMaxBegun begun
   pub records : rs ≡ max_begun_records begun
   pub counts : counted ≡ count_of begun
 
--- after the problem line, the node lines and the arcs so far, for a record that asks for no end
+-- what the tests have to know for a record that isn't about source and sink
 abbrev pub after_lines : MaxCount → Earlier
 after_lines counted = earlier_of (Some (record { nodes = Some counted.nodes; count = counted.declared })) counted.arcs
 
--- what the records taken say of the end
+-- the same at the end
 abbrev pub before_end : MaxCount → Earlier
 before_end counted = record (after_lines counted) { lacks_end = lacks_end (end_records counted.ends) }
 
--- what they say of one more
+-- the same for one more record
 abbrev pub before : MaxCount → Record → Earlier
 before counted (MaxNode id end) = record (after_lines counted) {
   misplaced = nat_lt 0 counted.arcs;

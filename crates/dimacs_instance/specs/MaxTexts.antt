@@ -16,11 +16,11 @@ use Rattle.dimacs_instance.specs.MaxFlows.{MaxValue, IsMax}
 abbrev pub max_arc : ArcView → Record
 max_arc a = MaxArc a.tail a.head a.cap
 
--- the problem line, two node lines, and then the arcs
+-- the problem line, two node lines, then the arcs
 abbrev pub max_records : MaxValue → Record × Record → List Record
 max_records m ends = MaxProblem m.nodes (length m.arcs) ∷ ends.0 ∷ ends.1 ∷ map max_arc m.arcs
 
--- the node lines stand in either order
+-- the node lines may come in either order
 abbrev pub GivesMax : List LineRecord → MaxValue → Type 0
 GivesMax rs m = ((records_of rs ≡ max_records m (MaxNode m.source Source, MaxNode m.sink Sink)) ⊎ (records_of rs ≡ max_records m (MaxNode m.sink Sink, MaxNode m.source Source))) × IsMax m
 
@@ -28,7 +28,7 @@ GivesMax rs m = ((records_of rs ≡ max_records m (MaxNode m.source Source, MaxN
 abbrev pub SpellsMax : List ℕ → MaxValue → Type 0
 SpellsMax text m = SpellsValue Max GivesMax (lines text) m
 
--- the node lines by ID
+-- the node lines, ordered by ID
 abbrev pub nodes_by_id : ℕ → ℕ → Record × Record
 nodes_by_id source sink = if nat_lt source sink then (MaxNode source Source, MaxNode sink Sink) else (MaxNode sink Sink, MaxNode source Source)
 

@@ -1,4 +1,4 @@
--- How far a minimum cost flow instance has been read.
+-- A minimum cost flow instance while its text is read.
 use Rattle.std.specs.Prelude.{ℕ, ℤ, ◌≡◌, ◌≤◌, List, [], length, Bool, Some, is_some, nat_lt}
 use Rattle.std.specs.List.{All}
 use Rattle.std.specs.Ordering.{nat_cmp}
@@ -15,18 +15,18 @@ use Rattle.dimacs_records.specs.declared.order.Earlier.{Earlier}
 use Rattle.dimacs_records.specs.declared.records.Record.TheVariants.{MinNode}
 use Rattle.dimacs_records.specs.Tests.{earlier_of}
 
--- what the problem line declares, the supplies of the nodes that were named, and the arcs
+-- the declared numbers, the supplies of the named nodes, and the arcs so far
 pub record MinBegun : Type 0 where
   pub nodes : ℕ
   pub declared : ℕ
   pub supplies : FinMap nat_cmp ℤ
   pub arcs : List ArcView
 
--- a node, and a supply that may be 0
+-- a node with a supply, perhaps 0
 abbrev pub IsNamed : ℕ → ℕ × ℤ → Type 0
 IsNamed nodes s = IsNode nodes s.0 × IsWhole s.1
 
--- a beginning of a minimum cost flow instance
+-- a lawful state
 pub record IsMinBegun (begun : MinBegun) : Type 0 where
   pub nodes_few : begun.nodes ≤ most_nodes
   pub arcs_few : begun.declared ≤ most_count
@@ -42,7 +42,7 @@ pub record IsMinBegunBy (begun : MinBegun) (rs : List Record) : Type 0 where
   pub supplies : begun.supplies ≡ from_entries named
   pub records : rs ≡ min_records begun.nodes begun.declared named begun.arcs
 
--- what the problem line declares, the supplies of the nodes that were named, and how many arcs came
+-- the declared numbers, the supplies of the named nodes, and how many arcs came
 pub record MinCount : Type 0 where
   pub nodes : ℕ
   pub declared : ℕ
@@ -52,11 +52,11 @@ pub record MinCount : Type 0 where
 abbrev pub count_of : MinBegun → MinCount
 count_of begun = record { nodes = begun.nodes; declared = begun.declared; supplies = begun.supplies; arcs = length begun.arcs }
 
--- the same without an arc
+-- the same without arcs
 abbrev pub without_arcs : MinCount → MinBegun
 without_arcs counted = record { nodes = counted.nodes; declared = counted.declared; supplies = counted.supplies; arcs = [] }
 
--- so many arcs came, of these records
+-- these records may have been taken; their arcs are counted
 pub record IsMinCountedBy (counted : MinCount) (rs : List Record) : Type 0 where
   pub begun : MinBegun
   pub is_begun : IsMinBegun begun
@@ -66,11 +66,11 @@ pub record IsMinCountedBy (counted : MinCount) (rs : List Record) : Type 0 where
 abbrev pub has_line : MinCount → ℕ → Bool
 has_line counted id = is_some (get counted.supplies id)
 
--- after the problem line, the node lines and the arcs so far
+-- what the tests have to know, after the problem line, these node lines and arcs
 abbrev pub after_lines : MinCount → Earlier
 after_lines counted = earlier_of (Some (record { nodes = Some counted.nodes; count = counted.declared })) counted.arcs
 
--- what the records taken say of one more
+-- the same for one more record
 abbrev pub before : MinCount → Record → Earlier
 before counted (MinNode id supply) = record (after_lines counted) { misplaced = nat_lt 0 counted.arcs; named = has_line counted id }
 before counted r = after_lines counted

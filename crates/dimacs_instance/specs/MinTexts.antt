@@ -22,11 +22,11 @@ min_node s = MinNode s.0 s.1
 abbrev pub min_arc : ArcView → Record
 min_arc a = MinArc a.tail a.head a.low a.cap a.cost
 
--- the problem line, the node lines, and then the arcs
+-- the problem line, the node lines, then the arcs
 abbrev pub min_records : ℕ → ℕ → List (ℕ × ℤ) → List ArcView → List Record
 min_records nodes count named arcs = MinProblem nodes count ∷ map min_node named ++ map min_arc arcs
 
--- the node lines name each supply that isn't 0, and may name others
+-- the node lines name every node whose supply isn't 0, and perhaps others
 pub record GivesMin (rs : List LineRecord) (m : MinValue) : Type 0 where
   pub named : List (ℕ × ℤ)
   pub name_nodes : NameNodes m.nodes named
@@ -38,13 +38,13 @@ pub record GivesMin (rs : List LineRecord) (m : MinValue) : Type 0 where
 abbrev pub SpellsMin : List ℕ → MinValue → Type 0
 SpellsMin text m = SpellsValue Min GivesMin (lines text) m
 
--- node lines stand by ID, and those of supply 0 are left out
+-- node lines are ordered by ID; those with supply 0 are left out
 abbrev pub canonical_min_records : MinValue → List Record
 canonical_min_records m = min_records m.nodes (length m.arcs) (entries m.supplies) m.arcs
 
 abbrev pub canonical_min : MinValue → List ℕ
 canonical_min m = canonical_text (canonical_min_records m)
 
--- the supplies that are positive, and those that are negative, each as a sum without its sign
+-- the line about an instance, with the sums of its positive and its negative supplies, without a sign
 abbrev pub shown_min : MinValue → List ℕ
 shown_min m = shown (codes "min" ∷ decimal m.nodes ∷ decimal (length m.arcs) ∷ decimal (supply_sum m) ∷ decimal (demand_sum m) ∷ [])

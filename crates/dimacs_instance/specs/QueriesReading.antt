@@ -1,4 +1,4 @@
--- How far queries have been read.
+-- Queries while their text is read.
 use Rattle.std.specs.Prelude.{ℕ, ◌≤◌, List, ◌∷◌, length, Bool, false, true, None, Some}
 use Rattle.dimacs_lines.specs.Limits.{most_count}
 use Rattle.dimacs_records.specs.declared.records.Record.{Record}
@@ -7,31 +7,31 @@ use Rattle.dimacs_instance.specs.QueryTexts.{QueriesValue, HaveIds, kind_asked, 
 use Rattle.dimacs_records.specs.declared.order.Earlier.{Earlier}
 use Rattle.dimacs_records.specs.Tests.{earlier_of}
 
--- what the problem line declares, and the queries after it
+-- the declared number, and the queries so far
 pub record QueriesBegun : Type 0 where
   pub declared : ℕ
   pub queries : QueriesValue
 
--- a beginning of the queries
+-- a lawful state
 pub record AreQueriesBegun (begun : QueriesBegun) : Type 0 where
   pub few : begun.declared ≤ most_count
   pub no_more : length (query_lines begun.queries) ≤ begun.declared
   pub ids : HaveIds begun.queries
 
--- the records that were taken
+-- the records so far
 abbrev pub queries_begun_records : QueriesBegun → List Record
 queries_begun_records begun = QueriesProblem (kind_asked begun.queries) begun.declared ∷ query_lines begun.queries
 
--- these are others than the record's, which is a query
+-- the record is a query of the other kind
 abbrev pub are_others : Record → QueriesValue → Bool
 are_others (SourceQuery id) (Pairs pairs) = true
 are_others (PairQuery from to) (Sources ids) = true
 are_others r queries = false
 
--- after the problem line and the queries so far
+-- what the tests have to know, after the problem line and these queries
 abbrev pub after_lines : QueriesBegun → Earlier
 after_lines begun = earlier_of (Some (record { nodes = None; count = begun.declared })) (length (query_lines begun.queries))
 
--- what the records taken say of one more
+-- the same for one more record
 abbrev pub before : QueriesBegun → Record → Earlier
 before begun r = record (after_lines begun) { misplaced = are_others r begun.queries }

@@ -1,4 +1,4 @@
--- Queries for shortest paths, and the texts that spell them.
+-- Queries for distances, and the texts that spell them.
 use Rattle.std.specs.Prelude.{ℕ, ◌≡◌, ◌≤◌, List, ◌∷◌, map, length, [], codes}
 use Rattle.std.specs.Fmt.{decimal}
 use Rattle.std.specs.List.{All}
@@ -22,7 +22,7 @@ pub data QueriesValue : Type 0 where
   Sources : List ℕ → QueriesValue
   Pairs : List (ℕ × ℕ) → QueriesValue
 
--- what is asked, in any room
+-- the mathematical value; it doesn't depend on capacities of lists
 abbrev pub asked : Queries → QueriesValue
 asked (query_lists.Sources ids) = Sources ids.items
 asked (query_lists.Pairs pairs) = Pairs pairs.items
@@ -38,7 +38,7 @@ abbrev pub query_lines : QueriesValue → List Record
 query_lines (Sources ids) = map SourceQuery ids
 query_lines (Pairs pairs) = map pair_query pairs
 
--- the problem line, and then the queries
+-- the problem line, then the queries
 abbrev pub query_records : QueriesValue → List Record
 query_records queries = QueriesProblem (kind_asked queries) (length (query_lines queries)) ∷ query_lines queries
 
@@ -49,7 +49,7 @@ abbrev pub HaveIds : QueriesValue → Type 0
 HaveIds (Sources ids) = All IsId ids
 HaveIds (Pairs pairs) = All AreIds pairs
 
--- the IDs and the number of the queries lie in their ranges
+-- the IDs and the number of queries are in their ranges
 pub record AreLawful (queries : QueriesValue) : Type 0 where
   pub few : length (query_lines queries) ≤ most_count
   pub ids : HaveIds queries

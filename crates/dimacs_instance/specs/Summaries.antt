@@ -1,4 +1,4 @@
--- What the lines about instances have, of the instances that texts spell.
+-- Summaries of the instances that texts spell.
 use Rattle.std.specs.Prelude.{ℕ, ◌≡◌, List, [], ◌∷◌, codes, length, pos, Some, Result, Ok, Err}
 use Rattle.std.specs.Fmt.{decimal, signed_decimal}
 use Rattle.dimacs_records.specs.declared.faults.ReadError.{ReadError}
@@ -21,12 +21,12 @@ use Rattle.dimacs_instance.specs.declared.summaries.min.MinSummary.{MinSummary}
 use Rattle.dimacs_instance.specs.declared.summaries.graph.GraphSummary.{GraphSummary}
 use Rattle.dimacs_instance.specs.declared.summaries.graph.CountedGraph.{CountedGraph}
 
--- the summary of the one value that is spelled, or why none is
+-- the summary of the value that the text spells, or why it spells none
 abbrev pub ReadsSummary : {T V : Type 0} → (T → V → Type 0) → (V → Type 0) → (ℕ → ℕ → Reason → Type 0) → Result T ReadError → Type 0
 ReadsSummary {T} {V} sums_up spells fault (Ok summary) = (value : V) × sums_up summary value × Reads spells fault (Ok value)
 ReadsSummary sums_up spells fault (Err error) = Reads spells fault (Err error)
 
--- as many nodes and arcs as the graph has
+-- the numbers of nodes and arcs of the graph
 pub record SumsUpGraph (s : GraphSummary) (g : NetworkValue) : Type 0 where
   pub nodes : s.nodes ≡ g.nodes
   pub arcs : s.arcs ≡ length g.arcs
@@ -34,11 +34,11 @@ pub record SumsUpGraph (s : GraphSummary) (g : NetworkValue) : Type 0 where
 abbrev pub graph_summary_line : GraphSummary → List ℕ
 graph_summary_line s = shown (codes "sp" ∷ decimal s.nodes ∷ decimal s.arcs ∷ [])
 
--- the records of a text give a graph of which this is the summary
+-- the records give a graph with this summary
 abbrev pub GivesGraphSummary : List LineRecord → GraphSummary → Type 0
 GivesGraphSummary rs s = (g : NetworkValue) × GivesGraph rs g × SumsUpGraph s g
 
--- so many arcs came, of these records
+-- these records may have been taken; their arcs are counted
 pub record IsGraphCountedBy (c : CountedGraph) (rs : List Record) : Type 0 where
   pub begun : GraphBegun
   pub is_begun : IsGraphBegun begun
@@ -47,11 +47,11 @@ pub record IsGraphCountedBy (c : CountedGraph) (rs : List Record) : Type 0 where
   pub declared : c.declared ≡ begun.declared
   pub arcs : c.arcs ≡ length begun.arcs
 
--- after the problem line and the arcs so far
+-- what the tests have to know, after the problem line and these arcs
 abbrev pub counted_lines : CountedGraph → Earlier
 counted_lines c = earlier_of (Some (record { nodes = Some c.nodes; count = c.declared })) c.arcs
 
--- as many nodes and arcs as the instance has, and its ends
+-- the numbers of nodes and arcs of the instance, its source and its sink
 pub record SumsUpMax (s : MaxSummary) (m : MaxValue) : Type 0 where
   pub nodes : s.nodes ≡ m.nodes
   pub arcs : s.arcs ≡ length m.arcs
@@ -61,11 +61,11 @@ pub record SumsUpMax (s : MaxSummary) (m : MaxValue) : Type 0 where
 abbrev pub max_summary_line : MaxSummary → List ℕ
 max_summary_line s = shown (codes "max" ∷ decimal s.nodes ∷ decimal s.arcs ∷ decimal s.source ∷ decimal s.sink ∷ [])
 
--- the records of a text give an instance of which this is the summary
+-- the records give an instance with this summary
 abbrev pub GivesMaxSummary : List LineRecord → MaxSummary → Type 0
 GivesMaxSummary rs s = (m : MaxValue) × GivesMax rs m × SumsUpMax s m
 
--- as many nodes and arcs as the instance has, and the sums of its supplies
+-- the numbers of nodes and arcs of the instance, and the sums of its supplies
 pub record SumsUpMin (s : MinSummary) (m : MinValue) : Type 0 where
   pub nodes : s.nodes ≡ m.nodes
   pub arcs : s.arcs ≡ length m.arcs
@@ -75,6 +75,6 @@ pub record SumsUpMin (s : MinSummary) (m : MinValue) : Type 0 where
 abbrev pub min_summary_line : MinSummary → List ℕ
 min_summary_line s = shown (codes "min" ∷ decimal s.nodes ∷ decimal s.arcs ∷ signed_decimal s.supplied ∷ signed_decimal s.demanded ∷ [])
 
--- the records of a text give an instance of which this is the summary
+-- the records give an instance with this summary
 abbrev pub GivesMinSummary : List LineRecord → MinSummary → Type 0
 GivesMinSummary rs s = (m : MinValue) × GivesMin rs m × SumsUpMin s m

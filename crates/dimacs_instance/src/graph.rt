@@ -39,6 +39,7 @@ impl<N: Network> Model for Graph<N> {
 }
 
 impl<N: Network> Graph<N> {
+    /// The nodes and arcs.
     pub fn network(&self) -> &N
         ensures nodes { N.node_count result.now ≡ self.now.nodes }
         ensures arcs { N.list result.now ≡ self.now.arcs }
@@ -49,7 +50,7 @@ impl<N: Network> Graph<N> {
 }
 
 impl<A: KeptArc> Graph<PlainArcs<A>> {
-    /// The same graph with an index of its arcs.
+    /// The same graph with an index of its arcs by their ends. `Memory` drops the graph.
     pub fn indexed(self, alloc: Global) -> Result<Graph<ForwardStar<A>>, Memory>
         ensures { IfOk result (λ indexed. indexed ≡ self) }
     {
@@ -60,7 +61,7 @@ impl<A: KeptArc> Graph<PlainArcs<A>> {
 }
 
 impl<A: KeptArc> Graph<ForwardStar<A>> {
-    /// The same graph without the index. Takes no memory.
+    /// The same graph without the index. Allocates nothing.
     pub fn into_plain(self) -> Graph<PlainArcs<A>>
         ensures { result ≡ self }
     {
@@ -70,13 +71,13 @@ impl<A: KeptArc> Graph<ForwardStar<A>> {
     }
 }
 
-/// Makes a graph of the records of a text.
+/// Reads a graph from the records of a text.
 pub type GraphReading = CountedReading<BegunGraph<ForwardStar<WeightArc>>>;
 
-/// Makes a graph of the records of a text, without an index of its arcs.
+/// Reads a graph from the records of a text, without an index of its arcs.
 pub type PlainGraphReading = CountedReading<BegunGraph<PlainArcs<WeightArc>>>;
 
-/// The arcs that came after the problem line.
+/// A graph while its text is read: the arcs after the problem line.
 #[derive(Drop)]
 pub struct BegunGraph<N: OfWeightArcs> {
     declared: u32,
@@ -151,7 +152,7 @@ impl<N: OfWeightArcs> Begun for BegunGraph<N> {
     ghost has_problem = { refl };
 }
 
-/// Reads a graph text.
+/// Reads the text of a graph.
 pub fn read_graph<S: Source>(
     alloc: Global,
     source: &mut S,
@@ -162,7 +163,7 @@ pub fn read_graph<S: Source>(
     read_counted::<BegunGraph<ForwardStar<WeightArc>>, S>(alloc, source)
 }
 
-/// Reads a graph text, and builds no index of its arcs.
+/// Reads the text of a graph, without an index of its arcs.
 pub fn read_plain_graph<S: Source>(
     alloc: Global,
     source: &mut S,
@@ -193,7 +194,7 @@ pub fn write_graph<N: Network, S: Sink>(graph: &Graph<N>, sink: &mut S) -> Resul
     )
 }
 
-/// The line of an arc.
+/// The line of an arc. Its `cost` is its weight.
 #[inline(always)]
 fn arc_record(arc: ArcView) -> Record
     ensures { result ≡ graph_arc arc }

@@ -1,4 +1,5 @@
-//! Instances and queries, read from texts and written in the canonical form.
+//! Instances and queries: reading them, writing them in the canonical form, describing them on one line, and building
+//! them.
 #![tactic(auto)]
 
 mod graph;

@@ -27,7 +27,7 @@ use dimacs_records::{
 use std::alloc::Global;
 use std::marker::{Model, PhantomData};
 
-/// A maximum flow instance: flow is to go from the source to the sink. Each arc's `cap` is its capacity.
+/// A maximum flow instance. Each arc's `cap` is its capacity.
 #[derive(Drop)]
 pub struct MaxInstance<N: Network> {
     source: u32,
@@ -46,6 +46,7 @@ impl<N: Network> Model for MaxInstance<N> {
 }
 
 impl<N: Network> MaxInstance<N> {
+    /// The nodes and arcs.
     pub fn network(&self) -> &N
         ensures nodes { N.node_count result.now ≡ self.now.nodes }
         ensures arcs { N.list result.now ≡ self.now.arcs }
@@ -68,7 +69,7 @@ impl<N: Network> MaxInstance<N> {
 }
 
 impl<A: KeptArc> MaxInstance<PlainArcs<A>> {
-    /// The same instance with an index of its arcs.
+    /// The same instance with an index of its arcs by their ends. `Memory` drops the instance.
     pub fn indexed(self, alloc: Global) -> Result<MaxInstance<ForwardStar<A>>, Memory>
         ensures { IfOk result (λ indexed. indexed ≡ self) }
     {
@@ -81,7 +82,7 @@ impl<A: KeptArc> MaxInstance<PlainArcs<A>> {
 }
 
 impl<A: KeptArc> MaxInstance<ForwardStar<A>> {
-    /// The same instance without the index. Takes no memory.
+    /// The same instance without the index. Allocates nothing.
     pub fn into_plain(self) -> MaxInstance<PlainArcs<A>>
         ensures { result ≡ self }
     {
@@ -93,20 +94,20 @@ impl<A: KeptArc> MaxInstance<ForwardStar<A>> {
     }
 }
 
-/// Makes a maximum flow instance of the records of a text.
+/// Reads a maximum flow instance from the records of a text.
 pub type MaxReading = CountedReading<BegunMax<ForwardStar<CapacityArc>>>;
 
-/// Makes a maximum flow instance of the records of a text, without an index of its arcs.
+/// Reads a maximum flow instance from the records of a text, without an index of its arcs.
 pub type PlainMaxReading = CountedReading<BegunMax<PlainArcs<CapacityArc>>>;
 
-/// A node line.
+/// A node line: it names the source or the sink.
 #[derive(Clone, Copy)]
 pub(crate) struct EndLine {
     pub(crate) node: u32,
     pub(crate) end: End,
 }
 
-/// The node lines that came, in their order.
+/// The node lines so far, in their order.
 #[derive(Clone, Copy)]
 pub(crate) enum EndLines {
     Neither,
@@ -126,7 +127,7 @@ impl EndLines {
         }
     }
 
-    /// Whether a line is that of this end.
+    /// Whether a line names this end.
     pub(crate) fn has(self, end: End) -> bool
         ensures { result ≡ list_any (is_end_node end) (end_records self) }
     {
@@ -137,7 +138,7 @@ impl EndLines {
         }
     }
 
-    /// Whether one of the two ends has no line.
+    /// Whether the source or the sink isn't named yet.
     #[inline(always)]
     pub(crate) fn lack_one(self) -> bool
         ensures { result ≡ lacks_end (end_records self) }
@@ -148,7 +149,7 @@ impl EndLines {
         }
     }
 
-    /// The source and the sink.
+    /// The source and the sink, in this order; both have to be named.
     pub(crate) fn in_order(self) -> (u32, u32)
         requires apart { EndsAreApart self }
         requires both { lacks_end (end_records self) ≡ false }
@@ -163,7 +164,7 @@ impl EndLines {
         }
     }
 
-    /// These lines, and one more of another node and another end.
+    /// Adds a line for another node and the other end.
     pub(crate) fn and(self, line: EndLine) -> EndLines
         requires apart { EndsAreApart self }
         requires other_node { list_any (names line.node) (end_records self) ≡ false }
@@ -179,7 +180,7 @@ impl EndLines {
     }
 }
 
-/// What came after the problem line: at most two node lines, and then arcs.
+/// A maximum flow instance while its text is read: at most two node lines after the problem line, then arcs.
 #[derive(Drop)]
 pub struct BegunMax<N: OfCapacityArcs> {
     declared: u32,
@@ -199,7 +200,7 @@ impl<N: OfCapacityArcs> Model for BegunMax<N> {
 }
 
 impl<N: OfCapacityArcs> BegunMax<N> {
-    /// How many arcs came.
+    /// The same with the arcs only counted.
     #[inline(always)]
     fn counted(&self) -> CountedMax
         ensures { result ≡ count_of self.now }
@@ -279,7 +280,7 @@ impl<N: OfCapacityArcs> Begun for BegunMax<N> {
     ghost has_problem = { refl };
 }
 
-/// Reads a text of maximum flow.
+/// Reads the text of a maximum flow instance.
 pub fn read_max<S: Source>(
     alloc: Global,
     source: &mut S,
@@ -290,7 +291,7 @@ pub fn read_max<S: Source>(
     read_counted::<BegunMax<ForwardStar<CapacityArc>>, S>(alloc, source)
 }
 
-/// Reads a text of maximum flow, and builds no index of its arcs.
+/// Reads the text of a maximum flow instance, without an index of its arcs.
 pub fn read_plain_max<S: Source>(
     alloc: Global,
     source: &mut S,
@@ -322,7 +323,7 @@ pub fn write_max<N: Network, S: Sink>(max: &MaxInstance<N>, sink: &mut S) -> Res
     )
 }
 
-/// The node lines by ID.
+/// The node lines, ordered by ID as the canonical form demands.
 fn node_lines<N: Network>(max: &MaxInstance<N>) -> (Record, Record)
     ensures { result ≡ nodes_by_id max.now.source max.now.sink }
 {

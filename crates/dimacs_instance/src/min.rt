@@ -26,11 +26,11 @@ use dimacs_records::{
 use std::alloc::Global;
 use std::marker::{Model, PhantomData};
 
-/// A minimum cost flow instance: a node with a positive supply puts flow into the network, one with a negative supply
-/// takes it out.
+/// A minimum cost flow instance. A node with a positive supply feeds flow into the network, one with a negative supply
+/// takes flow out.
 #[derive(Drop)]
 pub struct MinInstance<N: Network> {
-    /// Those of the nodes that were named, also with 0.
+    /// The supplies of the nodes that were named, even if they are 0.
     pub(crate) supplies: NodeMap<i64>,
     pub(crate) network: N,
 }
@@ -49,7 +49,7 @@ impl<N: Network> Model for MinInstance<N> {
     ghost invariant = { λ m. IsMin (record { nodes = N.node_count m.network; supplies = without_zeros m.supplies; arcs = N.list m.network }) };
 }
 
-/// How much all nodes together put into the network, and how much they take out.
+/// The sums of the positive supplies and of the negative ones, both without a sign.
 #[derive(Clone, Copy, Debug, PartialEq, Eq)]
 pub struct SupplySums {
     pub supplied: i128,
@@ -57,7 +57,7 @@ pub struct SupplySums {
 }
 
 impl SupplySums {
-    /// The sums with one supply more.
+    /// The sums with one more supply.
     #[inline]
     fn with(self, supply: i64) -> SupplySums
         requires supplied { (pos 0 ≤ℤ self.supplied) × (self.supplied <ℤ pos (2 ^ 100)) }
@@ -81,6 +81,7 @@ impl SupplySums {
 }
 
 impl<N: Network> MinInstance<N> {
+    /// The nodes and arcs.
     pub fn network(&self) -> &N
         ensures nodes { N.node_count result.now ≡ self.now.nodes }
         ensures arcs { N.list result.now ≡ self.now.arcs }
@@ -89,7 +90,7 @@ impl<N: Network> MinInstance<N> {
         &self.network
     }
 
-    /// The supply of a node, and 0 of an ID that is none.
+    /// The supply of a node; 0 for an ID that is no node.
     #[inline]
     pub fn supply(&self, id: u32) -> i64
         ensures { result ≡ supply_of self.now id }
@@ -97,7 +98,7 @@ impl<N: Network> MinInstance<N> {
         self.supplies.get(id).unwrap_or(0)
     }
 
-    /// The sums of the positive supplies and of the negative ones, without sign.
+    /// The sums of the supplies. Takes time in proportion to the number of nodes.
     pub fn supply_sums(&self) -> SupplySums
         ensures supplied { result.supplied ≡ pos (supply_sum self.now) }
         ensures demanded { result.demanded ≡ pos (demand_sum self.now) }
@@ -114,7 +115,7 @@ impl<N: Network> MinInstance<N> {
 }
 
 impl<A: KeptArc> MinInstance<PlainArcs<A>> {
-    /// The same instance with an index of its arcs.
+    /// The same instance with an index of its arcs by their ends. `Memory` drops the instance.
     pub fn indexed(self, alloc: Global) -> Result<MinInstance<ForwardStar<A>>, Memory>
         ensures { IfOk result (λ indexed. indexed ≡ self) }
     {
@@ -126,7 +127,7 @@ impl<A: KeptArc> MinInstance<PlainArcs<A>> {
 }
 
 impl<A: KeptArc> MinInstance<ForwardStar<A>> {
-    /// The same instance without the index. Takes no memory.
+    /// The same instance without the index. Allocates nothing.
     pub fn into_plain(self) -> MinInstance<PlainArcs<A>>
         ensures { result ≡ self }
     {
@@ -137,17 +138,17 @@ impl<A: KeptArc> MinInstance<ForwardStar<A>> {
     }
 }
 
-/// Makes a minimum cost flow instance of the records of a text.
+/// Reads a minimum cost flow instance from the records of a text.
 pub type MinReading = CountedReading<BegunMin<ForwardStar<ArcView>>>;
 
-/// Makes a minimum cost flow instance of the records of a text, without an index of its arcs.
+/// Reads a minimum cost flow instance from the records of a text, without an index of its arcs.
 pub type PlainMinReading = CountedReading<BegunMin<PlainArcs<ArcView>>>;
 
-/// What came after the problem line: node lines, and then arcs.
+/// A minimum cost flow instance while its text is read: node lines after the problem line, then arcs.
 #[derive(Drop)]
 pub struct BegunMin<N: OfCostArcs> {
     declared: u32,
-    /// Those of the nodes that were named, also with 0.
+    /// The supplies of the nodes that were named, even if they are 0.
     supplies: NodeMap<i64>,
     arcs: PlainArcs<ArcView>,
     of: PhantomData<N>,
@@ -263,7 +264,7 @@ pub fn read_min<S: Source>(
     read_counted::<BegunMin<ForwardStar<ArcView>>, S>(alloc, source)
 }
 
-/// Reads the text of a minimum cost flow instance, and builds no index of its arcs.
+/// Reads the text of a minimum cost flow instance, without an index of its arcs.
 pub fn read_plain_min<S: Source>(
     alloc: Global,
     source: &mut S,

@@ -1,4 +1,4 @@
-//! Queries for shortest paths.
+//! Queries for distances.
 
 ghost use Rattle.std.specs.Prelude.{◌≡◌, ◌<◌, ℕ, List, Some, IfOk, length, refl, slice_get};
 ghost use Rattle.std.specs.Result.{result_map_both};
@@ -22,12 +22,12 @@ use dimacs_records::{
 use std::alloc::Global;
 use std::marker::Model;
 
-/// What is asked of a graph. The lists are open: what was read is lawful, and `read_queries` says so.
+/// The distances that are asked for. Callers may build any lists; those that were read from a text are lawful.
 #[derive(Drop)]
 pub enum Queries {
-    /// The distances from each source to all nodes.
+    /// The distances from each of these nodes to all nodes.
     Sources(Vec<u32>),
-    /// The distance from one node of each pair to the other.
+    /// The distance from the first node to the second, for each pair.
     Pairs(Vec<(u32, u32)>),
 }
 
@@ -41,6 +41,7 @@ impl Queries {
         }
     }
 
+    /// The number of queries.
     pub fn len(&self) -> usize
         ensures { result ≡ length (query_lines (asked self.now)) }
     {
@@ -50,7 +51,7 @@ impl Queries {
         }
     }
 
-    /// The record is a query that isn't of this kind.
+    /// Whether the record is a query of the other kind.
     #[inline(always)]
     fn are_others(&self, said: Record) -> bool
         ensures { result ≡ are_others said (asked self.now) }
@@ -62,7 +63,7 @@ impl Queries {
         }
     }
 
-    /// The line of a query.
+    /// The line of the query at this place.
     #[inline(always)]
     fn line(&self, i: usize) -> Record
         requires { i < length (query_lines (asked self.now)) }
@@ -78,7 +79,7 @@ impl Queries {
     }
 }
 
-/// Queries whose IDs and number lie in their ranges.
+/// Queries whose IDs and number are in their ranges.
 #[derive(Drop)]
 pub struct LawfulQueries {
     queries: Queries,
@@ -95,6 +96,7 @@ impl Model for LawfulQueries {
 }
 
 impl LawfulQueries {
+    /// The queries themselves.
     pub fn into_queries(self) -> Queries
         ensures same { asked result ≡ self }
         ensures lawful { AreLawful (asked result) }
@@ -103,10 +105,10 @@ impl LawfulQueries {
     }
 }
 
-/// Makes queries of the records of a text.
+/// Reads queries from the records of a text.
 pub type QueriesReading = CountedReading<BegunQueries>;
 
-/// The queries that came after the problem line.
+/// Queries while their text is read: those after the problem line.
 #[derive(Drop)]
 pub struct BegunQueries {
     declared: u32,
@@ -201,7 +203,7 @@ impl Begun for BegunQueries {
     ghost has_problem = { refl };
 }
 
-/// Reads a text of queries.
+/// Reads the text of queries.
 pub fn read_queries<S: Source>(alloc: Global, source: &mut S) -> Result<Queries, ReadError>
     ensures reads { (text : List ℕ) → S.coming source.old ≡ Some text
         → Reads (SpellsQueries text) (Fault kinds.Queries (lines text)) (result_map_both asked (λ e. e) result) }
@@ -214,7 +216,7 @@ pub fn read_queries<S: Source>(alloc: Global, source: &mut S) -> Result<Queries,
     }
 }
 
-/// Writes the canonical text of queries, of open lists too.
+/// Writes the canonical text of queries. Lists that aren't lawful are written, too.
 pub fn write_queries<S: Sink>(queries: &Queries, sink: &mut S) -> Result<(), DeviceFault>
     ensures puts { Puts result (S.seen sink.old) (canonical_queries (asked queries.now)) (S.seen sink.new) }
     ensures round_trip { AreLawful (asked queries.now) → SpellsQueries (canonical_queries (asked queries.now)) (asked queries.now) }
@@ -236,7 +238,7 @@ pub fn write_queries<S: Sink>(queries: &Queries, sink: &mut S) -> Result<(), Dev
     page.finish(sink)
 }
 
-/// Writes the problem line, also of a number that none may declare.
+/// Writes the problem line, even if its number is out of range.
 fn write_problem<S: Sink>(page: &mut Page, sink: &mut S, asks: QueryKind, count: usize)
     ensures { Appends (canonical_line (QueriesProblem asks count)) (S.seen sink.old) page.old (S.seen sink.new) page.new }
 {

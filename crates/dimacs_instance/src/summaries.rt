@@ -1,4 +1,4 @@
-//! What the lines about instances have, read without keeping the arcs.
+//! Summaries: what is printed on one line about an instance, read without keeping its arcs.
 
 ghost use Rattle.std.specs.Prelude.{◌≡◌, ℕ, List, Some};
 ghost use Rattle.dimacs_lines.specs.Lines.{lines};
@@ -20,7 +20,7 @@ pub use max::MaxSummary;
 pub use min::MinSummary;
 use std::alloc::Global;
 
-/// What the line about a text has, of the value that the text spells.
+/// The summary of the value that a text spells: enough to print the line about it.
 pub trait Summary: Drop {
     ghost kind: { TextKind };
 
@@ -33,20 +33,20 @@ pub trait Summary: Drop {
 
     ghost shown: { Said → List ℕ };
 
-    /// The line about a value of which this is the summary.
+    /// The line about a value with this summary.
     ghost line: { Self → List ℕ };
 
-    /// A summary has all that the line about its value has.
+    /// The kind of text. The line depends only on the summary.
     fn kind() -> TextKind
         ensures kind { result ≡ kind }
         ensures enough { (summary : Self) (value : Said) → sums_up summary value → line summary ≡ shown value };
 
-    /// Reads a text, and keeps the summary alone.
+    /// Reads a text and keeps only its summary.
     fn read<S: Source>(alloc: Global, source: &mut S) -> Result<Self, ReadError>
         ensures reads { (bytes : List ℕ) → S.coming source.old ≡ Some bytes → ReadsSummary sums_up (spells bytes) (Fault kind (lines bytes)) result }
         ensures device { CountsRead result (S.faults source.old) (S.faults source.new) };
 
-    /// Puts the line about the value.
+    /// Writes the line about the value.
     fn show<K: Sink>(&self, sink: &mut K) -> Result<(), DeviceFault>
         ensures puts { Puts result (K.seen sink.old) (line self.now) (K.seen sink.new) };
 }

@@ -1,4 +1,4 @@
-//! The kinds of text of instances and queries: how each is read, written and shown.
+//! Instances and queries as kinds of text.
 
 ghost use Rattle.std.specs.Prelude.{◌≡◌, Some, [], ◌∷◌};
 ghost use Rattle.std.specs.Fmt.{decimal};
@@ -154,7 +154,7 @@ impl Text for Queries {
     }
 }
 
-/// Puts the line about a maximum flow instance.
+/// Writes the line about a maximum flow instance.
 fn show_max<N: Network, K: Sink>(max: &MaxInstance<N>, sink: &mut K) -> Result<(), DeviceFault>
     ensures { Puts result (K.seen sink.old) (shown_max max.now) (K.seen sink.new) }
 {
@@ -168,7 +168,7 @@ fn show_max<N: Network, K: Sink>(max: &MaxInstance<N>, sink: &mut K) -> Result<(
     summary.show(sink)
 }
 
-/// Puts the line about a minimum cost flow instance.
+/// Writes the line about a minimum cost flow instance.
 fn show_min<N: Network, K: Sink>(min: &MinInstance<N>, sink: &mut K) -> Result<(), DeviceFault>
     ensures { Puts result (K.seen sink.old) (shown_min min.now) (K.seen sink.new) }
 {
@@ -183,7 +183,7 @@ fn show_min<N: Network, K: Sink>(min: &MinInstance<N>, sink: &mut K) -> Result<(
     summary.show(sink)
 }
 
-/// Puts the line about a graph.
+/// Writes the line about a graph.
 fn show_graph<N: Network, K: Sink>(graph: &Graph<N>, sink: &mut K) -> Result<(), DeviceFault>
     ensures { Puts result (K.seen sink.old) (shown_graph graph.now) (K.seen sink.new) }
 {
@@ -195,7 +195,7 @@ fn show_graph<N: Network, K: Sink>(graph: &Graph<N>, sink: &mut K) -> Result<(),
     summary.show(sink)
 }
 
-/// Puts the line about queries of this word.
+/// Writes the line about queries of the kind with this word.
 fn show_queries<K: Sink>(sink: &mut K, word: &[u8], count: usize) -> Result<(), DeviceFault>
     ensures { Puts result (K.seen sink.old) (shown (word.now ∷ decimal count ∷ [])) (K.seen sink.new) }
 {

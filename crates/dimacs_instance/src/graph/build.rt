@@ -1,4 +1,4 @@
-//! Graphs that are built an arc at a time.
+//! Building a graph arc by arc.
 
 ghost use Rattle.std.specs.Prelude.{◌≡◌, ◌≤◌, ◌<◌, ◌++◌, ◌∷◌, [], OnOk, OnErr, length};
 ghost use Rattle.dimacs_lines.specs.Limits.{most_count, most_nodes, IsNode};
@@ -10,7 +10,7 @@ use dimacs_network::{PlainArcs, WeightArc};
 use std::alloc::Global;
 
 impl Graph<PlainArcs<WeightArc>> {
-    /// A graph without arcs. Takes no memory.
+    /// A graph with this many nodes, without arcs. Allocates nothing.
     pub fn new(alloc: Global, nodes: u32) -> Graph<PlainArcs<WeightArc>>
         requires nodes { nodes ≤ most_nodes }
         ensures { result ≡ record { nodes = nodes; arcs = [] } }
@@ -20,7 +20,7 @@ impl Graph<PlainArcs<WeightArc>> {
         }
     }
 
-    /// Adds an arc after the others.
+    /// Adds an arc. `Memory` leaves the graph unchanged.
     #[inline(always)]
     pub fn push(&mut self, arc: WeightArc) -> Result<(), Memory>
         requires tail { IsNode self.old.nodes arc.tail }

@@ -1,4 +1,4 @@
-//! Maximum flow instances that are built an arc at a time.
+//! Building a maximum flow instance arc by arc.
 
 ghost use Rattle.std.specs.Prelude.{◌≡◌, ◌≢◌, ◌≤◌, ◌<◌, ◌≤ℤ◌, ◌++◌, ◌∷◌, [], OnOk, OnErr, length, pos};
 ghost use Rattle.dimacs_lines.specs.Limits.{most_count, most_nodes, IsNode};
@@ -10,7 +10,7 @@ use dimacs_network::{CapacityArc, PlainArcs};
 use std::alloc::Global;
 
 impl MaxInstance<PlainArcs<CapacityArc>> {
-    /// An instance without arcs. Takes no memory.
+    /// An instance with this many nodes, without arcs. Allocates nothing.
     pub fn new(
         alloc: Global,
         nodes: u32,
@@ -30,7 +30,7 @@ impl MaxInstance<PlainArcs<CapacityArc>> {
         }
     }
 
-    /// Adds an arc after the others.
+    /// Adds an arc. `Memory` leaves the instance unchanged.
     #[inline(always)]
     pub fn push(&mut self, arc: CapacityArc) -> Result<(), Memory>
         requires tail { IsNode self.old.nodes arc.tail }

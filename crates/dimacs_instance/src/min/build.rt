@@ -1,4 +1,4 @@
-//! Minimum cost flow instances that are built a supply and an arc at a time.
+//! Building a minimum cost flow instance, supply by supply and arc by arc.
 
 ghost use Rattle.std.specs.Prelude.{◌≡◌, ◌≤◌, ◌<◌, ◌++◌, ◌∷◌, [], OnOk, OnErr, length};
 ghost use Rattle.std.specs.FinMap.{empty};
@@ -13,7 +13,7 @@ use dimacs_nodes::NodeMap;
 use std::alloc::Global;
 
 impl MinInstance<PlainArcs<ArcView>> {
-    /// An instance without arcs, whose nodes have the supply 0. Takes no memory.
+    /// An instance with this many nodes of supply 0, without arcs. Allocates nothing.
     pub fn new(alloc: Global, nodes: u32) -> MinInstance<PlainArcs<ArcView>>
         requires nodes { nodes ≤ most_nodes }
         ensures { result ≡ record { nodes = nodes; supplies = empty; arcs = [] } }
@@ -24,7 +24,7 @@ impl MinInstance<PlainArcs<ArcView>> {
         }
     }
 
-    /// Gives a node another supply.
+    /// Sets the supply of a node. `Memory` leaves the instance unchanged.
     #[inline]
     pub fn set_supply(&mut self, id: u32, supply: i64) -> Result<(), Memory>
         requires node { IsNode self.old.nodes id }
@@ -34,7 +34,7 @@ impl MinInstance<PlainArcs<ArcView>> {
         self.supplies.set(id, supply)
     }
 
-    /// Adds an arc after the others.
+    /// Adds an arc. `Memory` leaves the instance unchanged.
     #[inline(always)]
     pub fn push(&mut self, arc: ArcView) -> Result<(), Memory>
         requires joined { JoinsNodes self.old.nodes arc }

@@ -13,7 +13,7 @@ use dimacs_records::{
 };
 use std::alloc::Global;
 
-/// How large a graph is.
+/// The size of a graph.
 #[derive(Clone, Copy, Debug, PartialEq, Eq)]
 pub struct GraphSummary {
     pub nodes: u32,
@@ -54,7 +54,7 @@ impl Summary for GraphSummary {
     }
 }
 
-/// How many arcs came after the problem line.
+/// A graph while its text is read, with the arcs only counted.
 #[derive(Clone, Copy)]
 pub struct CountedGraph {
     nodes: u32,

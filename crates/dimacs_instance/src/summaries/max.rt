@@ -16,7 +16,7 @@ use dimacs_records::{
 use std::alloc::Global;
 use std::marker::Model;
 
-/// How large a maximum flow instance is, and its ends.
+/// The size of a maximum flow instance, and its ends.
 #[derive(Clone, Copy, Debug, PartialEq, Eq)]
 pub struct MaxSummary {
     pub nodes: u32,
@@ -61,7 +61,7 @@ impl Summary for MaxSummary {
     }
 }
 
-/// What came after the problem line: at most two node lines, and then so many arcs.
+/// A maximum flow instance while its text is read, with the arcs only counted.
 #[derive(Drop)]
 pub struct CountedMax {
     pub(crate) nodes: u32,
@@ -81,7 +81,7 @@ impl Model for CountedMax {
 }
 
 impl CountedMax {
-    /// What the lines say of a record that asks for no end.
+    /// What the tests have to know for a record that isn't about source and sink.
     #[inline(always)]
     fn lines(&self) -> Earlier
         ensures { result ≡ after_lines self.now }

@@ -18,7 +18,7 @@ use dimacs_records::{
 use std::alloc::Global;
 use std::marker::Model;
 
-/// How large a minimum cost flow instance is, and how much all nodes together put into the network and take out of it.
+/// The size of a minimum cost flow instance, and the sums of its positive and its negative supplies, without a sign.
 #[derive(Clone, Copy, Debug, PartialEq, Eq)]
 pub struct MinSummary {
     pub nodes: u32,
@@ -63,12 +63,12 @@ impl Summary for MinSummary {
     }
 }
 
-/// What came after the problem line: node lines, and then so many arcs.
+/// A minimum cost flow instance while its text is read, with the arcs only counted.
 #[derive(Drop)]
 pub struct CountedMin {
     nodes: u32,
     declared: u32,
-    /// Those of the nodes that were named, also with 0.
+    /// The supplies of the nodes that were named, even if they are 0.
     supplies: NodeMap<i64>,
     arcs: u32,
 }

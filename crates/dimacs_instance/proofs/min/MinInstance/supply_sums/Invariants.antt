@@ -4,7 +4,7 @@ use Rattle.dimacs_instance.specs.MinFlows.{positive_part, negative_part}
 use Rattle.dimacs_instance.proofs.MinSupplies.{sum_below}
 use Rattle.dimacs_instance.proofs.min.MinInstance.supply_sums.Given as goal
 
--- the supplies of the IDs so far were added
+-- the supplies of the IDs so far are added
 abbrev pub invariant-loop-id : goal.invariant-loop-id
 invariant-loop-id g l = record {
   within : l.id ≤ l.self.nodes + 1;
