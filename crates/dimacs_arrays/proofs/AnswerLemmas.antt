@@ -1,4 +1,4 @@
--- What a call over arrays answers, by the part that fails.
+-- The answer of a call over arrays, by the part that fails.
 use Rattle.std.proofs.Common.{◌≡◌, ◌==◌, Bool, true, false, List, [], ◌∷◌, ◌++◌, Option, None, Some, Result, Ok, Err, cond, refl, subst, ◌∙◌}
 use Rattle.std.specs.Prelude.{IsErrAnd}
 use Rattle.std.proofs.lemmas.Bool.{eqb-true}
@@ -14,7 +14,7 @@ use Rattle.dimacs_arrays.specs.declared.lengths.ArrayLength.{ArrayLength}
 use Rattle.dimacs_arrays.specs.Answers.{AnswersArrays, first_misfit, of_judge}
 use Rattle.dimacs_arrays.specs.inside.Answers.{Spells, TellsLengths}
 
--- each array has the length that it must have
+-- each array has the right length
 abbrev pub AllFit : List ArrayLength → Type 0
 AllFit [] = Unit {0}
 AllFit (l ∷ lengths) = (l.found ≡ l.wanted) × AllFit lengths
@@ -27,7 +27,7 @@ pub all_fit : (lengths : List ArrayLength) → first_misfit lengths ≡ None →
 all_fit [] e = tt
 all_fit (l ∷ lengths) e = let (here, rest) = fit_by (l.found == l.wanted) l (first_misfit lengths) refl e in (here, all_fit lengths rest)
 
--- the first that doesn't fit of two lists, one after the other
+-- the first array with a wrong length, in two joined lists
 front_by : (b : Bool) (one rest more : Option Array) (array : Array) → (rest ≡ Some array → more ≡ Some array) → cond b rest one ≡ Some array → cond b more one ≡ Some array
 front_by true one rest more array go e = go e
 front_by false one rest more array go e = e
@@ -45,7 +45,7 @@ misfit_after [] more e = refl
 misfit_after (l ∷ lengths) more e = after_by (l.found == l.wanted) l.array (first_misfit lengths) (first_misfit (lengths ++ more)) (first_misfit more) (misfit_after lengths more) e
 
 module _ {X : Type 0} (lengths : List ArrayLength) (limits : List Row) (lawful : Type 0) (answers : Result X JudgeError → Type 0) where
-  -- an array that doesn't fit
+  --   an array has a wrong length
   pub tells_misfit : (error : ArrayError) → TellsLengths lengths (Err error) → (result : Result X ArrayError) → IsErrAnd result (λ e. e ≡ error) → AnswersArrays lengths limits lawful answers result
   tells_misfit error told result is = let p = err_from_is_err_and result is in rw (p.1, p.2) (by_error error told)
     where
@@ -56,7 +56,7 @@ module _ {X : Type 0} (lengths : List ArrayLength) (limits : List Row) (lawful :
       by_error errors.Memory told = tt
 
   module _ (fit : first_misfit lengths ≡ None) where
-    -- a number past its limit
+    --     a number is out of range
     pub tells_limit : {I : Type 0} (i : I) (error : ArrayError) → AllOneWay limits → (lawful → AllClear limits) → Spells {X = I} limits i (Err error) → (result : Result X ArrayError) → IsErrAnd result (λ e. e ≡ error)
         → AnswersArrays lengths limits lawful answers result
     tells_limit {I} i error one needed told result is = let p = err_from_is_err_and result is in rw (p.1, p.2) (by_error error told)
@@ -67,7 +67,7 @@ module _ {X : Type 0} (lengths : List ArrayLength) (limits : List Row) (lawful :
         by_error (errors.Refused place reason) told = absurd told
         by_error errors.Memory told = tt
 
-    -- a test that fails
+    --     a test fails
     pub tells_refusal : lawful → (error : JudgeError) → answers (Err error) → (result : Result X ArrayError) → IsErrAnd result (λ e. e ≡ of_judge error) → AnswersArrays lengths limits lawful answers result
     tells_refusal law error told result is = let p = err_from_is_err_and result is in rw (p.1, p.2) (by_error error told)
       where
@@ -75,8 +75,8 @@ module _ {X : Type 0} (lengths : List ArrayLength) (limits : List Row) (lawful :
         by_error (judged.Refused place reason) told = (fit, law, told)
         by_error judged.Memory told = tt
 
--- a call over arrays: the lengths that its instance wants, and its claim; the limits; the instance that is spelled, its law,
--- and what is answered of it
+-- a call over arrays: the lengths that its instance and its claim need; the limits; the instance that is spelled,
+-- when it is lawful, and the answer for it
 pub record Call (X M : Type 0) : Type 1 where
   pub lengths : List ArrayLength
   pub claim_lengths : List ArrayLength
@@ -85,7 +85,7 @@ pub record Call (X M : Type 0) : Type 1 where
   pub lawful : M → Type 0
   pub answers : M → Result X JudgeError → Type 0
 
--- what such a call may answer
+-- the possible answers of such a call
 abbrev pub CallAnswers : {X M : Type 0} → Call X M → Result X ArrayError → Type 0
 CallAnswers call = AnswersArrays (call.lengths ++ call.claim_lengths) call.limits (call.lawful call.spelled) (call.answers call.spelled)
 
@@ -98,7 +98,7 @@ module _ {X M : Type 0} (call : Call X M) (fit : first_misfit call.lengths ≡ N
   call_tells_limit one needed error told result is =
       tells_limit (call.lengths ++ call.claim_lengths) call.limits (call.lawful call.spelled) (call.answers call.spelled) all_lengths_fit call.spelled error one needed told result is
 
-  -- the instance that was made is the one that is spelled
+  --   the call made the instance that is spelled
   module _ (made : M) (same : made ≡ call.spelled) (law : call.lawful made) where
     pub call_tells_refusal : (error : JudgeError) → call.answers made (Err error) → (result : Result X ArrayError) → IsErrAnd result (λ e. e ≡ of_judge error) → CallAnswers call result
     call_tells_refusal error told result is =

@@ -1,4 +1,4 @@
--- One node more of what arrays say by node.
+-- One more node of an array by node.
 use Rattle.std.proofs.Common.{◌≡◌, inl, inr, ℕ, zero, suc, ◌+◌, ◌<◌, ◌≤◌, ◌==◌, ◌||◌, ◌⊎◌, ◌^◌, List, [], ◌∷◌, length, get_or, map, Option, Some, None, Result, Ok, Err, Bool, true, false, cond, refl, sym, subst, ◌∙◌, ap, add-one, arith}
 use Rattle.std.proofs.Math.Path.{fun_ext}
 use mir.Val.{bool_byte}
@@ -23,7 +23,7 @@ use Rattle.dimacs_arrays.specs.inside.MinCertified.{AreShifted, IsLeastOf, IsWid
 use Rattle.dimacs_arrays.specs.MinArrays.{IsWider}
 use Rattle.dimacs_arrays.specs.ByNode.{AreBits, marked, number_of}
 
--- what is said of the first n nodes, and nothing of the others
+-- the items of the first n nodes, and none for the others
 module _ {T : Type 0} (nothing : T) where
   abbrev pub among : ℕ → T → ℕ → T
   among n x v = cond (nat_lt n v) nothing x
@@ -39,7 +39,7 @@ module _ {T : Type 0} (nothing : T) where
   ]
 
   module _ (x : T) (n v : ℕ) where
-    -- one node more, of which y is said
+    --     one more node, with the item y
     pub among_more : (y : T) → (v ≡ n + 1 → x ≡ y) → cond (v == n + 1) y (among n x v) ≡ among (n + 1) x v
     among_more y here = elim (cases_order v (n + 1)) [
       | inl same ↦ rw (eq-eqb v (n + 1) same, le-ltb (n + 1) v (omega (arith, same))) (sym (here same))
@@ -49,7 +49,7 @@ module _ {T : Type 0} (nothing : T) where
       ]
     ]
 
-    -- or nothing
+    --     or with none
     pub among_same : (v ≡ n + 1 → x ≡ nothing) → among n x v ≡ among (n + 1) x v
     among_same here = elim (cases_order v (n + 1)) [
       | inl same ↦ rw (lt-ltb n v (omega (arith, same)), le-ltb (n + 1) v (omega (arith, same))) (sym (here same))
@@ -97,7 +97,7 @@ one_if : (b : Bool) → nat_lt 0 (bool_byte b) ≡ b
 one_if true = refl
 one_if false = refl
 
--- the bytes of a set mark its nodes
+-- the bytes of a set mark its nodes, and no others
 marked-bytes : (set : ℕ → Bool) (nodes v : ℕ) → IsNode nodes v → marked (map (byte_in set) (range_with_len 1 nodes)) v ≡ set v
 marked-bytes set nodes zero node = absurd (omega (arith, node.0))
 marked-bytes set nodes (suc k) node = ap (λ n. nat_lt 0 n) (get_or-map-range_with_len (byte_in set) 1 nodes k (suc k) 0 (omega (arith, node.1)) (omega arith)) ∙ one_if (set (suc k))
@@ -123,7 +123,7 @@ one_bit : (b : Bool) → bool_byte b ≤ 1
 one_bit true = omega arith
 one_bit false = omega arith
 
--- each of them is 0 or 1
+-- each byte is 0 or 1
 pub bits : (set : ℕ → Bool) (ids : List ℕ) → AreBits (map (byte_in set) ids)
 bits set [] = All-nil _
 bits set (v ∷ ids) = All-cons (λ byte. byte ≤ 1) (byte_in set v) (map (byte_in set) ids) (one_bit (set v)) (bits set ids)
@@ -140,7 +140,7 @@ value_set : (t : Bool) (n : ℤ) (found : Option ℤ) → unwrap_or (cond t (Som
 value_set true n found = refl
 value_set false n found = refl
 
--- to set a potential changes that of one node
+-- setting a potential changes only that of its node
 potential_after : (p : PotentialsValue) (id : ℕ) (n : ℤ) (v : ℕ) → potential_of (with_potential p id n) v ≡ cond (v == id) n (potential_of p v)
 potential_after p id n v = by_test (int_eq n (pos 0)) refl
   where
@@ -170,7 +170,7 @@ module _ (numbers : List ℤ) where
   pub all_numbers : (p : PotentialsValue) → ((v : ℕ) → potential_of p v ≡ number_among (length numbers) (number_of numbers v) v) → potential_of p ≡ number_of numbers
   all_numbers p so_far = fun_ext (λ v. so_far v ∙ among_all (pos 0) (length numbers) (number_of numbers v) v (number_past v))
 
--- the potentials of all nodes, with a number added to each, in an array
+-- the potentials of all nodes, with the same number added to each
 abbrev pub sum_of : PotentialsValue → ℤ → ℕ → ℤ
 sum_of p shift v = potential_of p v +ℤ shift
 
@@ -182,7 +182,7 @@ sums_are p shift = record { each = length-map-range_with_len (sum_of p shift) 1 
     sums (suc k) node = get_or-map-range_with_len (sum_of p shift) 1 p.nodes k (suc k) (pos 0) (omega (arith, node.1)) (omega arith)
 
 -- ---- the least potential
--- the least of the potentials of the nodes up to i, and of that of node 1
+-- the least potential of the nodes up to i, node 1 included
 pub record IsLeastUpTo (p : PotentialsValue) (i : ℕ) (least : ℤ) : Type 0 where
   pub wide : IsWide least
   pub below : (v : ℕ) → IsNode i v → least ≤ℤ potential_of p v
@@ -208,7 +208,7 @@ least_more p i least next new next_is inside wide less small one is = record {
   ];
 }
 
--- where the least of them is moved to the least number of 64 bits, and one takes more
+-- if the least of them becomes the least number of 64 bits, and another doesn't fit
 pub wider_by : (p : PotentialsValue) (least shift : ℤ) → IsLeastOf p least → (least +ℤ shift) ≡ neg_ℤ (pos (2 ^ 63)) → IsWiderBy p shift → IsWider p
 wider_by p least shift is moved (v, node, more) =
     let (w, inside, same) = is.found (omega (arith, node.0, node.1)) in

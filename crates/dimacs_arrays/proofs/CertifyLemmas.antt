@@ -1,4 +1,4 @@
--- Flows that are certified over arrays.
+-- Certifying flows over arrays.
 use Rattle.std.proofs.Common.{◌≡◌, ℕ, List, [], ◌∷◌, All, length, ℤ, pos, ◌+ℤ◌, ◌<ℤ◌, arith, inl, sym, subst, ◌∙◌, Result}
 use Rattle.std.specs.Prelude.{IsErrAnd}
 use Rattle.std.specs.List.{AllZip}
@@ -42,14 +42,14 @@ use Rattle.dimacs_arrays.specs.MinArrays.{CertifiesMinFlow, IsMinBy, IsMinByWide
 use Rattle.dimacs_arrays.specs.inside.MinCertified.{AreShifted, IsLeastBy}
 
 -- ---- maximum
--- a cut that is tight, in bytes
+-- a tight cut, as bytes
 pub max_by : (i : MaxValue) (x : List ℤ) (cut : CutValue) (total : ℤ) (bytes : List ℕ) → Maximum i x → CutTight i x (members cut) → cut.nodes ≡ i.nodes → total ≡ value i x
     → length bytes ≡ cut.nodes → marked bytes ≡ members cut → AreBits bytes → IsMaxBy i x total bytes
 max_by i x cut total bytes maximum tight nodes total_is each marks bits =
     ((record { feasible = maximum.feasible; tight = subst (CutTight i x) (sym marks) tight }, maximum), total_is, each ∙ nodes, bits)
 
 module _ (i : MaxValue) (x : List ℤ) where
-  -- whatever is said of the flow, it is feasible
+  --   each answer about the flow shows that it is feasible
   pub max_feasible : (told : MaxCertified) → CertifiesMaxFlow i x told → (done : Unit {0}) × FeasibleMax i x
   max_feasible (max_told.Optimal total inside) says = (tt, says.0.0.feasible)
   max_feasible (max_told.Better y) says = (tt, says.claimed)
@@ -58,7 +58,7 @@ module _ (i : MaxValue) (x : List ℤ) where
   max_better y feasible told = record { claimed = feasible; not_maximum = told.0; feasible = told.1; greater = told.2 }
 
 -- ---- least
--- potentials stay slack where the same number is added to each
+-- potentials stay slack if the same number is added to each
 module _ (nodes : ℕ) (p q : ℕ → ℤ) (shift : ℤ) (sums : (v : ℕ) → IsNode nodes v → q v ≡ p v +ℤ shift) where
   slack_at : (a : ArcView) (z : ℤ) → JoinsNodes nodes a → IsSlackAt p a z → IsSlackAt q a z
   slack_at a z joined slack =
@@ -72,7 +72,7 @@ module _ (nodes : ℕ) (p q : ℕ → ℤ) (shift : ℤ) (sums : (v : ℕ) → I
   all_slack (a ∷ arcs) (z ∷ y) joined slack = (slack_at a z (All-head (JoinsNodes nodes) a arcs joined) slack.0, all_slack arcs y (All-tail (JoinsNodes nodes) a arcs joined) slack.1)
 
 module _ (i : MinValue) (x : List ℤ) (p : PotentialsValue) (total : ℤ) where
-  -- potentials that are slack, in an array
+  --   slack potentials, in an array
   pub min_by : (numbers : List ℤ) → All (JoinsNodes i.nodes) i.arcs → Least i x → Clear (cost_row i.arcs x) → Slack i.arcs x (potential_of p) → p.nodes ≡ i.nodes → total ≡ cost i.arcs x
       → (shift : ℤ) → AreShifted p shift numbers → IsMinBy i x total numbers
   min_by numbers joined least costs slack nodes total_is shift are =
@@ -80,7 +80,7 @@ module _ (i : MinValue) (x : List ℤ) (p : PotentialsValue) (total : ℤ) where
       let moved = all_slack i.nodes (potential_of p) (number_of numbers) shift sums i.arcs x joined slack in
       ((record { feasible = least.feasible; costs_wide = costs_wide i.arcs x costs; slack = moved }, least), total_is, are.each ∙ nodes)
 
-  -- or wider than that
+  --   or slack potentials that don't fit into one
   pub min_by_wider : Least i x → Clear (cost_row i.arcs x) → Slack i.arcs x (potential_of p) → p.nodes ≡ i.nodes → total ≡ cost i.arcs x → IsWider p → IsMinByWider i x total p
   min_by_wider least costs slack nodes total_is wider = ((record { feasible = least.feasible; costs_wide = costs_wide i.arcs x costs; slack = slack }, least), total_is, nodes, wider)
 

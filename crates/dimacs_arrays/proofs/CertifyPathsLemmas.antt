@@ -1,4 +1,4 @@
--- The predecessors of labels that are decided to be right.
+-- The predecessors of labels that were shown to be right.
 use Rattle.std.proofs.Common.{◌≡◌, ◌≢◌, inl, inr, ℕ, List, [], ◌∷◌, ◌++◌, All, length, get_or, Option, Some, None, IsSome, ℤ, refl, sym, ap, subst, ◌∙◌, arith}
 use Rattle.std.proofs.lemmas.Bool.Decides.{eqb_tells}
 use Rattle.std.proofs.lemmas.Bool.{cases_eq, ne_eqb}
@@ -14,7 +14,7 @@ use Rattle.dimacs_decide.specs.Distances.{AreLabelsOf}
 use Rattle.dimacs_arrays.specs.Paths.{AreLabelsBy, IsDue, pred_by_node}
 use Rattle.dimacs_arrays.specs.inside.LabelTrees.{ArePredsOf}
 
--- no label is that of the source
+-- no label is of the source
 pub not_source : (s : ℕ) (done rest : List Label) → EachAfter (IsFresh s) (done ++ rest) → All (λ (l : Label). l.id ≢ s) rest
 not_source s done [] each = All-nil _
 not_source s done (l ∷ rest) each = All-cons (λ (m : Label). m.id ≢ s) l rest (each done rest l refl).0 (not_source s (done ++ l ∷ []) rest (subst (EachAfter (IsFresh s)) (sym (append_assoc done (l ∷ []) rest)) each))

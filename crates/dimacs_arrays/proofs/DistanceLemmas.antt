@@ -1,4 +1,4 @@
--- Distances by node stand at nodes.
+-- Only nodes have distances.
 use Rattle.std.proofs.Common.{◌≡◌, inl, inr, ℕ, zero, suc, ◌<◌, List, length, Option, Some, None, IsSome, is_some, true, false, ℤ, refl, sym, ap, ◌∙◌, arith}
 use Rattle.std.specs.Prelude.{slice_get}
 use Rattle.std.proofs.lemmas.Bool.{cases_lt}
@@ -20,7 +20,7 @@ distance_within distances (suc k) some =
     let (d, is) = there (slice_get distances k) some in
     (omega arith, omega (arith, slice_get_within distances k d is))
 
--- ---- where there is no distance there is no predecessor
+-- ---- without a distance there is no predecessor
 past_end : (preds : List ℕ) (v : ℕ) → length preds < v → pred_by_node preds v ≡ 0
 past_end preds zero past = refl
 past_end preds (suc k) past = get_or_past preds k 0 (omega (arith, past))

@@ -1,4 +1,4 @@
--- The arrays of a graph, one arc after another.
+-- The arrays of a graph, arc by arc.
 use Rattle.std.proofs.Common.{◌≡◌, inl, ℕ, ◌+◌, ◌<◌, List, [], ◌∷◌, ◌++◌, length, map, sym, ap, ◌∙◌, arith}
 use Rattle.std.specs.List.{range_with_len}
 use Rattle.std.proofs.lemmas.Int.{ints}
@@ -23,11 +23,11 @@ module _ (a : GraphArrays) where
   abbrev count : ℕ
   count = length a.tails.now
 
-  -- the first so many arcs
+  --   the first arcs
   abbrev pub weighted_arcs : ℕ → List ArcView
   weighted_arcs n = map (weighted_arc a) (range_with_len 0 n)
 
-  -- and the graph that has them
+  --   the graph with these arcs
   abbrev pub graph_begun : ℕ → NetworkValue
   graph_begun n = record { nodes = a.nodes; arcs = weighted_arcs n }
 
@@ -45,7 +45,7 @@ module _ (a : GraphArrays) where
       let counts = counts_clear a.nodes count graph.nodes_few (omega (arith, graph.arcs_few, length-map-range_with_len (weighted_arc a) 0 count)) in
       (counts.0, (counts.1.0, (one_clear (Node s) NodeRange _ (λ off. off law.1), (limits_clear a.nodes (weighted_arcs count) graph.joined (All-weaker HasWeightAlone HasLawfulBounds lawful_bounds (weighted_arcs count) graph.weights), tt))))
 
-  -- the first number past its limit, and one that isn't
+  --   the first number out of range, and one in range
   module _ (s : ℕ) (counts : AllClear (count_rows a.nodes count)) (source : AllClear (source_rows a.nodes s)) (k : ℕ) (inside : k < count) (arc : ArcView) (arc_is : arc ≡ weighted_arc a k) (below : ClearBelow (limit_row a.nodes (weighted_arcs count)) k) where
     same_arc : arc_at (weighted_arcs count) k ≡ arc
     same_arc = get_or-map-range_with_len (weighted_arc a) 0 count k k no_arc inside (omega arith) ∙ sym arc_is

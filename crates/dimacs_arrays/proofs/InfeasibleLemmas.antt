@@ -1,4 +1,4 @@
--- A set of marked nodes that is judged as a set of the nodes of its instance.
+-- A set of marked nodes, judged as a set of nodes of the instance.
 use Rattle.std.proofs.Common.{◌≡◌, inl, inr, [], ◌∷◌, Result, Ok, Err}
 use Rattle.dimacs_claims.specs.Cuts.{CutValue}
 use Rattle.dimacs_instance.specs.MinFlows.{MinValue}

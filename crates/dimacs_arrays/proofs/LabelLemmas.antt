@@ -1,4 +1,4 @@
--- Labels that distances and predecessors spell: that there are some, or that there are none.
+-- Whether distances and predecessors spell labels.
 use Rattle.std.proofs.Common.{◌≡◌, inl, inr, ℕ, suc, ◌==◌, Bool, true, false, List, [], ◌∷◌, ◌++◌, All, Contains, Option, Some, None, IsSome, is_some, Result, Ok, Err, ℤ, refl, sym, ap, subst, ◌∙◌, arith}
 use Rattle.std.specs.Result.{IsErrAnd}
 use Rattle.std.proofs.lemmas.Bool.{cases_Bool, cases_eq, ne_eqb}
@@ -116,7 +116,7 @@ module _ (nodes s : ℕ) (claim : ℕ → Option ℤ) (pred : ℕ → ℕ) where
       λ labels are. first.fails.2.2 (spelled_leads labels are first.number first.fails.0 first.fails.2.1),
     )
 
-  -- ---- where no test fails
+  --   ---- if no test fails
   pub zero_pred : Clear (pred_row nodes s claim pred) → (v : ℕ) → IsNode nodes v → (¬ IsDue s claim v) → pred v ≡ 0
   zero_pred clear v node free = elim (cases_eq (pred v) 0) [
     | inl none ↦ none
@@ -146,7 +146,7 @@ module _ (nodes s : ℕ) (claim : ℕ → Option ℤ) (pred : ℕ → ℕ) where
   pub in_order : (b : BlockValue) (led : ℕ → Bool) → IsLabelTree nodes s claim pred b led → AreInOrder s claim pred (record { nodes = nodes; blocks = b ∷ [] })
   in_order b led is = All-cons (λ c. EachAfter (IsNext s claim pred) c.labels) b [] is.order (All-nil _)
 
-  -- the first test that fails is the error
+  --   the error is the first test that fails
   pub refused : (place : Where) (reason : Reason) → HasNone place reason → (result : Result LabelsValue JudgeError) → IsErrAnd result (λ error. error ≡ Refused place reason) → Settles (AreLabelsBy nodes s claim pred) (label_rows nodes s claim pred) result
   refused place reason none (Ok labels) is = absurd is
   refused place reason none (Err error) is = subst (Refutes (AreLabelsBy nodes s claim pred) (label_rows nodes s claim pred)) (sym is) none
@@ -157,7 +157,7 @@ module _ (nodes s : ℕ) (claim : ℕ → Option ℤ) (pred : ℕ → ℕ) where
   refused_by source preds Memory first (Ok labels) is = absurd is
   refused_by source preds Memory first (Err error) is = subst (Refutes (AreLabelsBy nodes s claim pred) (label_rows nodes s claim pred)) (sym is) tt
 
--- there are no labels of which judge_paths could say anything
+-- there are no labels for judge_paths
 pub unlabelled : (g : NetworkValue) (s : ℕ) (claim : ℕ → Option ℤ) (pred : ℕ → ℕ) (error : JudgeError) → Refutes (AreLabelsBy g.nodes s claim pred) (label_rows g.nodes s claim pred) error → (result : Result Verdict JudgeError) → IsErrAnd result (λ e. e ≡ error)
     → JudgesByNode g s claim pred result
 unlabelled g s claim pred error refutes (Ok verdict) is = absurd is

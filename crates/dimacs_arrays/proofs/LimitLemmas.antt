@@ -15,7 +15,7 @@ use Rattle.dimacs_judge.specs.Tests.{AllClear, Clear, FirstOfRow}
 use Rattle.dimacs_judge.proofs.Firsts.{AllOneWay, OneWay, arc_one_way, one_test_one_way}
 use Rattle.dimacs_arrays.specs.Limits.{ArcFails, count_rows, limit_row}
 
--- a single test that fails, or passes
+-- a single test fails, or passes
 pub one_first : (place : Where) (why : Reason) (fails : Type 0) → fails → FirstOfRow (one_test place why fails) place why
 one_first place why fails f = record { number = 0; fails = (refl, refl, refl, f); earlier = λ k below. absurd (omega (arith, below)) }
 

@@ -1,4 +1,4 @@
--- The arrays of a maximum flow instance, one arc after another.
+-- The arrays of a maximum flow instance, arc by arc.
 use Rattle.std.proofs.Common.{◌≡◌, ◌≢◌, inl, ℕ, ◌+◌, ◌<◌, List, [], ◌∷◌, ◌++◌, length, map, sym, ap, ◌∙◌, arith}
 use Rattle.std.specs.List.{range_with_len}
 use Rattle.std.proofs.lemmas.Int.{ints}
@@ -30,11 +30,11 @@ module _ (a : MaxArrays) where
   abbrev count : ℕ
   count = length a.tails.now
 
-  -- the first so many arcs
+  --   the first arcs
   abbrev pub max_arcs : ℕ → List ArcView
   max_arcs n = map (max_arc a) (range_with_len 0 n)
 
-  -- and the instance that has them
+  --   the instance with these arcs
   abbrev pub max_begun : ℕ → MaxValue
   max_begun n = record { nodes = a.nodes; source = a.source; sink = a.sink; arcs = max_arcs n }
 
@@ -52,7 +52,7 @@ module _ (a : MaxArrays) where
       let ends = ends_clear a.nodes a.source a.sink law.source_within law.sink_within law.ends_apart in
       (counts.0, (counts.1.0, (ends.0, (ends.1.0, (ends.1.1.0, (limits_clear a.nodes (max_arcs count) law.joined (All-weaker HasCapacityAlone HasLawfulBounds lawful_bounds (max_arcs count) law.capacities), tt))))))
 
-  -- the first number past its limit, and one that isn't
+  --   the first number out of range, and one in range
   module _ (counts : AllClear (count_rows a.nodes count)) (ends : AllClear (end_rows a.nodes a.source a.sink)) (k : ℕ) (inside : k < count) (arc : ArcView) (arc_is : arc ≡ max_arc a k) (below : ClearBelow (limit_row a.nodes (max_arcs count)) k) where
     same_arc : arc_at (max_arcs count) k ≡ arc
     same_arc = get_or-map-range_with_len (max_arc a) 0 count k k no_arc inside (omega arith) ∙ sym arc_is

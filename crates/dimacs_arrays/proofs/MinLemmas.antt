@@ -1,4 +1,4 @@
--- The arrays of a minimum cost flow instance, one arc and one supply after another.
+-- The arrays of a minimum cost flow instance, supply by supply and arc by arc.
 use Rattle.std.proofs.Common.{◌≡◌, inl, ℕ, suc, ◌+◌, ◌<◌, ◌≤◌, ◌==◌, List, [], ◌∷◌, ◌++◌, length, map, take, get_or, false, refl, sym, ap, ◌∙◌, arith}
 use Rattle.std.specs.Prelude.{ℤ, pos}
 use Rattle.std.specs.List.{list_any, range_with_len, zip}
@@ -43,7 +43,7 @@ by_node_more xs x = from_first xs 1
         let same : length ys + (first + 1) ≡ suc (length ys) + first = omega arith in
         ap (λ rest. (first, y) ∷ rest) (from_first ys (first + 1) ∙ ap (λ n. zip (range_with_len (first + 1) (length ys)) ys ++ (n, x) ∷ []) same)
 
--- one supply more
+-- one more supply
 pub supplies_more : (xs : List ℤ) (x : ℤ) (nodes : ℕ) (arcs : List ArcView) → with_supply (record { nodes = nodes; supplies = supplies_by_node xs; arcs = arcs }) (length xs + 1) x
     ≡ record { nodes = nodes; supplies = supplies_by_node (xs ++ x ∷ []); arcs = arcs }
 supplies_more xs x nodes arcs =
@@ -51,7 +51,7 @@ supplies_more xs x nodes arcs =
     ap from_entries (by_node_more xs x) ∙ map_more (by_node xs) (length xs + 1) x (none_past xs 1 (length xs + 1) (omega arith)) in
     ap (λ m. record { nodes = nodes; supplies = m; arcs = arcs }) (sym (ap without_zeros named ∙ without_zeros-insert (from_entries (by_node xs)) (length xs + 1) x))
 
--- the instance with the first so many supplies, as yet without arcs
+-- the instance with the first supplies, still without arcs
 abbrev pub supplied_by : List ℤ → ℕ → ℕ → MinValue
 supplied_by xs nodes n = record { nodes = nodes; supplies = supplies_by_node (take n xs); arcs = [] }
 
@@ -73,11 +73,11 @@ module _ (a : MinArrays) where
   abbrev count : ℕ
   count = length a.tails.now
 
-  -- the first so many arcs
+  --   the first arcs
   abbrev pub min_arcs : ℕ → List ArcView
   min_arcs n = map (min_arc a) (range_with_len 0 n)
 
-  -- and the instance that has them
+  --   the instance with these arcs
   abbrev pub min_begun : ℕ → MinValue
   min_begun n = record { nodes = a.nodes; supplies = supplies_by_node a.supplies.now; arcs = min_arcs n }
 
@@ -91,7 +91,7 @@ module _ (a : MinArrays) where
       let counts = counts_clear a.nodes count law.nodes_few (omega (arith, law.arcs_few, length-map-range_with_len (min_arc a) 0 count)) in
       (counts.0, (counts.1.0, (limits_clear a.nodes (min_arcs count) law.joined (All-weaker HasBounds HasLawfulBounds (λ b bounds. (bounds.0, bounds.1)) (min_arcs count) law.bounds), tt)))
 
-  -- the first number past its limit, and one that isn't
+  --   the first number out of range, and one in range
   module _ (counts : AllClear (count_rows a.nodes count)) (k : ℕ) (inside : k < count) (arc : ArcView) (arc_is : arc ≡ min_arc a k) (below : ClearBelow (limit_row a.nodes (min_arcs count)) k) where
     same_arc : arc_at (min_arcs count) k ≡ arc
     same_arc = get_or-map-range_with_len (min_arc a) 0 count k k no_arc inside (omega arith) ∙ sym arc_is

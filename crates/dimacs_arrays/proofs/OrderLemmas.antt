@@ -1,4 +1,4 @@
--- Labels that say the same pass together, whatever their order.
+-- Labels with the same distances and predecessors pass together, in any order.
 use Rattle.std.proofs.Common.{◌≡◌, ◌≢◌, inl, inr, ℕ, suc, ◌<◌, List, [], ◌∷◌, All, Contains, length, get_or, Option, Some, ℤ, ◌+ℤ◌, refl, sym, ap, subst, ◌∙◌, arith}
 use Rattle.std.proofs.lemmas.Bool.{ne_eqb}
 use Rattle.std.proofs.lemmas.Bool.Decides.{eqb_tells}
@@ -80,7 +80,7 @@ module _ (g : NetworkValue) (s : ℕ) (claim : ℕ → Option ℤ) (pred : ℕ �
         labels = subst (All (LabelsOk g.arcs)) (sym yours_alone) (All-cons (LabelsOk g.arcs) b' [] (labels_pass (All-head (LabelsOk g.arcs) b [] (subst (All (LabelsOk g.arcs)) mine_alone passes.labels))) (All-nil _));
       }
 
--- labels that are decided to be right, by the predecessors of their one block
+-- labels that are right, by the predecessors of their only block
 pub predecessors_by : (g : NetworkValue) (s : ℕ) (claim : ℕ → Option ℤ) (labels : LabelsValue) (b : BlockValue) (preds : List ℕ) → AreLabelsOf g s claim labels → labels.blocks ≡ b ∷ [] → IsBlock g.nodes b → ArePredsOf g.nodes b.labels preds
     → All (JoinsNodes g.nodes) g.arcs → ArePredecessors g s claim preds
 predecessors_by g s claim labels b preds of alone lawful named joined =

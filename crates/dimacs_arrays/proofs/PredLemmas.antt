@@ -1,4 +1,4 @@
--- The predecessors of labels by node.
+-- Predecessors by node, from labels.
 use Rattle.std.proofs.Common.{◌≡◌, ◌≢◌, inl, inr, ℕ, suc, zero, ◌+◌, ◌-◌, ◌<◌, ◌≤◌, List, length, get_or, None, Some, refl, sym, ap, subst, ◌∙◌, arith}
 use Rattle.std.specs.Prelude.{slice_set}
 use Rattle.std.proofs.lemmas.Bool.{cases_order}
@@ -15,7 +15,7 @@ use Rattle.dimacs_arrays.specs.inside.LabelTrees.{ArePredsOf}
 abbrev pub at_place : List Label → ℕ → Label
 at_place labels j = get_or labels j no_label
 
--- the predecessors of the first n labels are there, and no other
+-- the array has the predecessors of the first n labels, and no others
 pub record AreFilled (labels : List Label) (preds : List ℕ) (n : ℕ) : Type 0 where
   pub named : (j : ℕ) → j < n → pred_by_node preds (at_place labels j).id ≡ (at_place labels j).pred
   pub others : (v : ℕ) → ((j : ℕ) → j < n → (at_place labels j).id ≢ v) → pred_by_node preds v ≡ 0
@@ -29,7 +29,7 @@ set_there preds u zero p some apart = refl
 set_there preds u (suc k) p some apart = get_or-set_other preds (u - 1) k p 0 (λ e. apart (omega (arith, e, some)))
 
 module _ (labels : List Label) (apart : NodesAreApart labels) (preds : List ℕ) where
-  -- one label more
+  --   one more label
   pub filled_more : (n : ℕ) → n < length labels → IsNode (length preds) (at_place labels n).id → AreFilled labels preds n → AreFilled labels (slice_set preds ((at_place labels n).id - 1) (at_place labels n).pred) (n + 1)
   filled_more n inside node is = record {
     named = λ j less. elim (cases_order j n) [
@@ -45,7 +45,7 @@ module _ (labels : List Label) (apart : NodesAreApart labels) (preds : List ℕ)
       after : List ℕ
       after = slice_set preds ((at_place labels n).id - 1) (at_place labels n).pred
 
-  -- those of all labels
+  --   after all labels
   pub filled_all : (nodes n : ℕ) → length labels ≡ n → length preds ≡ nodes → AreFilled labels preds n → ArePredsOf nodes labels preds
   filled_all nodes n over each is = record {
     each = each;

@@ -1,4 +1,4 @@
--- The distances of labels by node.
+-- Distances by node, from labels.
 use Rattle.std.proofs.Common.{◌≡◌, ◌≢◌, inl, inr, ℕ, suc, zero, ◌+◌, ◌-◌, ◌^◌, ◌<◌, List, [], ◌∷◌, length, replicate, Option, None, Some, true, ℤ, pos, ◌<ℤ◌, refl, sym, ap, ◌∙◌, arith}
 use Rattle.std.specs.Prelude.{int_lt, slice_set}
 use Rattle.std.proofs.lemmas.Bool.{cases_lt, cases_order}
@@ -16,7 +16,7 @@ use Rattle.dimacs_arrays.specs.Paths.{IsSayable}
 use Rattle.dimacs_arrays.specs.inside.Reached.{AreDistancesOf}
 use Rattle.dimacs_arrays.proofs.PredLemmas.{at_place}
 
--- ---- one distance more
+-- ---- one more distance
 below : (x y : ℤ) → x <ℤ y → int_lt x y ≡ true
 below x y less = grind (arith, ints)
 
@@ -50,7 +50,7 @@ none_claimed nodes (suc k) = elim (cases_lt k nodes) [
   | inr past ↦ ap unless_greatest (slice_get_past (replicate nodes (pos (2 ^ 63 - 1))) k (omega (arith, past, length-replicate nodes (pos (2 ^ 63 - 1)))))
 ]
 
--- ---- the distances of labels, one after another
+-- ---- the distances of labels, label by label
 -- 0 at the source, and the distances of the first n labels; no others
 pub record AreReachedBy (b : BlockValue) (nodes : ℕ) (distances : List ℤ) (n : ℕ) : Type 0 where
   pub each : length distances ≡ nodes

@@ -1,4 +1,4 @@
--- Distances that rise along arcs are true.
+-- If every distance has a rising arc, the distances are right.
 use Rattle.std.proofs.Common.{◌≡◌, ◌≢◌, inl, inr, ℕ, suc, zero, ◌+◌, ◌-◌, ◌^◌, ◌<◌, ◌≤◌, List, [], ◌∷◌, All, length, get_or, Option, Some, None, Ok, IsSome, is_some, ℤ, pos, ◌+ℤ◌, ◌≤ℤ◌, ◌<ℤ◌, refl, sym, ap, subst, ◌∙◌, arith}
 use Rattle.std.specs.Prelude.{int_lt, slice_get, slice_set}
 use Rattle.std.proofs.lemmas.Bool.{cases_Bool, cases_eq, cases_order}
@@ -97,7 +97,7 @@ module _ (g : NetworkValue) (s : ℕ) (distances : List ℤ) (preds : List ℕ) 
   inside : (v : ℕ) → IsSome (claim v) → IsNode g.nodes v
   inside v some = subst (λ n. IsNode n v) are.whole (distance_within distances v some)
 
-  -- the arc that leads to a node from its predecessor
+  --   a rising arc to a node from its predecessor
   made : (v : ℕ) (d : ℤ) → v ≢ s → claim v ≡ Some d → HasRisingArc g.arcs claim (pred v) v
   made v d apart named = are.rising.made v (are.reached v (apart, ap is_some named))
 
@@ -175,13 +175,13 @@ module _ (g : NetworkValue) (s : ℕ) (distances : List ℤ) (preds : List ℕ) 
     pub rising_true : AreDistancesFrom g s claim
     rising_true v at = carried s v (label b v) (claim v) b.radius by.source (by.says v at) by.whole (labels_are_distances g.arcs b by.lawful.preds (stays_near g.nodes b by.lawful) passes v)
 
-  -- the distances are true, and the predecessors show it
+  --   the distances are right, and the predecessors show it
   pub rising_certified : AreDistancesFrom g s claim × ArePredecessors g s claim preds
   rising_certified =
       let (labels, by, order) = sink_labels g.nodes s claim pred small are_nearer in
       (rising_true labels by, record { each = are.each; some = (labels, by); pass = rising_pass })
 
-  -- the judge says yes to the labels that they spell
+  --   the judge accepts the labels that they spell
   pub rising_judged : JudgesByNode g s claim pred (Ok (verdicts.Sources 1))
   rising_judged =
       let (labels, by, order) = sink_labels g.nodes s claim pred small are_nearer in

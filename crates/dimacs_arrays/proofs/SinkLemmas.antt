@@ -1,4 +1,4 @@
--- Labels of nodes whose predecessors are nearer.
+-- Labels, if each predecessor is nearer than its node.
 use Rattle.std.proofs.Common.{◌≡◌, ◌≢◌, ◌⊎◌, inl, inr, ℕ, suc, zero, ◌+◌, ◌≤◌, ◌==◌, Bool, true, false, cond, [], ◌∷◌, Option, Some, None, IsSome, is_some, ℤ, pos, negsuc, ◌≤ℤ◌, ◌<ℤ◌, refl, sym, ap, subst, ◌∙◌, arith}
 use Rattle.std.proofs.lemmas.Bool.{cases_Bool, cases_eq, cases_order, ne_eqb}
 use Rattle.std.proofs.lemmas.Bool.Decides.{eqb_tells}
@@ -14,7 +14,7 @@ use Rattle.dimacs_arrays.specs.inside.LabelTrees.{AreLed, AreLedBelow, IsLabelTr
 use Rattle.dimacs_arrays.proofs.LabelLemmas.{in_order, spelled}
 use Rattle.dimacs_arrays.proofs.TreeLemmas.{begun, few, grown, next_label, pred_labelled, source_led, unlabelled}
 
--- ---- one step back more
+-- ---- one more step back
 back_more : (pred : ℕ → ℕ) (n v : ℕ) → back pred (suc n) v ≡ pred (back pred n v)
 back_more pred zero v = refl
 back_more pred (suc n) v = back_more pred n (pred v)
@@ -30,11 +30,11 @@ some_value : (o : Option ℤ) → IsSome o → (d : ℤ) × (o ≡ Some d)
 some_value None some = absurd (let f : false ≡ true = some in cc)
 some_value (Some d) some = (d, refl)
 
--- the predecessor of a node has a distance that is less, and not negative
+-- the node has a distance that is less than d, and not negative
 abbrev pub IsNearer : (ℕ → Option ℤ) → ℕ → ℤ → Type 0
 IsNearer claim p d = (e : ℤ) × (claim p ≡ Some e) × (pos 0 ≤ℤ e) × (e <ℤ d)
 
--- each node with a distance but the source has a predecessor that is nearer, and the others have none
+-- each node with a distance but the source has a nearer predecessor, and the others have none
 pub record AreNearer (nodes s : ℕ) (claim : ℕ → Option ℤ) (pred : ℕ → ℕ) : Type 0 where
   pub source : IsNode nodes s
   pub at : claim s ≡ Some (pos 0)
@@ -44,11 +44,11 @@ pub record AreNearer (nodes s : ℕ) (claim : ℕ → Option ℤ) (pred : ℕ �
   pub others : (v : ℕ) → (¬ IsDue s claim v) → pred v ≡ 0
 
 module _ (nodes s : ℕ) (claim : ℕ → Option ℤ) (pred : ℕ → ℕ) (small : nodes ≤ most_nodes) (are : AreNearer nodes s claim pred) where
-  -- only nodes no further than d got labels
+  --   only nodes with distances up to d are labelled
   abbrev OnlyNear : ℤ → (ℕ → Bool) → (ℕ → Bool) → Type 0
   OnlyNear d led after = (w : ℕ) (c : ℤ) → after w ≡ true → claim w ≡ Some c → (led w ≡ true) ⊎ (c ≤ℤ d)
 
-  -- more labels, and that of u among them
+  --   no label is lost, and u is labelled
   abbrev Grown : ℕ → ℤ → (ℕ → Bool) → Type 0
   Grown u d led = (b : BlockValue) × (after : ℕ → Bool) × IsLabelTree nodes s claim pred b after × Keeps led after × (after u ≡ true) × OnlyNear d led after
 
@@ -56,7 +56,7 @@ module _ (nodes s : ℕ) (claim : ℕ → Option ℤ) (pred : ℕ → ℕ) (smal
     root_some : IsSome (claim root)
     root_some = ap is_some rooted
 
-    -- the label of a node whose predecessor has one
+    --     the label of a node whose predecessor is labelled
     placed : (b : BlockValue) (led : ℕ → Bool) (u : ℕ) (d : ℤ) → IsLabelTree nodes s claim pred b led → AreLedBelow claim led root → led root ≡ false → claim u ≡ Some d → pos 0 ≤ℤ d → LeadsBack pred u root → led u ≡ false → led (pred u) ≡ true → Grown u d led
     placed b led u d is below unled named low leads new from = (with_label b l, after, grown nodes s claim pred b led u is new d after node from next named lawful adds here others, keeps, here, only)
       where
@@ -103,7 +103,7 @@ module _ (nodes s : ℕ) (claim : ℕ → Option ℤ) (pred : ℕ → ℕ) (smal
     nearer_too led w c d e less (inl was) = inl was
     nearer_too led w c d e less (inr near) = inr (omega (arith, ints, near, less))
 
-    -- that of u, after those of the way back from its predecessor
+    --     the label of u, after those of the way back from its predecessor
     with_parent : (b : BlockValue) (led : ℕ → Bool) (u : ℕ) (d e : ℤ) → AreLedBelow claim led root → led root ≡ false → claim u ≡ Some d → d ≤ℤ far → LeadsBack pred u root → pos 0 ≤ℤ e → e <ℤ d → Grown (pred u) e led → Grown u d led
     with_parent b led u d e below unled named close leads low less (b', after, tree, keeps, there, only) =
         let still : after root ≡ false = elim (cases_Bool (after root)) [
@@ -124,7 +124,7 @@ module _ (nodes s : ℕ) (claim : ℕ → Option ℤ) (pred : ℕ → ℕ) (smal
     not_the_source : (b : BlockValue) (led : ℕ → Bool) (u : ℕ) → IsLabelTree nodes s claim pred b led → led u ≡ false → u ≢ s
     not_the_source b led u is off e = let f : true ≡ false = sym (source_led nodes s claim pred b led is).0 ∙ (ap led (sym e) ∙ off) in absurd (cc)
 
-    -- the labels of the way back from u, which is on that from the root
+    --     the labels of the way back from u, itself on the way from the root
     climbed : (fuel : ℕ) (b : BlockValue) (led : ℕ → Bool) (u : ℕ) (d : ℤ) → IsLabelTree nodes s claim pred b led → AreLedBelow claim led root → led root ≡ false → claim u ≡ Some d → d ≤ℤ pos fuel → d ≤ℤ far → LeadsBack pred u root → Grown u d led
     climbed zero b led u d is below unled named most close leads = elim (cases_Bool (led u)) [
       | inl on ↦ (b, led, is, λ v h. h, on, λ w c h at. inl h)
@@ -137,7 +137,7 @@ module _ (nodes s : ℕ) (claim : ℕ → Option ℤ) (pred : ℕ → ℕ) (smal
           with_parent b led u d e below unled named close leads low less (climbed k b led (pred u) e is below unled from (omega (arith, ints, most, less)) (omega (arith, ints, close, less)) (leads_more pred u root leads))
     ]
 
-  -- the labels of all nodes before n
+  --   all nodes before n with a distance are labelled
   abbrev LedBelow : ℕ → Type 0
   LedBelow n = (b : BlockValue) × (led : ℕ → Bool) × IsLabelTree nodes s claim pred b led × AreLedBelow claim led n
 
@@ -192,7 +192,7 @@ module _ (nodes s : ℕ) (claim : ℕ → Option ℤ) (pred : ℕ → ℕ) (smal
   preds_clear : Clear (pred_row nodes s claim pred)
   preds_clear v place reason fails = fails.2.1 (is_pred v)
 
-  -- there are labels by these predecessors
+  --   labels with these predecessors exist
   pub sink_labels : (labels : LabelsValue) × AreLabelsBy nodes s claim pred labels × AreInOrder s claim pred labels
   sink_labels =
       let (b, led, is, below) = all_below (nodes + 1) in

@@ -1,4 +1,4 @@
--- What is solved over arrays.
+-- Solving over arrays.
 use Rattle.std.proofs.Common.{◌≡◌, inl, inr, ℕ, ◌≤◌, List, [], ◌∷◌, All, length, map, get_or, None, Some, ℤ, refl, sym, ap, subst, ◌∙◌, arith}
 use Rattle.std.proofs.lemmas.Bool.Decides.{eqb_tells}
 use Rattle.std.proofs.lemmas.List.Elements.{All-cons, All-head, All-nil}
@@ -25,7 +25,7 @@ use Rattle.dimacs_arrays.specs.inside.Reached.{AreDistancesOf}
 use Rattle.dimacs_arrays.proofs.OrderLemmas.{predecessors_by}
 
 -- ---- no flow
--- a violated set, in bytes
+-- a violated set, as bytes
 pub infeasible_by : (i : MinValue) (set : CutValue) (bytes : List ℕ) → ShowsNoFlow i set → length bytes ≡ set.nodes → marked bytes ≡ members set → AreBits bytes
     → IsInfeasibleBy i bytes
 infeasible_by i set bytes shown each marks bits = ((subst (Violated i) (sym marks) shown.0.violated, shown.1), each ∙ shown.0.nodes_are, bits)

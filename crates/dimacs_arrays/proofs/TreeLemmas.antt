@@ -16,7 +16,7 @@ use Rattle.dimacs_arrays.specs.inside.LabelTrees.{AreLedBelow, IsLabelTree, Keep
 one_led : (led after : ℕ → Bool) (at : ℕ) → ((v : ℕ) → v ≢ at → after v ≡ led v) → (n : ℕ) → at < n → led at ≡ false → after at ≡ true → absent after n + 1 ≡ absent led n
 one_led led after at others n h old new = one_fewer (λ v. not (led v)) (λ v. not (after v)) at (λ v ne. ap not (others v ne)) n h (ap not old) (ap not new)
 
--- ---- the source alone
+-- ---- only the source
 pub begun : (nodes : ℕ) (claim : ℕ → Option ℤ) (pred : ℕ → ℕ) (s : ℕ) (led : ℕ → Bool) → IsNode nodes s → claim s ≡ Some (pos 0) → IsBlock nodes (record { source = s; radius = None; labels = [] })
     → led s ≡ true → ((v : ℕ) → v ≢ s → led v ≡ false) → IsLabelTree nodes s claim pred (record { source = s; radius = None; labels = [] }) led
 begun nodes claim pred s led node at lawful here others = record {
@@ -44,7 +44,7 @@ begun nodes claim pred s led node at lawful here others = record {
   count = omega (arith, count_all (λ v. true) (nodes + 1) (λ v h. refl), one_led (λ v. false) led s others (nodes + 1) (omega (arith, node.1)) refl here);
 }
 
--- ---- one node more
+-- ---- one more node
 none_of : (o : Option ℤ) → is_some o ≡ false → o ≡ None
 none_of None none = refl
 none_of (Some d) none = absurd (cc)
@@ -103,18 +103,18 @@ module _ (nodes s : ℕ) (claim : ℕ → Option ℤ) (pred : ℕ → ℕ) (b : 
       count = omega (arith, is.count, one_led led after u others (nodes + 1) (omega (arith, node.1)) new here, length-append b.labels (l ∷ []));
     }
 
--- no label is lost where one is placed
+-- labels stay if one is added
 pub placed_keeps : (led after : ℕ → Bool) (u : ℕ) → Places led after u → Keeps led after
 placed_keeps led after u placed v h = elim (cases_eq v u) [ inl same ↦ ap after same ∙ placed.0 | inr apart ↦ placed.1 v apart ∙ h ]
 
--- the source is labelled with its own distance
+-- the source counts as labelled, with distance 0
 pub source_led : (nodes s : ℕ) (claim : ℕ → Option ℤ) (pred : ℕ → ℕ) (b : BlockValue) (led : ℕ → Bool) → IsLabelTree nodes s claim pred b led → (led s ≡ true) × (claim s ≡ Some (pos 0))
 source_led nodes s claim pred b led is = (is.marked s ∙ ap is_some own, is.claimed s (pos 0) own)
   where
     own : label b s ≡ Some (pos 0)
     own = elim (eqb_tells b.source s) [ inl same ↦ rw same.0 refl | inr apart ↦ absurd (apart.1 is.source) ]
 
--- ---- which label is the next
+-- ---- the next label
 module _ (nodes s : ℕ) (claim : ℕ → Option ℤ) (pred : ℕ → ℕ) (b : BlockValue) (led : ℕ → Bool) (is : IsLabelTree nodes s claim pred b led) where
   among_labels : (v : ℕ) → v ≢ s → label b v ≡ distance_in b.labels v
   among_labels v apart = rw (ne_eqb b.source v (λ e. apart (sym e ∙ is.source))) refl

@@ -18,7 +18,7 @@ way_less claim pred v (w ∷ way) u end is =
     let rest = way_less claim pred (pred v) way u end is.2 in
     ((is.0, is.1, rest.0), rest.1, rest.2)
 
--- a node leads back to the end of a way from it
+-- the first node of a way leads back to its end
 pub way_leads : (claim : ℕ → Option ℤ) (pred : ℕ → ℕ) (v : ℕ) (way : List ℕ) (end : ℕ) → IsWayBack claim pred v way end → LeadsBack pred end v
 way_leads claim pred v [] end is = (0, is)
 way_leads claim pred v (u ∷ way) end is = let (steps, leads) = way_leads claim pred (pred v) way end is.2 in (suc steps, leads)
@@ -33,18 +33,18 @@ all_but_last P (y ∷ xs) x all =
     let rest = all_but_last P xs x (All-tail P y (xs ++ x ∷ []) all) in
     (All-cons P y xs (All-head P y (xs ++ x ∷ []) all) rest.0, rest.1)
 
--- only the first node of a way is its root
+-- the start of a way is only its first node
 first_more : (v : ℕ) (way : List ℕ) (end : ℕ) → ComesFirst v way → (end ≢ v) ⊎ (way ≡ []) → ComesFirst v (way ++ end ∷ [])
 first_more v [] end first new = All-nil _
 first_more v (u ∷ way) end first (inl apart) = All-push (λ w. w ≢ v) way end first apart
 first_more v (u ∷ way) end first (inr none) = absurd (cc)
 
--- the last node of a way is its root where it is alone
+-- the last node of a way is its start if it is the only one
 pub last_apart : (v : ℕ) (way : List ℕ) (end : ℕ) → ComesFirst v (way ++ end ∷ []) → ComesFirst v way × ((end ≢ v) ⊎ (way ≡ []))
 last_apart v [] end first = (tt, inr refl)
 last_apart v (u ∷ way) end first = let parts = all_but_last (λ w. w ≢ v) way end first in (parts.0, inl parts.1)
 
--- the last node of a way is taken off, whose predecessor has a label
+-- the last node of a way is removed, and its predecessor is labelled
 module _ (claim : ℕ → Option ℤ) (pred : ℕ → ℕ) (led : ℕ → Bool) (v : ℕ) (old front : List ℕ) (node : ℕ) (is : old ≡ front ++ node ∷ []) (way : (end : ℕ) × IsWayBack claim pred v old end × (led end ≡ true)) (once : ComesFirst v old) (unled : (old ≡ []) ⊎ (led v ≡ false)) where
   pub taken : IsWayBack claim pred v front node × IsSome (claim node) × (led (pred node) ≡ true)
   taken =
@@ -61,18 +61,18 @@ module _ (claim : ℕ → Option ℤ) (pred : ℕ → ℕ) (led : ℕ → Bool) 
   pub root_apart : ComesFirst v front × ((node ≢ v) ⊎ (front ≡ []))
   root_apart = last_apart v front node (subst (ComesFirst v) is once)
 
-  -- unless the root itself gets its label it still has none
+  --   unless the start itself gets its label, it still has none
   pub still_unled : (after : ℕ → Bool) → Places led after node → (front ≡ []) ⊎ (after v ≡ false)
   still_unled after placed = elim root_apart.1 [ inl apart ↦ inr (placed.1 v (λ e. apart (sym e)) ∙ root_unled) | inr none ↦ inl none ]
 
--- what is told of a node that doesn't lead back to the source
+-- the result for a node that doesn't lead back to the source
 pub told : (claim : ℕ → Option ℤ) (pred : ℕ → ℕ) (s : ℕ) (led : ℕ → Bool) (v : ℕ) → (¬ LeadsBack pred s v) → (o : Option ℤ) → claim v ≡ o → (none : Bool) → is_some o ≡ not none → Leads pred s claim led v none
 told claim pred s led v off None is true tells = inl is
 told claim pred s led v off None is false tells = absurd (cc)
 told claim pred s led v off (Some d) is true tells = absurd (cc)
 told claim pred s led v off (Some d) is false tells = (ap is_some is, off)
 
--- ---- climbing
+-- ---- going back
 pub climb_begin : (claim : ℕ → Option ℤ) (pred : ℕ → ℕ) (led : ℕ → Bool) (v : ℕ) (roots : ℕ → ℕ) → ((u : ℕ) → roots u < v) → IsClimbing claim pred led v roots [] v
 climb_begin claim pred led v roots below = record {
   goes = refl;
@@ -110,7 +110,7 @@ module _ (claim : ℕ → Option ℤ) (pred : ℕ → ℕ) (led : ℕ → Bool) 
     pub fewer_others : (n : ℕ) → end < n → others after v n + 1 ≡ others roots v n
     fewer_others n inside = one_fewer (λ u. not (roots u == v)) (λ u. not (after u == v)) end (λ u apart. ap (λ r. not (r == v)) (rest u apart)) n inside (ap not (ne_eqb (roots end) v new)) (ap not (eq-eqb (after end) v here))
 
-  -- where the way ends without a label it never comes to the source
+  --   if the way ends without a label, it never comes to the source
   module _ (s : ℕ) (off : led end ≡ false) (stops : (claim end ≡ None) ⊎ ((led end ≡ true) ⊎ (roots end ≡ v))) (out : (u : ℕ) → claim u ≡ None → claim (pred u) ≡ None) (at : led s ≡ true) (named : claim s ≡ Some (pos 0)) where
     abbrev Stays : ℕ → Type 0
     Stays u = (claim u ≡ None) ⊎ (roots u ≡ v)

@@ -1,4 +1,4 @@
--- What calls over arrays answer.
+-- The answers of calls over arrays.
 use Rattle.std.specs.Prelude.{ℕ, ◌≡◌, ◌==◌, if◌then◌else◌, List, [], ◌∷◌, Option, None, Some, Result, Ok, Err}
 use Rattle.dimacs_arrays.specs.declared.error.Array.{Array}
 use Rattle.dimacs_arrays.specs.declared.error.ArrayError.{ArrayError}
@@ -8,11 +8,11 @@ use Rattle.dimacs_judge.specs.declared.verdict.JudgeError.{JudgeError}
 use Rattle.dimacs_judge.specs.declared.verdict.JudgeError.TheVariants as judged
 use Rattle.dimacs_judge.specs.Tests.{Row, FirstAlone}
 
--- an array of so many items that must have so many
+-- an array with this many items, which has to have that many
 abbrev pub length_of : Array → ℕ → ℕ → ArrayLength
 length_of array found wanted = record { array = array; found = found; wanted = wanted }
 
--- the first array that has another length than it must have
+-- the first array with a wrong length
 abbrev pub first_misfit : List ArrayLength → Option Array
 first_misfit [] = None
 first_misfit (l ∷ lengths) = if l.found == l.wanted then first_misfit lengths else Some l.array
@@ -21,7 +21,7 @@ abbrev pub of_judge : JudgeError → ArrayError
 of_judge (judged.Refused place reason) = Refused place reason
 of_judge judged.Memory = Memory
 
--- where the arrays fit and what they spell is lawful, the answer for that; else the first array that doesn't fit, or the first number past its limit; want of memory says nothing
+-- the first wrong length; else the first number out of range; else the answer for the lawful instance; or out of memory
 abbrev pub AnswersArrays : {X : Type 0} → List ArrayLength → List Row → Type 0 → (Result X JudgeError → Type 0) → Result X ArrayError → Type 0
 AnswersArrays lengths limits lawful answers (Ok x) = (first_misfit lengths ≡ None) × lawful × answers (Ok x)
 AnswersArrays lengths limits lawful answers (Err (Refused place reason)) = (first_misfit lengths ≡ None) × lawful × answers (Err (judged.Refused place reason))

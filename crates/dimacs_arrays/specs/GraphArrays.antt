@@ -1,4 +1,4 @@
--- The arrays of graphs, and what they spell.
+-- The arrays of graphs, and the graphs that they spell.
 use Rattle.std.specs.Prelude.{ℕ, List, [], ◌∷◌, ◌++◌, length, get_or, map, ℤ, pos, Result}
 use Rattle.std.specs.Global.{Vec}
 use Rattle.std.specs.List.{range_with_len}
@@ -22,11 +22,11 @@ use Rattle.dimacs_arrays.specs.Answers.{AnswersArrays, length_of}
 use Rattle.dimacs_arrays.specs.Limits.{count_rows, limit_row}
 use Rattle.dimacs_arrays.specs.Paths.{CertifiesByNode, JudgesByNode, SolvesByNode, pred_by_node}
 
--- the arc of this index
+-- the arc with this index
 abbrev pub weighted_arc : GraphArrays → ℕ → ArcView
 weighted_arc a k = weight_arc (get_or a.tails.now k 0) (get_or a.heads.now k 0) (get_or a.weights.now k (pos 0))
 
--- the graph that the arrays spell, with as many arcs as there are tails
+-- the graph that the arrays spell; the number of tails is that of its arcs
 abbrev pub graph_spelled : GraphArrays → NetworkValue
 graph_spelled a = record { nodes = a.nodes; arcs = map (weighted_arc a) (range_with_len 0 (length a.tails.now)) }
 
@@ -47,7 +47,7 @@ paths_judge_lengths a distances preds =
 abbrev pub source_rows : ℕ → ℕ → List Row
 source_rows nodes s = one_test (Node s) NodeRange (¬ IsNode nodes s) ∷ []
 
--- the limits of the counts, of the source, and of each arc, in order
+-- the limits of the counts, the source and each arc, in order
 abbrev pub graph_limits : GraphArrays → ℕ → List Row
 graph_limits a s = count_rows a.nodes (length a.tails.now) ++ (source_rows a.nodes s ++ limit_row a.nodes (graph_spelled a).arcs ∷ [])
 
@@ -55,7 +55,7 @@ graph_limits a s = count_rows a.nodes (length a.tails.now) ++ (source_rows a.nod
 abbrev pub IsGraphFrom : GraphArrays → ℕ → Type 0
 IsGraphFrom a s = IsGraph (graph_spelled a) × IsNode a.nodes s
 
--- what judging, certifying and solving over the arrays may answer
+-- the answers of judging, certifying and solving over the arrays
 abbrev pub JudgesPathsArrays : GraphArrays → ℕ → List ℤ → List ℕ → Result Verdict ArrayError → Type 0
 JudgesPathsArrays a s distances preds =
     AnswersArrays (paths_judge_lengths a distances preds) (graph_limits a s) (IsGraphFrom a s)

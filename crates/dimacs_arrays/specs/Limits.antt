@@ -1,4 +1,4 @@
--- The limits of the numbers in arrays, which are those of texts, and where a number past its limit is told.
+-- The limits of the numbers in arrays, which are those of texts, and the places of numbers out of range.
 use Rattle.std.specs.Prelude.{ℕ, ◌≡◌, ◌+◌, ◌<◌, ◌⊎◌, List, [], ◌∷◌, pos, ◌<ℤ◌}
 use Rattle.dimacs_lines.specs.Limits.{most_count, most_nodes}
 use Rattle.dimacs_records.specs.declared.reasons.Reason.{Reason}
@@ -9,13 +9,13 @@ use Rattle.dimacs_judge.specs.declared.verdict.Where.TheVariants.{Arc, Node}
 use Rattle.dimacs_judge.specs.Rows.{arc_row, one_test}
 use Rattle.dimacs_judge.specs.Tests.{Row}
 
--- there are more nodes than may be, or more arcs: the first that is one too many
+-- too many nodes, or too many arcs; the place is the first beyond the limit
 abbrev pub count_rows : ℕ → ℕ → List Row
 count_rows nodes arcs =
     one_test (Node (most_nodes + 1)) NumberRange (most_nodes < nodes)
     ∷ one_test (Arc (most_count + 1)) NumberRange (most_count < arcs) ∷ []
 
--- an end of the arc is no node; else its lower bound, which is 0 where there is none, is negative, or its capacity is less
+-- an end of the arc is no node; otherwise low < 0 or cap < low
 abbrev pub ArcFails : ℕ → ArcView → Reason → Type 0
 ArcFails nodes a reason = ((reason ≡ NodeRange) × (¬ JoinsNodes nodes a)) ⊎ ((reason ≡ BoundOrder) × JoinsNodes nodes a × ((a.low <ℤ pos 0) ⊎ (a.cap <ℤ a.low)))
 

@@ -1,4 +1,4 @@
--- The arrays of maximum flow instances, and what they spell.
+-- The arrays of maximum flow instances, and the instances that they spell.
 use Rattle.std.specs.Prelude.{ℕ, ◌≡◌, ◌<◌, Bool, List, [], ◌∷◌, ◌++◌, length, get_or, map, ℤ, pos, ◌<ℤ◌, Result, Ok, Err}
 use Rattle.std.specs.List.{range_with_len}
 use Rattle.dimacs_lines.specs.Limits.{IsNode}
@@ -30,11 +30,11 @@ use Rattle.dimacs_arrays.specs.Answers.{AnswersArrays, length_of}
 use Rattle.dimacs_arrays.specs.ByNode.{AreBits, marked}
 use Rattle.dimacs_arrays.specs.Limits.{count_rows, limit_row}
 
--- the arc of this index
+-- the arc with this index
 abbrev pub max_arc : MaxArrays → ℕ → ArcView
 max_arc a k = capacity_arc (get_or a.tails.now k 0) (get_or a.heads.now k 0) (get_or a.caps.now k (pos 0))
 
--- the instance that the arrays spell, with as many arcs as there are tails
+-- the instance that the arrays spell; the number of tails is that of its arcs
 abbrev pub max_spelled : MaxArrays → MaxValue
 max_spelled a = record { nodes = a.nodes; source = a.source; sink = a.sink; arcs = map (max_arc a) (range_with_len 0 (length a.tails.now)) }
 
@@ -57,15 +57,15 @@ end_rows nodes source sink =
     ∷ one_test (Node sink) NodeRange (¬ IsNode nodes sink)
     ∷ one_test (Node sink) NodeTwice (source ≡ sink) ∷ []
 
--- the limits of the counts, of the ends, and of each arc, in order
+-- the limits of the counts, the ends and each arc, in order
 abbrev pub max_limits : MaxArrays → List Row
 max_limits a = count_rows a.nodes (length a.tails.now) ++ (end_rows a.nodes a.source a.sink ++ limit_row a.nodes (max_spelled a).arcs ∷ [])
 
--- the judge's answer of a flow and of the nodes inside: a yes, with the flow's value, or the first test that fails
+-- the judge's answer about a flow and a cut: yes, with the flow's value, or the first test that fails
 abbrev pub JudgesMaxFlow : MaxValue → List ℤ → (ℕ → Bool) → Result Verdict JudgeError → Type 0
 JudgesMaxFlow i x inside = Judges (max_flow_rows i x inside) (ShowsMaxFlow i x inside) (λ verdict. verdict ≡ Max (value i x))
 
--- the flow is feasible and isn't maximum, and the other is feasible and has greater value
+-- x is feasible but not maximum, and y is feasible with a greater value
 pub record IsMaxFlowImproved (i : MaxValue) (x y : List ℤ) : Type 0 where
   pub claimed : FeasibleMax i x
   pub not_maximum : ¬ Maximum i x
@@ -81,14 +81,14 @@ abbrev pub CertifiesMaxFlow : MaxValue → List ℤ → MaxCertified → Type 0
 CertifiesMaxFlow i x (Optimal total inside) = IsMaxBy i x total inside.items
 CertifiesMaxFlow i x (Better y) = IsMaxFlowImproved i x y
 
--- a flow that is maximum by a cut, and its value; or none of so many flows is, as with the limit 0; want of memory says nothing, and no test fails
+-- a maximum flow with a cut, and its value; or none of `limit` flows is maximum; or out of memory, but no failed test
 abbrev pub SolvesMaxFlow : MaxValue → ℕ → Result MaxSolved JudgeError → Type 0
 SolvesMaxFlow i limit (Ok (solved.Optimal total x inside)) = (0 < limit) × IsMaxBy i x total inside.items
 SolvesMaxFlow i limit (Ok solved.GaveUp) = GivesUp i limit
 SolvesMaxFlow i limit (Err (Refused place reason)) = ⊥
 SolvesMaxFlow i limit (Err Memory) = Unit
 
--- what judging, certifying and solving over the arrays may answer
+-- the answers of judging, certifying and solving over the arrays
 abbrev pub JudgesMaxArrays : MaxArrays → List ℤ → List ℕ → Result Verdict ArrayError → Type 0
 JudgesMaxArrays a flows inside =
     AnswersArrays (max_judge_lengths a flows inside) (max_limits a) (IsMax (max_spelled a)) (JudgesMaxFlow (max_spelled a) flows (marked inside))

@@ -1,4 +1,4 @@
--- The arrays of minimum cost flow instances, and what they spell.
+-- The arrays of minimum cost flow instances, and the instances that they spell.
 use Rattle.std.specs.Prelude.{ℕ, ◌≡◌, ◌<◌, Bool, List, [], ◌∷◌, ◌++◌, length, get_or, map, ℤ, pos, ◌^◌, ◌+ℤ◌, ◌<ℤ◌, ◌≤ℤ◌, Result, Ok, Err}
 use Rattle.std.specs.List.{range_with_len, zip}
 use Rattle.std.specs.Ordering.{nat_cmp}
@@ -37,15 +37,15 @@ use Rattle.dimacs_arrays.specs.Answers.{AnswersArrays, length_of}
 use Rattle.dimacs_arrays.specs.ByNode.{AreBits, marked, number_of}
 use Rattle.dimacs_arrays.specs.Limits.{count_rows, limit_row}
 
--- the arc of this index
+-- the arc with this index
 abbrev pub min_arc : MinArrays → ℕ → ArcView
 min_arc a k = cost_arc (get_or a.tails.now k 0) (get_or a.heads.now k 0) (get_or a.lows.now k (pos 0)) (get_or a.caps.now k (pos 0)) (get_or a.costs.now k (pos 0))
 
--- each node beside its supply, but those whose supply is 0
+-- the nodes with supplies other than 0
 abbrev pub supplies_by_node : List ℤ → FinMap nat_cmp ℤ
 supplies_by_node supplies = without_zeros (from_entries (zip (range_with_len 1 (length supplies)) supplies))
 
--- the instance that the arrays spell, with as many arcs as there are tails
+-- the instance that the arrays spell; the number of tails is that of its arcs
 abbrev pub min_spelled : MinArrays → MinValue
 min_spelled a = record { nodes = a.nodes; supplies = supplies_by_node a.supplies.now; arcs = map (min_arc a) (range_with_len 0 (length a.tails.now)) }
 
@@ -64,19 +64,19 @@ min_flow_lengths a flows = min_lengths a ++ length_of arrays.Flows (length flows
 abbrev pub min_judge_lengths : MinArrays → List ℤ → List ℤ → List ArrayLength
 min_judge_lengths a flows potentials = min_flow_lengths a flows ++ length_of arrays.Potentials (length potentials) a.nodes ∷ []
 
--- or a byte for each node, and no flow
+-- or only a byte for each node
 abbrev pub infeasible_lengths : MinArrays → List ℕ → List ArrayLength
 infeasible_lengths a inside = min_lengths a ++ length_of arrays.Inside (length inside) a.nodes ∷ []
 
--- the limits of the counts, and of each arc, in order
+-- the limits of the counts and each arc, in order
 abbrev pub min_limits : MinArrays → List Row
 min_limits a = count_rows a.nodes (length a.tails.now) ++ limit_row a.nodes (min_spelled a).arcs ∷ []
 
--- the judge's answer of a flow and of potentials: a yes, with the flow's cost, or the first test that fails
+-- the judge's answer about a flow and potentials: yes, with the flow's cost, or the first test that fails
 abbrev pub JudgesMinFlow : MinValue → List ℤ → (ℕ → ℤ) → Result Verdict JudgeError → Type 0
 JudgesMinFlow i x p = Judges (min_flow_rows i x p) (ShowsMinFlow i x p) (λ verdict. verdict ≡ Min (cost i.arcs x))
 
--- the flow is feasible, with a cost that stays in its range arc by arc, and isn't least; and the other is feasible and costs less
+-- x is feasible, its sums of costs stay in range, but it isn't least; y is feasible and costs less
 pub record IsMinFlowImproved (i : MinValue) (x y : List ℤ) : Type 0 where
   pub claimed : FeasibleMin i x
   pub costs_wide : (k : ℕ) → k < length i.arcs → IsWide (cost_through i.arcs x k)
@@ -84,25 +84,25 @@ pub record IsMinFlowImproved (i : MinValue) (x y : List ℤ) : Type 0 where
   pub feasible : FeasibleMin i y
   pub less : cost i.arcs y <ℤ cost i.arcs x
 
--- two of the potentials of the nodes are so far apart that 64 bits don't take both, whatever is added to all
+-- two potentials are so far apart that they don't both fit into 64 bits, whatever is added to all
 abbrev pub IsWider : PotentialsValue → Type 0
 IsWider p = (v : ℕ) × (w : ℕ) × IsNode p.nodes v × IsNode p.nodes w × ((potential_of p w +ℤ pos (2 ^ 64)) ≤ℤ potential_of p v)
 
--- the flow is least by these potentials, in an array, and has this cost
+-- the flow costs least by these potentials, in an array, and has this cost
 abbrev pub IsMinBy : MinValue → List ℤ → ℤ → List ℤ → Type 0
 IsMinBy i x total potentials = ShowsMinFlow i x (number_of potentials) × (total ≡ cost i.arcs x) × (length potentials ≡ i.nodes)
 
--- or by wider ones
+-- the same by potentials that don't fit into an array
 abbrev pub IsMinByWider : MinValue → List ℤ → ℤ → PotentialsValue → Type 0
 IsMinByWider i x total p = ShowsMinFlow i x (potential_of p) × (total ≡ cost i.arcs x) × (p.nodes ≡ i.nodes) × IsWider p
 
--- the flow is least by potentials, and has this cost; or it isn't, and the other is better
+-- the flow costs least by potentials, and has this cost; or it doesn't, and the other is better
 abbrev pub CertifiesMinFlow : MinValue → List ℤ → MinCertified → Type 0
 CertifiesMinFlow i x (Optimal total potentials) = IsMinBy i x total potentials.items
 CertifiesMinFlow i x (Wide total p) = IsMinByWider i x total p
 CertifiesMinFlow i x (Better y) = IsMinFlowImproved i x y
 
--- the tests of a flow before those of a certificate, in order
+-- the tests of a flow before those of the certificate, in order
 abbrev pub min_claimed_rows : MinValue → List ℤ → List Row
 min_claimed_rows i x = feasible_min_rows i x ++ cost_row i.arcs x ∷ []
 
@@ -110,7 +110,7 @@ min_claimed_rows i x = feasible_min_rows i x ++ cost_row i.arcs x ∷ []
 abbrev pub ShowsInfeasible : MinValue → (ℕ → Bool) → Type 0
 ShowsInfeasible i set = Violated i set × NoFlow i
 
--- the judge's answer of a set of nodes: a yes, or the test that fails
+-- the judge's answer about a set of nodes: yes, or the test that fails
 abbrev pub JudgesInfeasible : MinValue → (ℕ → Bool) → Result Verdict JudgeError → Type 0
 JudgesInfeasible i set = Judges (violated_row i set ∷ []) (ShowsInfeasible i set) (λ verdict. verdict ≡ Infeasible)
 
@@ -118,12 +118,12 @@ JudgesInfeasible i set = Judges (violated_row i set ∷ []) (ShowsInfeasible i s
 abbrev pub IsInfeasibleBy : MinValue → List ℕ → Type 0
 IsInfeasibleBy i inside = ShowsInfeasible i (marked inside) × (length inside ≡ i.nodes) × AreBits inside
 
--- no flow is feasible by marked nodes; or this one is
+-- no flow is feasible, by marked nodes; or this flow is
 abbrev pub CertifiesInfeasible : MinValue → InfeasibleCertified → Type 0
 CertifiesInfeasible i (certified.Infeasible inside) = IsInfeasibleBy i inside.items
 CertifiesInfeasible i (certified.Feasible x) = FeasibleMin i x
 
--- a flow that is least by potentials, with its cost, where the limit is 0 the flow to start from; marked nodes that show that no flow is feasible; or that none of so many flows is least, or that the least cost is out of range; want of memory says nothing, and no test fails
+-- a least flow by potentials (with `limit` 0 the start flow), marked nodes of a violated set, or giving up; no refusal
 abbrev pub SolvesMinFlow : MinValue → ℕ → Result MinSolved JudgeError → Type 0
 SolvesMinFlow i limit (Ok (solved.Optimal total x potentials)) = IsMinBy i x total potentials.items × (limit ≡ 0 → x ≡ start_flow i.arcs)
 SolvesMinFlow i limit (Ok (solved.Wide total x p)) = IsMinByWider i x total p × (limit ≡ 0 → x ≡ start_flow i.arcs)
@@ -132,7 +132,7 @@ SolvesMinFlow i limit (Ok solved.GaveUp) = GivesUpMin i limit
 SolvesMinFlow i limit (Err (Refused place reason)) = ⊥
 SolvesMinFlow i limit (Err Memory) = Unit
 
--- what judging, certifying and solving over the arrays may answer
+-- the answers of judging, certifying and solving over the arrays
 abbrev pub JudgesMinArrays : MinArrays → List ℤ → List ℤ → Result Verdict ArrayError → Type 0
 JudgesMinArrays a flows potentials =
     AnswersArrays (min_judge_lengths a flows potentials) (min_limits a) (IsMin (min_spelled a)) (JudgesMinFlow (min_spelled a) flows (number_of potentials))

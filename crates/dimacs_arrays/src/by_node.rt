@@ -1,4 +1,4 @@
-//! Certificates that are said by node, to and from arrays.
+//! Certificates by node, from arrays and to arrays.
 
 ghost use Rattle.std.specs.Prelude.{◌≡◌, ◌≤◌, ◌⊎◌, ◌^◌, ◌+ℤ◌, ◌≤ℤ◌, ℤ, pos, neg_ℤ, length, IfNone, IfOk, IfSome};
 ghost use Rattle.dimacs_lines.specs.Limits.{most_nodes};
@@ -14,7 +14,7 @@ use dimacs_claims::{Cut, Potentials};
 use dimacs_lines::Memory;
 use std::alloc::Global;
 
-/// The nodes whose byte isn't 0.
+/// The set of the nodes whose byte isn't 0.
 pub(crate) fn cut_of(alloc: Global, nodes: u32, inside: &[u8]) -> Result<Cut, Memory>
     requires few { nodes ≤ most_nodes }
     requires one_each { length inside.now ≡ nodes }
@@ -30,7 +30,7 @@ pub(crate) fn cut_of(alloc: Global, nodes: u32, inside: &[u8]) -> Result<Cut, Me
     Ok(cut)
 }
 
-/// A byte for each node, 1 where it is in the set.
+/// A byte for each node: 1 if it is in the set, otherwise 0.
 pub(crate) fn bytes_of(alloc: Global, cut: &Cut) -> Result<Vec<u8>, Memory>
     requires { IsCut cut.now }
     ensures one_each { IfOk result (λ inside. length inside.items ≡ cut.now.nodes) }
@@ -44,7 +44,7 @@ pub(crate) fn bytes_of(alloc: Global, cut: &Cut) -> Result<Vec<u8>, Memory>
     Ok(inside)
 }
 
-/// These potentials.
+/// Potentials with these numbers.
 pub(crate) fn potentials_of(
     alloc: Global,
     nodes: u32,
@@ -62,7 +62,7 @@ pub(crate) fn potentials_of(
     Ok(potentials)
 }
 
-/// The potential of each node, with this number added. None where a sum takes more than 64 bits.
+/// The potential of each node plus `shift`; none if a sum doesn't fit into 64 bits.
 pub(crate) fn numbers_of(
     alloc: Global,
     potentials: &Potentials,
@@ -82,8 +82,8 @@ pub(crate) fn numbers_of(
     Ok(Some(numbers))
 }
 
-/// These potentials in 64 bits: as they are if they fit, else moved by one number. None where two of them are 2^64 or more
-/// apart.
+/// These potentials in 64 bits, with the same number added to each if they don't fit otherwise. None if two of them are
+/// 2^64 or more apart.
 pub(crate) fn fitted(alloc: Global, potentials: &Potentials) -> Result<Option<Vec<i64>>, Memory>
     ensures numbers { IfOk result (λ told. IfSome told (λ numbers. (shift : ℤ) × AreShifted potentials.now shift numbers.items)) }
     ensures wider { IfOk result (λ told. IfNone told (IsWider potentials.now)) }
@@ -94,7 +94,7 @@ pub(crate) fn fitted(alloc: Global, potentials: &Potentials) -> Result<Option<Ve
     numbers_of(alloc, potentials, lowest_shift(potentials))
 }
 
-/// The sum in 64 bits, where it fits.
+/// The sum, if it fits into 64 bits.
 fn whole(number: i128, shift: i128) -> Option<i64>
     requires number { IsWide number }
     requires shift { IsShift shift }
@@ -104,7 +104,7 @@ fn whole(number: i128, shift: i128) -> Option<i64>
     i64::try_from(number + shift).ok()
 }
 
-/// What makes the least of the potentials the least number of 64 bits where it is added.
+/// The number that makes the least potential the least number of 64 bits, when added to all.
 pub(crate) fn lowest_shift(potentials: &Potentials) -> i128
     ensures shift { IsShift result }
     ensures lowest { (least : ℤ) × IsLeastOf potentials.now least × ((least +ℤ result) ≡ neg_ℤ (pos (2 ^ 63))) }
@@ -112,7 +112,7 @@ pub(crate) fn lowest_shift(potentials: &Potentials) -> i128
     i128::from(i64::MIN) - least_of(potentials)
 }
 
-/// The least of the potentials; 0 where there are no nodes.
+/// The least potential; 0 without nodes.
 fn least_of(potentials: &Potentials) -> i128
     ensures wide { IsWide result }
     ensures least { IsLeastOf potentials.now result }

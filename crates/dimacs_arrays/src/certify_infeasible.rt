@@ -13,18 +13,18 @@ use dimacs_lines::Memory;
 use dimacs_network::Network;
 use std::alloc::Global;
 
-/// What certifying says of an instance.
+/// The answer to whether no flow is feasible.
 #[derive(Drop)]
 pub enum InfeasibleCertified {
-    /// No flow is feasible: the nodes whose byte is 1 show it, with which `judge_infeasible_arrays` says yes. Others have 0.
+    /// No flow is feasible. The bytes show it: 1 for the nodes of a set that `judge_infeasible_arrays` accepts,
+    /// otherwise 0.
     Infeasible(Vec<u8>),
     /// This flow is feasible.
     Feasible(Flow),
 }
 
-/// Whether no flow is feasible, decided without a certificate: `Infeasible` with one, or `Feasible` with a feasible flow. It
-/// never gives up; `Memory` says nothing of the arrays, whose lengths and limits are tested before, in the order of
-/// `judge_infeasible_arrays`.
+/// Decides whether no flow is feasible. It needs no certificate and never gives up. The lengths and limits are tested
+/// first, in the order of `judge_infeasible_arrays`. `Memory` is no answer about the arrays.
 pub fn certify_infeasible_arrays(
     alloc: Global,
     arrays: &MinArrays<'_>,
@@ -36,7 +36,7 @@ pub fn certify_infeasible_arrays(
     Ok(certify_over(alloc, &instance)?)
 }
 
-/// Whether no flow is feasible, of an instance that was made.
+/// Decides whether no flow is feasible for the instance.
 fn certify_over<N: Network>(
     alloc: Global,
     instance: &MinInstance<N>,

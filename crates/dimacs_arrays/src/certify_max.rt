@@ -15,18 +15,18 @@ use dimacs_judge::{Flow, JudgeError, feasible_max, value_of};
 use dimacs_network::Network;
 use std::alloc::Global;
 
-/// What certifying says of a flow.
+/// The answer to whether a feasible flow is maximum.
 #[derive(Drop)]
 pub enum MaxCertified {
-    /// It is maximum, of this value; the nodes whose byte is 1 show it, with which `judge_max_arrays` says yes. Others have 0.
+    /// It is maximum, with this value. The bytes show it: 1 for the nodes of a cut that `judge_max_arrays` accepts,
+    /// otherwise 0.
     Optimal { value: i128, inside: Vec<u8> },
-    /// It isn't: this flow is feasible and has greater value.
+    /// It isn't. This flow is feasible and has a greater value.
     Better(Flow),
 }
 
-/// Whether the flow is maximum, decided without a certificate: `Optimal` with one, or `Better` with a better flow. Else the
-/// first test that fails of those that `judge_max_arrays` makes before it looks at the nodes inside, in the same order;
-/// `Memory` says nothing of the arrays.
+/// Decides whether the flow is maximum. It needs no certificate and never gives up. Errors are those that
+/// `judge_max_arrays` returns before it tests `inside`, in the same order. `Memory` is no answer about the arrays.
 pub fn certify_max_arrays(
     alloc: Global,
     arrays: &MaxArrays<'_>,
@@ -40,7 +40,7 @@ pub fn certify_max_arrays(
     Ok(certify_over(alloc, &instance, flows)?)
 }
 
-/// Whether the flow is maximum, of an instance that was made.
+/// Decides whether the flow is maximum for the instance.
 fn certify_over<N: Network>(
     alloc: Global,
     instance: &MaxInstance<N>,

@@ -1,4 +1,4 @@
-//! Certifying that a flow is least, over arrays.
+//! Certifying that a flow costs least, over arrays.
 
 ghost use Rattle.std.specs.Prelude.{◌≡◌, length, IfOk};
 ghost use Rattle.dimacs_judge.specs.Tests.{Settles};
@@ -17,20 +17,21 @@ use dimacs_lines::Memory;
 use dimacs_network::Network;
 use std::alloc::Global;
 
-/// What certifying says of a flow.
+/// The answer to whether a feasible flow costs least.
 #[derive(Drop)]
 pub enum MinCertified {
-    /// It is least, of this cost, by these potentials, with which `judge_min_arrays` says yes; that of node 1 comes first.
+    /// It costs least. The potentials show it: `judge_min_arrays` accepts them; that of node 1 comes first.
     Optimal { cost: i128, potentials: Vec<i64> },
-    /// It is least, of this cost, by potentials two of which are 2^64 or more apart; others might be nearer.
+    /// It costs least, but the potentials that show it don't fit into an array: two of them are 2^64 or more apart.
+    /// Others might fit.
     Wide { cost: i128, potentials: Potentials },
-    /// It isn't: this flow is feasible and costs less.
+    /// It doesn't. This flow is feasible and costs less.
     Better(Flow),
 }
 
-/// Whether the flow is least, decided without a certificate: `Optimal` or `Wide` with one, or `Better` with a better flow.
-/// Else the first test that fails of those that `judge_min_arrays` makes before it looks at the potentials, in the same
-/// order; `Memory` says nothing of the arrays.
+/// Decides whether the flow costs least. It needs no certificate and never gives up. Errors are those that
+/// `judge_min_arrays` returns before it tests the potentials, in the same order. `Memory` is no answer about the
+/// arrays.
 pub fn certify_min_arrays(
     alloc: Global,
     arrays: &MinArrays<'_>,
@@ -44,7 +45,7 @@ pub fn certify_min_arrays(
     Ok(certify_over(alloc, &instance, flows)?)
 }
 
-/// Whether the flow is least, of an instance that was made.
+/// Decides whether the flow costs least for the instance.
 fn certify_over<N: Network>(
     alloc: Global,
     instance: &MinInstance<N>,
@@ -62,7 +63,7 @@ fn certify_over<N: Network>(
     }
 }
 
-/// What is said of a flow of this cost that these potentials show least.
+/// The answer for a flow with this cost, if these potentials are slack for it.
 fn least_by(alloc: Global, cost: i128, potentials: Potentials) -> Result<MinCertified, Memory>
     ensures { IfOk result (IsLeastBy cost potentials) }
 {

@@ -8,10 +8,11 @@ use crate::graph::GraphArrays;
 use crate::lengths::{ArrayLength, lengths_hold};
 use std::alloc::Global;
 
-/// Whether these are the distances from the source, decided without predecessors: a predecessor for each node, with which
-/// `judge_paths_arrays` says yes, 0 at the source and at a node without a distance, `i64::MAX`. Else the first test that
-/// fails of those of `decide_distances`; `Memory` says nothing of the arrays. Their lengths and limits are tested before,
-/// in the order of `judge_paths_arrays`.
+/// Decides whether these are the distances from the source; `i64::MAX` stands for no distance. If they are, it returns
+/// a predecessor for each node that `judge_paths_arrays` accepts: 0 at the source and at nodes without a distance.
+///
+/// The lengths and limits are tested first, in the order of `judge_paths_arrays`, then the tests of `decide_distances`.
+/// `Memory` is no answer about the arrays.
 pub fn certify_paths_arrays(
     alloc: Global,
     arrays: &GraphArrays<'_>,

@@ -1,4 +1,4 @@
-//! Distances and predecessors by node, judged, and certified without predecessors.
+//! Distances by node: judged with predecessors, and certified without them.
 
 ghost use Rattle.std.specs.Prelude.{◌≡◌, ◌∷◌, [], length, IfOk};
 ghost use Rattle.dimacs_lines.specs.Limits.{IsNode};
@@ -16,14 +16,15 @@ use dimacs_lines::Memory;
 use dimacs_network::Network;
 use std::alloc::Global;
 
-/// Whether these are the distances from the source, `i64::MAX` where there is none, by these predecessors, 0 at the source
-/// and where there is no distance: what `judge_paths` says of the labels that say so, asked for all distances from the
-/// source. There a label stands after that of its predecessor, and as far as that leaves it open by ID.
+/// Judges that these are the distances from the source, by these predecessors. `i64::MAX` stands for no distance; the
+/// source and nodes without a distance have the predecessor 0. The answer is that of `judge_paths` for the labels that
+/// this spells and the query for all distances from the source. Among them a label comes after that of its predecessor,
+/// and otherwise by ID.
 ///
-/// The tests in their order: `NotShortest` at the source, where its distance isn't 0; each node, by ID: `NodeRange`, where
-/// its predecessor is 0 or above the number of nodes, or isn't 0 where it has to be; each node with a distance, by ID:
-/// `PredUnknown`, where it doesn't lead back to the source, predecessor by predecessor; and then those of `label_tests`.
-/// Where arcs of positive weight make all distances, one pass over the arcs shows that these pass.
+/// The tests, in order: `NotShortest` at the source if its distance isn't 0; for each node, by ID, `NodeRange` if its
+/// predecessor is 0 or above the number of nodes, or isn't 0 although it has to be; for each node with a distance, by
+/// ID, `PredUnknown` if its predecessors don't lead back to the source; then those of `label_tests`. If each distance
+/// has a tight arc of positive weight from its predecessor, one pass over the arcs replaces all of them.
 pub fn judge_paths_by_node<N: Network>(
     alloc: Global,
     graph: &Graph<N>,
@@ -53,9 +54,10 @@ pub(crate) fn all_from(alloc: Global, source: u32) -> Result<Queries, Memory>
     Ok(Queries::Sources(sources))
 }
 
-/// Decides whether these are the distances from the source: predecessors with which the judge says yes to them, in the
-/// order of IDs, 0 at the source and where there is no distance, exactly where they are. Else the first test that fails,
-/// as `decide_distances` tells it. Goes over the arcs once where those of positive weight make all distances.
+/// Decides whether these are the distances from the source. If they are, it returns predecessors that the judge
+/// accepts, by ID: 0 at the source and at nodes without a distance. Otherwise the error names the first test that
+/// fails, as `decide_distances` does. If each distance has a tight arc of positive weight, one pass over the arcs
+/// suffices.
 pub fn certify_paths_by_node<N: Network>(
     alloc: Global,
     graph: &Graph<N>,

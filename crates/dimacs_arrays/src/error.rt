@@ -1,11 +1,11 @@
-//! Why a call over arrays answers nothing better.
+//! The errors of calls over arrays.
 
 use crate::limits::PastLimit;
 use dimacs_judge::{JudgeError, Where};
 use dimacs_lines::Memory;
 use dimacs_records::Reason;
 
-/// An array that is given to a call, but for the tails of the arcs, whose length is the number of arcs.
+/// An array that a call gets. `tails` is missing here, since its length is the number of arcs.
 #[derive(Clone, Copy, Debug, PartialEq, Eq)]
 pub enum Array {
     Heads,
@@ -21,16 +21,17 @@ pub enum Array {
     Predecessors,
 }
 
-/// Why a call over arrays does not say yes.
+/// Why a call over arrays doesn't answer yes.
 #[derive(Clone, Copy, Debug, PartialEq, Eq)]
 pub enum ArrayError {
-    /// This array has another length than there are arcs, or nodes where it says something by node.
+    /// The length of this array isn't the number of arcs, or of nodes.
     Length(Array),
-    /// The first number that is outside of the limits of instances, and the reason for which a text would be refused.
+    /// A number is out of the range of instances: the first such number, with the reason for which a text would be
+    /// refused.
     Limit(Where, Reason),
     /// The first test of the claim that fails.
     Refused(Where, Reason),
-    /// A growth was refused.
+    /// Out of memory.
     Memory,
 }
 

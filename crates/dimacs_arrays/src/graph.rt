@@ -26,7 +26,7 @@ pub struct GraphArrays<'a> {
 }
 
 impl GraphArrays<'_> {
-    /// The arc of this index.
+    /// The arc with this index, from 0.
     #[inline(always)]
     fn arc(&self, k: usize) -> WeightArc
         requires within { k < length self.now.tails.now }
@@ -66,7 +66,7 @@ impl GraphArrays<'_> {
         Ok(())
     }
 
-    /// The graph that the arrays spell, or the first number past its limit, of the source too.
+    /// The graph that the arrays spell, or the first number out of range; the source is tested, too.
     pub(crate) fn graph(
         &self,
         alloc: Global,

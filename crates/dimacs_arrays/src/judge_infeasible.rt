@@ -13,11 +13,11 @@ use dimacs_judge::{JudgeError, Verdict, judge_infeasible};
 use dimacs_network::Network;
 use std::alloc::Global;
 
-/// Whether the nodes inside show that no flow is feasible: those whose byte isn't 0. A yes, `Infeasible`, means that there
-/// is none, of whole numbers of any size and sign. `Memory` says nothing of the arrays.
+/// Judges that no flow is feasible, by the set of the nodes whose byte isn't 0. The answer `Infeasible` means that no
+/// flow of whole numbers, of any size and sign, is feasible. `Memory` is no answer about the arrays.
 ///
-/// The tests in their order: the lengths of `heads`, `lows`, `caps`, `costs`, `supplies` and `inside`; the limits, as in
-/// `judge_min_arrays`; and then `NotViolated`, at the certificate, where what the nodes supply could flow out of them.
+/// The tests, in order: the lengths of `heads`, `lows`, `caps`, `costs`, `supplies` and `inside`; the limits, as in
+/// `judge_min_arrays`; then `NotViolated`, at the certificate, if the supply of the set could flow out of it.
 pub fn judge_infeasible_arrays(
     alloc: Global,
     arrays: &MinArrays<'_>,
@@ -31,7 +31,7 @@ pub fn judge_infeasible_arrays(
     Ok(judge_over(alloc, &instance, inside)?)
 }
 
-/// Whether the nodes inside show that no flow is feasible, of an instance that was made.
+/// Judges that no flow is feasible for the instance.
 fn judge_over<N: Network>(
     alloc: Global,
     instance: &MinInstance<N>,

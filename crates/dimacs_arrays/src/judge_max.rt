@@ -13,13 +13,13 @@ use dimacs_judge::{Flow, JudgeError, Verdict, judge_max_flow};
 use dimacs_network::Network;
 use std::alloc::Global;
 
-/// Whether the nodes inside show that the flow is maximum: those whose byte isn't 0. A yes, `Max` with the flow's value,
-/// means that no feasible flow of whole numbers has a greater one. `Memory` says nothing of the arrays.
+/// Judges that the flow is maximum, by the cut of the nodes whose byte isn't 0. The answer `Max` with the flow's value
+/// means that no feasible flow of whole numbers has a greater value. `Memory` is no answer about the arrays.
 ///
-/// The tests in their order: the lengths of `heads`, `caps`, `flows` and `inside`; the limits: the number of nodes, and
-/// of arcs, `NumberRange`; the source, and then the sink, `NodeRange` where it is no node, `NodeTwice` where both are the
-/// same; each arc, from 1, `NodeRange` where an end is no node, `BoundOrder` where the capacity is negative; and then those
-/// of `judge_max_flow`.
+/// The tests, in order: the lengths of `heads`, `caps`, `flows` and `inside`; the limits: `NumberRange` for the number
+/// of nodes, then of arcs; `NodeRange` at the source, then at the sink, if it is no node; `NodeTwice` if both are the
+/// same; for each arc, from 1, `NodeRange` if an end is no node and `BoundOrder` if its capacity is negative; then
+/// those of `judge_max_flow`.
 pub fn judge_max_arrays(
     alloc: Global,
     arrays: &MaxArrays<'_>,
@@ -37,7 +37,7 @@ pub fn judge_max_arrays(
     Ok(judge_over(alloc, &instance, flows, inside)?)
 }
 
-/// Whether the nodes inside show that the flow is maximum, of an instance that was made.
+/// Judges that the flow is maximum for the instance.
 fn judge_over<N: Network>(
     alloc: Global,
     instance: &MaxInstance<N>,

@@ -1,4 +1,4 @@
-//! Judging that a flow is least, over arrays.
+//! Judging that a flow costs least, over arrays.
 
 ghost use Rattle.std.specs.Prelude.{◌≡◌, length};
 ghost use Rattle.dimacs_arrays.specs.ByNode.{number_of};
@@ -13,12 +13,12 @@ use dimacs_judge::{Flow, JudgeError, Verdict, judge_min_flow};
 use dimacs_network::Network;
 use std::alloc::Global;
 
-/// Whether the potentials show that the flow is least; that of node 1 comes first. A yes, `Min` with the flow's cost, means
-/// that no feasible flow of whole numbers costs less. `Memory` says nothing of the arrays.
+/// Judges that the flow costs least, by potentials; that of node 1 comes first. The answer `Min` with the flow's cost
+/// means that no feasible flow of whole numbers costs less. `Memory` is no answer about the arrays.
 ///
-/// The tests in their order: the lengths of `heads`, `lows`, `caps`, `costs`, `supplies`, `flows` and `potentials`; the
-/// limits: the number of nodes, and of arcs, `NumberRange`; each arc, from 1, `NodeRange` where an end is no node,
-/// `BoundOrder` where the lower bound is negative or the capacity less; and then those of `judge_min_flow`.
+/// The tests, in order: the lengths of `heads`, `lows`, `caps`, `costs`, `supplies`, `flows` and `potentials`; the
+/// limits: `NumberRange` for the number of nodes, then of arcs; for each arc, from 1, `NodeRange` if an end is no node
+/// and `BoundOrder` if its lower bound is negative or its capacity less than it; then those of `judge_min_flow`.
 pub fn judge_min_arrays(
     alloc: Global,
     arrays: &MinArrays<'_>,
@@ -36,7 +36,7 @@ pub fn judge_min_arrays(
     Ok(judge_over(alloc, &instance, flows, potentials)?)
 }
 
-/// Whether the potentials show that the flow is least, of an instance that was made.
+/// Judges that the flow costs least for the instance.
 fn judge_over<N: Network>(
     alloc: Global,
     instance: &MinInstance<N>,

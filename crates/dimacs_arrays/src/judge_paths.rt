@@ -1,4 +1,4 @@
-//! Judging that distances are true, over arrays.
+//! Judging distances over arrays.
 
 ghost use Rattle.dimacs_arrays.specs.GraphArrays.{JudgesPathsArrays};
 
@@ -9,14 +9,14 @@ use crate::lengths::{ArrayLength, lengths_hold};
 use dimacs_judge::Verdict;
 use std::alloc::Global;
 
-/// Whether these are the distances from the source by these predecessors. A node that isn't reached has the distance
-/// `i64::MAX` and the predecessor 0, as the source has. A yes, `Sources(1)`, means that each other distance is the least
-/// weight of all walks to its node, and that no walk leads to a node without one; the predecessors lead back to the source
-/// along walks of these weights. `Memory` says nothing of the arrays.
+/// Judges that these are the distances from the source, by these predecessors. A node that can't be reached has the
+/// distance `i64::MAX` and the predecessor 0; the source has the predecessor 0, too. The answer `Sources(1)` means that
+/// each other distance is the least weight of all walks to its node, that no walk leads to a node without one, and that
+/// the predecessors lead back to the source along such walks. `Memory` is no answer about the arrays.
 ///
-/// The tests in their order: the lengths of `heads`, `weights`, `distances` and `predecessors`; the limits: the number of
-/// nodes, and of arcs, `NumberRange`; the source, `NodeRange` where it is no node; each arc, from 1, `NodeRange` where an
-/// end is no node; and then those of `judge_paths_by_node`.
+/// The tests, in order: the lengths of `heads`, `weights`, `distances` and `predecessors`; the limits: `NumberRange`
+/// for the number of nodes, then of arcs; `NodeRange` if the source is no node; for each arc, from 1, `NodeRange` if an
+/// end is no node; then those of `judge_paths_by_node`.
 pub fn judge_paths_arrays(
     alloc: Global,
     arrays: &GraphArrays<'_>,

@@ -1,4 +1,4 @@
-//! The labels of nodes that lead back to the source, predecessor by predecessor.
+//! Labels in an order that the judge accepts: each after the label of its predecessor.
 
 ghost use Rattle.std.specs.Prelude.{◌≡◌, ◌≤◌, Some, true, length, IfOk, IfSome, IsSome, OnOk, pos};
 ghost use Rattle.dimacs_lines.specs.Limits.{most_nodes, IsNode};
@@ -15,7 +15,7 @@ use dimacs_lines::Memory;
 use dimacs_nodes::NodeTable;
 use std::alloc::Global;
 
-/// The distance of a node; none where it has none.
+/// The distance of a node, if it has one.
 #[inline(always)]
 pub(crate) fn distance_of(distances: &[i64], id: u32) -> Option<i128>
     ensures distance { result ≡ claimed_by_node distances.now id }
@@ -25,7 +25,7 @@ pub(crate) fn distance_of(distances: &[i64], id: u32) -> Option<i128>
     claim.of(id)
 }
 
-/// The predecessor of a node.
+/// The predecessor of a node; 0 if it has none.
 #[inline(always)]
 pub(crate) fn predecessor_of(predecessors: &[u32], id: u32) -> u32
     ensures { result ≡ pred_by_node predecessors.now id }
@@ -39,7 +39,7 @@ pub(crate) fn predecessor_of(predecessors: &[u32], id: u32) -> u32
     }
 }
 
-/// Labels in an order in which the predecessor of each comes first.
+/// A block in which each label comes after that of its predecessor, and the nodes that it labels.
 #[derive(Drop)]
 pub(crate) struct LabelTree {
     block: Block,
@@ -47,7 +47,7 @@ pub(crate) struct LabelTree {
 }
 
 impl LabelTree {
-    /// The source alone.
+    /// The block without labels. Its source counts as labelled.
     pub(crate) fn new(
         alloc: Global,
         distances: &[i64],
@@ -65,7 +65,7 @@ impl LabelTree {
         Ok(LabelTree { block, led })
     }
 
-    /// Whether a node has a label.
+    /// Whether a node is labelled.
     #[inline(always)]
     pub(crate) fn is_led(&self, node: u32) -> bool
         ensures { result ≡ value_of self.now.led node }
@@ -79,7 +79,7 @@ impl LabelTree {
         self.block
     }
 
-    /// Adds the label of a node whose predecessor has one, if it has none.
+    /// Adds the label of a node, if it has a distance and no label yet. Its predecessor has to be labelled.
     #[inline(always)]
     pub(crate) fn place(
         &mut self,

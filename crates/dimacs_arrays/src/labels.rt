@@ -17,12 +17,12 @@ use dimacs_judge::{JudgeError, Where};
 use dimacs_records::Reason;
 use std::alloc::Global;
 
-/// The labels of a text that says these distances, `i64::MAX` for none, each by the predecessor of its node. A label
-/// stands after that of its predecessor, and as far as that leaves it open by ID.
+/// The labels with these distances (`i64::MAX` stands for none) and predecessors. A label comes after that of its
+/// predecessor, and otherwise by ID.
 ///
-/// The tests in their order: `NotShortest` at the source, where its distance isn't 0; each node, by ID: `NodeRange`, where
-/// its predecessor is 0 or above the number of nodes, or isn't 0 at the source or a node without a distance; each node
-/// with a distance, by ID: `PredUnknown`, where it doesn't lead back to the source, predecessor by predecessor.
+/// The tests, in order: `NotShortest` at the source if its distance isn't 0; for each node, by ID, `NodeRange` if its
+/// predecessor is 0 or above the number of nodes, or isn't 0 at the source or at a node without a distance; for each
+/// node with a distance, by ID, `PredUnknown` if its predecessors don't lead back to the source.
 pub(crate) fn labels_by_node(
     alloc: Global,
     nodes: u32,
@@ -46,7 +46,7 @@ pub(crate) fn labels_by_node(
     Ok(labels)
 }
 
-/// The first node whose predecessor is out of its range.
+/// Refuses the first node whose predecessor is out of range.
 fn predecessors_hold(
     source: u32,
     distances: &[i64],
@@ -63,7 +63,7 @@ fn predecessors_hold(
     Ok(())
 }
 
-/// Whether a number may be the predecessor of a node.
+/// Whether the number may be the predecessor of a node.
 #[inline(always)]
 fn is_predecessor(source: u32, distances: &[i64], node: u32, predecessor: u32) -> bool
     ensures { IsTrue result ↔ IsPred (length distances.now) source (claimed_by_node distances.now) node predecessor }
@@ -75,7 +75,7 @@ fn is_predecessor(source: u32, distances: &[i64], node: u32, predecessor: u32) -
     }
 }
 
-/// The labels of all nodes with distances; else the first node that doesn't lead back to the source.
+/// The labels of all nodes with a distance. Refuses the first that doesn't lead back to the source.
 fn label_tree(
     alloc: Global,
     source: u32,

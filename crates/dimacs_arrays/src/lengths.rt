@@ -1,4 +1,4 @@
-//! Whether arrays have the lengths that they must have.
+//! Testing the lengths of arrays.
 
 ghost use Rattle.std.specs.Prelude.{◌≡◌};
 ghost use Rattle.dimacs_arrays.specs.Answers.{length_of};
@@ -6,7 +6,7 @@ ghost use Rattle.dimacs_arrays.specs.inside.Answers.{TellsLengths};
 
 use crate::error::{Array, ArrayError};
 
-/// How many items an array has, and how many it must have.
+/// The length of an array, and the length that it has to have.
 #[derive(Clone, Copy, Debug, PartialEq, Eq)]
 pub struct ArrayLength {
     pub array: Array,
@@ -26,7 +26,7 @@ impl ArrayLength {
     }
 }
 
-/// The first array that has another length than it must have.
+/// Refuses the first array with a wrong length.
 pub(crate) fn lengths_hold(lengths: &[ArrayLength]) -> Result<(), ArrayError>
     ensures { TellsLengths lengths.now result }
 {

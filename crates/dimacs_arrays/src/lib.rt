@@ -1,10 +1,10 @@
-//! Judging, certifying and solving over arrays, for programs that hold an instance, a flow or distances in memory and print
-//! no text of them.
+//! Judging, certifying and solving over arrays, for programs that hold an instance, a flow or distances in memory and
+//! don't write texts.
 //!
-//! An instance is a struct of slices: the k-th arc goes from the k-th tail to the k-th head. Nodes count from 1, and what
-//! is said by node begins with node 1. Each call first tests the lengths of the arrays, and then whether the numbers lie
-//! within the limits of instances; its answer is that of the judge, the certifier or the solver, for the instance that
-//! the arrays spell.
+//! An instance is a struct of slices: the k-th arc goes from the k-th tail to the k-th head. Nodes count from 1; an
+//! array by node begins with node 1. Each call first tests the lengths of the arrays, then whether the numbers are in
+//! the ranges of instances. Its answer is that of the judge, the certifier or the solver for the instance that the
+//! arrays spell.
 #![tactic(auto)]
 
 mod by_node;

@@ -1,4 +1,4 @@
-//! Whether the numbers of an instance lie within the limits that texts have.
+//! Testing that the numbers of an instance are in the ranges that texts have.
 
 ghost use Rattle.std.specs.Prelude.{◌≤◌, ◌≤ℤ◌, pos, IfNone, OnOk};
 ghost use Rattle.dimacs_lines.specs.Limits.{most_count, most_nodes};
@@ -11,14 +11,14 @@ use dimacs_judge::Where;
 use dimacs_network::{ArcView, MAX_ARCS};
 use dimacs_records::{MAX_NODES, Reason};
 
-/// Where a number is past its limit, and why.
+/// The first number out of range: its place, and the reason.
 #[derive(Clone, Copy, Debug, PartialEq, Eq)]
 pub(crate) struct PastLimit {
     pub(crate) place: Where,
     pub(crate) reason: Reason,
 }
 
-/// Whether there are no more nodes and arcs than may be.
+/// Whether the numbers of nodes and arcs are in range.
 pub(crate) fn counts_hold(nodes: u32, arcs: usize) -> Result<(), PastLimit>
     ensures tells { TellsLimits (count_rows nodes arcs) result }
     ensures few { OnOk result ((nodes ≤ most_nodes) × (arcs ≤ most_count)) }
@@ -38,7 +38,7 @@ pub(crate) fn counts_hold(nodes: u32, arcs: usize) -> Result<(), PastLimit>
     Ok(())
 }
 
-/// What is wrong with an arc of a network of so many nodes, if anything is.
+/// The reason to refuse an arc in a network with this many nodes, if there is one.
 #[inline(always)]
 pub(crate) fn arc_fault(nodes: u32, arc: ArcView) -> Option<Reason>
     ensures tells { TellsReason (ArcFails nodes arc) result }

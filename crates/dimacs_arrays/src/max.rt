@@ -28,7 +28,7 @@ pub struct MaxArrays<'a> {
 }
 
 impl MaxArrays<'_> {
-    /// The arc of this index.
+    /// The arc with this index, from 0.
     #[inline(always)]
     fn arc(&self, k: usize) -> CapacityArc
         requires within { k < length self.now.tails.now }
@@ -54,7 +54,7 @@ impl MaxArrays<'_> {
         ])
     }
 
-    /// Whether source and sink are two nodes.
+    /// Whether source and sink are two different nodes.
     fn ends_hold(&self) -> Result<(), PastLimit>
         ensures tells { TellsLimits (end_rows self.now.nodes self.now.source self.now.sink) result }
         ensures source { OnOk result (IsNode self.now.nodes self.now.source) }
@@ -82,7 +82,7 @@ impl MaxArrays<'_> {
         Ok(())
     }
 
-    /// The instance that the arrays spell, or the first number past its limit.
+    /// The instance that the arrays spell, or the first number out of range.
     pub(crate) fn instance(
         &self,
         alloc: Global,

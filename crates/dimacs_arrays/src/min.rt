@@ -15,7 +15,7 @@ use dimacs_network::{ArcView, PlainArcs};
 use std::alloc::Global;
 
 /// A minimum cost flow instance as arrays: the k-th arc goes from the k-th tail to the k-th head and has the k-th lower
-/// bound, capacity and cost. The supplies are by node: that of node 1 comes first.
+/// bound, capacity and cost. The supply of node 1 comes first.
 #[repr(C)]
 #[derive(Clone, Copy)]
 pub struct MinArrays<'a> {
@@ -29,7 +29,7 @@ pub struct MinArrays<'a> {
 }
 
 impl MinArrays<'_> {
-    /// The arc of this index.
+    /// The arc with this index, from 0.
     #[inline(always)]
     fn arc(&self, k: usize) -> ArcView
         requires within { k < length self.now.tails.now }
@@ -48,7 +48,7 @@ impl MinArrays<'_> {
         }
     }
 
-    /// Whether there are all numbers of an arc for each tail, and a supply for each node.
+    /// Whether there are a head, bounds and a cost for each tail, and a supply for each node.
     pub(crate) fn lengths_hold(&self) -> Result<(), ArrayError>
         ensures { TellsLengths (min_lengths self.now) result }
     {
@@ -62,7 +62,7 @@ impl MinArrays<'_> {
         ])
     }
 
-    /// The instance that the arrays spell, as yet without arcs.
+    /// The instance that the arrays spell, still without arcs.
     fn supplied(&self, alloc: Global) -> Result<MinInstance<PlainArcs<ArcView>>, Memory>
         requires few { self.now.nodes ≤ most_nodes }
         requires supplies { length self.now.supplies.now ≡ self.now.nodes }
@@ -75,7 +75,7 @@ impl MinArrays<'_> {
         Ok(instance)
     }
 
-    /// The instance that the arrays spell, or the first number past its limit.
+    /// The instance that the arrays spell, or the first number out of range.
     pub(crate) fn instance(
         &self,
         alloc: Global,

@@ -1,4 +1,4 @@
-//! The predecessors of labels by node.
+//! Predecessors by node, from labels.
 
 ghost use Rattle.std.specs.Prelude.{ℕ, ◌≡◌, ◌≢◌, ◌≤◌, All, Contains, length, IfOk};
 ghost use Rattle.dimacs_lines.specs.Limits.{IsNode};
@@ -10,7 +10,7 @@ use dimacs_claims::Block;
 use dimacs_lines::Memory;
 use std::alloc::Global;
 
-/// The predecessor of each node that has a label, in the order of IDs from 1; 0 at the others, as at the source.
+/// The predecessor of each node, by ID from 1; 0 at the source and at nodes without a label.
 pub(crate) fn predecessors_of(alloc: Global, nodes: u32, block: &Block) -> Result<Vec<u32>, Memory>
     requires { IsBlock nodes block.now }
     ensures { IfOk result (λ predecessors. ArePredsOf nodes block.now.labels predecessors.items) }

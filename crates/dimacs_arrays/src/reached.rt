@@ -1,4 +1,4 @@
-//! The distances of labels by node.
+//! Distances by node, from labels.
 
 ghost use Rattle.std.specs.Prelude.{◌≡◌, IfNone, IfOk, IfSome};
 ghost use Rattle.dimacs_claims.specs.Labels.{IsBlock};
@@ -10,8 +10,8 @@ use dimacs_claims::Block;
 use dimacs_lines::Memory;
 use std::alloc::Global;
 
-/// The distance of each node that has a label, in the order of IDs from 1, 0 at the source and `i64::MAX` at the others.
-/// None where an array can't say one.
+/// The distance of each node, by ID from 1: 0 at the source, `i64::MAX` at nodes without a label. None if a distance is
+/// `i64::MAX` or more, or doesn't fit into 64 bits.
 pub(crate) fn distances_of(
     alloc: Global,
     nodes: u32,
@@ -34,7 +34,7 @@ pub(crate) fn distances_of(
     Ok(Some(distances))
 }
 
-/// A distance that an array can say.
+/// The distance in 64 bits, if it is in range and isn't `i64::MAX`, which stands for none.
 #[inline(always)]
 fn near(dist: i128) -> Option<i64>
     requires { IsWide dist }

@@ -1,4 +1,4 @@
-//! Predecessors that one pass over the arcs finds, where distances rise along them.
+//! A quick way to show distances: if each has a tight arc of positive weight, one pass over the arcs suffices.
 
 ghost use Rattle.std.specs.Prelude.{◌≡◌, ◌≤◌, ◌↔◌, length, All, IfOk, IfSome, IsTrue, Some, pos};
 ghost use Rattle.dimacs_lines.specs.Limits.{most_nodes};
@@ -13,20 +13,19 @@ use dimacs_lines::Memory;
 use dimacs_network::{ArcView, Network};
 use std::alloc::Global;
 
-/// Where an arc leads, by the distances of its ends.
+/// An arc, by the distances of its ends.
 #[derive(Clone, Copy)]
 pub(crate) enum Step {
-    /// From no distance, or to one that isn't too great; all that isn't known to rise.
+    /// Nothing follows: the tail has no distance, or the arc isn't tight, or it isn't known to rise.
     Flat,
-    /// From a distance that isn't negative to a greater one, which the arc makes.
+    /// The arc is tight, its weight is positive, and the distance of its tail isn't negative.
     Rising,
-    /// To no distance, or to one that is too great.
+    /// The distances are wrong: the head has none, or too great a one.
     Short,
 }
 
-/// The predecessors that show that the distances are true, where arcs of positive weight make them all: the tail of such an
-/// arc for each node with a distance but the source, and 0 for the others. None says nothing of the distances. Goes over
-/// the arcs once.
+/// Predecessors that show the distances, if each node with a distance but the source has a rising arc: the tail of one.
+/// They are 0 at other nodes. None doesn't mean that the distances are wrong. One pass over the arcs.
 pub(crate) fn rising_predecessors<N: Network>(
     alloc: Global,
     network: &N,
@@ -51,8 +50,8 @@ pub(crate) fn rising_predecessors<N: Network>(
     }
 }
 
-/// Whether these are predecessors that show that the distances are true, by arcs of positive weight. A no says nothing of
-/// them. Goes over the arcs once.
+/// Whether these predecessors show the distances by rising arcs. False doesn't mean that the distances are wrong. One
+/// pass over the arcs.
 pub(crate) fn rise_by<N: Network>(
     alloc: Global,
     network: &N,
@@ -92,8 +91,8 @@ fn is_zero(distance: Option<i128>) -> bool
     }
 }
 
-/// For each node the tail of the last arc that rises to it, 0 for none; where predecessors are wanted, of the arcs from
-/// these alone. None where an arc is short.
+/// For each node the tail of the last rising arc to it, 0 for none. If predecessors are given, only arcs from these
+/// count. None if an arc shows the distances wrong.
 fn rising_tails<N: Network>(
     alloc: Global,
     network: &N,
@@ -117,7 +116,7 @@ fn rising_tails<N: Network>(
     Ok(Some(tails))
 }
 
-/// Where an arc leads, which rises only where its tail is wanted.
+/// The step of an arc; it isn't rising if its tail isn't wanted.
 #[inline(always)]
 fn step_wanted(distances: &[i64], wanted: Option<&[u32]>, arc: ArcView) -> Step
     ensures { Steps (claimed_by_node distances.now) arc result }
@@ -128,7 +127,7 @@ fn step_wanted(distances: &[i64], wanted: Option<&[u32]>, arc: ArcView) -> Step
     }
 }
 
-/// Whether the tail of an arc may be the predecessor of its head.
+/// Whether the tail of an arc may become the predecessor of its head.
 #[inline(always)]
 fn is_wanted(wanted: Option<&[u32]>, arc: ArcView) -> bool {
     match wanted {
@@ -137,7 +136,7 @@ fn is_wanted(wanted: Option<&[u32]>, arc: ArcView) -> bool {
     }
 }
 
-/// Where an arc leads. Looks the head up only where the tail has a distance.
+/// The step of an arc. Looks at the head only if the tail has a distance.
 #[inline(always)]
 fn step_along(distances: &[i64], arc: ArcView) -> Step
     ensures { Steps (claimed_by_node distances.now) arc result }
@@ -151,7 +150,7 @@ fn step_along(distances: &[i64], arc: ArcView) -> Step
     step_between(from, to, arc.cost)
 }
 
-/// Where an arc of this weight leads that goes from the one distance to the other.
+/// The step of an arc with this weight between these distances.
 #[inline(always)]
 fn step_between(from: i128, to: i128, weight: i64) -> Step
     requires { IsWide from }
@@ -168,7 +167,7 @@ fn step_between(from: i128, to: i128, weight: i64) -> Step
     }
 }
 
-/// Whether each node with a distance has a predecessor, but for the source.
+/// Whether each node with a distance, except the source, has a predecessor.
 fn all_reached(source: u32, distances: &[i64], predecessors: &[u32]) -> bool
     requires { length distances.now ≤ most_nodes }
     ensures { IsTrue result → AreReached source (claimed_by_node distances.now) (pred_by_node predecessors.now) }
@@ -181,7 +180,7 @@ fn all_reached(source: u32, distances: &[i64], predecessors: &[u32]) -> bool
     true
 }
 
-/// Whether a node other than the source has a distance and no predecessor.
+/// Whether the node isn't the source and has a distance but no predecessor.
 #[inline(always)]
 fn is_left(source: u32, distances: &[i64], predecessors: &[u32], node: u32) -> bool
     ensures { IsTrue result ↔ (IsDue source (claimed_by_node distances.now) node × (pred_by_node predecessors.now node ≡ 0)) }

@@ -1,4 +1,4 @@
-//! Solving maximum flow, over arrays.
+//! Finding a maximum flow, over arrays.
 
 ghost use Rattle.dimacs_arrays.specs.MaxArrays.{SolvesMaxArrays, SolvesMaxFlow};
 
@@ -11,22 +11,22 @@ use dimacs_network::Network;
 use dimacs_solve::{Ascent, solve_max_flow};
 use std::alloc::Global;
 
-/// A maximum flow, or none within the limit.
+/// The answer to a maximum flow instance.
 #[derive(Drop)]
 pub enum MaxSolved {
-    /// Its value, the flow, and the nodes inside a cut that shows that it is maximum, whose byte is 1; others have 0. With
-    /// these `judge_max_arrays` says yes.
+    /// A maximum flow, and its value. The bytes show it: 1 for the nodes of a cut that `judge_max_arrays` accepts,
+    /// otherwise 0.
     Optimal {
         value: i128,
         flow: Flow,
         inside: Vec<u8>,
     },
-    /// So many flows were asked about, and none is maximum.
+    /// None of the flows within the limit is maximum.
     GaveUp,
 }
 
-/// A maximum flow, from the zero flow on; each of at most `limit` flows is asked about. `Memory` says nothing of the
-/// arrays, whose lengths and limits are tested before, in the order of `judge_max_arrays`.
+/// Finds a maximum flow, starting at the zero flow. It tests at most `limit` flows for being maximum. The lengths and
+/// limits are tested first, in the order of `judge_max_arrays`. `Memory` is no answer about the arrays.
 pub fn solve_max_arrays(
     alloc: Global,
     arrays: &MaxArrays<'_>,
@@ -39,7 +39,7 @@ pub fn solve_max_arrays(
     Ok(solve_over(alloc, &instance, limit)?)
 }
 
-/// A maximum flow of an instance that was made.
+/// Finds a maximum flow for the instance.
 fn solve_over<N: Network>(
     alloc: Global,
     instance: &MaxInstance<N>,

@@ -1,4 +1,4 @@
-//! Solving minimum cost flow, over arrays.
+//! Finding a flow of least cost, over arrays.
 
 ghost use Rattle.std.specs.Prelude.{◌≡◌, ℕ, IfOk, Ok};
 ghost use Rattle.dimacs_claims.specs.Potentials.{potential_of};
@@ -18,33 +18,34 @@ use dimacs_network::Network;
 use dimacs_solve::{Descent, solve_min_flow};
 use std::alloc::Global;
 
-/// A flow of least cost, a set of nodes that shows that there is no feasible flow, or neither.
+/// The answer to a minimum cost flow instance.
 #[derive(Drop)]
 pub enum MinSolved {
-    /// Its cost, the flow, and potentials that show that it costs least, with which `judge_min_arrays` says yes; that of
-    /// node 1 comes first.
+    /// A flow of least cost, and its cost. The potentials show it: `judge_min_arrays` accepts them; that of node 1
+    /// comes first.
     Optimal {
         cost: i128,
         flow: Flow,
         potentials: Vec<i64>,
     },
-    /// The same with potentials two of which are 2^64 or more apart; others might be nearer.
+    /// The same, but the potentials don't fit into an array: two of them are 2^64 or more apart. Others might fit.
     Wide {
         cost: i128,
         flow: Flow,
         potentials: Potentials,
     },
-    /// The nodes whose byte is 1 show that no flow is feasible, with which `judge_infeasible_arrays` says yes. Others have 0.
+    /// No flow is feasible. The bytes show it: 1 for the nodes of a set that `judge_infeasible_arrays` accepts,
+    /// otherwise 0.
     Infeasible {
         inside: Vec<u8>,
     },
-    /// One more step than the limit would be needed, or the least cost is out of range.
+    /// More steps than the limit would be needed, or the least cost is out of range.
     GaveUp,
 }
 
-/// A flow of least cost, by at most `limit` steps, each to a better flow; it starts where each arc carries its lower bound,
-/// or its capacity if it costs less than nothing. `Memory` says nothing of the arrays, whose lengths and limits are tested
-/// before, in the order of `judge_min_arrays`.
+/// Finds a flow of least cost in at most `limit` steps, each to a better flow. The start flow gives each arc its lower
+/// bound, or its capacity if its cost is negative. The lengths and limits are tested first, in the order of
+/// `judge_min_arrays`. `Memory` is no answer about the arrays.
 pub fn solve_min_arrays(
     alloc: Global,
     arrays: &MinArrays<'_>,
@@ -57,7 +58,7 @@ pub fn solve_min_arrays(
     Ok(solve_over(alloc, &instance, limit)?)
 }
 
-/// A flow of least cost of an instance that was made.
+/// Finds a flow of least cost for the instance.
 fn solve_over<N: Network>(
     alloc: Global,
     instance: &MinInstance<N>,
@@ -74,7 +75,7 @@ fn solve_over<N: Network>(
     }
 }
 
-/// What is said of a flow that these potentials show least, where its cost is in range.
+/// The answer for a flow for which these potentials are slack; `GaveUp` if its cost is out of range.
 fn least_by<N: Network>(
     alloc: Global,
     instance: &MinInstance<N>,

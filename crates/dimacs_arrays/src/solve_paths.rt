@@ -1,4 +1,4 @@
-//! Solving shortest paths from a source, over arrays.
+//! Finding distances from a source, over arrays.
 
 ghost use Rattle.std.specs.Prelude.{◌≡◌};
 ghost use Rattle.dimacs_lines.specs.Limits.{IsNode};
@@ -22,19 +22,19 @@ use std::alloc::Global;
 /// The distances from a source.
 #[derive(Drop)]
 pub enum PathsSolved {
-    /// That of each node, `i64::MAX` where it isn't reached, and its predecessor, 0 there and at the source. With these
-    /// `judge_paths_arrays` says yes.
+    /// The distance of each node, `i64::MAX` if it can't be reached, and its predecessor, 0 at such nodes and at the
+    /// source. `judge_paths_arrays` accepts both.
     Distances {
         distances: Vec<i64>,
         predecessors: Vec<u32>,
     },
-    /// A distance is `i64::MAX` or more, as these labels say.
+    /// A distance is `i64::MAX` or more and doesn't fit into an array. The labels have all distances.
     Far(Labels),
 }
 
-/// The distances from the source, and predecessors that show them. `Refused` with `NegativeWeight` exactly where a weight
-/// is negative, at the first arc of one. `Memory` says nothing of the arrays, whose lengths and limits are tested before,
-/// in the order of `judge_paths_arrays`.
+/// Finds the distances from the source, and predecessors that show them. `Refused` with `NegativeWeight` comes exactly
+/// if a weight is negative, at the first such arc. The lengths and limits are tested first, in the order of
+/// `judge_paths_arrays`. `Memory` is no answer about the arrays.
 pub fn solve_paths_arrays(
     alloc: Global,
     arrays: &GraphArrays<'_>,
@@ -47,7 +47,7 @@ pub fn solve_paths_arrays(
     Ok(solve_over(alloc, &graph, source)?)
 }
 
-/// The distances from the source in a graph that was made.
+/// Finds the distances from the source in the graph.
 fn solve_over<N: Network>(
     alloc: Global,
     graph: &Graph<N>,
@@ -72,7 +72,7 @@ fn solve_over<N: Network>(
     })
 }
 
-/// What is told of an error of the solver.
+/// The solver's error as a judge's.
 fn refused(error: SolveError) -> JudgeError
     ensures { result ≡ of_solver error }
 {

@@ -1,4 +1,4 @@
-//! The way back from a node to one that has a label.
+//! Going back from a node, predecessor by predecessor, to one with a label.
 
 ghost use Rattle.std.specs.Prelude.{ℕ, ◌≡◌, ◌≢◌, ◌⊎◌, ◌<◌, ◌≤◌, ◌↔◌, None, true, false, length, IfOk, IsSome, IsTrue, OnOk};
 ghost use Rattle.dimacs_lines.specs.Limits.{most_nodes};
@@ -12,7 +12,7 @@ use dimacs_lines::Memory;
 use dimacs_nodes::NodeTable;
 use std::alloc::Global;
 
-/// The nodes on the way back from one node, and for all nodes that were on one, from which node it began.
+/// The way back from a node, and for each node the start of the last way that had it.
 #[derive(Drop)]
 pub(crate) struct WayBack {
     way: Vec<u32>,
@@ -20,7 +20,7 @@ pub(crate) struct WayBack {
 }
 
 impl WayBack {
-    /// No way. Takes no memory.
+    /// The empty way. Allocates nothing.
     pub(crate) fn new(alloc: Global) -> WayBack
         ensures { (v : ℕ) → value_of result.roots v ≡ 0 }
     {
@@ -30,7 +30,8 @@ impl WayBack {
         }
     }
 
-    /// Adds the labels of a node and of those on the way back from it, if it leads back to the source; tells whether.
+    /// Labels a node and those on the way back from it, if it leads back to the source. Returns whether it does; true
+    /// if the node has no distance.
     pub(crate) fn lead(
         &mut self,
         tree: &mut LabelTree,
@@ -60,7 +61,8 @@ impl WayBack {
         Ok(true)
     }
 
-    /// Goes from a node to its predecessor and on, as far as to one that has a label or no distance, or where it was.
+    /// Goes back from a node to the first that has a label or no distance, or that this way has already. Returns that
+    /// node.
     fn climb(
         &mut self,
         tree: &LabelTree,
@@ -84,7 +86,7 @@ impl WayBack {
         Ok(at)
     }
 
-    /// Whether a node has a distance and no label, and was not on the way from here.
+    /// Whether a node has a distance and no label, and isn't on the way from this start.
     #[inline(always)]
     fn goes_on(&self, tree: &LabelTree, distances: &[i64], from: u32, at: u32) -> bool
         ensures { IsTrue result ↔ (IsSome (claimed_by_node distances.now at) × (value_of tree.now.led at ≡ false) × (value_of self.now.roots at ≢ from)) }

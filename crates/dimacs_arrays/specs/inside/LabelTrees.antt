@@ -1,4 +1,4 @@
--- Inside: labels of the nodes that are known to lead back to the source, and the way back from one more.
+-- Inside: labels of nodes that lead back to the source, and the way back from one more.
 use Rattle.std.specs.Prelude.{ℕ, ◌≡◌, ◌≢◌, ◌<◌, ◌≤◌, ◌+◌, ◌⊎◌, ◌==◌, Bool, true, false, not, List, [], ◌∷◌, All, length, Option, Some, None, IsSome, is_some, ℤ}
 use Rattle.dimacs_lines.specs.Limits.{IsNode}
 use Rattle.dimacs_claims.specs.declared.block.Label.{Label}
@@ -24,29 +24,29 @@ pub record IsLabelTree (nodes s : ℕ) (claim : ℕ → Option ℤ) (pred : ℕ 
 abbrev pub Keeps : (ℕ → Bool) → (ℕ → Bool) → Type 0
 Keeps led after = (v : ℕ) → led v ≡ true → after v ≡ true
 
--- no node but this one gets a label
+-- no other node gets a label
 abbrev pub Places : (ℕ → Bool) → (ℕ → Bool) → ℕ → Type 0
 Places led after u = (after u ≡ true) × ((v : ℕ) → v ≢ u → after v ≡ led v)
 
--- each node before this one has a label, if it has a distance
+-- each node before this one with a distance is labelled
 abbrev pub AreLedBelow : (ℕ → Option ℤ) → (ℕ → Bool) → ℕ → Type 0
 AreLedBelow claim led n = (v : ℕ) → v < n → IsSome (claim v) → led v ≡ true
 
--- nodes with distances, each the predecessor of the one before it, from v on; the next is `end`
+-- the way back from v: nodes with distances, each the predecessor of the one before; the next is `end`
 abbrev pub IsWayBack : (ℕ → Option ℤ) → (ℕ → ℕ) → ℕ → List ℕ → ℕ → Type 0
 IsWayBack claim pred v [] end = v ≡ end
 IsWayBack claim pred v (u ∷ way) end = (v ≡ u) × IsSome (claim v) × IsWayBack claim pred (pred v) way end
 
--- the node comes first on the way, if at all, and not again
+-- the node is at most the first on the way
 abbrev pub ComesFirst : ℕ → List ℕ → Type 0
 ComesFirst v [] = Unit {0}
 ComesFirst v (u ∷ way) = All (λ w. w ≢ v) way
 
--- how many of the nodes below n have another root than v
+-- how many of the nodes below n have another start than v
 abbrev pub others : (ℕ → ℕ) → ℕ → ℕ → ℕ
 others roots v n = count_below (λ u. not (roots u == v)) n
 
--- the way back from v as far as to `end`; v is the root of its nodes, and of no other
+-- the way back from v to `end`; v is the start of its nodes, and of no others
 pub record IsClimbing (claim : ℕ → Option ℤ) (pred : ℕ → ℕ) (led : ℕ → Bool) (v : ℕ) (roots : ℕ → ℕ) (way : List ℕ) (end : ℕ) : Type 0 where
   pub goes : IsWayBack claim pred v way end
   pub few : (u : ℕ) → roots u ≤ v
@@ -55,16 +55,16 @@ pub record IsClimbing (claim : ℕ → Option ℤ) (pred : ℕ → ℕ) (led : �
   pub closed : (u : ℕ) → roots u ≡ v → (roots (pred u) ≡ v) ⊎ (pred u ≡ end)
   pub unled : (u : ℕ) → roots u ≡ v → led u ≡ false
 
--- the node has no distance, or has a label; or it has a distance and doesn't lead back to the source
+-- the node has no distance or is labelled; or it has a distance and doesn't lead back to the source
 abbrev pub Leads : (ℕ → ℕ) → ℕ → (ℕ → Option ℤ) → (ℕ → Bool) → ℕ → Bool → Type 0
 Leads pred s claim led v true = (claim v ≡ None) ⊎ (led v ≡ true)
 Leads pred s claim led v false = IsSome (claim v) × (¬ LeadsBack pred s v)
 
--- each node with a distance has a label
+-- each node with a distance is labelled
 abbrev pub AreLed : (ℕ → Option ℤ) → (ℕ → Bool) → Type 0
 AreLed claim led = (v : ℕ) → IsSome (claim v) → led v ≡ true
 
--- the predecessor of each labelled node; 0 at the others
+-- the predecessor of each labelled node; 0 for the others
 pub record ArePredsOf (nodes : ℕ) (labels : List Label) (preds : List ℕ) : Type 0 where
   pub each : length preds ≡ nodes
   pub named : All (λ (l : Label). l.pred ≡ pred_by_node preds l.id) labels

@@ -1,4 +1,4 @@
--- Inside: the distances of labels by node, and what the solver refuses.
+-- Inside: distances by node, from labels, and the solver's refusals.
 use Rattle.std.specs.Prelude.{ℕ, ◌≡◌, List, length, ℤ}
 use Rattle.dimacs_lines.specs.Limits.{IsNode}
 use Rattle.dimacs_records.specs.declared.reasons.Reason.TheVariants as reasons
@@ -10,7 +10,7 @@ use Rattle.dimacs_decide.specs.Claims.{claimed_by_node}
 use Rattle.dimacs_solve.specs.declared.error.SolveError.{SolveError}
 use Rattle.dimacs_solve.specs.declared.error.SolveError.TheVariants as errors
 
--- the distance of each node by its label, and none where it has none
+-- the distance of each node by its label; none without one
 pub record AreDistancesOf (nodes : ℕ) (b : BlockValue) (distances : List ℤ) : Type 0 where
   pub each : length distances ≡ nodes
   pub says : (v : ℕ) → IsNode nodes v → claimed_by_node distances v ≡ label b v

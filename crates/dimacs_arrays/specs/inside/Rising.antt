@@ -1,4 +1,4 @@
--- Inside: distances that rise along the arcs that make them.
+-- Inside: distances with tight arcs of positive weight, which are called rising.
 use Rattle.std.specs.Prelude.{ℕ, ◌≡◌, ◌≢◌, List, All, Contains, length, Option, Some, ℤ, pos, ◌+ℤ◌, ◌≤ℤ◌, ◌<ℤ◌}
 use Rattle.dimacs_network.specs.declared.network.ArcView.{ArcView}
 use Rattle.dimacs_decide.specs.Claims.{claimed_by_node}
@@ -6,18 +6,18 @@ use Rattle.dimacs_arrays.specs.Paths.{IsDue, pred_by_node}
 use Rattle.dimacs_arrays.specs.declared.rising.Step.{Step}
 use Rattle.dimacs_arrays.specs.declared.rising.Step.TheVariants.{Flat, Rising, Short}
 
--- where its tail has a distance, the arc leads to a node with one that is no greater than by the arc
+-- if its tail has a distance, so has its head, no greater than by the arc
 abbrev pub Relaxes : (ℕ → Option ℤ) → ArcView → Type 0
 Relaxes claim a = (d : ℤ) → claim a.tail ≡ Some d → (e : ℤ) × (claim a.head ≡ Some e) × (e ≤ℤ (d +ℤ a.cost))
 
--- the arc makes the distance of its head, from one that is less and not negative
+-- the arc is tight, and its tail's distance is less than d and not negative
 pub record Rises (claim : ℕ → Option ℤ) (a : ArcView) (d : ℤ) : Type 0 where
   pub tail : claim a.tail ≡ Some d
   pub head : claim a.head ≡ Some (d +ℤ a.cost)
   pub low : pos 0 ≤ℤ d
   pub more : pos 0 <ℤ a.cost
 
--- where an arc of this weight leads from the one distance to the other
+-- the step of an arc with this weight between these distances
 abbrev pub Spans : ℤ → ℤ → ℤ → Step → Type 0
 Spans from to weight Flat = to ≤ℤ (from +ℤ weight)
 Spans from to weight Rising = (to ≡ from +ℤ weight) × (pos 0 ≤ℤ from) × (pos 0 <ℤ weight)
@@ -28,20 +28,20 @@ Steps claim a Flat = Relaxes claim a
 Steps claim a Rising = Relaxes claim a × ((d : ℤ) × Rises claim a d)
 Steps claim a Short = Unit {0}
 
--- an arc that rises leads from p to v
+-- a rising arc leads from p to v
 abbrev pub HasRisingArc : List ArcView → (ℕ → Option ℤ) → ℕ → ℕ → Type 0
 HasRisingArc arcs claim p v = (a : ArcView) × Contains arcs a × (a.tail ≡ p) × (a.head ≡ v) × ((d : ℤ) × Rises claim a d)
 
--- no arc leads too far, and each predecessor but 0 leads to its node by an arc that rises
+-- no arc shows the distances wrong, and each predecessor but 0 has a rising arc to its node
 pub record AreRising (arcs : List ArcView) (claim : ℕ → Option ℤ) (pred : ℕ → ℕ) : Type 0 where
   pub relaxed : All (Relaxes claim) arcs
   pub made : (v : ℕ) → pred v ≢ 0 → HasRisingArc arcs claim (pred v) v
 
--- each node that has to have a predecessor has one
+-- each node that needs a predecessor has one
 abbrev pub AreReached : ℕ → (ℕ → Option ℤ) → (ℕ → ℕ) → Type 0
 AreReached s claim pred = (v : ℕ) → IsDue s claim v → pred v ≢ 0
 
--- the predecessors of all nodes, which show that the distances are true
+-- the predecessors of all nodes, which show the distances
 pub record AreRisingBy (nodes s : ℕ) (arcs : List ArcView) (distances : List ℤ) (preds : List ℕ) : Type 0 where
   pub whole : length distances ≡ nodes
   pub each : length preds ≡ nodes

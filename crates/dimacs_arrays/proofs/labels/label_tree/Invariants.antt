@@ -5,7 +5,7 @@ use Rattle.dimacs_arrays.specs.Paths.{pred_by_node}
 use Rattle.dimacs_arrays.specs.inside.LabelTrees.{AreLedBelow, IsLabelTree}
 use Rattle.dimacs_arrays.proofs.labels.label_tree.Given as goal
 
--- the nodes before v have labels, as far as they have distances
+-- the nodes before v are labelled if they have a distance
 abbrev pub invariant-loop-v : goal.invariant-loop-v
 invariant-loop-v l = record {
   tree : IsLabelTree (length l.distances) l.source (claimed_by_node l.distances) (pred_by_node l.predecessors) l.tree.block (value_of l.tree.led);

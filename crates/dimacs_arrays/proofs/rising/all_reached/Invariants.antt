@@ -3,6 +3,6 @@ use Rattle.dimacs_decide.specs.Claims.{claimed_by_node}
 use Rattle.dimacs_arrays.specs.Paths.{IsDue, pred_by_node}
 use Rattle.dimacs_arrays.proofs.rising.all_reached.Given as goal
 
--- the nodes before v that have to have a predecessor have one
+-- the nodes before v that need a predecessor have one
 abbrev pub invariant-loop-v : goal.invariant-loop-v
 invariant-loop-v l = (u : ℕ) → u < l.v → IsDue l.source (claimed_by_node l.distances) u → pred_by_node l.predecessors u ≢ 0

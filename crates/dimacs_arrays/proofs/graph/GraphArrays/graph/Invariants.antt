@@ -4,7 +4,7 @@ use Rattle.dimacs_arrays.specs.Limits.{limit_row}
 use Rattle.dimacs_arrays.proofs.GraphLemmas.{graph_begun, weighted_arcs}
 use Rattle.dimacs_arrays.proofs.graph.GraphArrays.graph.Given as goal
 
--- the arcs so far, all within their limits
+-- the arcs so far, all in range
 abbrev pub invariant-loop-k : goal.invariant-loop-k
 invariant-loop-k l = record {
   made : l.graph ≡ graph_begun l.self l.k;

@@ -5,7 +5,7 @@ use Rattle.dimacs_arrays.specs.Paths.{pred_by_node}
 use Rattle.dimacs_arrays.specs.inside.LabelTrees.{IsClimbing, others}
 use Rattle.dimacs_arrays.proofs.way_back.WayBack.climb.Given as goal
 
--- the way was gone back as far as to `at`
+-- the way back so far ends before `at`
 abbrev pub invariant-loop-self : goal.invariant-loop-self
 invariant-loop-self l = IsClimbing (claimed_by_node l.distances) (pred_by_node l.predecessors) (value_of l.tree.led) l.from (value_of l.self.roots) l.self.way.items l.at
 

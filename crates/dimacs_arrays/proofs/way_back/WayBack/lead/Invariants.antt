@@ -5,7 +5,7 @@ use Rattle.dimacs_arrays.specs.Paths.{pred_by_node}
 use Rattle.dimacs_arrays.specs.inside.LabelTrees.{ComesFirst, IsLabelTree, IsWayBack, Keeps}
 use Rattle.dimacs_arrays.proofs.way_back.WayBack.lead.Given as goal
 
--- the rest of the way ends before a node with a label
+-- the rest of the way ends before a labelled node
 abbrev pub invariant-loop-node : goal.invariant-loop-node
 invariant-loop-node l = record {
   tree : IsLabelTree (length l.distances) l.initial.tree.block.source (claimed_by_node l.distances) (pred_by_node l.predecessors) l.tree.block (value_of l.tree.led);
