@@ -1,4 +1,4 @@
--- What a call over arrays hands out is what it says.
+-- What a call over arrays hands out is its answer.
 use Rattle.std.proofs.Common.{◌≡◌, ◌∙◌, ◌++◌, ℕ, List, [], ◌∷◌, Option, None, Some, Result, Ok, Err, refl, ap, subst, inl, inr}
 use Rattle.std.specs.Prelude.{IfOk, IfSome}
 use Rattle.dimacs_lines.specs.declared.device.DeviceFault.{DeviceFault}
@@ -12,7 +12,7 @@ use Rattle.dimacs_c.specs.inside.Arrays.{EndsLine}
 use Rattle.dimacs_c.specs.inside.Calls.{EndsSaid}
 use Rattle.dimacs_c.proofs.CallLemmas.{bytes_of}
 
--- nothing is handed out to a room that is left as it was
+-- nothing is handed out to a buffer that stays as it was
 hands_none : {X : Type 0} (room : List X) → HandsOut [] (handed room room 0)
 hands_none [] = record { told = refl; front = refl }
 hands_none (x ∷ room) = record { told = refl; front = refl }
@@ -20,13 +20,13 @@ hands_none (x ∷ room) = record { told = refl; front = refl }
 none_by : {X : Type 0} (h : Handed X) → HandsNothing h → HandsOut [] h
 none_by h nothing = rw (nothing.told, nothing.unchanged) (hands_none h.room)
 
--- the judge's answer was handed out; or there was no memory, of which nothing is said
+-- the judge's answer was handed out, or memory ran out
 pub line_answered : (judges : Result Verdict ArrayError → Type 0) → judges (Err Memory) → (r : Result Verdict ArrayError) → judges r → (answer : ℕ) (h : Handed ℕ)
     → EndsLine (said verdict_said r) answer h → AnswersLine judges answer h
 line_answered judges memory r holds answer h (inl ends) = (r, holds, ends.0, ends.1)
 line_answered judges memory r holds answer h (inr ends) = (Err Memory, memory, ends.0, none_by h ends.1)
 
--- ---- items, to rooms that a call may have
+-- ---- items, for the buffers that a call may have
 module _ {I : Type 0} (items : List I) where
   abbrev pub EndsTo : Result ℕ DeviceFault → Option (Handed I) → Type 0
   EndsTo put room = IfSome room (λ h. (answer : ℕ) × EndsSaid put items answer h)
@@ -40,7 +40,7 @@ module _ {I : Type 0} (items : List I) where
   none_to fault (Some h) ends = none_by h ends.1.1
 
 module _ {X : Type 0} (says : X → Said) (gives : Result X ArrayError → Type 0) (memory : gives (Err Memory)) (r : Result X ArrayError) (holds : gives r) where
-  -- a line was put after nothing, and all was handed out; or there was no memory for the line
+  --   the line was written and all was handed out, or memory ran out
   pub items_answered : (put : Result ℕ DeviceFault) → IfOk put (λ status. status ≡ (said says r).status) → (start line : List ℕ) → start ≡ [] → Accepts put (Some start) (said says r).line (Some line)
       → (all : Rooms) (answer : ℕ) → EndsSaid put line answer all.line → EndsTo (said says r).marks put all.marks → EndsTo (said says r).numbers put all.numbers → EndsTo (said says r).amounts put all.amounts
       → AnswersItems says gives answer all

@@ -1,4 +1,4 @@
--- What was put into memory is what is handed out.
+-- What was written to memory is handed out.
 use Rattle.std.proofs.Common.{◌≡◌, ◌∙◌, ◌++◌, ℕ, List, [], ◌∷◌, Option, None, Some, Result, Ok, Err, ap, subst, get_or, drop, inl, inr}
 use Rattle.std.specs.Prelude.{unwrap_or}
 use Rattle.dimacs_runs.specs.declared.jobs.JudgeKind.{JudgeKind}
@@ -24,7 +24,7 @@ are_queries Paths coming b is = is
 pub bytes_of : {a b : List ℕ} → Some a ≡ Some b → a ≡ b
 bytes_of is = ap (λ (held : Option (List ℕ)). unwrap_or held []) is
 
--- one sink was empty, and what it has now was handed out
+-- one sink was empty, and its bytes were handed out
 pub answered : (tells : Status → List ℕ → Type 0) (ended : Result Status RunError) (start bytes : List ℕ) (answer : ℕ) (h : Handed ℕ) → start ≡ []
     → Reports tells ended (Some start) (Some bytes) → Ends ended bytes answer h → Answers tells answer h
 answered tells (Ok s) start bytes answer h empty reports ends =
@@ -32,8 +32,8 @@ answered tells (Ok s) start bytes answer h empty reports ends =
     inl (s, reports.0, reports.1, ends.0, subst (λ text. HandsOut text h) whole ends.1)
 answered tells (Err error) start bytes answer h empty reports ends = inr ends
 
--- ---- several texts, each from a sink of its own
--- what a sink holds, and the room for it
+-- ---- several texts, each from its own sink
+-- the bytes of a sink, and the buffer for them
 abbrev pub Kept : Type 0
 Kept = List ℕ × Handed ℕ
 
@@ -49,7 +49,7 @@ abbrev pub rooms_of : List Kept → List (Handed ℕ)
 rooms_of [] = []
 rooms_of (k ∷ kept) = k.1 ∷ rooms_of kept
 
--- each room was handed what its sink holds, or nothing
+-- each buffer got the bytes of its sink, or nothing
 abbrev pub EndEach : Result Status RunError → List Kept → Type 0
 EndEach ended [] = Unit {0}
 EndEach ended (k ∷ kept) = ((answer : ℕ) × Ends ended k.0 answer k.1) × EndEach ended kept
@@ -67,7 +67,7 @@ hand_nothing : (error : RunError) (kept : List Kept) → EndEach (Err error) kep
 hand_nothing error [] ends = tt
 hand_nothing error (k ∷ kept) ends = (ends.0.1.1, hand_nothing error kept ends.1)
 
--- all sinks were empty, and what they have now was handed out
+-- all sinks were empty, and their bytes were handed out
 pub answered_texts : (tells : Status → List (List ℕ) → Type 0) (ended : Result Status RunError) (kept : List Kept) (report : List ℕ) (answer : ℕ) (last : Handed ℕ)
     → ReportsAll tells ended (begun kept) (held kept) → EndEach ended kept → Ends ended report answer last → AnswersTexts tells answer (rooms_of kept)
 answered_texts tells (Ok s) kept report answer last reports ends status = inl (s, reports.0, reports.1, status.0, hands_each s reports.0 kept reports.2 ends)

@@ -1,4 +1,4 @@
--- What the calls over arrays answer, and what they hand out.
+-- What calls over arrays return and hand out.
 use Rattle.std.specs.Prelude.{ℕ, ◌≡◌, [], List, Option, IfSome, Result, Ok, Err, ℤ, codes}
 use Rattle.std.specs.Global.{Vec}
 use Rattle.dimacs_records.specs.declared.reasons.Reason.TheVariants.{Feasible, NotLeast, NotMaximum}
@@ -22,7 +22,7 @@ use Rattle.dimacs_runs.specs.Refusals.{refusal_line}
 use Rattle.dimacs_runs.specs.Verdicts.{failure_line, gave_up_line, infeasible_line, max_line, min_line, sources_line, verdict_lines}
 use Rattle.dimacs_c.specs.Calls.{Handed, HandsOut}
 
--- what a call says: its status and its line, and where it has them items: bytes or predecessors by node, potentials or distances by node, and amounts by arc
+-- what a call hands out: a status, a line, and perhaps items: bytes or predecessors, potentials or distances, amounts
 pub record Said : Type 0 where
   pub status : ℕ
   pub line : List ℕ
@@ -30,25 +30,25 @@ pub record Said : Type 0 where
   pub numbers : List ℤ
   pub amounts : List ℤ
 
--- a status and a line, and no more
+-- only a status and a line
 abbrev pub only : ℕ → List ℕ → Said
 only status line = record { status = status; line = line; marks = []; numbers = []; amounts = [] }
 
--- the status of an error: a test that fails, misuse, or no memory
+-- the status of an error: a test that fails, misuse, or out of memory
 abbrev pub error_status : ArrayError → ℕ
 error_status (Refused place reason) = 1
 error_status (Limit place reason) = 2
 error_status (Length array) = 2
 error_status Memory = 4
 
--- and its line; an array that doesn't fit has none
+-- the line of an error; a wrong length has none
 abbrev pub error_line : ArrayError → List ℕ
 error_line (Refused place reason) = failure_line place reason
 error_line (Limit place reason) = failure_line place reason
 error_line (Length array) = []
 error_line Memory = []
 
--- what an answer says
+-- what is handed out for an answer or an error
 abbrev pub said : {X : Type 0} → (X → Said) → Result X ArrayError → Said
 said says (Ok x) = says x
 said says (Err error) = only (error_status error) (error_line error)
@@ -60,13 +60,13 @@ abbrev pub max_said : MaxCertified → Said
 max_said (max_certified.Optimal total inside) = record (only 0 (max_line total)) { marks = inside.items }
 max_said (max_certified.Better y) = record (only 1 (failure_line (Solution 0 0) NotMaximum)) { amounts = y }
 
--- 5 where two of the potentials that were found are 2^64 or more apart
+-- 5 if the potentials don't fit into an array
 abbrev pub min_said : MinCertified → Said
 min_said (min_certified.Optimal total potentials) = record (only 0 (min_line total)) { numbers = potentials.items }
 min_said (min_certified.Wide total p) = only 5 gave_up_line
 min_said (min_certified.Better y) = record (only 1 (failure_line (Solution 0 0) NotLeast)) { amounts = y }
 
--- an instance has a feasible flow that was claimed to have none
+-- a flow is feasible although none should be
 abbrev pub feasible_line : List ℕ
 feasible_line = refusal_line (codes "instance") 0 0 Feasible
 
@@ -81,24 +81,24 @@ abbrev pub max_found : MaxSolved → Said
 max_found (max_solved.Optimal total x inside) = record (only 0 (max_line total)) { marks = inside.items; amounts = x }
 max_found max_solved.GaveUp = only 5 gave_up_line
 
--- 5 too where two of the potentials that were found are 2^64 or more apart
+-- 5, too, if the potentials don't fit into an array
 abbrev pub min_found : MinSolved → Said
 min_found (min_solved.Optimal total x potentials) = record (only 0 (min_line total)) { numbers = potentials.items; amounts = x }
 min_found (min_solved.Wide total x p) = only 5 gave_up_line
 min_found (min_solved.Infeasible inside) = record (only 0 infeasible_line) { marks = inside.items }
 min_found min_solved.GaveUp = only 5 gave_up_line
 
--- 5 where an array can't say a distance
+-- 5 if a distance doesn't fit into an array
 abbrev pub paths_found : PathsSolved → Said
 paths_found (paths_solved.Distances distances preds) = record (only 0 (sources_line 1)) { marks = preds.items; numbers = distances.items }
 paths_found (paths_solved.Far labels) = only 5 gave_up_line
 
--- the line of an answer that the judge may give is handed out, with its status; want of memory is one, and has no line
+-- the line of a possible answer of the judge is handed out, with its status; out of memory is one, without a line
 abbrev pub AnswersLine : (Result Verdict ArrayError → Type 0) → ℕ → Handed ℕ → Type 0
 AnswersLine judges answer h =
     (r : Result Verdict ArrayError) × judges r × (answer ≡ (said verdict_said r).status) × HandsOut (said verdict_said r).line h
 
--- a caller's rooms for a line and for items; a call has no room for what it never says
+-- a caller's buffers for a line and for items; a call has none for items that it never hands out
 pub record Rooms : Type 0 where
   pub line : Handed ℕ
   pub marks : Option (Handed ℕ)
@@ -108,14 +108,14 @@ pub record Rooms : Type 0 where
 abbrev pub rooms : Handed ℕ → Option (Handed ℕ) → Option (Handed ℤ) → Option (Handed ℤ) → Rooms
 rooms line marks numbers amounts = record { line = line; marks = marks; numbers = numbers; amounts = amounts }
 
--- all that is said is handed out, each to its room
+-- everything is handed out, each part to its buffer
 pub record HandsOutAll (s : Said) (r : Rooms) : Type 0 where
   pub line : HandsOut s.line r.line
   pub marks : IfSome r.marks (HandsOut s.marks)
   pub numbers : IfSome r.numbers (HandsOut s.numbers)
   pub amounts : IfSome r.amounts (HandsOut s.amounts)
 
--- what an answer says that the certifier or the solver may give is handed out, with its status
+-- a possible answer of the certifier or the solver is handed out, with its status
 abbrev pub AnswersItems : {X : Type 0} → (X → Said) → (Result X ArrayError → Type 0) → ℕ → Rooms → Type 0
 AnswersItems {X} says gives answer given =
     (r : Result X ArrayError) × gives r × (answer ≡ (said says r).status) × HandsOutAll (said says r) given

@@ -1,10 +1,10 @@
--- What calls answer, and what they hand out.
+-- What calls return and hand out.
 use Rattle.std.specs.Prelude.{ℕ, ◌≡◌, ◌++◌, ◌⊎◌, List, [], ◌∷◌, Option, None, Some, Ok, length, take, drop}
 use Rattle.dimacs_runs.specs.declared.outcome.Status.{Status}
 use Rattle.dimacs_runs.specs.Outcomes.{status_number}
 use Rattle.dimacs_runs.specs.Runs.{TellsAlone}
 
--- a caller's room for bytes or numbers, as it was and as the call left it, and the length that the call told
+-- a caller's buffer for bytes or numbers, as it was and as the call left it, and the length that the call set
 pub record Handed (X : Type 0) : Type 0 where
   pub room : List X
   pub left : List X
@@ -13,28 +13,28 @@ pub record Handed (X : Type 0) : Type 0 where
 abbrev pub handed : {X : Type 0} → List X → List X → ℕ → Handed X
 handed room left told = record { room = room; left = left; told = told }
 
--- as many of the items as there is room for stand at the front of the room, and the number of all of them is told
+-- as many items as fit are at the front of the buffer, and the length is the number of all
 pub record HandsOut {X : Type 0} (items : List X) (h : Handed X) : Type 0 where
   pub told : h.told ≡ length items
   pub front : h.left ≡ take (length h.room) items ++ drop (length items) h.room
 
--- the room is as it was, and the length that is told is 0
+-- the buffer is as it was, and the length is 0
 pub record HandsNothing {X : Type 0} (h : Handed X) : Type 0 where
   pub told : h.told ≡ 0
   pub unchanged : h.left ≡ h.room
 
--- the one text that may be told is handed out, and the answer is the command's exit status; or there was no memory
+-- the only possible text is handed out, and the call returns the command's exit status; or memory ran out
 abbrev pub Answers : (Status → List ℕ → Type 0) → ℕ → Handed ℕ → Type 0
 Answers tells answer h =
     ((s : Status) × (text : List ℕ) × TellsAlone tells s text × (answer ≡ status_number (Ok s)) × HandsOut text h)
     ⊎ ((answer ≡ 4) × HandsNothing h)
 
--- the same where a number names a kind; 2 where it names none
+-- the same if the number names a kind; otherwise 2
 abbrev pub AnswersKind : {K : Type 0} → Option K → (K → Status → List ℕ → Type 0) → ℕ → Handed ℕ → Type 0
 AnswersKind None tells answer h = (answer ≡ 2) × HandsNothing h
 AnswersKind (Some kind) tells answer h = Answers (tells kind) answer h
 
--- each text is handed out to its room, in order; a room past the last text gets an empty one
+-- each text is handed out to its buffer, in order; a buffer after the last text gets an empty one
 abbrev pub HandsEach : List (List ℕ) → List (Handed ℕ) → Type 0
 HandsEach [] [] = Unit {0}
 HandsEach [] (h ∷ rooms) = HandsOut [] h × HandsEach [] rooms
@@ -45,13 +45,13 @@ abbrev pub HandNothing : List (Handed ℕ) → Type 0
 HandNothing [] = Unit {0}
 HandNothing (h ∷ rooms) = HandsNothing h × HandNothing rooms
 
--- texts that may be told are handed out, the report last, and the answer is the command's exit status; or there was no memory
+-- possible texts are handed out, the report last, and the call returns the command's exit status; or memory ran out
 abbrev pub AnswersTexts : (Status → List (List ℕ) → Type 0) → ℕ → List (Handed ℕ) → Type 0
 AnswersTexts tells answer rooms =
     ((s : Status) × (texts : List (List ℕ)) × tells s texts × (answer ≡ status_number (Ok s)) × HandsEach texts rooms)
     ⊎ ((answer ≡ 4) × HandNothing rooms)
 
--- the same where a number names a kind; 2 where it names none
+-- the same if the number names a kind; otherwise 2
 abbrev pub AnswersTextsKind : {K : Type 0} → Option K → (K → Status → List (List ℕ) → Type 0) → ℕ → List (Handed ℕ) → Type 0
 AnswersTextsKind None tells answer rooms = (answer ≡ 2) × HandNothing rooms
 AnswersTextsKind (Some kind) tells answer rooms = AnswersTexts (tells kind) answer rooms

@@ -1,4 +1,4 @@
--- The numbers by which callers name kinds.
+-- The numbers of the kinds.
 use Rattle.std.specs.Prelude.{ℕ, ◌==◌, if◌then◌else◌, Option, None, Some}
 use Rattle.dimacs_records.specs.declared.kinds.TextKind.{TextKind}
 use Rattle.dimacs_records.specs.declared.kinds.TextKind.TheVariants as texts
@@ -25,7 +25,7 @@ certify_kind number =
     else if number == 3 then Some claims.Paths
     else None
 
--- a set is made where least cost is asked for and there is no flow
+-- there is no 2: minimum cost flow also finds sets that show that no flow is feasible
 abbrev pub solve_job : ℕ → ℕ → Option SolveJob
 solve_job number limit =
     if number == 0 then Some (jobs.Max limit)

@@ -1,4 +1,4 @@
-//! How a call ends.
+//! The ends of calls: the status, and the bytes or items handed to the caller.
 
 ghost use Rattle.std.specs.Prelude.{◌≡◌};
 ghost use Rattle.dimacs_c.specs.Calls.{HandsOut, handed};
@@ -7,13 +7,14 @@ ghost use Rattle.dimacs_c.specs.inside.Calls.{Ends, EndsSaid};
 use dimacs_lines::DeviceFault;
 use dimacs_runs::{RunError, Status, exit_status};
 
-/// The status of a misused call. Others are the command's.
+/// The status of a misused call. The others are the command's exit statuses.
 pub(crate) const MISUSED: u32 = 2;
 
-/// That of a call for which there was no memory.
+/// The status if memory runs out.
 pub(crate) const NO_MEMORY: u32 = 4;
 
-/// Ends a call whose run ended so, and put these bytes. The one device that can fail is memory that has to grow.
+/// Converts the result of a run to a status and copies its output. The run writes only to memory, so that any error
+/// means out of memory.
 pub(crate) fn end(
     ended: Result<Status, RunError>,
     bytes: &[u8],
@@ -34,8 +35,8 @@ pub(crate) fn end(
     }
 }
 
-/// Hands out items of a call over arrays, where its line was put, and answers the call's status. The one device that can
-/// fail is memory that has to grow.
+/// Copies items of a call over arrays, unless writing its line failed, and returns the status. Writing to memory fails
+/// only if memory runs out.
 pub(crate) fn hand_said<T: Copy>(
     put: Result<u32, DeviceFault>,
     items: &[T],
@@ -56,7 +57,7 @@ pub(crate) fn hand_said<T: Copy>(
     }
 }
 
-/// Ends a call that is misused.
+/// Ends a misused call: nothing is copied, and the length is 0.
 pub(crate) fn misuse(told: &mut usize) -> u32
     ensures told { told.new ≡ 0 }
     ensures status { result ≡ 2 }
@@ -65,7 +66,7 @@ pub(crate) fn misuse(told: &mut usize) -> u32
     MISUSED
 }
 
-/// Copies as much as there is room for.
+/// Copies as much as fits into the buffer, and sets the length of the whole.
 fn hand_out<T: Copy>(items: &[T], room: &mut [T], told: &mut usize)
     ensures { HandsOut items.now (handed room.old room.new told.new) }
 {

@@ -12,8 +12,8 @@ use dimacs_lines::{MemorySink, MemorySource};
 use dimacs_runs::{CertifyKind, run_certify};
 use std::alloc::Global;
 
-/// Certifies a claim, as `certify-max` and so on. The second room is for the text of the certificate, or of a better or a
-/// feasible solution. Nothing is claimed of an instance without a feasible flow: there the claim isn't read.
+/// Certifies a claim, as `dimacs certify-max` and the like. `shown` receives the text of the certificate, or of a
+/// better or a feasible solution. For kind 2 (no feasible flow) the claim isn't read.
 #[unsafe(no_mangle)]
 pub extern "C" fn dimacs_certify(
     alloc: Global,
@@ -39,6 +39,7 @@ pub extern "C" fn dimacs_certify(
     }
 }
 
+/// Certifies a claim of this kind.
 fn certify(
     alloc: Global,
     kind: CertifyKind,

@@ -1,4 +1,4 @@
-//! Instances without a feasible flow, over arrays.
+//! Showing over arrays that no flow is feasible.
 
 ghost use Rattle.std.specs.Prelude.{◌≡◌, ℕ, List, Option, None, Some, IfOk};
 ghost use Rattle.dimacs_lines.specs.Puts.{Puts};
@@ -15,7 +15,7 @@ use dimacs_judge::Verdict;
 use dimacs_lines::{DeviceFault, MemorySink, Sink};
 use std::alloc::Global;
 
-/// Judges that no flow is feasible by the nodes inside, as `judge_infeasible_arrays`.
+/// Judges that no flow is feasible, as `judge_infeasible_arrays`.
 #[unsafe(no_mangle)]
 pub extern "C" fn dimacs_judge_infeasible_arrays(
     alloc: Global,
@@ -30,8 +30,8 @@ pub extern "C" fn dimacs_judge_infeasible_arrays(
     hand_judged(alloc, answer, out, told)
 }
 
-/// Certifies that no flow is feasible, as `certify_infeasible_arrays`. The second room is for the nodes inside a set that
-/// shows it, and the third for a feasible flow.
+/// Certifies that no flow is feasible, as `certify_infeasible_arrays`. `inside` receives the bytes of a set that shows
+/// it, or `flows` a feasible flow.
 #[unsafe(no_mangle)]
 pub extern "C" fn dimacs_certify_infeasible_arrays(
     alloc: Global,
@@ -54,7 +54,7 @@ pub extern "C" fn dimacs_certify_infeasible_arrays(
     hand_said(put, line.bytes(), out, told)
 }
 
-/// Puts the line of what is certified, and answers its status.
+/// Writes the line of the answer, and returns its status.
 fn put_certified<K: Sink>(
     sink: &mut K,
     answer: &Result<InfeasibleCertified, ArrayError>,
@@ -69,7 +69,7 @@ fn put_certified<K: Sink>(
     }
 }
 
-/// The nodes inside, where they show that no flow is feasible.
+/// The bytes of the set; none if a flow is feasible.
 fn inside_of(answer: &Result<InfeasibleCertified, ArrayError>) -> &[u8]
     ensures { result.now ≡ (said infeasible_said answer.now).marks }
 {
@@ -79,7 +79,7 @@ fn inside_of(answer: &Result<InfeasibleCertified, ArrayError>) -> &[u8]
     }
 }
 
-/// The feasible flow, where there is one.
+/// The feasible flow, if there is one.
 fn flow_of(answer: &Result<InfeasibleCertified, ArrayError>) -> &[i64]
     ensures { result.now ≡ (said infeasible_said answer.now).amounts }
 {

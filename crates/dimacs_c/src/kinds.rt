@@ -1,4 +1,4 @@
-//! The numbers that name kinds.
+//! The numbers of the kinds, as `dimacs.h` defines them.
 
 ghost use Rattle.std.specs.Prelude.{◌≡◌};
 ghost use Rattle.dimacs_c.specs.Kinds.{certify_kind, judge_kind, solve_job, text_kind};
@@ -6,6 +6,7 @@ ghost use Rattle.dimacs_c.specs.Kinds.{certify_kind, judge_kind, solve_job, text
 use dimacs_records::TextKind;
 use dimacs_runs::{CertifyKind, JudgeKind, SolveJob};
 
+/// The kind of claim to judge.
 pub(crate) fn judge_of(number: u32) -> Option<JudgeKind>
     ensures { result ≡ judge_kind number }
 {
@@ -18,6 +19,7 @@ pub(crate) fn judge_of(number: u32) -> Option<JudgeKind>
     }
 }
 
+/// The kind of claim to certify.
 pub(crate) fn certify_of(number: u32) -> Option<CertifyKind>
     ensures { result ≡ certify_kind number }
 {
@@ -30,6 +32,7 @@ pub(crate) fn certify_of(number: u32) -> Option<CertifyKind>
     }
 }
 
+/// The instance to solve. There is no 2: minimum cost flow also finds that no flow is feasible.
 pub(crate) fn solve_of(number: u32, limit: u64) -> Option<SolveJob>
     ensures { result ≡ solve_job number limit }
 {
@@ -41,6 +44,7 @@ pub(crate) fn solve_of(number: u32, limit: u64) -> Option<SolveJob>
     }
 }
 
+/// The kind of text.
 pub(crate) fn text_of(number: u32) -> Option<TextKind>
     ensures { result ≡ text_kind number }
 {

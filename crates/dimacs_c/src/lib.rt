@@ -1,8 +1,9 @@
-//! The calls of the library for C: `lib/include/dimacs.h` declares them, and says what a caller has to know.
+//! The functions of the library for C. `lib/include/dimacs.h` declares them and describes how to call them.
 //!
-//! Each answers the exit status that the command would end with, and hands out what the command would print and write to
-//! files: as much of it as there is room for, and the length of the whole. Those over arrays hand out flows, distances and
-//! certificates as arrays, by the same rule, and answer 2 where the arrays don't fit or a number is past its limit.
+//! Each returns the exit status of the command that it stands for, and copies what the command would print and write to
+//! files into the caller's buffers: as much as fits, with the length of the whole. The functions over arrays copy
+//! flows, distances and certificates as arrays in the same way. They return 2 if the length of an array is wrong or a
+//! number is out of range.
 #![tactic(auto)]
 
 mod answer;

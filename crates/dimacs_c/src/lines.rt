@@ -1,4 +1,4 @@
-//! The lines of answers over arrays, and the statuses that go with them.
+//! The lines of answers over arrays, with their statuses.
 
 ghost use Rattle.std.specs.Prelude.{◌≡◌, ℕ, List, Option, IfOk};
 ghost use Rattle.dimacs_lines.specs.Puts.{Puts};
@@ -18,16 +18,16 @@ use std::alloc::Global;
 /// The status of a yes.
 const YES: u32 = 0;
 
-/// That of a test that fails.
+/// The status of a test that fails.
 const NO: u32 = 1;
 
-/// That of an answer that can't be spelled.
+/// The status if a limit was reached, or the answer doesn't fit into arrays.
 const GAVE_UP: u32 = 5;
 
-/// The place of a refusal that finds fault with a flow, and with no arc or node of it.
+/// The place of a refusal that concerns a flow as a whole, not one arc or node.
 pub(crate) const WHOLE_FLOW: Where = Where::Solution { line: 0, field: 0 };
 
-/// Hands out the line of a judge's answer.
+/// Copies the line of a judge's answer, and returns its status.
 pub(crate) fn hand_judged(
     alloc: Global,
     answer: Result<Verdict, ArrayError>,
@@ -41,7 +41,7 @@ pub(crate) fn hand_judged(
     hand_said(put, line.bytes(), out, told)
 }
 
-/// Puts the line of a judge's answer, and answers its status.
+/// Writes the line of a judge's answer, and returns its status.
 fn put_judged<K: Sink>(
     sink: &mut K,
     answer: Result<Verdict, ArrayError>,
@@ -55,7 +55,7 @@ fn put_judged<K: Sink>(
     }
 }
 
-/// Puts the line of a verdict.
+/// Writes the line of a verdict.
 pub(crate) fn put_yes<K: Sink>(sink: &mut K, verdict: &Verdict) -> Result<u32, DeviceFault>
     ensures status { IfOk result (λ status. status ≡ 0) }
     ensures line { Puts result (K.seen sink.old) (verdict_lines verdict.now) (K.seen sink.new) }
@@ -64,7 +64,7 @@ pub(crate) fn put_yes<K: Sink>(sink: &mut K, verdict: &Verdict) -> Result<u32, D
     Ok(YES)
 }
 
-/// Puts the line of a test that fails.
+/// Writes the line of a test that fails.
 pub(crate) fn put_no<K: Sink>(
     sink: &mut K,
     place: Where,
@@ -77,7 +77,7 @@ pub(crate) fn put_no<K: Sink>(
     Ok(NO)
 }
 
-/// Puts the line of an instance that was claimed to have no feasible flow, and has one.
+/// Writes the line if a flow is feasible although none should be.
 pub(crate) fn put_feasible<K: Sink>(sink: &mut K) -> Result<u32, DeviceFault>
     ensures status { IfOk result (λ status. status ≡ 1) }
     ensures line { Puts result (K.seen sink.old) feasible_line (K.seen sink.new) }
@@ -95,7 +95,7 @@ pub(crate) fn put_feasible<K: Sink>(sink: &mut K) -> Result<u32, DeviceFault>
     Ok(NO)
 }
 
-/// Puts the line that tells that a limit was reached.
+/// Writes the line `g limit`.
 pub(crate) fn put_wide<K: Sink>(sink: &mut K) -> Result<u32, DeviceFault>
     ensures status { IfOk result (λ status. status ≡ 5) }
     ensures line { Puts result (K.seen sink.old) gave_up_line (K.seen sink.new) }
@@ -104,7 +104,7 @@ pub(crate) fn put_wide<K: Sink>(sink: &mut K) -> Result<u32, DeviceFault>
     Ok(GAVE_UP)
 }
 
-/// Puts the line of an error, where it has one.
+/// Writes the line of an error, if it has one: a wrong length and out of memory have none.
 pub(crate) fn put_error<K: Sink>(sink: &mut K, error: ArrayError) -> Result<u32, DeviceFault>
     ensures status { IfOk result (λ status. status ≡ error_status error) }
     ensures line { Puts result (K.seen sink.old) (error_line error) (K.seen sink.new) }

@@ -17,7 +17,7 @@ use dimacs_lines::{DeviceFault, MemorySink, Sink};
 use dimacs_records::Reason;
 use std::alloc::Global;
 
-/// Judges that a flow is maximum by the nodes inside, as `judge_max_arrays`.
+/// Judges that a flow is maximum, as `judge_max_arrays`.
 #[unsafe(no_mangle)]
 pub extern "C" fn dimacs_judge_max_arrays(
     alloc: Global,
@@ -33,8 +33,8 @@ pub extern "C" fn dimacs_judge_max_arrays(
     hand_judged(alloc, answer, out, told)
 }
 
-/// Certifies that a flow is maximum, as `certify_max_arrays`. The second room is for the nodes inside, and the third for a
-/// better flow.
+/// Certifies that a flow is maximum, as `certify_max_arrays`. `inside` receives the bytes of a cut that shows it, or
+/// `better` a better flow.
 #[unsafe(no_mangle)]
 pub extern "C" fn dimacs_certify_max_arrays(
     alloc: Global,
@@ -58,7 +58,7 @@ pub extern "C" fn dimacs_certify_max_arrays(
     hand_said(put, line.bytes(), out, told)
 }
 
-/// Puts the line of what is certified, and answers its status.
+/// Writes the line of the answer, and returns its status.
 fn put_certified<K: Sink>(
     sink: &mut K,
     answer: &Result<MaxCertified, ArrayError>,
@@ -73,7 +73,7 @@ fn put_certified<K: Sink>(
     }
 }
 
-/// The nodes inside, where they show the flow maximum.
+/// The bytes of the cut; none if the flow isn't maximum.
 fn inside_of(answer: &Result<MaxCertified, ArrayError>) -> &[u8]
     ensures { result.now ≡ (said max_said answer.now).marks }
 {
@@ -83,7 +83,7 @@ fn inside_of(answer: &Result<MaxCertified, ArrayError>) -> &[u8]
     }
 }
 
-/// The better flow, where there is one.
+/// The better flow, if there is one.
 fn better_of(answer: &Result<MaxCertified, ArrayError>) -> &[i64]
     ensures { result.now ≡ (said max_said answer.now).amounts }
 {
@@ -93,7 +93,8 @@ fn better_of(answer: &Result<MaxCertified, ArrayError>) -> &[i64]
     }
 }
 
-/// Solves maximum flow, as `solve_max_arrays`. The second room is for the flow, and the third for the nodes inside.
+/// Finds a maximum flow, as `solve_max_arrays`. `flows` receives the flow, and `inside` the bytes of a cut that shows
+/// it.
 #[unsafe(no_mangle)]
 pub extern "C" fn dimacs_solve_max_arrays(
     alloc: Global,
@@ -117,7 +118,7 @@ pub extern "C" fn dimacs_solve_max_arrays(
     hand_said(put, line.bytes(), out, told)
 }
 
-/// Puts the line of what is solved, and answers its status.
+/// Writes the line of the answer, and returns its status.
 fn put_solved<K: Sink>(
     sink: &mut K,
     answer: &Result<MaxSolved, ArrayError>,
@@ -132,7 +133,7 @@ fn put_solved<K: Sink>(
     }
 }
 
-/// The nodes inside, which show that the flow that was found is maximum.
+/// The bytes of the cut, if a flow was found.
 fn inside_by(answer: &Result<MaxSolved, ArrayError>) -> &[u8]
     ensures { result.now ≡ (said max_found answer.now).marks }
 {
@@ -142,7 +143,7 @@ fn inside_by(answer: &Result<MaxSolved, ArrayError>) -> &[u8]
     }
 }
 
-/// The flow that was found.
+/// The flow, if one was found.
 fn flow_of(answer: &Result<MaxSolved, ArrayError>) -> &[i64]
     ensures { result.now ≡ (said max_found answer.now).amounts }
 {

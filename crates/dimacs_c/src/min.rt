@@ -17,7 +17,7 @@ use dimacs_lines::{DeviceFault, MemorySink, Sink};
 use dimacs_records::Reason;
 use std::alloc::Global;
 
-/// Judges that a flow costs least by the potentials, as `judge_min_arrays`.
+/// Judges that a flow costs least, as `judge_min_arrays`.
 #[unsafe(no_mangle)]
 pub extern "C" fn dimacs_judge_min_arrays(
     alloc: Global,
@@ -33,8 +33,8 @@ pub extern "C" fn dimacs_judge_min_arrays(
     hand_judged(alloc, answer, out, told)
 }
 
-/// Certifies that a flow costs least, as `certify_min_arrays`. The second room is for potentials, and the third for a
-/// better flow.
+/// Certifies that a flow costs least, as `certify_min_arrays`. `potentials` receives potentials that show it, or
+/// `better` a better flow. If the potentials don't fit into an array, the status is 5.
 #[unsafe(no_mangle)]
 pub extern "C" fn dimacs_certify_min_arrays(
     alloc: Global,
@@ -58,7 +58,7 @@ pub extern "C" fn dimacs_certify_min_arrays(
     hand_said(put, line.bytes(), out, told)
 }
 
-/// Puts the line of what is certified, and answers its status.
+/// Writes the line of the answer, and returns its status.
 fn put_certified<K: Sink>(
     sink: &mut K,
     answer: &Result<MinCertified, ArrayError>,
@@ -74,7 +74,7 @@ fn put_certified<K: Sink>(
     }
 }
 
-/// The potentials, where they show that the flow costs least.
+/// The potentials; none if the flow doesn't cost least, or if they don't fit into an array.
 fn potentials_of(answer: &Result<MinCertified, ArrayError>) -> &[i64]
     ensures { result.now ≡ (said min_said answer.now).numbers }
 {
@@ -84,7 +84,7 @@ fn potentials_of(answer: &Result<MinCertified, ArrayError>) -> &[i64]
     }
 }
 
-/// The better flow, where there is one.
+/// The better flow, if there is one.
 fn better_of(answer: &Result<MinCertified, ArrayError>) -> &[i64]
     ensures { result.now ≡ (said min_said answer.now).amounts }
 {
@@ -94,8 +94,8 @@ fn better_of(answer: &Result<MinCertified, ArrayError>) -> &[i64]
     }
 }
 
-/// Solves minimum cost flow, as `solve_min_arrays`. The second room is for the flow, the third for potentials, and the fourth
-/// for the nodes inside a set that shows that there is no flow.
+/// Finds a flow of least cost, as `solve_min_arrays`. `flows` receives the flow and `potentials` potentials that show
+/// it, or `inside` the bytes of a set that shows that no flow is feasible.
 #[unsafe(no_mangle)]
 pub extern "C" fn dimacs_solve_min_arrays(
     alloc: Global,
@@ -123,7 +123,7 @@ pub extern "C" fn dimacs_solve_min_arrays(
     hand_said(put, line.bytes(), out, told)
 }
 
-/// Puts the line of what is solved, and answers its status.
+/// Writes the line of the answer, and returns its status.
 fn put_solved<K: Sink>(
     sink: &mut K,
     answer: &Result<MinSolved, ArrayError>,
@@ -139,7 +139,7 @@ fn put_solved<K: Sink>(
     }
 }
 
-/// The nodes inside, where they show that there is no flow.
+/// The bytes of the set, if no flow is feasible.
 fn inside_by(answer: &Result<MinSolved, ArrayError>) -> &[u8]
     ensures { result.now ≡ (said min_found answer.now).marks }
 {
@@ -149,7 +149,7 @@ fn inside_by(answer: &Result<MinSolved, ArrayError>) -> &[u8]
     }
 }
 
-/// The potentials, which show that the flow that was found costs least.
+/// The potentials, if a flow was found and they fit into an array.
 fn potentials_by(answer: &Result<MinSolved, ArrayError>) -> &[i64]
     ensures { result.now ≡ (said min_found answer.now).numbers }
 {
@@ -159,7 +159,7 @@ fn potentials_by(answer: &Result<MinSolved, ArrayError>) -> &[i64]
     }
 }
 
-/// The flow that was found, with potentials that an array can say.
+/// The flow, if one was found and its potentials fit into an array.
 fn flow_of(answer: &Result<MinSolved, ArrayError>) -> &[i64]
     ensures { result.now ≡ (said min_found answer.now).amounts }
 {

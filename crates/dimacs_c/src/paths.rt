@@ -16,7 +16,7 @@ use dimacs_judge::Verdict;
 use dimacs_lines::{DeviceFault, MemorySink, Sink};
 use std::alloc::Global;
 
-/// Judges distances by their predecessors, as `judge_paths_arrays`.
+/// Judges distances with predecessors, as `judge_paths_arrays`.
 #[unsafe(no_mangle)]
 pub extern "C" fn dimacs_judge_paths_arrays(
     alloc: Global,
@@ -33,7 +33,7 @@ pub extern "C" fn dimacs_judge_paths_arrays(
     hand_judged(alloc, answer, out, told)
 }
 
-/// Certifies distances, as `certify_paths_arrays`. The second room is for the predecessors.
+/// Certifies distances, as `certify_paths_arrays`. `predecessors` receives the predecessors that show them.
 #[unsafe(no_mangle)]
 pub extern "C" fn dimacs_certify_paths_arrays(
     alloc: Global,
@@ -60,7 +60,7 @@ pub extern "C" fn dimacs_certify_paths_arrays(
     hand_said(put, line.bytes(), out, told)
 }
 
-/// Puts the line of what is certified, and answers its status.
+/// Writes the line of the answer, and returns its status.
 fn put_certified<K: Sink>(
     sink: &mut K,
     answer: &Result<Vec<u32>, ArrayError>,
@@ -74,7 +74,7 @@ fn put_certified<K: Sink>(
     }
 }
 
-/// The predecessors, where the distances are true.
+/// The predecessors; none if the distances are refused.
 fn predecessors_of(answer: &Result<Vec<u32>, ArrayError>) -> &[u32]
     ensures { result.now ≡ (said paths_said answer.now).marks }
 {
@@ -84,8 +84,7 @@ fn predecessors_of(answer: &Result<Vec<u32>, ArrayError>) -> &[u32]
     }
 }
 
-/// Solves shortest paths from a source, as `solve_paths_arrays`. The second room is for the distances, and the third for the
-/// predecessors.
+/// Finds the distances from a source, as `solve_paths_arrays`. `distances` and `predecessors` receive them.
 #[unsafe(no_mangle)]
 pub extern "C" fn dimacs_solve_paths_arrays(
     alloc: Global,
@@ -115,7 +114,7 @@ pub extern "C" fn dimacs_solve_paths_arrays(
     hand_said(put, line.bytes(), out, told)
 }
 
-/// Puts the line of what is solved, and answers its status.
+/// Writes the line of the answer, and returns its status.
 fn put_solved<K: Sink>(
     sink: &mut K,
     answer: &Result<PathsSolved, ArrayError>,
@@ -130,7 +129,7 @@ fn put_solved<K: Sink>(
     }
 }
 
-/// The predecessors of the nodes that are reached.
+/// The predecessors, if the distances fit into an array.
 fn predecessors_by(answer: &Result<PathsSolved, ArrayError>) -> &[u32]
     ensures { result.now ≡ (said paths_found answer.now).marks }
 {
@@ -140,7 +139,7 @@ fn predecessors_by(answer: &Result<PathsSolved, ArrayError>) -> &[u32]
     }
 }
 
-/// The distances that were found, where an array can say them.
+/// The distances, if they fit into an array.
 fn distances_by(answer: &Result<PathsSolved, ArrayError>) -> &[i64]
     ensures { result.now ≡ (said paths_found answer.now).numbers }
 {

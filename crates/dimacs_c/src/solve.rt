@@ -12,8 +12,9 @@ use dimacs_lines::{MemorySink, MemorySource};
 use dimacs_runs::{SolveJob, run_solve};
 use std::alloc::Global;
 
-/// Solves an instance, as `solve-max` and so on. The second room is for the text of the solution, and the third for that
-/// of its certificate. Queries are read for paths alone, whose labels are the certificate.
+/// Solves an instance, as `dimacs solve-max` and the like. `solution` receives the text of the solution, and
+/// `certificate` that of its certificate. Distances (kind 3) have only labels, as the certificate; only they read
+/// `queries`.
 #[unsafe(no_mangle)]
 pub extern "C" fn dimacs_solve(
     alloc: Global,
@@ -53,6 +54,7 @@ pub extern "C" fn dimacs_solve(
     }
 }
 
+/// Solves an instance of this kind.
 fn solve(
     alloc: Global,
     job: SolveJob,

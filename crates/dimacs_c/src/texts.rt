@@ -1,4 +1,4 @@
-//! Converting and showing texts in memory.
+//! Converting and describing texts in memory.
 
 ghost use Rattle.dimacs_c.specs.Calls.{Answers, AnswersKind, handed};
 ghost use Rattle.dimacs_c.specs.Kinds.{text_kind};
@@ -12,7 +12,7 @@ use dimacs_records::TextKind;
 use dimacs_runs::{run_convert, run_show};
 use std::alloc::Global;
 
-/// Converts a text to its canonical form, as `convert`.
+/// Converts a text to its canonical form, as `dimacs convert`.
 #[unsafe(no_mangle)]
 pub extern "C" fn dimacs_convert(
     alloc: Global,
@@ -29,6 +29,7 @@ pub extern "C" fn dimacs_convert(
     }
 }
 
+/// Converts a text of this kind.
 fn convert(alloc: Global, kind: TextKind, text: &[u8], out: &mut [u8], told: &mut usize) -> u32
     ensures { Answers (Told Canonical kind text.now) result (handed out.old out.new told.new) }
 {
@@ -38,7 +39,7 @@ fn convert(alloc: Global, kind: TextKind, text: &[u8], out: &mut [u8], told: &mu
     end(ended, sink.bytes(), out, told)
 }
 
-/// Tells in a line what a text is, as `show`.
+/// Describes a text in one line, as `dimacs show`.
 #[unsafe(no_mangle)]
 pub extern "C" fn dimacs_show(
     alloc: Global,
@@ -55,6 +56,7 @@ pub extern "C" fn dimacs_show(
     }
 }
 
+/// Describes a text of this kind.
 fn show(alloc: Global, kind: TextKind, text: &[u8], out: &mut [u8], told: &mut usize) -> u32
     ensures { Answers (Told Summary kind text.now) result (handed out.old out.new told.new) }
 {
