@@ -5,7 +5,7 @@ use Rattle.dimacs_runs.specs.declared.command.Ending.{Ending}
 use Rattle.dimacs_runs.specs.Commands.{Commands, Contents, Seen, seen_by}
 use Rattle.dimacs_runs.specs.Files.{FilesSeen}
 
--- the command was run and ended so, and then the output accepted more: it begins with what the command put
+-- the command ran and ended like this, then the output accepted more bytes, after those of the command
 abbrev pub Explains : List (List ℕ) → Contents → Option (List ℕ) → Ending → Seen → FilesSeen → Option (List ℕ) → Type 0
 Explains words holds empty ending old files accepted =
     (output : Written) × Commands words holds empty ending old (seen_by files output) × (more : List ℕ) × (accepted ≡ after_piece output.accepted more)

@@ -8,32 +8,32 @@ use dimacs_records::Record;
 use dimacs_runs::Files;
 use std::alloc::Global;
 
-/// An arc, and its line.
+/// An arc, with its line.
 #[derive(Drop)]
 pub(crate) struct FoundArc {
     pub(crate) arc: ArcView,
     pub(crate) quote: Quote,
 }
 
-/// The arcs between two nodes.
+/// The arcs with the same ends as a given one.
 #[derive(Clone, Copy)]
 pub(crate) struct Parallel {
     /// How many there are.
     pub(crate) all: u64,
-    /// How many of them stand before the arc that is asked about.
+    /// How many of them come before the given arc.
     pub(crate) before: u64,
-    /// The number of the first one.
+    /// The number of the first.
     pub(crate) first: u64,
 }
 
-/// An entry of a solution, and its line.
+/// An entry of a solution, with its line.
 #[derive(Drop)]
 pub(crate) struct FoundEntry {
     pub(crate) flow: i64,
     pub(crate) quote: Quote,
 }
 
-/// What an arc line says.
+/// The arc of an arc line.
 pub(crate) fn arc_of(record: Record) -> Option<ArcView> {
     match record {
         Record::MaxArc { tail, head, cap } => Some(ArcView {
@@ -67,7 +67,7 @@ pub(crate) fn arc_of(record: Record) -> Option<ArcView> {
     }
 }
 
-/// The arc of this number, from 1; none where the instance can't be read so far.
+/// The arc with this number, from 1. None if the instance can't be read that far.
 pub(crate) fn find_arc<F: Files>(
     alloc: Global,
     files: &mut F,
@@ -94,7 +94,7 @@ pub(crate) fn find_arc<F: Files>(
     Ok(None)
 }
 
-/// The arcs with the ends of this one, whose number, from 1, is given.
+/// The arcs from `tail` to `head`; `number`, from 1, is the given arc.
 pub(crate) fn parallel_arcs<F: Files>(
     alloc: Global,
     files: &mut F,
@@ -128,7 +128,7 @@ pub(crate) fn parallel_arcs<F: Files>(
 }
 
 impl Parallel {
-    /// Counts an arc.
+    /// Counts the k-th arc.
     fn add(&mut self, k: u64, number: u64) {
         if self.all == 0 {
             self.first = k;
@@ -140,7 +140,7 @@ impl Parallel {
     }
 }
 
-/// The entry with these ends that has so many before it.
+/// The entry with these ends after `before` others with them.
 pub(crate) fn find_entry<F: Files>(
     alloc: Global,
     files: &mut F,

@@ -1,22 +1,22 @@
-//! What the lines before a fault say.
+//! What the lines before a fault contain.
 
 use dimacs_records::{End, Record};
 
-/// The records before a line, as far as a fault of that line may be about them.
+/// What the lines before a fault contain, as far as the explanation needs it.
 #[derive(Clone, Copy)]
 pub(crate) struct Before {
-    /// How many lines there are.
+    /// The number of lines.
     pub(crate) lines: u64,
-    /// The line of the problem line, its NODES, and the count that it declares.
+    /// The problem line.
     pub(crate) problem: Option<Declared>,
-    /// How many lines there are of those that the problem line counts.
+    /// How many of the lines that the problem line counts there are.
     pub(crate) counted: u64,
-    /// The line of the source, and of the sink.
+    /// The lines of source and sink.
     pub(crate) source_line: Option<u64>,
     pub(crate) sink_line: Option<u64>,
     /// The line of a solution's value.
     pub(crate) value_line: Option<u64>,
-    /// The block of labels that is read.
+    /// The last block of labels.
     pub(crate) block: Option<BlockBefore>,
 }
 
@@ -24,12 +24,12 @@ pub(crate) struct Before {
 #[derive(Clone, Copy)]
 pub(crate) struct Declared {
     pub(crate) line: u64,
-    /// NODES, where the kind has them.
+    /// NODES, if the kind has it.
     pub(crate) nodes: Option<u32>,
     pub(crate) count: u32,
 }
 
-/// A block of labels, up to a line.
+/// A block of labels, with the labels before the fault.
 #[derive(Clone, Copy)]
 pub(crate) struct BlockBefore {
     pub(crate) line: u64,
@@ -39,6 +39,7 @@ pub(crate) struct BlockBefore {
     pub(crate) counted: u64,
 }
 
+/// Before the first line.
 pub(crate) const NOTHING_BEFORE: Before = Before {
     lines: 0,
     problem: None,
@@ -50,7 +51,7 @@ pub(crate) const NOTHING_BEFORE: Before = Before {
 };
 
 impl Before {
-    /// Adds what a line says.
+    /// Adds a line.
     pub(crate) fn add(&mut self, line: u64, said: Record) {
         match said {
             Record::MaxProblem { nodes, arcs }
@@ -82,10 +83,12 @@ impl Before {
         }
     }
 
+    /// Keeps the problem line.
     fn declare(&mut self, line: u64, nodes: Option<u32>, count: u32) {
         self.problem = Some(Declared { line, nodes, count });
     }
 
+    /// Begins a block.
     fn begin(&mut self, line: u64, source: u32, declared: u32, radius: Option<i128>) {
         self.counted = self.counted.saturating_add(1);
         self.block = Some(BlockBefore {
@@ -97,6 +100,7 @@ impl Before {
         });
     }
 
+    /// Counts a label of the last block.
     fn add_label(&mut self) {
         if let Some(block) = &mut self.block {
             block.counted = block.counted.saturating_add(1);

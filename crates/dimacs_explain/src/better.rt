@@ -1,4 +1,4 @@
-//! Flows that were written in answer to a refusal, in words.
+//! Explaining a refusal that comes with a better or a feasible flow.
 
 use crate::lookups::{FoundLine, Wanted, find_line};
 use crate::texts::{Named, Texts};
@@ -7,7 +7,7 @@ use dimacs_records::{Record, TextKind};
 use dimacs_runs::Files;
 use std::alloc::{AllocError, Global};
 
-/// Says that a better solution took the place of the one that is refused.
+/// Explains that a better solution replaced the refused one in its file.
 pub(crate) fn say_replaced(file: &str, said: &mut String) -> Result<(), Memory> {
     writeln!(
         said,
@@ -16,7 +16,7 @@ pub(crate) fn say_replaced(file: &str, said: &mut String) -> Result<(), Memory> 
     Ok(())
 }
 
-/// Says which flow is feasible, if one was written.
+/// Names the file with a feasible flow, if one was written, and quotes its cost.
 pub(crate) fn explain_feasible<F: Files>(
     alloc: Global,
     files: &mut F,
@@ -46,7 +46,7 @@ pub(crate) fn explain_feasible<F: Files>(
     Ok(())
 }
 
-/// Says by how much a flow can be better, where a better one was written.
+/// Names the file with a better flow, if one was written, and by how much it is better.
 pub(crate) fn explain_better<F: Files>(
     alloc: Global,
     files: &mut F,
@@ -90,7 +90,7 @@ pub(crate) fn explain_better<F: Files>(
     Ok(())
 }
 
-/// Says how two values differ.
+/// Compares the value of the better flow with the claimed one.
 fn say_better(value: i128, claimed: i128, said: &mut String) -> Result<(), AllocError> {
     if value > claimed {
         let more = value.saturating_sub(claimed);

@@ -1,4 +1,4 @@
-//! A command, and what is to be said of its refusal.
+//! A command, and the explanation of its refusal.
 
 ghost use Rattle.std.specs.Prelude.{map};
 ghost use Rattle.std.specs.String.{string_bytes};
@@ -19,12 +19,12 @@ use dimacs_records::{End, TextKind};
 use dimacs_runs::{Ending, Files, job, run_command};
 use std::alloc::Global;
 
-/// The status of a refusal.
+/// The exit status of a refusal.
 const REFUSED: u8 = 1;
 
-/// Runs the command of these words, and after a refusal puts lines that explain it. They are put where memory is there
-/// for them, and the output takes them; how the command ended is answered all the same. `again` opens the files that are
-/// looked at once more.
+/// Runs the command of these arguments, and after a refusal writes lines that explain it. `again` opens the files that
+/// are read a second time. If memory runs out or the output fails during the explanation, it ends early; the result is
+/// that of the command all the same.
 pub fn explain_command<'a, F: Files, A: Files, K: Sink>(
     alloc: Global,
     words: &'a [String],
@@ -44,7 +44,7 @@ pub fn explain_command<'a, F: Files, A: Files, K: Sink>(
     ending
 }
 
-/// What is to be said of the refusal that a command has printed; nothing where it printed none.
+/// The explanation of the refusal that a command printed; empty if it printed none.
 fn explanation<A: Files>(
     alloc: Global,
     words: &[String],
@@ -80,7 +80,7 @@ fn explanation<A: Files>(
     Ok(said)
 }
 
-/// Whether all texts of a run can be read again; those that can't be are named.
+/// Whether all texts of a run can be read again. Names those that can't.
 fn are_readable<A: Files>(
     again: &mut A,
     texts: Texts<'_>,
@@ -98,7 +98,7 @@ fn are_readable<A: Files>(
     Ok(all)
 }
 
-/// Says what is wrong at a place of a text: a fault of its own, or a test of a claim.
+/// Explains a refusal at a place of a text: a fault of the text, or a test of a claim.
 fn explain_text<A: Files>(
     alloc: Global,
     again: &mut A,
@@ -128,7 +128,7 @@ fn explain_text<A: Files>(
     }
 }
 
-/// Says why the test of a node failed.
+/// Explains why the test of a node failed.
 fn explain_node<A: Files>(
     alloc: Global,
     again: &mut A,
@@ -146,7 +146,7 @@ fn explain_node<A: Files>(
     }
 }
 
-/// Says why no arc leads to a label, or no walk to a distance.
+/// Explains why a label has no tight arc, or no walk has a claimed distance.
 fn explain_unreached<A: Files>(
     alloc: Global,
     again: &mut A,

@@ -1,4 +1,4 @@
-//! The cost of a flow that a solution claims.
+//! The cost of a claimed flow.
 
 use crate::texts::Named;
 use dimacs_claims::read_solution_into;
@@ -8,7 +8,7 @@ use dimacs_lines::Memory;
 use dimacs_runs::Files;
 use std::alloc::Global;
 
-/// What the flow of a solution costs; none where the texts can't be read again.
+/// The cost of the flow of a solution; none if the texts can't be read again.
 pub(crate) fn cost_of<F: Files>(
     alloc: Global,
     files: &mut F,

@@ -1,4 +1,4 @@
-//! The tests of claimed distances, in words.
+//! Explaining the tests of claimed distances.
 
 use crate::faults::cannot_read;
 use crate::lookups::{FoundLine, line_at};
@@ -9,7 +9,7 @@ use dimacs_records::Record;
 use dimacs_runs::Files;
 use std::alloc::Global;
 
-/// What a block of distances says of a node.
+/// A block of claimed distances, as far as it concerns one node.
 #[derive(Clone, Copy)]
 struct Claimed {
     source: u32,
@@ -17,12 +17,12 @@ struct Claimed {
     block_line: u64,
     line: u64,
     dist: Option<i128>,
-    /// The least distance to which an arc into the node leads.
+    /// The least distance by an arc into the node.
     least: Option<i128>,
 }
 
 impl Claimed {
-    /// The block of this t line. Its source, at 0, may be the tail of arcs.
+    /// A block at its t line. Arcs from its source, at distance 0, count.
     fn begin(block_line: u64, source: u32, arcs: &[(u32, i64)]) -> Claimed {
         let mut block = Claimed {
             source,
@@ -44,7 +44,7 @@ impl Claimed {
         self.add_tail(arcs, id, dist);
     }
 
-    /// Adds the lightest arc that leads from a node at this distance.
+    /// Adds the lightest arc from this node, at this distance.
     fn add_tail(&mut self, arcs: &[(u32, i64)], tail: u32, dist: i128) {
         let first = arcs.partition_point(|arc| arc.0 < tail);
         if let Some(&(from, weight)) = arcs.get(first)
@@ -55,13 +55,13 @@ impl Claimed {
         }
     }
 
-    /// Whether no arc leads to the distance.
+    /// Whether no arc has the claimed distance.
     fn is_loose(&self) -> bool {
         self.dist.is_some() && self.least != self.dist
     }
 }
 
-/// Says why no walk leads to a claimed distance.
+/// Explains why no walk has the claimed distance of a node.
 pub(crate) fn explain_distance<F: Files>(
     alloc: Global,
     files: &mut F,
@@ -96,7 +96,7 @@ pub(crate) fn explain_distance<F: Files>(
     Ok(())
 }
 
-/// The first block with a distance of a node to which no arc leads.
+/// The first block in which no arc has the node's distance.
 fn loose_block<F: Files>(
     alloc: Global,
     files: &mut F,

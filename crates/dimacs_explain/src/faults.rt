@@ -1,4 +1,4 @@
-//! The fault of a text, in words.
+//! Explaining the fault of a text.
 
 use crate::before::{Before, NOTHING_BEFORE};
 use crate::forms::{field_name, form_of, forms, kind_words, range_of};
@@ -11,10 +11,10 @@ use dimacs_records::{End, Record, TextKind};
 use dimacs_runs::Files;
 use std::alloc::{AllocError, Global};
 
-/// The longest word that is shown whole.
+/// A longer word is cut to this many bytes.
 const LONG_WORD: usize = 60;
 
-/// A text's fault: where it is, and why.
+/// The fault of a text: its place and reason.
 #[derive(Clone, Copy)]
 pub(crate) struct Fault<'a> {
     pub(crate) line: u64,
@@ -22,26 +22,26 @@ pub(crate) struct Fault<'a> {
     pub(crate) reason: &'a str,
 }
 
-/// What was seen of a text up to its fault.
+/// What was read of a text up to its fault.
 #[derive(Drop)]
 struct Seen {
     before: Before,
-    /// The line of the fault; none at the end of the text.
+    /// The line of the fault; none if the fault is at the end of the text.
     quote: Option<Quote>,
-    /// The first field of the line, and the one that counts.
+    /// The first field of the line, and the field of the fault.
     letter: String,
     word: String,
-    /// How many fields the line has.
+    /// The number of fields.
     fields: u64,
-    /// What the line says, where its fault is about others too.
+    /// The record of the line, if the line by itself has no fault.
     record: Option<Record>,
-    /// What is odd about the file as a whole.
+    /// Messages if the file is no text, is a text of another kind, or has lines that end with a carriage return.
     odd: Option<&'static str>,
     other: Option<&'static str>,
     lone_return: bool,
 }
 
-/// Says what is wrong with a text.
+/// Explains the fault of a text.
 pub(crate) fn explain_fault<F: Files>(
     alloc: Global,
     files: &mut F,
@@ -79,12 +79,12 @@ pub(crate) fn explain_fault<F: Files>(
     Ok(())
 }
 
-/// Whether a line that is refused for this reason isn't looked at.
+/// Whether the reader refuses a line for this reason without having its bytes.
 fn is_unread(reason: &str) -> bool {
     matches!(reason, "LineTooLong" | "LineLimit")
 }
 
-/// Says that a file can't be read again.
+/// Reports that a file can't be read again.
 pub(crate) fn cannot_read(said: &mut String, file: &str) -> Result<(), Memory> {
     writeln!(
         said,
@@ -93,7 +93,7 @@ pub(crate) fn cannot_read(said: &mut String, file: &str) -> Result<(), Memory> {
     Ok(())
 }
 
-/// Reads a text up to its fault; none where it can't be read.
+/// Reads a text up to its fault; none if it can't be read.
 fn look<F: Files>(
     alloc: Global,
     files: &mut F,
@@ -141,7 +141,7 @@ fn look<F: Files>(
     Ok(Some(seen))
 }
 
-/// Adds a field, from 1; of a long one the beginning.
+/// Adds a field, from 1, or the beginning of a long one.
 fn add_word(word: &mut String, line: &[u8], field: u64) -> Result<(), AllocError> {
     let whole = word_at(line, field);
     let shown = whole.get(..LONG_WORD).unwrap_or(whole);
@@ -152,7 +152,7 @@ fn add_word(word: &mut String, line: &[u8], field: u64) -> Result<(), AllocError
     Ok(())
 }
 
-/// How many fields a line has.
+/// The number of fields of a line.
 fn count_fields(line: &[u8]) -> u64 {
     let mut count = 0_u64;
     for _ in fields(line) {
@@ -170,7 +170,7 @@ fn word_at(line: &[u8], field: u64) -> &[u8] {
     }
 }
 
-/// Whether a fault of this kind may come from a text of another kind.
+/// Whether a text of another kind can have a fault for this reason.
 fn is_of_other_kind(reason: &str) -> bool {
     matches!(
         reason,
@@ -212,7 +212,7 @@ fn earlier_line<F: Files>(
     Ok(None)
 }
 
-/// The node that a line is about.
+/// The node that a line names as its own.
 fn named_node(record: Record) -> Option<u32> {
     match record {
         Record::MaxNode { id, .. }
@@ -234,7 +234,7 @@ fn is_in_block(record: Record) -> bool {
     )
 }
 
-/// Whether a line names this node, in a block or outside of blocks.
+/// Whether a line names this node, within a block or outside of blocks.
 fn names(record: Option<Record>, id: u32, in_block: bool) -> bool {
     let Some(record) = record else {
         return false;
@@ -242,7 +242,7 @@ fn names(record: Option<Record>, id: u32, in_block: bool) -> bool {
     (in_block || !is_in_block(record)) && named_node(record) == Some(id)
 }
 
-/// Says the reason with the numbers that it is about.
+/// Explains the reason, with the numbers involved.
 fn say_reason(
     alloc: Global,
     kind: TextKind,
@@ -260,7 +260,7 @@ fn say_reason(
     }
 }
 
-/// Says what is wrong with the shape of a line.
+/// Explains what is wrong with the form of a line.
 fn say_shape(
     kind: TextKind,
     fault: Fault<'_>,
@@ -302,7 +302,7 @@ fn say_shape(
     }
 }
 
-/// Says which lines a text of this kind has.
+/// Lists the lines that a text of this kind has.
 fn say_forms(kind: TextKind, said: &mut String) -> Result<(), AllocError> {
     said.push_str("its lines are")?;
     for form in forms(kind) {
@@ -311,7 +311,7 @@ fn say_forms(kind: TextKind, said: &mut String) -> Result<(), AllocError> {
     writeln!(said, " and comments, which begin with c")
 }
 
-/// Says what is wrong with a number.
+/// Explains what is wrong with a number.
 fn say_number(
     alloc: Global,
     kind: TextKind,
@@ -343,7 +343,7 @@ fn say_number(
     Ok(())
 }
 
-/// Says how many lines are declared, and how many there are.
+/// Compares the declared number of lines with the actual one.
 fn say_count(
     kind: TextKind,
     fault: Fault<'_>,
@@ -373,7 +373,7 @@ fn say_count(
     }
 }
 
-/// Whether a fault is about the count of a block.
+/// Whether a fault concerns the count of a block.
 fn is_of_block(fault: Fault<'_>, seen: &Seen) -> bool {
     let Some(block) = seen.before.block else {
         return false;
@@ -382,7 +382,7 @@ fn is_of_block(fault: Fault<'_>, seen: &Seen) -> bool {
         || (fault.reason == "TooFew" && block.counted < u64::from(block.declared))
 }
 
-/// Says the same of the lines of a block.
+/// Compares the declared number of labels of a block with the actual one.
 fn say_block_count(seen: &Seen, said: &mut String) -> Result<(), AllocError> {
     let Some(block) = seen.before.block else {
         return Ok(());
@@ -397,7 +397,7 @@ fn say_block_count(seen: &Seen, said: &mut String) -> Result<(), AllocError> {
     )
 }
 
-/// The lines that a problem line counts.
+/// What a problem line counts, in words.
 fn counted_lines(kind: TextKind) -> &'static str {
     match kind {
         TextKind::Max | TextKind::Min | TextKind::Graph => "arc lines",
@@ -407,7 +407,7 @@ fn counted_lines(kind: TextKind) -> &'static str {
     }
 }
 
-/// Says what is wrong with a line after those before it.
+/// Explains a fault that depends on the lines before.
 fn say_order(
     kind: TextKind,
     fault: Fault<'_>,
@@ -448,7 +448,7 @@ fn say_order(
     }
 }
 
-/// The earlier line of the end that a line names.
+/// The earlier line of the end that this line names.
 fn end_line(seen: &Seen) -> Option<u64> {
     match seen.record {
         Some(
@@ -461,7 +461,7 @@ fn end_line(seen: &Seen) -> Option<u64> {
     }
 }
 
-/// Says that an earlier line is something.
+/// Refers to an earlier line.
 fn say_earlier(line: Option<u64>, what: &str, said: &mut String) -> Result<(), AllocError> {
     match line {
         Some(line) => writeln!(said, "line {line} {what}"),
@@ -469,7 +469,7 @@ fn say_earlier(line: Option<u64>, what: &str, said: &mut String) -> Result<(), A
     }
 }
 
-/// Says which of source and sink isn't named.
+/// Reports which of source and sink isn't named.
 fn say_ends(before: &Before, said: &mut String) -> Result<(), AllocError> {
     let missing = match (before.source_line, before.sink_line) {
         (None, None) => "`n ID s` and `n ID t`, the source and the sink, have",
@@ -479,7 +479,7 @@ fn say_ends(before: &Before, said: &mut String) -> Result<(), AllocError> {
     writeln!(said, "{missing} to stand before the arcs")
 }
 
-/// Says what is wrong for the other reasons.
+/// Explains the remaining reasons.
 fn say_rest(
     kind: TextKind,
     fault: Fault<'_>,
@@ -519,7 +519,7 @@ fn say_rest(
     }
 }
 
-/// Says where a line should stand.
+/// Explains where a line belongs.
 fn say_misplaced(kind: TextKind, said: &mut String) -> Result<(), AllocError> {
     match kind {
         TextKind::Queries => writeln!(said, "an ss text has s lines alone, and a p2p text q lines"),

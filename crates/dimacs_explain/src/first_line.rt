@@ -1,4 +1,4 @@
-//! A sink that keeps the beginning of what it passes on.
+//! A sink that keeps the beginning of what it writes.
 
 ghost use Rattle.std.specs.Prelude.{◌≡◌};
 
@@ -7,7 +7,7 @@ use dimacs_lines::{DeviceFault, Sink};
 /// No line of a refusal is longer.
 const ROOM: usize = 128;
 
-/// A sink, and the first bytes that it has accepted since it stands here.
+/// A sink that passes all bytes on to another, and keeps the first 128 that were accepted.
 #[derive(Drop)]
 pub struct FirstLine<K> {
     sink: K,
@@ -16,6 +16,7 @@ pub struct FirstLine<K> {
 }
 
 impl<K> FirstLine<K> {
+    /// Wraps a sink, with nothing kept yet.
     pub fn new(sink: K) -> FirstLine<K>
         ensures { result.sink ≡ sink }
     {
@@ -26,14 +27,14 @@ impl<K> FirstLine<K> {
         }
     }
 
-    /// The sink as it is now.
+    /// The sink inside.
     pub fn sink(&self) -> &K
         ensures { result.now ≡ self.now.sink }
     {
         &self.sink
     }
 
-    /// The first line of what was accepted, without its end; as much of it as is kept.
+    /// The first line that was accepted, without its end; cut off after 128 bytes.
     pub(crate) fn line(&self) -> &[u8] {
         let kept = self.first.get(..self.kept).unwrap_or(&[]);
         match kept.iter().position(|&byte| byte == b'\n') {
@@ -54,7 +55,7 @@ impl<K: Sink> Sink for FirstLine<K> {
     }
 }
 
-/// Keeps bytes after so many that were kept, as far as there is room, and answers how many are kept then.
+/// Keeps more bytes after the first `kept`, as far as they fit. Returns how many are kept then.
 fn keep(first: &mut [u8; ROOM], kept: usize, bytes: &[u8]) -> usize {
     let mut end = kept;
     for &byte in bytes {

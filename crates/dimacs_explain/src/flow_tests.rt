@@ -1,4 +1,4 @@
-//! The tests of a flow, in words.
+//! Explaining the tests of a flow.
 
 use crate::arcs::{FoundArc, Parallel, find_arc, find_entry, parallel_arcs};
 use crate::better::{explain_better, say_replaced};
@@ -13,7 +13,7 @@ use dimacs_records::{End, Record, TextKind};
 use dimacs_runs::Files;
 use std::alloc::{AllocError, Global};
 
-/// An arc with its flow, as a test saw it.
+/// An arc with its flow, as it was tested.
 #[derive(Clone, Copy)]
 struct Carried {
     number: u32,
@@ -21,7 +21,7 @@ struct Carried {
     flow: i64,
 }
 
-/// Says why the test of an arc failed.
+/// Explains why the test of an arc failed.
 pub(crate) fn explain_arc<F: Files>(
     alloc: Global,
     files: &mut F,
@@ -61,7 +61,7 @@ pub(crate) fn explain_arc<F: Files>(
     Ok(())
 }
 
-/// Shows the entry of an arc, and answers its flow.
+/// Quotes the entry of an arc, and returns its flow.
 fn show_entry<F: Files>(
     alloc: Global,
     files: &mut F,
@@ -89,7 +89,7 @@ fn show_entry<F: Files>(
     }
 }
 
-/// Says what is compared of an arc and its flow.
+/// Compares the flow of an arc with its bounds, or its cost with the range.
 fn say_bound(carried: Carried, reason: &str, said: &mut String) -> Result<(), AllocError> {
     let Carried { number, arc, flow } = carried;
     match reason {
@@ -112,7 +112,7 @@ fn say_bound(carried: Carried, reason: &str, said: &mut String) -> Result<(), Al
     }
 }
 
-/// Says which arcs have the same ends.
+/// Explains which entries belong to parallel arcs.
 fn say_parallel(arc: ArcView, same: Parallel, said: &mut String) -> Result<(), AllocError> {
     writeln!(
         said,
@@ -121,7 +121,7 @@ fn say_parallel(arc: ArcView, same: Parallel, said: &mut String) -> Result<(), A
     )
 }
 
-/// Says what is compared of an arc and a certificate.
+/// Explains why an arc fails the test of a certificate.
 fn explain_certificate<F: Files>(
     alloc: Global,
     files: &mut F,
@@ -152,7 +152,7 @@ fn explain_certificate<F: Files>(
     Ok(())
 }
 
-/// Shows the potential of a node, and answers it.
+/// Quotes the potential of a node, and returns it.
 fn potential<F: Files>(
     alloc: Global,
     files: &mut F,
@@ -176,7 +176,7 @@ fn potential<F: Files>(
     }
 }
 
-/// Says the reduced cost of an arc, and what its flow should be.
+/// Computes the reduced cost of an arc, and names the flow that it demands.
 fn say_reduced(
     carried: Carried,
     tail: i128,
@@ -199,14 +199,14 @@ fn say_reduced(
     )
 }
 
-/// What flows out of a node and into it, by the entries of a solution.
+/// The flow out of a node and into it, by the entries of a solution.
 #[derive(Clone, Copy)]
 struct Through {
     out: i128,
     into: i128,
 }
 
-/// What the entries of a solution take out of a node, and bring into it; a loop is left out.
+/// The flow out of a node and into it, without loops.
 fn sums_through<F: Files>(
     alloc: Global,
     files: &mut F,
@@ -231,6 +231,7 @@ fn sums_through<F: Files>(
 }
 
 impl Through {
+    /// Adds an entry.
     fn add(&mut self, node: u32, tail: u32, head: u32, flow: i128) {
         if tail == node {
             self.out = self.out.saturating_add(flow);
@@ -241,7 +242,7 @@ impl Through {
     }
 }
 
-/// Says why the balance of a node is wrong.
+/// Explains why the balance of a node is wrong.
 pub(crate) fn explain_balance<F: Files>(
     alloc: Global,
     files: &mut F,
@@ -264,7 +265,7 @@ pub(crate) fn explain_balance<F: Files>(
     Ok(())
 }
 
-/// Shows the node line of an instance, and answers its supply.
+/// Quotes the node line of an instance, and returns the supply.
 fn supply_of<F: Files>(
     alloc: Global,
     files: &mut F,
@@ -283,7 +284,7 @@ fn supply_of<F: Files>(
     }
 }
 
-/// Says why a solution is refused at this line.
+/// Explains why a solution is refused at a line.
 pub(crate) fn explain_solution<F: Files>(
     alloc: Global,
     files: &mut F,
@@ -315,7 +316,7 @@ pub(crate) fn explain_solution<F: Files>(
     }
 }
 
-/// Says why an entry belongs to no arc.
+/// Explains why an entry belongs to no arc.
 fn explain_entry<F: Files>(
     alloc: Global,
     files: &mut F,
@@ -342,7 +343,7 @@ fn explain_entry<F: Files>(
     Ok(())
 }
 
-/// Says which value a flow has, and which is claimed.
+/// Compares the value of a flow with the claimed one.
 fn explain_value<F: Files>(
     alloc: Global,
     files: &mut F,

@@ -2,7 +2,7 @@
 
 use dimacs_records::TextKind;
 
-/// The word that stands for a kind in commands, with its article.
+/// A kind of text, with its word in commands.
 pub(crate) fn kind_words(kind: TextKind) -> &'static str {
     match kind {
         TextKind::Max => "a maximum flow instance (max)",
@@ -36,7 +36,7 @@ pub(crate) fn forms(kind: TextKind) -> &'static [&'static str] {
     }
 }
 
-/// The form of the lines of a kind that begin with this letter.
+/// The form of the lines that begin with this letter.
 pub(crate) fn form_of(kind: TextKind, letter: &str) -> Option<&'static str> {
     forms(kind)
         .iter()
@@ -44,13 +44,13 @@ pub(crate) fn form_of(kind: TextKind, letter: &str) -> Option<&'static str> {
         .find(|form| form.split(' ').next() == Some(letter))
 }
 
-/// The name of a field, from 1, of a form.
+/// The name of a field of a form, from 1.
 pub(crate) fn field_name(form: &'static str, field: u64) -> &'static str {
     let place = usize::try_from(field.saturating_sub(1)).unwrap_or(usize::MAX);
     form.split(' ').nth(place).unwrap_or("the field")
 }
 
-/// The numbers that a field of this name takes.
+/// The range of a field with this name, in words.
 pub(crate) fn range_of(name: &str) -> &'static str {
     match name {
         "NODES" => "0 to 134217728 (2^27)",

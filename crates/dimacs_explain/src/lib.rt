@@ -1,7 +1,7 @@
-//! What is wrong with a claim or a text, so that a person can mend it: `dimacs explain WORDS ..`.
+//! Explanations of refusals for people, as `dimacs explain COMMAND FILE...` prints them.
 //!
-//! `explain_command` does what the command of these words does, and after a refusal adds lines that say more: where in
-//! which file the fault is, and the numbers that a test compares. What these lines say is promised by nobody.
+//! `explain_command` runs a command, and after a refusal adds lines: the file and the line of the fault, and the
+//! numbers that the failed test compares. Nothing is proved about the content of these lines.
 #![tactic(auto)]
 
 mod arcs;

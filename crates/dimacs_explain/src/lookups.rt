@@ -1,4 +1,4 @@
-//! What texts say of single nodes.
+//! Finding single lines of texts.
 
 use crate::quote::Quote;
 use crate::texts::{ANY_LINES, Named, TextLines};
@@ -7,31 +7,32 @@ use dimacs_records::{End, Record};
 use dimacs_runs::Files;
 use std::alloc::Global;
 
-/// The first line of a text that says something of a node, or of a whole: its quote and its record.
+/// A line: its record, and a quote of it.
 #[derive(Drop)]
 pub(crate) struct FoundLine {
     pub(crate) record: Record,
     pub(crate) quote: Quote,
 }
 
-/// What is looked for.
+/// What to look for.
 #[derive(Clone, Copy)]
 pub(crate) enum Wanted {
     /// The problem line.
     Problem,
     /// The value of a solution.
     Value,
-    /// A line of an instance, a set or potentials that names this node.
+    /// A line of an instance, a set or potentials about this node.
     Node(u32),
     /// The line of the source, or of the sink.
     End(End),
-    /// A query that asks of this node, as its source where it is of a pair.
+    /// A query from this node.
     Query(u32),
-    /// A query that names this node, anywhere.
+    /// A query that names this node.
     QueryNaming(u32),
 }
 
 impl Wanted {
+    /// Whether the record is such a line.
     fn is(self, record: Record) -> bool {
         match (self, record) {
             (Wanted::Value, Record::SolutionValue { .. }) => true,
@@ -65,7 +66,7 @@ pub(crate) fn nodes_of(record: Record) -> Option<u32> {
     }
 }
 
-/// The first line that is wanted.
+/// The first such line.
 pub(crate) fn find_line<F: Files>(
     alloc: Global,
     files: &mut F,
@@ -90,7 +91,7 @@ pub(crate) fn find_line<F: Files>(
     Ok(None)
 }
 
-/// The line at a place of a text.
+/// The line with this number, if it has a record. The quote marks `field`, from 1; 0 marks none.
 pub(crate) fn line_at<F: Files>(
     alloc: Global,
     files: &mut F,

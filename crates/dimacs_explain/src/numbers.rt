@@ -1,11 +1,11 @@
-//! Words that were meant to be whole numbers.
+//! Words that were meant as whole numbers.
 
 use std::alloc::{AllocError, Global};
 
-/// Numbers of so many digits fit all fields but those of IDs and counts.
+/// Numbers with this many digits fit all fields except IDs and counts.
 const MOST_DIGITS: usize = 18;
 
-/// The whole number that a word spells in another way, as `3.0` or `1e6` do.
+/// The whole number that a word spells in another way, as `3.0` and `1e6` do.
 pub(crate) fn meant_number(alloc: Global, word: &str) -> Result<Option<String>, AllocError> {
     if let Some((whole, fraction)) = word.split_once('.')
         && is_whole(whole)
@@ -19,7 +19,7 @@ pub(crate) fn meant_number(alloc: Global, word: &str) -> Result<Option<String>, 
     }
 }
 
-/// A whole number with so many zeros after it.
+/// A whole number followed by this many zeros.
 fn with_zeros(alloc: Global, whole: &str, zeros: &str) -> Result<Option<String>, AllocError> {
     let zeros = zeros.strip_prefix('+').unwrap_or(zeros);
     if !zeros.bytes().all(|byte| byte.is_ascii_digit()) {
@@ -37,7 +37,7 @@ fn with_zeros(alloc: Global, whole: &str, zeros: &str) -> Result<Option<String>,
     }
 }
 
-/// Whether a word is an optional sign and digits.
+/// Whether a word is digits, perhaps after a minus sign.
 fn is_whole(word: &str) -> bool {
     let digits = word.strip_prefix('-').unwrap_or(word);
     !digits.is_empty() && digits.bytes().all(|byte| byte.is_ascii_digit())

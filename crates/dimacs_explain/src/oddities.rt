@@ -1,10 +1,10 @@
-//! Files that aren't texts, or are of another kind, seen by their first bytes.
+//! Files that aren't texts or are of another kind, recognised by their first bytes.
 
 use crate::forms::form_of;
 use dimacs_lines::fields;
 use dimacs_records::TextKind;
 
-/// What a first line shows of a file that is not what its reader took it for.
+/// The message for a file whose first line shows that it isn't a plain text.
 pub(crate) fn oddity(first: &[u8]) -> Option<&'static str> {
     match first {
         [0x1f, 0x8b, ..] => Some("the file is compressed by gzip: give <(zcat FILE) in its place"),
@@ -24,13 +24,13 @@ pub(crate) fn oddity(first: &[u8]) -> Option<&'static str> {
     }
 }
 
-/// Whether a line has a carriage return before its last byte: then lines end by it alone, and all are one here.
+/// Whether a line has a carriage return before its last byte: lines of the file end with it, and all count as one here.
 pub(crate) fn has_lone_return(line: &[u8]) -> bool {
     let front = line.split_last().map_or(line, |(_, front)| front);
     front.contains(&b'\r')
 }
 
-/// What a text is whose problem line has this word.
+/// The message for a text whose problem line is of another kind.
 pub(crate) fn other_kind(kind: TextKind, line: &[u8]) -> Option<&'static str> {
     let mut words = fields(line);
     if words.next()?.text != b"p".as_slice() {
@@ -60,7 +60,7 @@ pub(crate) fn other_kind(kind: TextKind, line: &[u8]) -> Option<&'static str> {
     }
 }
 
-/// Whether the problem lines of a kind have this word.
+/// Whether problem lines of this kind have this word.
 fn is_word_of(kind: TextKind, word: &[u8]) -> bool {
     match form_of(kind, "p").and_then(|form| form.split(' ').nth(1)) {
         Some(own) => own.as_bytes() == word,
@@ -68,7 +68,7 @@ fn is_word_of(kind: TextKind, word: &[u8]) -> bool {
     }
 }
 
-/// Whether a problem line asks for sources or pairs.
+/// Whether a problem line is one of queries.
 fn is_of_queries(line: &[u8]) -> bool {
     match fields(line).nth(3) {
         Some(field) => matches!(field.text, b"ss" | b"p2p"),

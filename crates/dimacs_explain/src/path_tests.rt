@@ -1,4 +1,4 @@
-//! The tests of labels and queries, in words.
+//! Explaining the tests of labels and queries.
 
 use crate::arcs::{FoundArc, arc_of};
 use crate::faults::cannot_read;
@@ -10,10 +10,10 @@ use dimacs_records::{Record, TextKind};
 use dimacs_runs::Files;
 use std::alloc::{AllocError, Global};
 
-/// Of so many sources one says that there are blocks.
+/// At most this many sources of blocks are listed.
 const SHOWN_SOURCES: u64 = 5;
 
-/// What a block of labels says of the two ends of an arc.
+/// The labels of an arc's ends in one block.
 #[derive(Clone, Copy)]
 struct Ends {
     source: u32,
@@ -24,7 +24,7 @@ struct Ends {
 }
 
 impl Ends {
-    /// The block of this t line, whose source is labelled by it.
+    /// A block at its t line, which labels its source.
     fn of(line: u64, source: u32, radius: Option<i128>, arc: ArcView) -> Ends {
         let begin = |node: u32| if node == source { Some(0) } else { None };
         Ends {
@@ -46,7 +46,7 @@ impl Ends {
         }
     }
 
-    /// Whether the test of the arc fails in this block.
+    /// Whether the arc fails its test in this block.
     fn fails(&self, arc: ArcView) -> bool {
         let Some(tail) = self.tail else {
             return false;
@@ -59,7 +59,7 @@ impl Ends {
     }
 }
 
-/// Says why the test of an arc of a graph failed.
+/// Explains why the test of an arc of a graph failed.
 pub(crate) fn explain_weight<F: Files>(
     alloc: Global,
     files: &mut F,
@@ -97,7 +97,7 @@ fn block_of(record: Record) -> Option<(u32, Option<i128>)> {
     }
 }
 
-/// The first block in which the test of an arc fails.
+/// The first block in which an arc fails its test.
 fn failing_block<F: Files>(
     alloc: Global,
     files: &mut F,
@@ -134,7 +134,7 @@ fn failing_block<F: Files>(
     Ok(block.filter(|ends| ends.fails(arc)))
 }
 
-/// Says what is compared of the ends of an arc.
+/// Compares the labels of an arc's ends.
 fn say_ends(
     number: u32,
     arc: ArcView,
@@ -164,7 +164,7 @@ fn say_ends(
     }
 }
 
-/// The label of a node in a block.
+/// A node's label in one block.
 #[derive(Clone, Copy)]
 struct Labelled {
     source: u32,
@@ -173,18 +173,18 @@ struct Labelled {
     line: u64,
     dist: i128,
     pred: u32,
-    /// The label of PRED.
+    /// The distance of PRED.
     before: i128,
 }
 
 impl Labelled {
-    /// The weight that leads from the label of PRED to this one.
+    /// The weight that an arc from PRED needs to be tight.
     fn weight(&self) -> i128 {
         self.dist.saturating_sub(self.before)
     }
 }
 
-/// Says why no arc leads to a label.
+/// Explains why a label has no tight arc.
 pub(crate) fn explain_label<F: Files>(
     alloc: Global,
     files: &mut F,
@@ -206,7 +206,7 @@ pub(crate) fn explain_label<F: Files>(
     Ok(())
 }
 
-/// Says what is compared of a label and that of its PRED.
+/// Compares a label with that of its PRED.
 fn say_label(
     arcs: &[(u32, i64)],
     label: Labelled,
@@ -235,7 +235,7 @@ fn say_label(
     }
 }
 
-/// Whether an arc leads from PRED to a label.
+/// Whether the label has a tight arc from its PRED.
 fn leads(arcs: &[(u32, i64)], label: Labelled) -> bool {
     match i64::try_from(label.weight()) {
         Ok(weight) => arcs.binary_search(&(label.pred, weight)).is_ok(),
@@ -243,7 +243,7 @@ fn leads(arcs: &[(u32, i64)], label: Labelled) -> bool {
     }
 }
 
-/// The labels of a node, block by block; the labels of their PREDs are not known yet.
+/// The labels of a node, block by block, still without the distances of their PREDs.
 fn labels_of<F: Files>(
     alloc: Global,
     files: &mut F,
@@ -275,7 +275,7 @@ fn labels_of<F: Files>(
     Ok(found)
 }
 
-/// Looks the labels of the PREDs up: that of a source is 0.
+/// Fills in the distances of the PREDs; a source has 0.
 fn add_preds<F: Files>(
     alloc: Global,
     files: &mut F,
@@ -330,7 +330,7 @@ pub(crate) fn arcs_into<F: Files>(
     Ok(arcs)
 }
 
-/// Says why a query isn't served.
+/// Explains why no block answers a query.
 pub(crate) fn explain_query<F: Files>(
     alloc: Global,
     files: &mut F,
@@ -364,7 +364,7 @@ pub(crate) fn explain_query<F: Files>(
     }
 }
 
-/// Says from which sources there are blocks.
+/// Lists sources of the blocks.
 fn say_sources<F: Files>(
     alloc: Global,
     files: &mut F,

@@ -1,25 +1,25 @@
-//! Lines of a text, shown with their places.
+//! Quotes of lines.
 
 use dimacs_lines::{Memory, fields};
 use std::alloc::{AllocError, Global};
 
-/// Of a long line so many bytes are shown, those round the field that counts.
+/// At most this many bytes of a line are shown, those around the field in question.
 const SHOWN: usize = 100;
 
-/// How many of them stand before the field.
+/// How many of them come before the field.
 const BEFORE: usize = 40;
 
-/// A line of a text that was kept to be shown.
+/// A quote of a line.
 #[derive(Drop)]
 pub(crate) struct Quote {
     pub(crate) line: u64,
     text: String,
-    /// Where the mark stands below the text; none without a field.
+    /// The place and length of the mark below the text; none without a field.
     mark: Option<(usize, usize)>,
 }
 
 impl Quote {
-    /// Keeps a line and which of its fields counts, from 1; 0 where it is the whole line.
+    /// Quotes a line and marks one of its fields, from 1; 0 marks none.
     pub(crate) fn new(alloc: Global, line: u64, bytes: &[u8], field: u64) -> Result<Quote, Memory> {
         let found = if field == 0 {
             None
@@ -46,7 +46,7 @@ impl Quote {
         Ok(Quote { line, text, mark })
     }
 
-    /// Adds the line to what is said, with the name of its file.
+    /// Writes the quote after the name of its file and the line's number.
     pub(crate) fn show(&self, said: &mut String, file: &str) -> Result<(), AllocError> {
         let before = said.len();
         write!(said, "{file}:{}: ", self.line)?;
@@ -61,6 +61,7 @@ impl Quote {
     }
 }
 
+/// Writes a character several times.
 fn repeat(said: &mut String, what: char, times: usize) -> Result<(), AllocError> {
     for _ in 0..times {
         said.push(what)?;
@@ -68,7 +69,7 @@ fn repeat(said: &mut String, what: char, times: usize) -> Result<(), AllocError>
     Ok(())
 }
 
-/// Adds bytes: those that print as they are, a tab as a blank, and any other by its number.
+/// Writes bytes: printable ones unchanged, a tab or a carriage return as a space, others by their codes.
 pub(crate) fn escape(said: &mut String, bytes: &[u8]) -> Result<(), AllocError> {
     for &byte in bytes {
         match byte {

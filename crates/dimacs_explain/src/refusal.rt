@@ -1,18 +1,19 @@
-//! The line of a refusal, taken apart.
+//! Parsing the line of a refusal.
 
 use std::str;
 
-/// Where a refusal points.
+/// The place of a refusal.
 #[derive(Clone, Copy)]
 pub(crate) enum Place<'a> {
-    /// A line and a field of the text that has this name in refusals; 0 where it is the whole.
+    /// A line and a field of a text, by the word for the text; 0 for a text or a line as a whole.
     Text {
         name: &'a str,
         line: u64,
         field: u64,
     },
-    /// An arc, from 1.
+    /// The number of an arc, from 1.
     Arc(u32),
+    /// The ID of a node.
     Node(u32),
 }
 
@@ -20,12 +21,12 @@ pub(crate) enum Place<'a> {
 #[derive(Clone, Copy)]
 pub(crate) struct Refusal<'a> {
     pub(crate) place: Place<'a>,
-    /// The reason, by its name.
+    /// The name of the reason.
     pub(crate) reason: &'a str,
 }
 
 impl<'a> Refusal<'a> {
-    /// The refusal that a line of output tells of; none where it tells of none.
+    /// Parses a line of output; none if it is no refusal.
     pub(crate) fn read(line: &'a [u8]) -> Option<Refusal<'a>> {
         let line = str::from_utf8(line).ok()?;
         let (what, rest) = line.strip_prefix("x ")?.split_once(' ')?;

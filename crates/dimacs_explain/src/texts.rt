@@ -1,11 +1,11 @@
-//! The files of a run, by the texts that they hold, and their lines.
+//! The texts of a run, by their files.
 
 use dimacs_lines::{Lines, MAX_LINES, Memory, Source};
 use dimacs_records::{Record, TextKind, record};
 use dimacs_runs::{CertifyKind, Files, Job, JudgeKind, SolveJob, SpreadKind};
 use std::alloc::Global;
 
-/// A text of a run: its kind, and the name of its file.
+/// A text of a run: its kind and its file.
 #[derive(Clone, Copy)]
 pub(crate) struct Named<'a> {
     pub(crate) kind: TextKind,
@@ -15,13 +15,13 @@ pub(crate) struct Named<'a> {
 /// The texts that a run reads.
 #[derive(Clone, Copy)]
 pub(crate) struct Texts<'a> {
-    /// The text of a conversion, whatever its kind is.
+    /// The text of `convert` or `show`, of any kind.
     single: Option<Named<'a>>,
     pub(crate) instance: Option<Named<'a>>,
     /// Queries, a solution or distances.
     pub(crate) claim: Option<Named<'a>>,
     pub(crate) certificate: Option<Named<'a>>,
-    /// The file of a better solution.
+    /// The file for a certificate or a better solution.
     pub(crate) better: Option<&'a str>,
 }
 
@@ -34,6 +34,7 @@ const NO_TEXTS: Texts<'static> = Texts {
 };
 
 impl<'a> Texts<'a> {
+    /// The texts of a job.
     pub(crate) fn of(job: Job<'a>) -> Texts<'a> {
         match job {
             Job::Convert(kind, file) | Job::Show(kind, file) => Texts {
@@ -48,7 +49,7 @@ impl<'a> Texts<'a> {
         }
     }
 
-    /// The text that has this name in refusals.
+    /// The text with this word in refusals.
     pub(crate) fn by_name(&self, name: &str) -> Option<Named<'a>> {
         if self.single.is_some() {
             return self.single;
@@ -60,7 +61,7 @@ impl<'a> Texts<'a> {
         }
     }
 
-    /// The text whose numbers are tested against the instance as a whole: the certificate, or distances.
+    /// The text that is tested against the instance as a whole: the certificate, or distances.
     pub(crate) fn tested(&self) -> Option<Named<'a>> {
         match self.claim {
             Some(claim) if claim.kind == TextKind::Distances => Some(claim),
@@ -69,6 +70,7 @@ impl<'a> Texts<'a> {
     }
 }
 
+/// The texts of judging.
 fn judged(kind: JudgeKind, files: &[String]) -> Texts<'_> {
     let (instance, claim, certificate) = match kind {
         JudgeKind::Max => (TextKind::Max, TextKind::Solution, TextKind::Cut),
@@ -92,6 +94,7 @@ fn judged(kind: JudgeKind, files: &[String]) -> Texts<'_> {
     }
 }
 
+/// The texts of certifying.
 fn certified(kind: CertifyKind, files: &[String]) -> Texts<'_> {
     match kind {
         CertifyKind::Max => claimed(TextKind::Max, TextKind::Solution, files),
@@ -101,7 +104,7 @@ fn certified(kind: CertifyKind, files: &[String]) -> Texts<'_> {
     }
 }
 
-/// The texts of an instance and a claim, and the file of what is written about them.
+/// The texts of a run that reads an instance and a claim, and may write a third file.
 fn claimed(instance: TextKind, claim: TextKind, files: &[String]) -> Texts<'_> {
     match files {
         [first, second, rest @ ..] => Texts {
@@ -114,7 +117,7 @@ fn claimed(instance: TextKind, claim: TextKind, files: &[String]) -> Texts<'_> {
     }
 }
 
-/// The text of an instance, and the file of what is written about it.
+/// The text of a run that reads an instance, and may write a second file.
 fn unclaimed(instance: TextKind, files: &[String]) -> Texts<'_> {
     match files {
         [first, rest @ ..] => Texts {
@@ -126,6 +129,7 @@ fn unclaimed(instance: TextKind, files: &[String]) -> Texts<'_> {
     }
 }
 
+/// The texts of solving.
 fn solved(job: SolveJob, files: &[String]) -> Texts<'_> {
     let (instance, claim) = match job {
         SolveJob::Max(_) => (TextKind::Max, None),
@@ -145,6 +149,7 @@ fn solved(job: SolveJob, files: &[String]) -> Texts<'_> {
     }
 }
 
+/// A text of this kind in this file.
 fn text_in(kind: TextKind, file: &String) -> Option<Named<'_>> {
     Some(Named {
         kind,
@@ -152,7 +157,7 @@ fn text_in(kind: TextKind, file: &String) -> Option<Named<'_>> {
     })
 }
 
-/// The lines of a file, from the first on.
+/// The lines of a text, one after another.
 #[derive(Drop)]
 pub(crate) struct TextLines<I> {
     lines: Lines,
@@ -161,7 +166,7 @@ pub(crate) struct TextLines<I> {
 }
 
 impl<I: Source> TextLines<I> {
-    /// The lines of a text; none where its file can't be opened.
+    /// The lines of a text, before the first; none if its file can't be opened.
     pub(crate) fn open<F: Files<Input = I>>(
         alloc: Global,
         files: &mut F,
@@ -179,7 +184,7 @@ impl<I: Source> TextLines<I> {
         }))
     }
 
-    /// Goes on to the next line, and answers its number; none at the end, or where the text can't be read on.
+    /// Goes to the next line, and returns its number. None at the end, or if the rest can't be read.
     pub(crate) fn next(&mut self) -> Option<u64> {
         self.lines.next_line(&mut self.source).ok().flatten()
     }
@@ -189,11 +194,11 @@ impl<I: Source> TextLines<I> {
         self.lines.line()
     }
 
-    /// What the line says; none where it is skipped, or has a fault.
+    /// The record of the line; none if it is skipped or has a fault.
     pub(crate) fn record(&self) -> Option<Record> {
         record(self.kind, self.lines.line()).ok().flatten()
     }
 }
 
-/// More lines than any text has.
+/// No text has more lines.
 pub(crate) const ANY_LINES: u64 = MAX_LINES;

@@ -1,4 +1,4 @@
-//! The tests of a certificate as a whole, and of the ends of a cut, in words.
+//! Explaining the tests of a certificate as a whole, and of source and sink in a cut.
 
 use crate::arcs::arc_of;
 use crate::faults::cannot_read;
@@ -11,7 +11,7 @@ use dimacs_records::{End, Record};
 use dimacs_runs::Files;
 use std::alloc::Global;
 
-/// Says why the source or the sink stands on the wrong side of a cut.
+/// Explains why the source isn't in the cut, or why the sink is.
 pub(crate) fn explain_end<F: Files>(
     alloc: Global,
     files: &mut F,
@@ -40,7 +40,7 @@ pub(crate) fn explain_end<F: Files>(
     Ok(())
 }
 
-/// Says why a certificate, or distances, are refused as a whole.
+/// Explains why a certificate, or distances, are refused as a whole.
 pub(crate) fn explain_whole<F: Files>(
     alloc: Global,
     files: &mut F,
@@ -67,7 +67,7 @@ pub(crate) fn explain_whole<F: Files>(
     Ok(())
 }
 
-/// What a set supplies, and the bounds on what can leave it.
+/// The supply of a set, and the bounds of the net flow out of it.
 #[derive(Clone, Copy)]
 struct Across {
     supply: i128,
@@ -76,11 +76,12 @@ struct Across {
 }
 
 impl Across {
+    /// Adds the supply of a node of the set.
     fn add_supply(&mut self, supply: i64) {
         self.supply = self.supply.saturating_add(i128::from(supply));
     }
 
-    /// Adds an arc that leaves the set, or enters it.
+    /// Adds an arc, if it leaves or enters the set.
     fn add_arc(&mut self, set: &Cut, arc: ArcView) {
         let (low, cap) = (i128::from(arc.low), i128::from(arc.cap));
         match (set.contains(arc.tail), set.contains(arc.head)) {
@@ -97,7 +98,7 @@ impl Across {
     }
 }
 
-/// Says why a set shows nothing.
+/// Explains why a set isn't violated.
 fn explain_violation<F: Files>(
     alloc: Global,
     files: &mut F,
@@ -122,7 +123,7 @@ fn explain_violation<F: Files>(
     Ok(())
 }
 
-/// What a set supplies, and what can leave it; none where the instance can't be read.
+/// The supply of a set, and the bounds of the net flow out of it; none if the instance can't be read.
 fn sums_across<F: Files>(
     alloc: Global,
     files: &mut F,
