@@ -1,4 +1,4 @@
-//! Files that are read once more.
+//! Files that are read a second time.
 
 ghost use Rattle.std.specs.Prelude.{None};
 
@@ -9,7 +9,8 @@ use std::fs::File;
 use std::io::ErrorKind;
 use std::{fs, io};
 
-/// The system's files, but for what can't be read twice: a pipe was emptied, and opening one may wait for ever.
+/// The operating system's files. `open` refuses what isn't a regular file: a pipe is empty by now, and opening one may
+/// block for ever.
 #[derive(Drop)]
 pub struct FilesAgain<'a> {
     rt: &'a HostRuntime,
@@ -17,6 +18,7 @@ pub struct FilesAgain<'a> {
 }
 
 impl<'a> FilesAgain<'a> {
+    /// The files of the host.
     pub fn new(rt: &'a HostRuntime) -> FilesAgain<'a> {
         FilesAgain {
             rt,

@@ -1,4 +1,4 @@
-//! The files of the system.
+//! The operating system's files.
 
 ghost use Rattle.std.specs.Prelude.{◌≡◌, ◌↔◌, ◌∷◌, [], ◌==◌, if◌then◌else◌, not, None, Some, Err};
 ghost use Rattle.std.specs.IoError.{error_kind};
@@ -11,16 +11,17 @@ use std::fs::File;
 use std::io;
 use std::io::ErrorKind;
 
-/// The files that the system knows by their names. They tell nothing of what they hold.
+/// The operating system's files, by name. What they hold is unknown to the specification.
 #[derive(Drop)]
 pub struct SystemFiles<'a> {
     rt: &'a HostRuntime,
     faults: u64,
-    /// Why the last call that failed on a file did.
+    /// Why the last failed operation on a file failed.
     reason: Option<io::Error>,
 }
 
 impl<'a> SystemFiles<'a> {
+    /// The files of the host, with no fault counted yet.
     pub fn new(rt: &'a HostRuntime) -> SystemFiles<'a> {
         SystemFiles {
             rt,
@@ -29,12 +30,12 @@ impl<'a> SystemFiles<'a> {
         }
     }
 
-    /// Why the last call that failed on a file did, by the system; none where none failed.
+    /// Why the last failed operation on a file failed, as the operating system reports it; none if none failed.
     pub fn reason(&self) -> Option<io::Error> {
         self.reason
     }
 
-    /// Counts a file that is closed after so many faults, the last for this reason, and answers whether there were any.
+    /// Records the faults of a file that is closed; `reason` is that of the last. Returns whether there were any.
     fn count(&mut self, faults: u64, reason: Option<io::Error>) -> bool
         ensures failed { result ≡ not (faults == 0) }
         ensures fault { self.new.faults ≡ (if faults == 0 then self.old.faults else one_more self.old.faults) }
@@ -48,7 +49,7 @@ impl<'a> SystemFiles<'a> {
         failed
     }
 
-    /// Counts a file that the system didn't open, unless it had no memory.
+    /// Records that a file could not be opened or created. Out of memory doesn't count as a fault of the file.
     pub fn refuse(&mut self, error: io::Error) -> RunError
         ensures fault { CountsDevices {X = Unit {0}} (Err result) (self.old.faults ∷ []) (self.new.faults ∷ []) }
         ensures memory { result ≡ RunError.Memory ↔ error_kind error ≡ ErrorKind.OutOfMemory }

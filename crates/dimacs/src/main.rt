@@ -1,4 +1,5 @@
-//! The command `dimacs`: runs what its words ask for over the system's files, and ends with the status of the run.
+//! The command `dimacs`: runs what its arguments ask for over the operating system's files, and ends with the status of
+//! the run.
 #![tactic(auto)]
 
 mod again;
@@ -16,10 +17,10 @@ use std::os::fd::{AsRawFd, RawFd};
 use std::process::ExitCode;
 use std::{env, io};
 
-/// The word before those of a command whose refusal is to be explained.
+/// The argument before a command whose refusal is to be explained.
 const EXPLAIN: &str = "explain";
 
-/// The last descriptor of a standard stream.
+/// The greatest file descriptor of a standard stream.
 const STANDARD_ERROR: RawFd = 2;
 
 fn main(rt: HostRuntime) -> ExitCode {
@@ -31,8 +32,8 @@ fn main(rt: HostRuntime) -> ExitCode {
     ExitCode::from(status)
 }
 
-/// A file that stands for a standard stream that was closed, so that no file of a run gets its descriptor, and with it
-/// what is meant for the stream. The folder `/` is always there, and can neither be read nor written.
+/// Opens a file in place of a standard stream that was closed, so that no file of a run gets its descriptor and what is
+/// meant for the stream. The folder `/` always exists, and can be neither read nor written as a file.
 fn stand_in(rt: &HostRuntime) -> Option<File> {
     match File::open(rt, "/") {
         Ok(folder) if folder.as_raw_fd() <= STANDARD_ERROR => Some(folder),
@@ -40,7 +41,7 @@ fn stand_in(rt: &HostRuntime) -> Option<File> {
     }
 }
 
-/// Runs what the words after the program's name ask for, and answers the exit status.
+/// Runs what the arguments after the program's name ask for, and returns the exit status.
 fn run(rt: &HostRuntime, words: &[String]) -> u8 {
     let mut files = SystemFiles::new(rt);
     let mut output = FirstLine::new(FileSink::new(io::writer(rt)));
@@ -71,11 +72,12 @@ fn run(rt: &HostRuntime, words: &[String]) -> u8 {
     ending.status
 }
 
+/// The arguments, the program's name first.
 fn words(rt: &HostRuntime) -> io::Result<Vec<String>> {
     Ok(env::args(rt)?.collect(rt.alloc())?)
 }
 
-/// The status where the words can't be had. Words that aren't UTF-8 ask for no run.
+/// The exit status if the arguments can't be had. Arguments that aren't UTF-8 ask for no run.
 fn wordless(rt: &HostRuntime, error: io::Error) -> u8 {
     let status = if error.kind() == ErrorKind::OutOfMemory {
         exit_status(&Err(RunError::Memory))
@@ -86,7 +88,8 @@ fn wordless(rt: &HostRuntime, error: io::Error) -> u8 {
     status
 }
 
-/// Tells on the standard error why no run, or no whole run, took place.
+/// Writes the complaint for an exit status, if it has one, to the standard error; the usage text follows if no run was
+/// asked for.
 fn complain(rt: &HostRuntime, status: u8) {
     if let Some(line) = complaint(status) {
         let _ = eprintln!(rt; "{line}");
@@ -96,7 +99,7 @@ fn complain(rt: &HostRuntime, status: u8) {
     }
 }
 
-/// Tells on the standard error which device failed, and why, where the system says so.
+/// Writes the failed operation to the standard error, and the reason, if the operating system gives one.
 fn tell_failure(rt: &HostRuntime, failure: Failure<'_>, reason: Option<io::Error>) {
     let device = failure.device();
     let call = failure.call();

@@ -1,9 +1,9 @@
-//! The usage text, as clap renders it. What the words mean is for `dimacs_runs::job` to say.
+//! The usage text, as clap renders it. `dimacs_runs::job` decides what the arguments mean.
 
 use clap::Command;
 use std::alloc::{AllocError, Global};
 
-/// The words of each run, and what it does. With two blanks between them they fit 80 columns.
+/// The arguments of each run, and what it does. With two spaces between them they fit into 80 columns.
 static RUNS: [(&str, &str); 16] = [
     ("convert KIND FILE", "Prints its canonical form"),
     ("show KIND FILE", "Prints a line about it"),
@@ -47,7 +47,7 @@ static RUNS: [(&str, &str); 16] = [
     ("explain COMMAND FILE...", "Does it, and explains a refusal"),
 ];
 
-/// What stands after the words of the runs.
+/// The text after the list of runs.
 static NOTES: &str = "\
 A judge is given what shows that a claim is true. A certify run needs no such
 file: it writes one to CERTIFICATE or LABELS, if it is named, or a better or a
@@ -75,13 +75,14 @@ Example:
 /// The name and the version.
 static VERSION: &str = "dimacs 0.1.0";
 
-/// Writes the version and the usage text to the standard error, where memory is there for it.
+/// Writes the version and the usage text to the standard error, if there is memory for it.
 pub fn tell(rt: &HostRuntime) {
     if let Ok(text) = usage_text(rt.alloc()) {
         let _ = eprintln!(rt; "{VERSION}\n{text}");
     }
 }
 
+/// The usage text.
 fn usage_text(alloc: Global) -> Result<String, AllocError> {
     let mut command = Command::new(alloc, "dimacs")
         .about("Reads, converts, judges and makes the DIMACS texts of flows and shortest paths")
