@@ -1,4 +1,4 @@
--- Why no flow with the same sums costs less.
+-- No flow with the same sums costs less.
 use Rattle.std.proofs.Common.{◌≡◌, ◌⊎◌, inl, inr, ℕ, zero, suc, ◌<◌, true, false, List, [], ◌∷◌, length, ℤ, pos, ◌+ℤ◌, ◌-ℤ◌, ◌*ℤ◌, ◌≤ℤ◌, ◌<ℤ◌, refl, sym, ap, arith}
 use Rattle.std.proofs.lemmas.Int.{ints, by_lt_z}
 use Rattle.std.proofs.lemmas.Bool.{cases_Bool}
@@ -64,7 +64,7 @@ with_more b d (a ∷ arcs) (z ∷ x) long = elim (cases_Bool (joins b.tail b.hea
 abbrev SameSums : List ArcView → List ℤ → List ℤ → Type 0
 SameSums arcs x y = (tail head : ℕ) → arc_sum arcs x tail head ≡ arc_sum arcs y tail head
 
--- where the sums are the same between any two nodes, so are they at any prices of the ends
+-- if two flows have the same sums between any two nodes, they are equal at any prices of the ends
 pub priced_alike : (price : ℕ → ℕ → ℤ) (arcs : List ArcView) (x y : List ℤ) → length x ≡ length arcs → length y ≡ length arcs → SameSums arcs x y → priced price arcs x ≡ priced price arcs y
 priced_alike price [] x y l m same = refl
 priced_alike price (a ∷ arcs) [] y l m same = absurd (omega (arith, l))
@@ -84,7 +84,7 @@ priced_alike price (a ∷ arcs) (u ∷ x) (v ∷ y) l m same = elim (with_more a
       )
 ]
 
--- ---- the price of two ends: what the dearest arc between them costs that is raised
+-- ---- the price of two ends: the cost of the dearest raised arc between them
 record IsPrice (arcs : List ArcView) (x : List ℤ) (least : ℤ) (tail head : ℕ) (price : ℤ) : Type 0 where
   above : (k : ℕ) → k < length arcs → joins tail head (arc_at arcs k) ≡ true → (arc_at arcs k).low <ℤ amount_at x k → (arc_at arcs k).cost ≤ℤ price
   asked : (price ≡ least) ⊎ ((k : ℕ) × (k < length arcs) × (joins tail head (arc_at arcs k) ≡ true) × ((arc_at arcs k).low <ℤ amount_at x k) × ((arc_at arcs k).cost ≡ price))
@@ -123,7 +123,7 @@ price_of (a ∷ arcs) (z ∷ x) least tail head long =
     ]
 
 -- ---- costs
--- an arc that is dearer than the price is at its lower bound, one that is cheaper is full: no other amount is better
+-- an arc dearer than the price is at its lower bound, and a cheaper one is full: no other amount is better
 cheaper_term : (c p x y low cap : ℤ) → (low <ℤ x → c ≤ℤ p) → (c <ℤ p → x ≡ cap) → low ≤ℤ y → y ≤ℤ cap → (c *ℤ x +ℤ p *ℤ y) ≤ℤ (c *ℤ y +ℤ p *ℤ x)
 cheaper_term c p x y low cap dear cheap above below =
     let r = c -ℤ p in
@@ -152,7 +152,7 @@ module _ (arcs : List ArcView) (least : ℤ) (above : (k : ℕ) → k < length a
   unfolding price_at
   is_price tail head = (price_of arcs x least tail head within.one_each).1
 
-  -- below the price of its ends an arc is full
+  --   an arc cheaper than the price of its ends is full
   full_below : (k : ℕ) → k < length arcs → (arc_at arcs k).cost <ℤ price_at (arc_at arcs k).tail (arc_at arcs k).head → amount_at x k ≡ (arc_at arcs k).cap
   full_below k inside less = elim (is_price (arc_at arcs k).tail (arc_at arcs k).head).asked [
     | inl e ↦ absurd (omega (arith, ints, e, less, above k inside))

@@ -1,4 +1,4 @@
--- What holds of the flow once everything is dealt out.
+-- The flow after everything is dealt out.
 use Rattle.std.proofs.Common.{◌≡◌, inl, inr, ℕ, ◌^◌, ◌<◌, true, List, length, replicate, Result, Ok, Err, Some, All, ℤ, pos, neg_ℤ, ◌+ℤ◌, ◌≤ℤ◌, ◌<ℤ◌, sym, ◌∙◌, arith}
 use Rattle.std.specs.Prelude.{IfErr, OnOk}
 use Rattle.std.proofs.lemmas.Int.{ints, by_lt_z}
@@ -40,7 +40,7 @@ module _ (arcs : List ArcView) (entries : List Entry) (rests x : List ℤ) (deal
   abbrev none : List ℤ
   none = replicate (length arcs) (pos 0)
 
-  -- an arc with the ends of another that has a rest has the same first arc, and no rest of its own
+  --   if an arc has a rest, others with its ends have the same first arc and no rest
   module _ (k : ℕ) (inside : k < length arcs) (some : amount_at rests k ≡ pos 0 → ⊥) where
     like : (i : ℕ) → joins (arc_at arcs k).tail (arc_at arcs k).head (arc_at arcs i) ≡ true → IsFirstLike arcs i k
     like i joined =
@@ -77,7 +77,7 @@ module _ (arcs : List ArcView) (entries : List Entry) (rests x : List ℤ) (deal
       (λ not. let e = amount_zero (length arcs) i in omega (arith, ints, e, not))) inside (own_joins arcs k) (let e = amount_zero (length arcs) k in omega (arith, ints, e, lack)) in
       omega (arith, ints, least, left, arc_sum-zero arcs (length arcs) t h, sums t h)
 
-  -- a rest that no arc has room for
+  --   a rest that the arcs have no capacity for
   pub rest_fails : (place : Where) (reason : Reason) → IsOfRest rests place reason → Fails (sum_row arcs entries) place reason
   rest_fails place reason (k, within, at, fails) =
       let inside : k < length arcs = omega (arith, within, dealt.rests_long) in (
@@ -92,7 +92,7 @@ module _ (arcs : List ArcView) (entries : List Entry) (rests x : List ℤ) (deal
         ),
       )
 
-  -- a flow with these sums that keeps the bounds leaves no rest
+  --   if some flow with these sums keeps the bounds, no rest is left
   no_rest : (y : List ℤ) → Deals arcs entries y → KeepsBounds arcs y → (k : ℕ) → k < length arcs → amount_at rests k ≡ pos 0
   no_rest y deals keeps k inside =
       let t = (arc_at arcs k).tail in
@@ -133,7 +133,7 @@ module _ (arcs : List ArcView) (entries : List Entry) (rests x : List ℤ) (deal
         let sums_alike : (tail head : ℕ) → arc_sum arcs x tail head ≡ arc_sum arcs y tail head = λ tail head. rw (← same) (put_deals.sums tail head ∙ sym (deals.sums tail head)) in
         rw same (none_cheaper arcs least_cost dearer x dealt.within dealt.cheapest_first y deals.one_each (λ k inside. kept_at arcs y k keeps inside) sums_alike)
 
-    -- too much and too little stand on the first arc between two nodes
+    --     what is too much or too little is on the first arc between two nodes
     module _ (tail head k : ℕ) (found : IsKthBetween arcs tail head 0 (Some k)) where
       like_first : (i : ℕ) → joins tail head (arc_at arcs i) ≡ true → IsFirstLike arcs i k
       like_first i joined = let same = ends_of tail head (arc_at arcs i) joined in rw (same.0, same.1) found
@@ -141,7 +141,7 @@ module _ (arcs : List ArcView) (entries : List Entry) (rests x : List ℤ) (deal
       first_only : (i : ℕ) → i < length arcs → joins tail head (arc_at arcs i) ≡ true → (amount_at rests i ≡ pos 0 → ⊥) → i ≡ k
       first_only i h joined some = one_first arcs (arc_at arcs i).tail (arc_at arcs i).head i k (dealt.at_first i h some) (like_first i joined)
 
-      -- without too much on the first arc there is none elsewhere
+      --     if the first arc has not too much, no other arc has
       no_more : amount_at rests k ≤ℤ pos 0 → NoMore arcs z (caps arcs) tail head
       no_more not i h joined =
           let e = cap_at arcs i h in
@@ -177,7 +177,7 @@ module _ (arcs : List ArcView) (entries : List Entry) (rests x : List ℤ) (deal
       | inr over ↦ (let a = above tail head k found bounds over.1 in inr (over.0, a.0, a.1))
     ]
 
--- ---- what is answered
+-- ---- the result
 pub ok_from : {P Q : Type 0} (told : Result Unit (Where × Reason)) → (P → Q) → OnOk told P → OnOk told Q
 ok_from (Ok done) so p = so p
 ok_from (Err refusal) so p = tt

@@ -58,13 +58,13 @@ module _ (arcs : List ArcView) where
   pub own_joins : (k : ℕ) → joins (arc_at arcs k).tail (arc_at arcs k).head (arc_at arcs k) ≡ true
   own_joins k = joins_ends (arc_at arcs k).tail (arc_at arcs k).head (arc_at arcs k) refl refl
 
-  -- an arc has the ends of itself
+  --   an arc has its own ends
   pub known_itself : (k : ℕ) → k < length arcs → 1 ≤ count_by (joins (arc_at arcs k).tail (arc_at arcs k).head) arcs
   known_itself k inside =
       let more = count_by_more_yes (joins (arc_at arcs k).tail (arc_at arcs k).head) arcs k no_arc inside (own_joins k) in
       omega (arith, more, sum_by-take-le (λ b. cond (joins (arc_at arcs k).tail (arc_at arcs k).head b) 1 0) arcs (k + 1))
 
-  -- some arc has the ends of an arc, and this is the first
+  --   an arc has its ends, so there is a first arc with them
   pub always_first : (k : ℕ) (a : ArcView) → slice_get arcs k ≡ Some a → IsKthBetween arcs a.tail a.head 0 None → ⊥
   always_first k a here none = let none_like = rw (← get_or_from_slice_get arcs k a no_arc here) at none in omega (arith, none_like, known_itself k (slice_get_within arcs k a here))
 

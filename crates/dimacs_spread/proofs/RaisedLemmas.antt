@@ -77,7 +77,7 @@ module _ (arcs : List ArcView) (order : List ArcOfCost) (by_cost : AreByCost arc
   amount_other : (i : ℕ) → i ≢ k → amount_at x_then i ≡ amount_at x i
   amount_other i other = rw raised.amount_is (get_or-set_other x (place_at order q).arc i _ (pos 0) other)
 
-  -- a rest gets less, and never less than 0
+  --   a rest that is positive after a step was positive before it
   rest_before : (f : ℕ) → pos 0 <ℤ amount_at rests_then f → pos 0 <ℤ amount_at rests f
   rest_before f some = elim (cases_eq f raised.first) [
     | inl same ↦ (let e : amount_at rests_then f ≡ amount_at rests f -ℤ raised.more = rw same rest_here in omega (arith, ints, e, some, raised.is_more.not_less))
@@ -108,7 +108,7 @@ module _ (arcs : List ArcView) (order : List ArcOfCost) (by_cost : AreByCost arc
     | inr other ↦ some (rest_other f other ∙ none)
   ]
 
-  -- an arc that was full stays so
+  --   a full arc stays full
   full_still : (i : ℕ) → amount_at x i ≡ (arc_at arcs i).cap → amount_at x_then i ≡ (arc_at arcs i).cap
   full_still i full = elim (cases_eq i k) [
     | inl same ↦ (
@@ -158,7 +158,7 @@ module _ (arcs : List ArcView) (order : List ArcOfCost) (by_cost : AreByCost arc
         | inr other ↦ amount_other i other ∙ was
       ]
 
-  -- more was put on this arc: then those that cost less and have its ends are full
+  --   if more was put on this arc, the cheaper arcs with its ends are full
   cheaper_full : (i : ℕ) → i < length arcs → AreAlike arcs i k → (arc_at arcs i).cost <ℤ (arc_at arcs k).cost → pos 0 <ℤ raised.more → amount_at x i ≡ (arc_at arcs i).cap
   cheaper_full i h same cheaper more =
       let at = by_cost.all i h in

@@ -1,4 +1,4 @@
--- Rests while sums change: by an entry, or by what is put on an arc.
+-- Rests when sums change: by an entry, or by an amount put on an arc.
 use Rattle.std.proofs.Common.{◌≡◌, inl, inr, ℕ, ◌+◌, ◌*◌, ◌^◌, ◌<◌, Bool, true, false, List, [], ◌∷◌, ◌++◌, length, set, replicate, Some, ℤ, pos, ◌+ℤ◌, ◌-ℤ◌, w64, SFits, refl, ap, ◌∙◌, arith}
 use Rattle.std.specs.Int.{w128}
 use Rattle.std.proofs.lemmas.Int.{ints}
@@ -54,11 +54,11 @@ rests_changed arcs n rests f v are inside first size = record {
   ];
 }
 
--- the same rests, after any number of sums
+-- the rests for an equal number of sums
 pub rests_long : (arcs : List ArcView) (n m : ℕ) (rests : List ℤ) → n ≡ m → AreRests arcs n rests → AreRests arcs m rests
 rests_long arcs n m rests same are = rw (← same) are
 
--- ---- what is put on an arc is taken from the rest of its ends
+-- ---- what is put on an arc is subtracted from the rest between its ends
 when_moved : (b : Bool) (r d z w : ℤ) → w ≡ z +ℤ d → (when b ((r -ℤ d) -ℤ r) +ℤ when b (w -ℤ z)) ≡ pos 0
 when_moved true r d z w is = omega (arith, ints, is)
 when_moved false r d z w is = omega (arith, ints)

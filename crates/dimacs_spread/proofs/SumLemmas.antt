@@ -65,7 +65,7 @@ arc_sum-le (a ∷ arcs) (z ∷ x) [] tail head l m each = absurd (omega (arith, 
 arc_sum-le (a ∷ arcs) (z ∷ x) (w ∷ y) tail head l m each =
     omega (arith, ints, when_le (joins tail head a) z w (each 0 (omega arith)), arc_sum-le arcs x y tail head (omega (arith, l)) (omega (arith, m)) (λ k h. each (suc k) (omega (arith, h))))
 
--- and less on one of them
+-- less on one of them
 pub arc_sum-less : (arcs : List ArcView) (x y : List ℤ) (tail head i : ℕ) → length x ≡ length arcs → length y ≡ length arcs → NoMore arcs x y tail head
     → i < length arcs → joins tail head (arc_at arcs i) ≡ true → amount_at x i <ℤ amount_at y i → arc_sum arcs x tail head <ℤ arc_sum arcs y tail head
 arc_sum-less [] x y tail head i l m each inside joined less = absurd (omega (arith, inside))

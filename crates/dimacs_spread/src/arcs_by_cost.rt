@@ -1,4 +1,4 @@
-//! The arcs of a network, the cheapest first.
+//! The arcs of a network, ordered by cost.
 
 ghost use Rattle.std.specs.Prelude.{IfOk};
 ghost use Rattle.dimacs_spread.specs.inside.ArcsByCost.{AreByCost, AreWithCosts};
@@ -7,14 +7,14 @@ use dimacs_lines::Memory;
 use dimacs_network::Network;
 use std::alloc::Global;
 
-/// An arc, and what it costs. Their order is by cost, and then that of the instance.
+/// An arc with its cost. The order is by cost, then by index.
 #[derive(Clone, Copy, PartialEq, Eq, PartialOrd, Ord)]
 pub(crate) struct ArcOfCost {
     pub(crate) cost: i64,
     pub(crate) arc: u32,
 }
 
-/// All arcs, each after those that cost less.
+/// All arcs, ordered by cost.
 pub(crate) fn arcs_by_cost<N: Network>(alloc: Global, network: &N) -> Result<Vec<ArcOfCost>, Memory>
     ensures { IfOk result (λ order. AreByCost (N.list network.now) order.items) }
 {
@@ -23,7 +23,7 @@ pub(crate) fn arcs_by_cost<N: Network>(alloc: Global, network: &N) -> Result<Vec
     Ok(order)
 }
 
-/// All arcs in the order of the instance.
+/// All arcs, ordered by index.
 fn arcs_with_costs<N: Network>(alloc: Global, network: &N) -> Result<Vec<ArcOfCost>, Memory>
     ensures { IfOk result (λ order. AreWithCosts (N.list network.now) order.items) }
 {

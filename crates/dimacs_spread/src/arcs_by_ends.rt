@@ -1,4 +1,4 @@
-//! The arcs of a network by their ends.
+//! Finding the arcs of a network by their ends.
 
 ghost use Rattle.std.specs.Prelude.{◌≡◌, ◌<◌, Some, length, slice_get, IfOk};
 ghost use Rattle.dimacs_network.specs.Arcs.{IsKthBetween};
@@ -9,7 +9,7 @@ use dimacs_network::{ArcIndex, ArcView, Network};
 use std::alloc::Global;
 use std::marker::Model;
 
-/// The arcs of a network, and an index that finds the first of those with given ends.
+/// The arcs of a network, with an index that finds the first arc between two nodes.
 #[derive(Drop)]
 pub(crate) struct ArcsByEnds<'a, N: Network> {
     network: &'a N,
@@ -29,6 +29,7 @@ impl<'a, N: Network> Model for ArcsByEnds<'a, N> {
 }
 
 impl<'a, N: Network> ArcsByEnds<'a, N> {
+    /// Builds the index.
     pub(crate) fn of(alloc: Global, network: &'a N) -> Result<ArcsByEnds<'a, N>, Memory>
         ensures { IfOk result (λ arcs. arcs ≡ N.list network.now) }
     {
@@ -37,6 +38,7 @@ impl<'a, N: Network> ArcsByEnds<'a, N> {
         Ok(ArcsByEnds { network, index })
     }
 
+    /// The number of arcs.
     pub(crate) fn len(&self) -> u32
         ensures { result ≡ length self.now }
     {
@@ -50,14 +52,14 @@ impl<'a, N: Network> ArcsByEnds<'a, N> {
         self.network.arc(arc)
     }
 
-    /// The first arc with these ends.
+    /// The first arc from `tail` to `head`.
     pub(crate) fn first(&self, tail: u32, head: u32) -> Option<u32>
         ensures { IsKthBetween self.now tail head 0 result }
     {
         self.index.find(tail, head, 0)
     }
 
-    /// The first arc with the ends of this one.
+    /// The first arc with the same ends as this one.
     pub(crate) fn first_like(&self, arc: u32) -> u32
         requires { arc < length self.now }
         ensures { IsFirstLike self.now arc result }

@@ -1,8 +1,8 @@
-//! What a solution claims between two nodes, dealt out to the arcs between them.
+//! Dealing out a claimed flow to parallel arcs.
 //!
 //! A solution may give one sum for all arcs from one node to another, or their entries in any order. `spread_max` and
-//! `spread_min` add up the entries of each ordered pair of nodes and deal each sum out to the arcs with these ends: within
-//! the bounds wherever that can be, and at the least cost.
+//! `spread_min` add up the entries of each ordered pair of nodes, and deal out each sum to the arcs from one to the
+//! other: within their bounds if that is possible, and at the least cost.
 #![tactic(auto)]
 
 mod arcs_by_cost;

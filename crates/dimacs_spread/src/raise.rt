@@ -1,4 +1,4 @@
-//! What is dealt out above the lower bounds: the cheapest arcs are filled first.
+//! Dealing out what exceeds the lower bounds: the cheapest arcs are filled first.
 
 ghost use Rattle.std.specs.Prelude.{◌≡◌, ◌<◌, ◌≤◌, ◌≤ℤ◌, List, length, ℕ, pos};
 ghost use Rattle.std.specs.List.{All};
@@ -12,7 +12,7 @@ use crate::arcs_by_cost::ArcOfCost;
 use crate::arcs_by_ends::ArcsByEnds;
 use dimacs_network::Network;
 
-/// Raises each arc in turn, from its lower bound.
+/// Raises the arcs in this order, from their lower bounds.
 pub(crate) fn raise_all<N: Network>(
     arcs: &ArcsByEnds<'_, N>,
     order: &[ArcOfCost],
@@ -31,7 +31,7 @@ pub(crate) fn raise_all<N: Network>(
     }
 }
 
-/// Puts on an arc as much of the rest of its ends as it has room for.
+/// Puts as much of the rest between its ends on an arc as its capacity allows.
 fn raise<N: Network>(arcs: &ArcsByEnds<'_, N>, arc: u32, rests: &mut [i128], amounts: &mut [i64])
     requires bounds { All HasBounds arcs.now }
     requires known { arc < length arcs.now }
@@ -46,7 +46,7 @@ fn raise<N: Network>(arcs: &ArcsByEnds<'_, N>, arc: u32, rests: &mut [i128], amo
     amounts[arc as usize] += more;
 }
 
-/// As much of a rest as there is room for, and nothing of one below 0.
+/// The part of a rest that fits into `room`; 0 if the rest is negative.
 fn more_of(rest: i128, room: i64) -> i64
     requires { pos 0 ≤ℤ room }
     ensures { IsMore rest room result }

@@ -1,4 +1,4 @@
-//! The rests of the sums: what is still to be dealt out between two nodes, at the first arc between them.
+//! Rests: what is still to be dealt out between two nodes. A rest is stored at the first arc between them.
 
 ghost use Rattle.std.specs.Prelude.{◌≡◌, ◌<◌, ◌+◌, ◌^◌, ◌+ℤ◌, [], ℕ, ℤ, List, pos, length, replicate, IfErr, IfNone, IfOk, IfSome, OnOk, ◌≢◌};
 ghost use Rattle.std.specs.List.{All};
@@ -16,21 +16,21 @@ use dimacs_network::Network;
 use dimacs_records::Reason;
 use std::alloc::Global;
 
-/// No rest for any arc.
+/// The rest 0 for each arc.
 pub(crate) fn no_rests(alloc: Global, arcs: u32) -> Result<Vec<i128>, Memory>
     ensures { IfOk result (λ rests. rests.items ≡ replicate arcs (pos 0)) }
 {
     Ok(vec![in alloc; 0i128; arcs as usize]?)
 }
 
-/// No amount on any arc.
+/// The amount 0 for each arc.
 pub(crate) fn no_amounts(alloc: Global, arcs: u32) -> Result<Vec<i64>, Memory>
     ensures { IfOk result (λ amounts. amounts.items ≡ replicate arcs (pos 0)) }
 {
     Ok(vec![in alloc; 0i64; arcs as usize]?)
 }
 
-/// Puts on each arc its lower bound, and takes it from the rest of its ends.
+/// Puts its lower bound on each arc, and subtracts it from the rest between its ends.
 pub(crate) fn put_lows<N: Network>(
     arcs: &ArcsByEnds<'_, N>,
     rests: &mut [i128],
@@ -50,7 +50,7 @@ pub(crate) fn put_lows<N: Network>(
     }
 }
 
-/// Adds each entry to the rest of its ends, or finds the first entry whose ends no arc has.
+/// Adds each entry to the rest between its ends. Refuses the first entry without an arc.
 pub(crate) fn add_entries<N: Network>(
     arcs: &ArcsByEnds<'_, N>,
     entries: &[Entry],
@@ -76,8 +76,8 @@ pub(crate) fn add_entries<N: Network>(
     Ok(())
 }
 
-/// Puts each rest that is left on the first arc between its ends, where it leaves the bounds. The first arc that has no
-/// number for it is refused, as the judge would refuse any number there.
+/// Puts each rest that is left on its arc, although the arc then violates its bounds. Refuses the first arc whose
+/// amount would not fit into 64 bits; the reason is the one for which the judge would refuse any amount there.
 pub(crate) fn put_rests(rests: &[i128], amounts: &mut [i64]) -> Result<(), (Where, Reason)>
     requires one_each { length rests.now ≡ length amounts.old }
     requires few { length amounts.old < 2 ^ 32 }
@@ -94,7 +94,7 @@ pub(crate) fn put_rests(rests: &[i128], amounts: &mut [i64]) -> Result<(), (Wher
     Ok(())
 }
 
-/// The amount with a rest, where it is a number of 64 bits.
+/// The sum of an amount and a rest, if it fits into 64 bits.
 fn with_rest(amount: i64, rest: i128) -> Option<i64>
     ensures sum { IfSome result (λ sum. sum ≡ amount +ℤ rest) }
     ensures some_rest { IfNone result (rest ≢ pos 0) }
@@ -103,7 +103,7 @@ fn with_rest(amount: i64, rest: i128) -> Option<i64>
     amount.checked_add(rest)
 }
 
-/// Why a rest that isn't 0 is refused.
+/// The reason to refuse a rest other than 0.
 fn reason_of(rest: i128) -> Reason
     requires { rest ≢ pos 0 }
     ensures { RestFails rest result }

@@ -1,4 +1,4 @@
-//! The sums between any two nodes, dealt out to the arcs between them.
+//! Dealing out the sums between any two nodes to the arcs between them.
 
 ghost use Rattle.std.specs.Prelude.{◌≡◌, ◌<◌, ◌^◌, pos, length, replicate, IfErr, IfOk, OnOk};
 ghost use Rattle.std.specs.List.{All};
@@ -17,12 +17,12 @@ use dimacs_network::Network;
 use dimacs_records::Reason;
 use std::alloc::Global;
 
-/// The flow that carries between any two nodes what the entries of the solution sum up to, and keeps the bounds of all
-/// arcs if any such flow does. Arcs with the same ends are filled in the order of the instance.
+/// Between any two nodes, the result carries the sum of the solution's entries. It keeps the bounds of all arcs if any
+/// such flow does. Parallel arcs are filled in the order of the instance.
 ///
-/// `UnknownArc` at the first entry whose ends no arc has. Where no flow keeps the bounds of the arcs between two nodes,
-/// what is too much, or too little, stands on the first of them: there `judge_max` refuses the flow. Where no number of
-/// 64 bits can, it is refused here, at that arc and for the same reason.
+/// `Refused` with `UnknownArc` comes at the first entry without an arc. If no flow between two nodes keeps the bounds,
+/// the first arc between them gets what is too much or too little: `judge_max` refuses the flow there. If that amount
+/// doesn't fit into 64 bits, it is refused here, at the same arc and for the same reason.
 pub fn spread_max<N: Network>(
     alloc: Global,
     instance: &MaxInstance<N>,
@@ -37,8 +37,8 @@ pub fn spread_max<N: Network>(
     spread(alloc, network, solution)
 }
 
-/// The same of a minimum cost flow. Of all such flows that keep the bounds, none costs less: arcs with the same ends are
-/// filled by their costs, and then in the order of the instance.
+/// The same for a minimum cost flow. No flow with these sums and within the bounds costs less: parallel arcs are filled
+/// in the order of their costs, then in the order of the instance.
 pub fn spread_min<N: Network>(
     alloc: Global,
     instance: &MinInstance<N>,
@@ -53,7 +53,7 @@ pub fn spread_min<N: Network>(
     spread(alloc, instance.network(), solution)
 }
 
-/// The same of any network. First each arc gets its lower bound, then the cheapest are raised first.
+/// The same for any network. Each arc gets its lower bound; then the arcs are raised, the cheapest first.
 fn spread<N: Network>(alloc: Global, network: &N, solution: &Solution) -> Result<Flow, JudgeError>
     requires { All HasBounds (N.list network.now) }
     ensures deals { IfOk result (λ flow. Deals (N.list network.now) solution.now.entries.items flow) }
@@ -70,7 +70,7 @@ fn spread<N: Network>(alloc: Global, network: &N, solution: &Solution) -> Result
     Ok(Flow::from_vec(amounts))
 }
 
-/// Deals the sums of the entries out to the arcs, where nothing is dealt out yet.
+/// Deals out the sums of the entries. At the start all rests and amounts are 0.
 fn deal<N: Network>(
     arcs: &ArcsByEnds<'_, N>,
     order: &[ArcOfCost],

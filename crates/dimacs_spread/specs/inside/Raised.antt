@@ -1,4 +1,4 @@
--- Inside: amounts within the bounds, and how far they were raised.
+-- Inside: amounts within the bounds while arcs are raised.
 use Rattle.std.specs.Prelude.{ℕ, ◌≡◌, ◌<◌, ◌⊎◌, List, length, set, ℤ, pos, ◌+ℤ◌, ◌-ℤ◌, ◌≤ℤ◌, ◌<ℤ◌}
 use Rattle.dimacs_network.specs.declared.network.ArcView.{ArcView}
 use Rattle.dimacs_network.specs.Arcs.{arc_at}
@@ -17,13 +17,13 @@ pub record AreWithin (arcs : List ArcView) (x : List ℤ) : Type 0 where
 abbrev pub AreAlike : List ArcView → ℕ → ℕ → Type 0
 AreAlike arcs i j = ((arc_at arcs i).tail ≡ (arc_at arcs j).tail) × ((arc_at arcs i).head ≡ (arc_at arcs j).head)
 
--- where an arc carries more than its lower bound, those with its ends that cost less are full
+-- if an arc carries more than its lower bound, the cheaper arcs with its ends are full
 abbrev pub CheapestAreFull : List ArcView → List ℤ → Type 0
 CheapestAreFull arcs x =
     (i j : ℕ) → i < length arcs → j < length arcs → AreAlike arcs i j → (arc_at arcs i).cost <ℤ (arc_at arcs j).cost
     → (arc_at arcs j).low <ℤ amount_at x j → amount_at x i ≡ (arc_at arcs i).cap
 
--- where more is left between the ends of an arc, it is full; where too little is, it carries its lower bound
+-- if a rest is positive, the arcs with its ends are full; if it is negative, they carry their lower bounds
 pub record AreDealt (arcs : List ArcView) (rests x : List ℤ) : Type 0 where
   pub rests_long : length rests ≡ length arcs
   pub at_first : (k : ℕ) → k < length arcs → (amount_at rests k ≡ pos 0 → ⊥) → IsFirstLike arcs k k
@@ -32,7 +32,7 @@ pub record AreDealt (arcs : List ArcView) (rests x : List ℤ) : Type 0 where
   pub low : (k f : ℕ) → k < length arcs → IsFirstLike arcs k f → amount_at rests f <ℤ pos 0 → amount_at x k ≡ (arc_at arcs k).low
   pub cheapest_first : CheapestAreFull arcs x
 
--- the same while arcs are raised: those at the first so many places are full where more is left
+-- the same while arcs are raised: of the arcs with a positive rest, those at the first places are full
 pub record AreDealtUpTo (arcs : List ArcView) (order : List ArcOfCost) (so_many : ℕ) (rests x : List ℤ) : Type 0 where
   pub rests_long : length rests ≡ length arcs
   pub at_first : (k : ℕ) → k < length arcs → (amount_at rests k ≡ pos 0 → ⊥) → IsFirstLike arcs k k
@@ -41,14 +41,14 @@ pub record AreDealtUpTo (arcs : List ArcView) (order : List ArcOfCost) (so_many 
   pub low : (k f : ℕ) → k < length arcs → IsFirstLike arcs k f → amount_at rests f <ℤ pos 0 → amount_at x k ≡ (arc_at arcs k).low
   pub cheapest_first : CheapestAreFull arcs x
 
--- more of a rest is put on an arc, as much as there is room for
+-- `more` of a rest is put on an arc, as much as fits
 pub record IsMore (rest room more : ℤ) : Type 0 where
   pub not_less : pos 0 ≤ℤ more
   pub has_room : more ≤ℤ room
   pub from_rest : (more ≡ pos 0) ⊎ (more ≤ℤ rest)
   pub all_room : more <ℤ rest → more ≡ room
 
--- one arc is raised, and the rest of its ends is less by that
+-- one arc is raised, and the rest between its ends gets less by the same amount
 pub record IsRaised (arcs : List ArcView) (k : ℕ) (rests x rests_then x_then : List ℤ) : Type 0 where
   pub first : ℕ
   pub more : ℤ

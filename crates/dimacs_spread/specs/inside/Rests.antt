@@ -1,4 +1,4 @@
--- Inside: what is still to be dealt out, at the first arc between two nodes.
+-- Inside: rests, stored at the first arc between two nodes.
 use Rattle.std.specs.Prelude.{ℕ, ◌≡◌, ◌≢◌, ◌+◌, ◌*◌, ◌<◌, ◌≤◌, ◌^◌, ◌⊎◌, List, length, Some, ℤ, pos, ◌+ℤ◌, ◌<ℤ◌}
 use Rattle.dimacs_claims.specs.declared.solution.Entry.{Entry}
 use Rattle.dimacs_network.specs.declared.network.ArcView.{ArcView}
@@ -11,30 +11,30 @@ use Rattle.dimacs_judge.specs.Rows.{amount_at}
 use Rattle.dimacs_judge.specs.inside.Ranges.{IsOfSize}
 use Rattle.dimacs_spread.specs.Spread.{arc_sum, entry_sum}
 
--- f is the first arc with the ends of the arc k
+-- f is the first arc with the ends of arc k
 abbrev pub IsFirstLike : List ArcView → ℕ → ℕ → Type 0
 IsFirstLike arcs k f = IsKthBetween arcs (arc_at arcs k).tail (arc_at arcs k).head 0 (Some f)
 
--- a rest for each arc, 0 but at the first arcs between their ends, after so many sums
+-- a rest for each arc, after this many sums; 0 unless the arc is the first between its ends
 pub record AreRests (arcs : List ArcView) (so_many : ℕ) (rests : List ℤ) : Type 0 where
   pub one_each : length rests ≡ length arcs
   pub at_first : (k : ℕ) → k < length arcs → amount_at rests k ≢ pos 0 → IsFirstLike arcs k k
   pub small : (k : ℕ) → IsOfSize (so_many * 2 ^ 63) (amount_at rests k)
 
--- between any two nodes the rests and the amounts add up to what the entries do
+-- between any two nodes the rests and the amounts add up to the sum of the entries
 abbrev pub AddUp : List ArcView → List Entry → List ℤ → List ℤ → Type 0
 AddUp arcs entries rests x = (tail head : ℕ) → (arc_sum arcs rests tail head +ℤ arc_sum arcs x tail head) ≡ entry_sum entries tail head
 
--- the first so many arcs carry their lower bounds, and the others nothing
+-- the first arcs carry their lower bounds, the others nothing
 pub record AreLows (arcs : List ArcView) (so_many : ℕ) (x : List ℤ) : Type 0 where
   pub one_each : length x ≡ length arcs
   pub low : (k : ℕ) → k < so_many → amount_at x k ≡ (arc_at arcs k).low
   pub none : (k : ℕ) → so_many ≤ k → amount_at x k ≡ pos 0
 
--- too little is left, or too much
+-- the rest is negative, or positive
 abbrev pub RestFails : ℤ → Reason → Type 0
 RestFails rest reason = ((reason ≡ BelowLow) × (rest <ℤ pos 0)) ⊎ ((reason ≡ AboveCap) × (pos 0 <ℤ rest))
 
--- the refusal of a rest at its arc
+-- a rest is refused at its arc
 abbrev pub IsOfRest : List ℤ → Where → Reason → Type 0
 IsOfRest rests place reason = (k : ℕ) × (k < length rests) × (place ≡ Arc (k + 1)) × RestFails (amount_at rests k) reason

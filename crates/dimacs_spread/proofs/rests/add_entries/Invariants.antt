@@ -4,7 +4,7 @@ use Rattle.dimacs_spread.specs.Spread.{unknown_row}
 use Rattle.dimacs_spread.specs.inside.Rests.{AddUp, AreRests}
 use Rattle.dimacs_spread.proofs.rests.add_entries.Given as goal
 
--- the entries so far have arcs, and are added
+-- the entries so far have arcs, and are added to the rests
 abbrev pub invariant-loop-entry : goal.invariant-loop-entry
 invariant-loop-entry g l = record {
   clear : ClearBelow (unknown_row l.arcs l.entries) l.entry-index;
