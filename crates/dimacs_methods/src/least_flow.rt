@@ -18,10 +18,9 @@ pub struct LeastFlow {
     pub potentials: Potentials,
 }
 
-/// A flow of least cost, and potentials that show it; where no flow is feasible, one that leaves the least excess.
+/// Finds a flow of least cost, and potentials that show it. If no flow is feasible, the result leaves the least excess.
 ///
-/// The network simplex is quicker on most instances, and takes very long on some large ones. Those are left to cost
-/// scaling.
+/// The network simplex is quicker on most instances, but takes very long on some large ones. Those go to cost scaling.
 pub fn make_least_flow<N: Network>(
     alloc: Global,
     instance: &MinInstance<N>,
@@ -33,22 +32,22 @@ pub fn make_least_flow<N: Network>(
     }
 }
 
-/// The potentials of the simplex fit 64 bits where no path costs as much: 2^60.
+/// The potentials of the simplex fit into 64 bits if no path costs as much: 2^60.
 const LONGEST: i128 = 1152921504606846976;
 
-/// Amounts fit 64 bits where all that may be moved is less: 2^62.
+/// Amounts fit into 64 bits if all that may be moved is less: 2^62.
 const MOST: i128 = 4611686018427387904;
 
-/// Prices fit 64 bits where a cost and twice a number of nodes have no more bits together. In the first phase they fall
-/// by a few times the tolerance for each node, and less later.
+/// Prices fit into 64 bits if a cost and twice the number of nodes have at most this many bits together. In the first
+/// phase prices fall by a few times the tolerance for each node, later by less.
 const PRICE_BITS: u32 = 60;
 
-/// What the simplex may do for each arc and node, in arcs and nodes looked at, and for the whole.
+/// The work that the simplex may do, counted in arcs and nodes looked at: for each arc and node, and in all.
 const WORK_FOR_EACH: u64 = 500;
 
 const WORK_FOR_ALL: u64 = 1073741824;
 
-/// By the simplex, unless it takes too much work.
+/// The simplex; none if it takes too much work.
 fn quickly<N: Network>(
     alloc: Global,
     problem: &Problem<'_, N>,
@@ -60,7 +59,7 @@ fn quickly<N: Network>(
     }
 }
 
-/// By cost scaling.
+/// Cost scaling.
 fn surely<N: Network>(alloc: Global, problem: &Problem<'_, N>) -> Result<LeastFlow, Memory> {
     let bits = problem.bits();
     let price_bits = bits.nodes.wrapping_mul(2).wrapping_add(bits.cost);
@@ -71,7 +70,7 @@ fn surely<N: Network>(alloc: Global, problem: &Problem<'_, N>) -> Result<LeastFl
     }
 }
 
-/// What the simplex comes to, unless it takes too much work.
+/// Runs the simplex with numbers of this width; none if it takes too much work.
 fn by_simplex<N: Network, V: Number>(
     alloc: Global,
     problem: &Problem<'_, N>,
@@ -80,7 +79,7 @@ fn by_simplex<N: Network, V: Number>(
     run_simplex(alloc, problem, &mut simplex)
 }
 
-/// Runs this simplex, and takes its flow.
+/// Runs this simplex and returns its flow.
 fn run_simplex<N: Network, V: Number>(
     alloc: Global,
     problem: &Problem<'_, N>,
@@ -99,6 +98,7 @@ fn run_simplex<N: Network, V: Number>(
     Ok(Some(flow))
 }
 
+/// Runs cost scaling with numbers of this width.
 fn by_scaling<N: Network, V: Number>(
     alloc: Global,
     problem: &Problem<'_, N>,
@@ -110,7 +110,7 @@ fn by_scaling<N: Network, V: Number>(
     least_flow(alloc, problem, &values, amounts)
 }
 
-/// These amounts, with the potentials that a method gives by number.
+/// These amounts, with potentials by node number.
 fn least_flow<N: Network>(
     alloc: Global,
     problem: &Problem<'_, N>,
@@ -124,7 +124,7 @@ fn least_flow<N: Network>(
     })
 }
 
-/// The potentials by the nodes' IDs, with the judge's sign, but those that are out of the range of potentials.
+/// The potentials by ID, with the judge's sign. Potentials out of range become 0.
 fn by_id<N: Network>(
     alloc: Global,
     problem: &Problem<'_, N>,

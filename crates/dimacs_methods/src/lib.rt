@@ -1,7 +1,7 @@
-//! Methods that find flows and potentials quickly, for those who test what they find: nothing of it is believed.
+//! Heuristics that find flows and potentials quickly. Nothing about their results is proved; callers check them.
 //!
-//! Nothing is promised of an answer but that it comes, and that the call is safe: tables are read without harm beyond
-//! their ends, sums may wrap, and each loop has an end that doesn't rest on what the method means to do.
+//! It is proved only that a call is safe and returns: accesses beyond the end of a table do nothing, sums may wrap, and
+//! each loop is bounded independently of what the method computes.
 #![tactic(auto)]
 
 mod least_flow;

@@ -6,8 +6,8 @@ use dimacs_network::Network;
 use dimacs_nodes::NodeMap;
 use std::alloc::Global;
 
-/// A number for each node that has an arc or a supply, from 0, so that tables by node grow with what came and not with
-/// the number of nodes that is declared.
+/// A number for each node with an arc or a supply, from 0. Tables by node number grow with the text, not with the
+/// declared number of nodes.
 #[derive(Drop)]
 pub(crate) struct NodeNumbers {
     numbers: NodeMap<u32>,
@@ -30,7 +30,7 @@ impl NodeNumbers {
         Ok(numbers)
     }
 
-    /// Numbers the nodes that have an arc, in the order in which they occur.
+    /// Numbers only the nodes with an arc, in the order in which they occur.
     pub(crate) fn of_ends<N: Network>(alloc: Global, network: &N) -> Result<NodeNumbers, Memory> {
         let mut numbers = NodeNumbers {
             numbers: NodeMap::new(alloc),
@@ -44,7 +44,7 @@ impl NodeNumbers {
         Ok(numbers)
     }
 
-    /// Gives a node a number, if it has none.
+    /// Numbers a node, if it has no number yet.
     fn add(&mut self, id: u32) -> Result<(), Memory> {
         if self.numbers.get(id).is_some() {
             return Ok(());
@@ -54,13 +54,13 @@ impl NodeNumbers {
         self.numbers.set(id, number)
     }
 
-    /// The number of a node that occurs, and 0 of any other.
+    /// The number of a node; 0 if it doesn't occur.
     #[inline]
     pub(crate) fn of(&self, id: u32) -> u32 {
         self.numbers.get(id).unwrap_or(0)
     }
 
-    /// The IDs of the nodes that occur, by number.
+    /// The IDs by node number.
     pub(crate) fn ids(&self) -> &[u32] {
         &self.ids
     }

@@ -1,13 +1,13 @@
-//! Numbers that a method reckons with.
+//! The numbers that a method computes with.
 
-/// A whole number: of 64 bits where all that is reckoned fits, else of 128. Sums and products wrap.
+/// A signed whole number: of 64 bits if all values fit, otherwise of 128. Sums and products wrap.
 pub(crate) trait Number: Copy {
     fn of(value: i64) -> Self;
 
-    /// The number of this value; 0 where it doesn't fit.
+    /// The number with this value; 0 if it doesn't fit.
     fn of_wide(value: i128) -> Self;
 
-    /// The value; 0 where it doesn't fit.
+    /// The value in 64 bits; 0 if it doesn't fit.
     fn narrow(self) -> i64;
 
     fn wide(self) -> i128;
@@ -22,7 +22,7 @@ pub(crate) trait Number: Copy {
 
     fn doubled(self, times: u32) -> Self;
 
-    /// Rounded down.
+    /// Divides by 2 this many times, rounded down.
     fn halved(self, times: u32) -> Self;
 
     fn is_below(self, other: Self) -> bool;

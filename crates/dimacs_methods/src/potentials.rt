@@ -1,18 +1,18 @@
-//! Potentials for a flow that is claimed to be least, or a cycle of residual arcs that makes it cheaper.
+//! Potentials that show that a flow costs least, or a cycle of residual arcs that makes it cheaper.
 //!
 //! A residual arc leads along an arc that can carry more, at the arc's cost, or back along one that can carry less, at
-//! what that saves. Distances are slack potentials, with the other sign, where no residual arc leads to a node that is
-//! farther from its beginning than it costs. They are looked for in four stages, each of which may be the last one:
+//! the negated cost. Distances, negated, are slack potentials if no residual arc can lower one. They are computed in
+//! four stages, any of which may be the last:
 //!
-//! 1. An arc that can carry both more and less fixes how far its ends are apart. Nodes that such arcs join are one group:
-//!    within it a node has a shift, and the group has a distance.
+//! 1. An arc that can carry both more and less fixes the difference of its ends' distances. Nodes joined by such arcs
+//!    form a group: within it each node has a shift, and the group has a distance.
 //! 2. What remains are links, residual arcs between groups. Rounds over all links, forth and back, lower the distances.
-//! 3. Where that would take many rounds, a group with one link into it, or out of it, is joined to the other end.
-//! 4. Groups that were lowered wait in a queue, and the links out of each are looked at in turn. The tree of the links
-//!    that lowered last is kept: what hangs on a group that is lowered is lowered with it, or leaves the tree until it is
-//!    reached again. A group that would be lowered from one that hangs on it closes a cycle.
+//! 3. If that would take many rounds, a group with only one link in, or out, is joined to the other end of the link.
+//! 4. Groups that were lowered wait in a queue, and the links out of each are relaxed in turn. The tree of the links
+//!    that lowered last is kept: if a group is lowered, its subtree is lowered with it, or leaves the tree until it is
+//!    reached again. A link that would lower a group from within its own subtree closes a cycle.
 //!
-//! Nothing of it is promised: who asks tests the potentials, or the cycle.
+//! Nothing about the result is proved: callers test the potentials, or the cycle.
 
 mod claim;
 mod cycle;
@@ -46,26 +46,26 @@ use dimacs_lines::{Memory, WIDE};
 use dimacs_network::Network;
 use std::alloc::Global;
 
-/// What is thought of a flow.
+/// The likely answer about a flow.
 #[derive(Drop)]
 pub enum Guess {
-    /// It is least: these potentials are slack.
+    /// It costs least: these potentials are slack.
     Least(Potentials),
-    /// It isn't: these residual arcs are a cycle and cost less than 0 together. Each begins where the one before it ends,
-    /// and the first where the last ends.
+    /// It doesn't: these residual arcs form a cycle of negative cost. Each begins where the one before it ends, and the
+    /// first where the last ends.
     Cycle(Vec<ResidualArc>),
     /// It took too long. These potentials are a start for another method.
     GaveUp(Potentials),
 }
 
-/// Links and groups that the search may look at, for each arc and each node.
+/// How many links and groups the search may look at, for each arc and each node.
 const BUDGET: u64 = 256;
 
-/// Sums of a few walks fit 64 bits where all costs, without their signs, sum to less than this: 2^57.
+/// Sums over a few walks fit into 64 bits if all costs, without their signs, sum to less than this: 2^57.
 const NARROW: u128 = 144115188075855872;
 
-/// Looks for potentials under which a flow is slack, or for a cycle that makes it cheaper. The amounts are those of the
-/// arcs in their order, within the bounds. Takes memory by the arcs, and by the nodes that have one.
+/// Looks for potentials that are slack for a flow, or for a cycle that makes it cheaper. `amounts` has the arcs'
+/// amounts in the order of the arcs, within their bounds. Takes memory for the arcs and for the nodes that have one.
 pub fn guess_potentials<N: Network>(
     alloc: Global,
     instance: &MinInstance<N>,
@@ -79,7 +79,7 @@ pub fn guess_potentials<N: Network>(
     }
 }
 
-/// The first two stages.
+/// Stages 1 and 2.
 fn tie_and_link<N: Network, V: Number>(
     alloc: Global,
     claim: &Claim<'_, N>,
@@ -102,7 +102,7 @@ fn tie_and_link<N: Network, V: Number>(
     join_and_settle(alloc, claim, places, links)
 }
 
-/// The third stage.
+/// Stage 3.
 fn join_and_settle<N: Network, V: Number>(
     alloc: Global,
     claim: &Claim<'_, N>,
@@ -120,7 +120,7 @@ fn join_and_settle<N: Network, V: Number>(
     }
 }
 
-/// The fourth stage.
+/// Stage 4.
 fn settle<N: Network, V: Number>(
     alloc: Global,
     claim: &Claim<'_, N>,
@@ -135,7 +135,7 @@ fn settle<N: Network, V: Number>(
     guess_after(alloc, claim, places, &end, &tree.distances)
 }
 
-/// The guess, by how the fourth stage ended.
+/// The answer, by the end of stage 4.
 fn guess_after<N: Network, V: Number>(
     alloc: Global,
     claim: &Claim<'_, N>,
@@ -154,7 +154,7 @@ fn guess_after<N: Network, V: Number>(
     }
 }
 
-/// Where a residual arc within a group costs too little.
+/// The cycle, if a residual arc within a group costs too little.
 fn torn<N: Network, V: Number>(
     alloc: Global,
     claim: &Claim<'_, N>,
@@ -164,7 +164,7 @@ fn torn<N: Network, V: Number>(
     Ok(Guess::Cycle(cycle))
 }
 
-/// The distances of nodes with the other sign.
+/// The potentials of the nodes: their distances, negated.
 fn potentials<N: Network, V: Number>(
     alloc: Global,
     claim: &Claim<'_, N>,
@@ -181,7 +181,7 @@ fn potentials<N: Network, V: Number>(
     Ok(potentials)
 }
 
-/// Sets the potential of a node that has 0, unless there is no such node, or the potential is out of range.
+/// Sets a potential that is 0 so far. Ignores an ID that is no node, and a value out of range.
 pub(crate) fn set_potential(
     potentials: &mut Potentials,
     id: u32,

@@ -1,5 +1,5 @@
 //! Preflows: excess is pushed to deficits, highest label first, with global relabelling and gaps, as Goldberg and
-//! Cherkassky describe it. It is pushed along paths of two arcs, as Goldberg describes partial augmentation: only to nodes
+//! Cherkassky describe it. It is pushed along paths of two arcs, as in Goldberg's partial augmentation: only to nodes
 //! from which it can be pushed on.
 
 mod levels;
@@ -18,28 +18,28 @@ use std::alloc::Global;
 /// The height of a node from which no deficit can be reached.
 const CUT_OFF: u32 = u32::MAX;
 
-/// A surplus that no flow makes up for: -2^120.
+/// A deficit that no flow fills: -2^120.
 const ENDLESS_DEFICIT: i128 = -1329227995784915872903807060280344576;
 
-/// A flow that leaves excess and deficits at nodes. Excess is pushed down, from higher to lower nodes: a node's height is
-/// at most one more than its distance to a deficit.
+/// A flow that leaves excess and deficits at nodes. Excess is pushed from higher to lower nodes: a node's height is at
+/// most one more than its distance to a deficit.
 #[derive(Drop)]
 struct Preflow {
     residual: Residual,
-    /// How much more enters each node than leaves it, with its supply; where it is negative the node has a deficit.
+    /// The excess of each node: its inflow and supply, less its outflow. A negative one is a deficit.
     surplus: Vec<i128>,
     height: Vec<u32>,
-    /// For each node the place before which no half leads down.
+    /// For each node, no half-arc before this place leads down.
     cursor: Vec<u32>,
     levels: Levels,
     /// The nodes with excess.
     waiting: Waiting,
-    /// What was done since heights were last made distances, and how much may be done before they are again.
+    /// The work since the last global relabelling, and how much work brings on the next one.
     work: u64,
     enough: u64,
 }
 
-/// A flow of greatest value, from a feasible one on. The amounts are those of the arcs in their order. Takes some 60 bytes
+/// Finds a maximum flow from a feasible one. `amounts` has the amounts in the order of the arcs. Takes some 60 bytes
 /// for each node that has an arc, and 40 for each arc.
 pub fn raise_value<N: Network>(
     alloc: Global,
@@ -60,7 +60,7 @@ pub fn raise_value<N: Network>(
     preflow.residual.amounts(alloc, network)
 }
 
-/// A flow that leaves as little excess as can be, from one within the bounds on. Takes as much memory.
+/// Finds a flow that leaves as little excess as possible, from one within the bounds. Takes as much memory.
 pub fn send_excess<N: Network>(
     alloc: Global,
     instance: &MinInstance<N>,
@@ -75,7 +75,7 @@ pub fn send_excess<N: Network>(
 }
 
 impl Preflow {
-    /// What these amounts leave room for, without excess or deficit.
+    /// The residual network of these amounts, with excess 0 everywhere.
     fn new<N: Network>(alloc: Global, network: &N, amounts: &[i64]) -> Result<Preflow, Memory> {
         let residual = Residual::new(alloc, network, amounts)?;
         let nodes = residual.nodes();
@@ -92,7 +92,7 @@ impl Preflow {
         })
     }
 
-    /// Adds the supplies to the surpluses.
+    /// Adds the supplies to the excesses.
     fn supply<N: Network>(&mut self, instance: &MinInstance<N>) {
         for node in 1..=self.residual.nodes() {
             let id = self.residual.id(node);
@@ -100,7 +100,7 @@ impl Preflow {
         }
     }
 
-    /// Adds to the surpluses what these amounts take and bring.
+    /// Adds inflow less outflow to the excesses.
     fn carry<N: Network>(&mut self, network: &N, amounts: &[i64]) {
         for i in 0..network.arcs() {
             let arc = network.arc(i);
@@ -112,7 +112,7 @@ impl Preflow {
         }
     }
 
-    /// Sends out of a node all that there is room for.
+    /// Saturates all residual arcs out of a node.
     fn flood(&mut self, node: u32) {
         for place in self.residual.first(node)..self.residual.end(node) {
             let half = self.residual.half(place);
@@ -122,7 +122,7 @@ impl Preflow {
         }
     }
 
-    /// Pushes excess to deficits, until all that is left is cut off from them.
+    /// Pushes excess to deficits, until the rest can't reach any.
     fn drain(&mut self) {
         self.measure();
         for _ in 0..u64::MAX {
@@ -136,7 +136,7 @@ impl Preflow {
         }
     }
 
-    /// Makes heights distances to the nodes that have a deficit, which are at height 1, level by level.
+    /// Global relabelling: heights become distances to the nodes with a deficit, which have height 1.
     fn measure(&mut self) {
         self.height.fill(CUT_OFF);
         self.levels.clear();
@@ -156,7 +156,7 @@ impl Preflow {
         }
     }
 
-    /// Goes over the nodes of one height, from this one on.
+    /// Relabels from the nodes of one height, from this one on in its list.
     fn measure_from(&mut self, first: u32, height: u32) {
         let mut node = first;
         for _ in 0..u32::MAX {
@@ -171,7 +171,7 @@ impl Preflow {
         }
     }
 
-    /// Puts the nodes that reach this one, and are not measured, one level up.
+    /// Gives the next height to nodes without a height from which a residual arc leads to this one.
     fn reach_back(&mut self, node: u32, height: u32) {
         for place in self.residual.first(node)..self.residual.end(node) {
             let half = self.residual.half(place);
@@ -181,7 +181,7 @@ impl Preflow {
         }
     }
 
-    /// Discharges a node that waited, unless it was lifted since, and has to wait for higher ones.
+    /// Discharges a node from the queue, unless it was lifted since and higher ones come first.
     fn serve(&mut self, node: u32) {
         if self.surplus(node) <= 0 {
             return;
@@ -194,8 +194,7 @@ impl Preflow {
         }
     }
 
-    /// Pushes the excess of a node down, and lifts the node as often as it has to be, until there is no excess or the
-    /// node is cut off.
+    /// Pushes the excess of a node down and lifts the node, until no excess is left or no deficit can be reached.
     fn discharge(&mut self, node: u32) {
         for _ in 0..u64::MAX {
             self.push_down(node);
@@ -205,7 +204,7 @@ impl Preflow {
         }
     }
 
-    /// Pushes excess along the halves that lead one level down, as long as there is some, and from there on.
+    /// Pushes excess along half-arcs that lead one level down, and from their ends on, as long as there is some.
     fn push_down(&mut self, node: u32) {
         let height = self.height(node);
         for place in member(&self.cursor, node, 0)..self.residual.end(node) {
@@ -221,13 +220,13 @@ impl Preflow {
         }
     }
 
-    /// Whether a half at a node of some height has room, and leads one level down.
+    /// Whether a half-arc of a node with this height has residual capacity and leads one level down.
     #[inline(always)]
     fn leads_down(&self, half: Half, height: u32) -> bool {
         half.room > 0 && self.height(half.to).wrapping_add(1) == height
     }
 
-    /// Whether a node has a deficit, or a half leads down from it: its cursor then stands there. Else it is lifted.
+    /// Whether a node has a deficit or a half-arc that leads down; its cursor then points to that. Otherwise lifts it.
     #[inline(always)]
     fn leads_on(&mut self, node: u32) -> bool {
         if self.surplus(node) < 0 {
@@ -244,7 +243,7 @@ impl Preflow {
         false
     }
 
-    /// Pushes excess along the half at a node's cursor, if it leads down. Nodes where some stays wait.
+    /// Pushes excess along the half-arc at a node's cursor, if it leads down. Nodes that keep some go into the queue.
     #[inline(always)]
     fn push_on(&mut self, node: u32) {
         if self.surplus(node) <= 0 {
@@ -260,7 +259,7 @@ impl Preflow {
         self.wait(node);
     }
 
-    /// Lets a node wait that has excess.
+    /// Puts a node into the queue, if it has excess.
     #[inline(always)]
     fn wait(&mut self, node: u32) {
         if self.surplus(node) > 0 {
@@ -269,7 +268,7 @@ impl Preflow {
         }
     }
 
-    /// Pushes as much as there is excess and room.
+    /// Pushes as much as excess and residual capacity allow.
     #[inline(always)]
     fn push(&mut self, from: u32, place: u32, half: Half) {
         let amount = least(half.room, self.surplus(from));
@@ -277,14 +276,15 @@ impl Preflow {
     }
 
     #[inline(always)]
+    /// Sends an amount along a half-arc.
     fn move_along(&mut self, from: u32, place: u32, half: Half, amount: i64) {
         self.residual.send(place, amount);
         self.add_surplus(from, i128::from(amount).wrapping_neg());
         self.add_surplus(half.to, i128::from(amount));
     }
 
-    /// Lifts a node to one above the lowest that it leads to. Where none does, or no node is left at its old height,
-    /// it is cut off: `false`.
+    /// Lifts a node to one above the lowest node that it has a residual arc to. False if there is none, or if no other
+    /// node has its old height: then no deficit can be reached.
     fn lift(&mut self, node: u32) -> bool {
         let old = self.height(node);
         if old == CUT_OFF {
@@ -305,7 +305,7 @@ impl Preflow {
         true
     }
 
-    /// The least height of a node to which there is room.
+    /// The least height of a node to which a residual arc leads.
     fn lowest_after(&mut self, node: u32) -> u32 {
         let mut lowest = CUT_OFF;
         for place in self.residual.first(node)..self.residual.end(node) {
@@ -319,7 +319,7 @@ impl Preflow {
         lowest
     }
 
-    /// Puts a node at a height.
+    /// Gives a node this height.
     fn raise_to(&mut self, node: u32, height: u32) {
         let first = self.residual.first(node);
         set_member(&mut self.height, node, height);
@@ -327,7 +327,7 @@ impl Preflow {
         self.levels.insert(node, height);
     }
 
-    /// Cuts off all nodes above a height, which is empty.
+    /// Gap: no deficit can be reached from the nodes above a height without nodes.
     fn cut_off_above(&mut self, height: u32) {
         for above in height..self.levels.highest() {
             let first = self.levels.first(above.wrapping_add(1));
@@ -336,7 +336,7 @@ impl Preflow {
         self.levels.forget_above(height);
     }
 
-    /// Cuts off the nodes of one height, from this one on.
+    /// Cuts off the nodes of one height, from this one on in its list.
     fn cut_off(&mut self, first: u32) {
         let mut node = first;
         for _ in 0..u32::MAX {
@@ -370,7 +370,7 @@ impl Preflow {
     }
 }
 
-/// The lesser of room and excess.
+/// The lesser of residual capacity and excess.
 #[inline(always)]
 fn least(room: i64, excess: i128) -> i64 {
     match i64::try_from(excess) {

@@ -1,4 +1,4 @@
-//! An instance, as a method reckons with it.
+//! An instance in the form that the methods use.
 
 use crate::node_numbers::NodeNumbers;
 use dimacs_instance::MinInstance;
@@ -6,22 +6,22 @@ use dimacs_lines::Memory;
 use dimacs_network::Network;
 use std::alloc::Global;
 
-/// A minimum cost flow instance, and how great the numbers in it are.
+/// A minimum cost flow instance, and the size of its numbers.
 #[derive(Drop)]
 pub(crate) struct Problem<'a, N: Network> {
     pub instance: &'a MinInstance<N>,
     /// The numbers of the nodes that occur.
     pub numbers: NodeNumbers,
-    /// The excess of each node, by number, where each arc carries its lower bound: its supply, with what comes in and
-    /// less what goes out. It is a deficit where it is negative.
+    /// The excess of each node, by number, if each arc carries its lower bound: its supply and inflow, less its
+    /// outflow. A negative one is a deficit.
     pub excess: Vec<i128>,
-    /// The greatest cost, without sign.
+    /// The greatest cost, without its sign.
     greatest: i128,
     /// The sum of all capacities.
     capacity: i128,
 }
 
-/// How often 1 has to be doubled to be greater than these numbers.
+/// The number of bits of these numbers.
 #[derive(Clone, Copy)]
 pub(crate) struct Bits {
     pub nodes: u32,
@@ -73,13 +73,13 @@ impl<'a, N: Network> Problem<'a, N> {
         self.instance.network()
     }
 
-    /// More than any path costs.
+    /// A bound above the cost of any path.
     pub(crate) fn longest_path(&self) -> i128 {
         let nodes = i128::try_from(self.excess.len()).unwrap_or(0);
         self.greatest.wrapping_mul(nodes).wrapping_add(1)
     }
 
-    /// The sum of all excesses and deficits.
+    /// The sum of all excesses and deficits, without their signs.
     pub(crate) fn imbalance(&self) -> i128 {
         let mut sum: i128 = 0;
         for amount in &self.excess {
@@ -88,12 +88,12 @@ impl<'a, N: Network> Problem<'a, N> {
         sum
     }
 
-    /// No node has more excess or deficit, whatever the arcs carry.
+    /// A bound on the excess or deficit of any node, whatever the arcs carry.
     pub(crate) fn greatest_excess(&self) -> i128 {
         self.imbalance().wrapping_add(self.capacity)
     }
 
-    /// How many arcs and nodes there are.
+    /// The number of arcs and nodes together.
     pub(crate) fn size(&self) -> u64 {
         let nodes = u64::try_from(self.excess.len()).unwrap_or(0);
         u64::from(self.network().arcs()).wrapping_add(nodes)

@@ -1,12 +1,12 @@
-//! Least cost flow by cost scaling with partial augmentation, as Goldberg and Tarjan, and Kovács, describe it.
+//! Minimum cost flow by cost scaling with partial augmentation, as Goldberg and Tarjan, and Kovács, describe it.
 //!
-//! Costs are scaled up, so that a flow that is least but for a tolerance of 1 is least. A phase starts from a flow that
-//! is least but for some tolerance, and makes one of it that is so for a sixteenth of that: arcs of negative reduced
-//! cost are filled, and the excess that this leaves is moved to deficits along short paths over such arcs. Where a path
-//! doesn't lead on from a node, the node's price is lowered until it does.
+//! Costs are scaled up, so that a flow that costs least within a tolerance of 1 costs least. A phase starts from a flow
+//! that costs least within some tolerance, and makes it so within a sixteenth of that: it saturates arcs with negative
+//! reduced cost, and moves the excess that this leaves to deficits along short paths of such arcs. If a path can't be
+//! extended from a node, the node's price is lowered until it can.
 //!
-//! From time to time all prices are lowered at once by how far nodes are from a deficit. Where an excess reaches none,
-//! no flow is feasible: it is left where it is.
+//! From time to time a global update lowers all prices by the nodes' distances to a deficit. If an excess reaches none,
+//! no flow is feasible, and the excess is left where it is.
 
 mod paths;
 mod prices;
@@ -23,13 +23,13 @@ use dimacs_network::Network;
 use std::alloc::Global;
 use std::collections::VecDeque;
 
-/// A path has at most so many arcs.
+/// The greatest number of arcs on a path.
 const LONGEST: usize = 4;
 
-/// Each phase has a tolerance that is halved so many times.
+/// Each phase halves the tolerance this many times.
 const HALVINGS: u32 = 4;
 
-/// So many ranks for each node.
+/// The number of ranks for each node.
 const RANKS: usize = 16;
 
 #[derive(Drop)]
@@ -37,17 +37,17 @@ pub(crate) struct Scaling<V: Number> {
     pub residual: Residual<V>,
     /// The nodes with excess.
     active: VecDeque<u32>,
-    /// The halves of a path, by their places.
+    /// The half-arcs of a path, by their places.
     path: Vec<u32>,
     ranks: Ranks,
-    /// How often 1 is doubled to the tolerance.
+    /// The tolerance is 2 to this power.
     level: u32,
-    /// How many prices may be lowered before all are.
+    /// How many prices may be lowered before the next global update.
     left: u64,
 }
 
 impl<V: Number> Scaling<V> {
-    /// Each arc carries its lower bound.
+    /// At the start each arc carries its lower bound.
     pub(crate) fn new<N: Network>(
         alloc: Global,
         problem: &Problem<'_, N>,
@@ -67,7 +67,7 @@ impl<V: Number> Scaling<V> {
         })
     }
 
-    /// Goes from phase to phase, until the flow is least, or an excess is left.
+    /// Runs phase after phase, until the flow costs least, or an excess can't be moved.
     pub(crate) fn run(&mut self, alloc: Global) -> Result<(), Memory> {
         for _ in 0..u32::MAX {
             self.level = self.level.saturating_sub(HALVINGS);
@@ -79,7 +79,7 @@ impl<V: Number> Scaling<V> {
         Ok(())
     }
 
-    /// One phase. `true` where an excess is left.
+    /// One phase. Returns whether an excess is left.
     fn refine(&mut self, alloc: Global) -> Result<bool, Memory> {
         self.saturate();
         gather_active(&self.residual.nodes, &mut self.active)?;
@@ -93,7 +93,7 @@ impl<V: Number> Scaling<V> {
         Ok(is_short)
     }
 
-    /// Fills all arcs of negative reduced cost.
+    /// Saturates all arcs with negative reduced cost.
     fn saturate(&mut self) {
         let count = u32::try_from(self.residual.nodes.len()).unwrap_or(0);
         for number in 0..count {
@@ -103,7 +103,7 @@ impl<V: Number> Scaling<V> {
         }
     }
 
-    /// Fills the arcs of negative reduced cost from one of their ends.
+    /// Saturates the arcs with negative reduced cost from a node.
     fn saturate_at(&mut self, number: u32, node: &Node<V>) {
         for place in node.start..node.end {
             let half = self.residual.half(place);
@@ -113,7 +113,7 @@ impl<V: Number> Scaling<V> {
         }
     }
 
-    /// Lowers prices at once. `true` where an excess reaches no deficit.
+    /// Updates all prices. Returns whether an excess reaches no deficit.
     fn update_or_park(&mut self, alloc: Global) -> Result<bool, Memory> {
         let nodes = u64::try_from(self.residual.nodes.len()).unwrap_or(0);
         self.left = nodes.max(1);
@@ -123,7 +123,7 @@ impl<V: Number> Scaling<V> {
         self.park(alloc)
     }
 
-    /// Moves the excess of a node on. `true` where some is left.
+    /// Moves the excess of a node on. Returns whether some is left.
     fn drain(&mut self, alloc: Global, node: u32) -> Result<bool, Memory> {
         let mut is_short = false;
         for _ in 0..u64::MAX {
@@ -140,6 +140,7 @@ impl<V: Number> Scaling<V> {
     }
 
     #[inline(always)]
+    /// Sets a node's cursor.
     fn look_from(&mut self, number: u32, place: u32) {
         if let Some(node) = self.residual.nodes.get_mut(number as usize) {
             node.cursor = place;
@@ -147,7 +148,7 @@ impl<V: Number> Scaling<V> {
     }
 }
 
-/// Makes the nodes with excess active.
+/// Puts the nodes with excess into the queue.
 fn gather_active<V: Number>(nodes: &[Node<V>], active: &mut VecDeque<u32>) -> Result<(), Memory> {
     let mut number: u32 = 0;
     for node in nodes {

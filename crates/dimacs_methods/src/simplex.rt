@@ -1,14 +1,14 @@
-//! Least cost flow by the primal network simplex.
+//! Minimum cost flow by the primal network simplex.
 //!
-//! A spanning tree of the nodes and a root holds the arcs that may carry more than their lower bound and less than their
-//! capacity; every other arc carries one of the two. Potentials make the reduced cost of each tree arc 0: its cost, and
-//! the potential of its tail less that of its head. A pivot takes an arc whose reduced cost says that it should carry
-//! the other bound, moves flow round the cycle that it closes with the tree, and puts it in the place of an arc of the
+//! A spanning tree over the nodes and a root holds all arcs that carry more than their lower bound and less than their
+//! capacity; every other arc carries one of the two. Potentials make the reduced cost of each tree arc 0: its cost,
+//! plus the potential of its tail, minus that of its head. A pivot takes an arc whose reduced cost shows that it should
+//! carry the other bound, moves flow round the cycle that it closes with the tree, and exchanges it for an arc of the
 //! cycle that came to a bound. When no such arc is left, the flow costs least.
 //!
-//! At first each node hangs on the root by an artificial arc. Those that meet a deficit have a price that is greater
-//! than the cost of any path, so that they are left as soon as there is a path; one that still carries something at the
-//! end shows that no path is left.
+//! At first each node is joined to the root by an artificial arc. Artificial arcs that fill a deficit have a price
+//! above the cost of any path, so they leave the tree as soon as there is a path. If one carries something at the end,
+//! no path is left.
 
 mod arcs;
 mod cycle;
@@ -28,14 +28,14 @@ use dimacs_lines::Memory;
 use dimacs_network::Network;
 use std::alloc::Global;
 
-/// Nodes are numbered again whenever so many have moved for each arc and node.
+/// Nodes are numbered again after this many moves of nodes for each arc and node.
 const MOVES_PER_NUMBERING: u64 = 32;
 
-/// The least number of arcs that are looked at together.
+/// The least number of arcs that are compared at once.
 const LEAST_BLOCK: u32 = 10;
 
-/// After so many pivots for each node it is asked whether the method lags behind: whether more work than this was done,
-/// and more than one of so many nodes still hangs on the root by an artificial arc.
+/// After this many pivots for each node, a test decides whether the method lags: whether it has done more than this
+/// work, and more than one in this many nodes still has an artificial arc.
 const PIVOTS_BEFORE_ASKING: u64 = 2;
 
 const EARLY_WORK: u64 = 67108864;
@@ -48,17 +48,17 @@ pub(crate) struct Simplex<V: Number> {
     arcs: Arcs<V>,
     /// The number of arcs.
     count: u32,
-    /// Where the next search begins, and how many arcs it looks at together.
+    /// The place where the next search begins, and how many arcs it compares at once.
     at: u32,
     block: u32,
-    /// How much may still be done, in arcs and nodes looked at, and how many nodes may move before they are numbered
-    /// again.
+    /// The work that may still be done, in arcs and nodes looked at, and how many nodes may move before the next
+    /// numbering.
     work: u64,
     moves: u64,
 }
 
 impl<V: Number> Simplex<V> {
-    /// Each arc carries its lower bound. A deficit is met at a price greater than the cost of any path.
+    /// At the start each arc carries its lower bound. Deficits are filled at a price above the cost of any path.
     pub(crate) fn new<N: Network>(
         alloc: Global,
         problem: &Problem<'_, N>,
@@ -78,7 +78,7 @@ impl<V: Number> Simplex<V> {
         })
     }
 
-    /// Pivots until no arc should change its state. `false` where that takes more than this much work, or seems to.
+    /// Pivots until no arc should change its state. False if that takes more than this work, or seems to.
     pub(crate) fn run(&mut self, alloc: Global, work: u64) -> Result<bool, Memory> {
         let asked = u64::from(self.tree.root()).wrapping_mul(PIVOTS_BEFORE_ASKING);
         self.work = work;
@@ -97,12 +97,13 @@ impl<V: Number> Simplex<V> {
         Ok(false)
     }
 
+    /// Whether the method is slow so far.
     fn lags(&self, work: u64) -> bool {
         let done = work.saturating_sub(self.work);
         done > EARLY_WORK && self.tree.artificial_arcs() > self.tree.nodes.len() / ONE_OF
     }
 
-    /// An arc that should change its state: the best one of the first block that has any, from after the last one on.
+    /// An arc that should change its state: the best one of the first block that has any, after the last block.
     fn entering(&mut self) -> Option<u32> {
         let mut left = self.count;
         for _ in 0..self.count {
@@ -123,7 +124,7 @@ impl<V: Number> Simplex<V> {
         None
     }
 
-    /// Lets an arc enter.
+    /// Lets an arc enter the tree.
     fn pivot(&mut self, entering: u32) {
         let price = self.arcs.price(entering);
         let state = self.arcs.state(entering);
@@ -158,7 +159,7 @@ impl<V: Number> Simplex<V> {
         }
     }
 
-    /// Takes the arc between `out` and its parent out of the tree, and hangs what was cut off up by `top`.
+    /// Removes the arc between `out` and its parent from the tree, and joins what was cut off by the hook at `top`.
     fn exchange(&mut self, out: u32, top: u32, hook: Hook<V>) {
         let price = self.arcs.price(hook.arc);
         let reduced = price.reduced(&self.tree.potentials);
@@ -174,7 +175,7 @@ impl<V: Number> Simplex<V> {
         self.moves = self.moves.saturating_sub(moved);
     }
 
-    /// Takes the arc between a node and its parent out of the tree. It is at one of its bounds.
+    /// Removes the arc between a node and its parent from the tree. It carries one of its bounds.
     fn leave(&mut self, out: u32) {
         let node = self.tree.node(out);
         let flow = if self.arcs.price(node.arc).tail == out {
@@ -186,6 +187,7 @@ impl<V: Number> Simplex<V> {
         self.arcs.set_state(node.arc, state);
     }
 
+    /// Numbers the nodes again, in the tree and at the arcs.
     fn renumber(&mut self, alloc: Global) -> Result<(), Memory> {
         let nodes = u64::from(self.tree.root());
         self.moves = MOVES_PER_NUMBERING.wrapping_mul(nodes.wrapping_add(u64::from(self.count)));
@@ -197,7 +199,7 @@ impl<V: Number> Simplex<V> {
         Ok(())
     }
 
-    /// What each arc carries.
+    /// The amounts of the arcs.
     pub(crate) fn amounts<N: Network>(
         &mut self,
         alloc: Global,
@@ -226,7 +228,7 @@ impl<V: Number> Simplex<V> {
     }
 }
 
-/// Tells the arcs of the tree what they carry.
+/// Copies the flow of the tree arcs into the table of arcs.
 fn settle<V: Number>(arcs: &mut Arcs<V>, nodes: &[Node<V>]) {
     let mut number: u32 = 0;
     for node in nodes {

@@ -1,6 +1,6 @@
-//! Tables by number, without promises.
+//! Access to tables by number. Beyond the end, reading gives a default and writing does nothing.
 
-/// The member of this index, or another value past the end.
+/// The member with this index; `past` beyond the end.
 #[inline(always)]
 pub(crate) fn member<T: Copy>(table: &[T], index: u32, past: T) -> T {
     match table.get(index as usize) {
@@ -9,7 +9,7 @@ pub(crate) fn member<T: Copy>(table: &[T], index: u32, past: T) -> T {
     }
 }
 
-/// Changes the member of this index, nothing past the end.
+/// Sets the member with this index; does nothing beyond the end.
 #[inline(always)]
 pub(crate) fn set_member<T: Copy>(table: &mut [T], index: u32, value: T) {
     if let Some(place) = table.get_mut(index as usize) {
@@ -17,7 +17,7 @@ pub(crate) fn set_member<T: Copy>(table: &mut [T], index: u32, value: T) {
     }
 }
 
-/// How many members a table has.
+/// The number of members.
 pub(crate) fn count_of<T>(table: &[T]) -> u32 {
     u32::try_from(table.len()).unwrap_or(u32::MAX)
 }

@@ -1,4 +1,4 @@
-//! The flow that is claimed to be least, and the residual arcs that it leaves.
+//! A flow that is claimed to cost least, and its residual arcs.
 
 use crate::potentials::numbering::Numbering;
 use dimacs_instance::MinInstance;
@@ -6,11 +6,12 @@ use dimacs_lines::Memory;
 use dimacs_network::{ArcView, Network, Side};
 use std::alloc::Global;
 
-/// An arc along which more can be sent: from its tail, or back from its head.
+/// A residual arc: it leads along an arc from its tail, or back from its head.
 #[derive(Clone, Copy)]
 pub struct ResidualArc {
     /// The index of the arc, from 0.
     pub arc: u32,
+    /// The end at which it begins.
     pub side: Side,
 }
 
@@ -21,11 +22,11 @@ pub(crate) struct Room {
     pub less: bool,
 }
 
-/// A flow that is claimed to be least.
+/// A flow that is claimed to cost least.
 #[derive(Drop)]
 pub(crate) struct Claim<'a, N: Network> {
     pub instance: &'a MinInstance<N>,
-    /// What the arcs carry, in their order.
+    /// The amounts, in the order of the arcs.
     amounts: &'a [i64],
     /// The numbers of the nodes that have an arc.
     pub numbering: Numbering,
@@ -51,7 +52,7 @@ impl<'a, N: Network> Claim<'a, N> {
         self.instance.network().arcs()
     }
 
-    /// The arc of an index.
+    /// The arc with this index.
     #[inline(always)]
     pub(crate) fn arc(&self, i: u32) -> Option<ArcView> {
         let network = self.instance.network();
@@ -62,7 +63,7 @@ impl<'a, N: Network> Claim<'a, N> {
         }
     }
 
-    /// The room of the arc of an index.
+    /// Whether the arc with this index can carry more, and less.
     #[inline(always)]
     pub(crate) fn room(&self, i: u32, arc: ArcView) -> Room {
         match self.amounts.get(i as usize) {
@@ -77,7 +78,7 @@ impl<'a, N: Network> Claim<'a, N> {
         }
     }
 
-    /// The sum of all costs without sign.
+    /// The sum of all costs, without their signs.
     pub(crate) fn cost_sum(&self) -> u128 {
         let mut sum: u128 = 0;
         for i in 0..self.arcs() {

@@ -1,4 +1,4 @@
-//! The residual arcs of a cycle that costs less than nothing.
+//! Cycles of residual arcs with negative cost.
 
 use crate::number::Number;
 use crate::potentials::claim::{Claim, ResidualArc};
@@ -10,7 +10,7 @@ use dimacs_lines::Memory;
 use dimacs_network::{Network, Side};
 use std::alloc::{AllocError, Global};
 
-/// The cheapest step from a group to the next one of a cycle.
+/// The cheapest step from a group to the next group of a cycle.
 struct Cheapest<V> {
     cost: V,
     next: u32,
@@ -25,7 +25,7 @@ impl<V: Copy> Clone for Cheapest<V> {
 
 impl<V: Copy> Copy for Cheapest<V> {}
 
-/// A cycle over these groups: a cheapest step from each to the next one, and tight steps within them.
+/// A cycle over these groups: the cheapest step from each to the next, joined by tight steps within groups.
 pub(crate) fn cycle_over<N: Network, V: Number>(
     alloc: Global,
     claim: &Claim<'_, N>,
@@ -47,7 +47,7 @@ pub(crate) fn cycle_over<N: Network, V: Number>(
     close(alloc, claim, places, &steps)
 }
 
-/// A cycle with a step that costs less than the way within its group from its beginning to its end. Empty where there is
+/// A cycle with one step that costs less than the difference of its ends' shifts within a group. Empty if there is
 /// none.
 pub(crate) fn cycle_within<N: Network, V: Number>(
     alloc: Global,
@@ -61,7 +61,7 @@ pub(crate) fn cycle_within<N: Network, V: Number>(
     close(alloc, claim, places, &steps)
 }
 
-/// The first step that costs less than the way within its group.
+/// The first step within a group that costs too little.
 fn first_too_cheap<N: Network, V: Number>(
     claim: &Claim<'_, N>,
     places: &Places<V>,
@@ -76,7 +76,7 @@ fn first_too_cheap<N: Network, V: Number>(
     None
 }
 
-/// The step of an arc from a side, if it costs less than the way within its group.
+/// The step along an arc from this side, if it is within a group and costs too little.
 fn too_cheap<N: Network, V: Number>(
     claim: &Claim<'_, N>,
     places: &Places<V>,
@@ -92,7 +92,7 @@ fn too_cheap<N: Network, V: Number>(
     }
 }
 
-/// Tells each group of a cycle which one is next.
+/// Sets for each group of a cycle which group is next.
 fn set_next<V: Number>(cheapest: &mut [Cheapest<V>], groups: &[u32], none: Cheapest<V>) {
     let Some(&last) = groups.last() else {
         return;
@@ -108,7 +108,7 @@ fn set_next<V: Number>(cheapest: &mut [Cheapest<V>], groups: &[u32], none: Cheap
     }
 }
 
-/// Keeps the step of an arc from a side, if it leads from a group to the next one and is the cheapest so far.
+/// Keeps the step along an arc from this side, if it leads from a group to the next and is the cheapest so far.
 fn compare<N: Network, V: Number>(
     claim: &Claim<'_, N>,
     places: &Places<V>,
@@ -129,7 +129,7 @@ fn compare<N: Network, V: Number>(
     }
 }
 
-/// The step from each group to the next one.
+/// The steps from each group to the next.
 fn steps_of<V: Number>(
     alloc: Global,
     groups: &[u32],
@@ -145,7 +145,7 @@ fn steps_of<V: Number>(
     Ok(steps)
 }
 
-/// Joins these steps to a cycle by tight ones within groups.
+/// Joins these steps into a cycle by tight steps within groups.
 fn close<N: Network, V: Number>(
     alloc: Global,
     claim: &Claim<'_, N>,

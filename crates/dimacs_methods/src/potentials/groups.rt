@@ -1,4 +1,4 @@
-//! Groups of nodes that are known distances apart.
+//! Groups of nodes with known differences of distances: a union-find structure with shifts.
 
 use crate::number::Number;
 use crate::potentials::claim::Claim;
@@ -7,24 +7,24 @@ use dimacs_lines::Memory;
 use dimacs_network::Network;
 use std::alloc::Global;
 
-/// Where a node stands in a group.
+/// The place of a node in its group.
 #[derive(Clone, Copy)]
 pub(crate) struct Place<V> {
-    /// How much farther the node is than the group.
+    /// The node's distance less the group's.
     pub shift: V,
     pub group: u32,
 }
 
-/// The place of each node in its group. Groups have numbers from 0.
+/// The places of all nodes. Groups are numbered from 0.
 #[derive(Drop)]
 pub(crate) struct Places<V> {
     places: Vec<Place<V>>,
-    /// How many groups there are.
+    /// The number of groups.
     pub groups: u32,
 }
 
-/// Sets that are being joined, as trees: each node tells the one above it, and how much farther it is than that; a root
-/// tells itself.
+/// Groups while they are being joined, as trees: each node has its parent and the shift from it; a root is its own
+/// parent.
 #[derive(Drop)]
 pub(crate) struct Groups<V> {
     above: Vec<Place<V>>,
@@ -32,11 +32,12 @@ pub(crate) struct Groups<V> {
 
 impl<V: Number> Places<V> {
     #[inline(always)]
+    /// The place of a node.
     pub(crate) fn of(&self, node: u32) -> Place<V> {
         place_of(&self.places, node)
     }
 
-    /// The same places where the groups were joined to groups of groups.
+    /// Replaces groups by the groups of groups that they were joined to.
     pub(crate) fn join(&mut self, joints: &Places<V>) {
         for place in self.places.iter_mut() {
             let joint = joints.of(place.group);
@@ -50,7 +51,7 @@ impl<V: Number> Places<V> {
 }
 
 impl<V: Number> Groups<V> {
-    /// Each node is a group of its own.
+    /// A group for each node.
     pub(crate) fn apart(alloc: Global, nodes: u32) -> Result<Groups<V>, Memory> {
         let mut above = Vec::with_capacity(alloc, nodes as usize)?;
         for node in 0..nodes {
@@ -59,7 +60,8 @@ impl<V: Number> Groups<V> {
         Ok(Groups { above })
     }
 
-    /// The root of a node's group. On the way every second node is put below the one above the one above it.
+    /// The root of a node's group, and the node's shift from it. On the way every second node is attached to its
+    /// grandparent.
     #[inline(always)]
     pub(crate) fn find(&mut self, node: u32) -> Place<V> {
         let mut at = node;
@@ -87,13 +89,13 @@ impl<V: Number> Groups<V> {
         }
     }
 
-    /// Whether nothing was put above a node.
+    /// Whether the node is a root.
     #[inline(always)]
     pub(crate) fn is_root(&self, node: u32) -> bool {
         place_of(&self.above, node).group == node
     }
 
-    /// Puts one node so much farther than another. False where it is known to be at another distance.
+    /// Fixes the distance of `to` at that of `from` plus `cost`. False if another difference is known.
     pub(crate) fn tie(&mut self, from: u32, to: u32, cost: V) -> bool {
         let here = self.find(from);
         let there = self.find(to);
@@ -109,8 +111,8 @@ impl<V: Number> Groups<V> {
         true
     }
 
-    /// Ties the ends of all arcs that can carry both more and less. Stops with false at one that contradicts those
-    /// before it.
+    /// Ties the ends of all arcs that can carry both more and less. Stops with false at an arc that contradicts earlier
+    /// ones.
     pub(crate) fn tie_all<N: Network>(&mut self, claim: &Claim<'_, N>) -> bool {
         for i in 0..claim.arcs() {
             let Some(arc) = claim.arc(i) else {
@@ -144,7 +146,7 @@ impl<V: Number> Groups<V> {
         Ok(Places { places, groups })
     }
 
-    /// Numbers the groups at their roots. Gives how many there are.
+    /// Numbers the groups at their roots. Returns how many there are.
     fn number_roots(&self, places: &mut [Place<V>]) -> u32 {
         let mut groups: u32 = 0;
         for node in 0..count_of(&self.above) {
@@ -157,13 +159,13 @@ impl<V: Number> Groups<V> {
     }
 }
 
-/// The place of a node; a group of its own past the end.
+/// The place of a node; beyond the end, a group of its own.
 #[inline(always)]
 fn place_of<V: Number>(places: &[Place<V>], node: u32) -> Place<V> {
     member(places, node, place_at(node))
 }
 
-/// A place in this group that is no farther than the group: that of its root.
+/// The place of a group's root: shift 0.
 #[inline(always)]
 fn place_at<V: Number>(group: u32) -> Place<V> {
     Place {

@@ -1,4 +1,4 @@
-//! Joining groups that have one way in, or one way out.
+//! Joining groups with only one link in, or only one link out.
 
 use crate::number::Number;
 use crate::potentials::groups::{Groups, Places};
@@ -7,8 +7,8 @@ use crate::tables::{member, set_member};
 use dimacs_lines::Memory;
 use std::alloc::Global;
 
-/// How many links lead into a group, or out of it, and the exclusive or of their numbers: where there is one, it is its
-/// number.
+/// The number of links into a group, or out of it, and the exclusive or of their indices: with one link, that is its
+/// index.
 #[derive(Clone, Copy)]
 struct Degree {
     count: u32,
@@ -17,20 +17,20 @@ struct Degree {
 
 const NO_DEGREE: Degree = Degree { count: 0, mix: 0 };
 
-/// Groups that are being joined along links.
+/// Groups while they are joined along links.
 #[derive(Drop)]
 struct Joining<'a, V> {
     links: &'a [Link<V>],
     groups: Groups<V>,
     into: Vec<Degree>,
     out: Vec<Degree>,
-    /// Groups that may have one link into them or out of them.
+    /// Groups that may have only one link in, or out.
     todo: Vec<u32>,
     joined: u32,
 }
 
-/// Joins groups with one link into them, or out of them, to the group at its other end: distances exist where they exist
-/// with this link tight. None where few can be joined.
+/// Joins each group with only one link in, or out, to the other end of this link: if slack potentials exist, there are
+/// also some that make the link tight. None if only few groups can be joined.
 pub(crate) fn joints<V: Number>(
     alloc: Global,
     links: &[Link<V>],
@@ -93,7 +93,7 @@ impl<'a, V: Number> Joining<'a, V> {
         }
     }
 
-    /// Remembers a group that has one link into it or out of it.
+    /// Puts a group on the list, if it has only one link in, or out.
     fn ask(&mut self, group: u32) -> Result<(), Memory> {
         if self.only_link(group).is_some() {
             self.todo.push(group)?;
@@ -113,7 +113,7 @@ impl<'a, V: Number> Joining<'a, V> {
         Ok(())
     }
 
-    /// The number of the only link into a group, or else of the only one out of it.
+    /// The index of the only link into a group, or otherwise of the only one out of it.
     fn only_link(&self, group: u32) -> Option<u32> {
         let into = degree_of(&self.into, group);
         let out = degree_of(&self.out, group);
@@ -152,7 +152,7 @@ impl<'a, V: Number> Joining<'a, V> {
         self.ask(root)
     }
 
-    /// Of a group with one link into it and one out of it, the one that isn't this; else this.
+    /// The other link of a group with exactly one link in and one out; otherwise this one.
     fn other_link(&self, group: u32, number: u32) -> u32 {
         let into = degree_of(&self.into, group);
         let out = degree_of(&self.out, group);
@@ -171,7 +171,7 @@ impl<'a, V: Number> Joining<'a, V> {
         }
     }
 
-    /// Counts a link of a group to itself no longer.
+    /// Stops counting a link from a group to itself.
     fn leave_out(&mut self, group: u32, number: u32) {
         let into = degree_of(&self.into, group).without(number);
         set_member(&mut self.into, group, into);
@@ -180,7 +180,7 @@ impl<'a, V: Number> Joining<'a, V> {
     }
 }
 
-/// Adds up the degrees of two groups that are joined.
+/// Adds the degrees of two groups that are joined.
 fn merge(degrees: &mut [Degree], one: u32, other: u32, root: u32) {
     let a = degree_of(degrees, one);
     let b = degree_of(degrees, other);

@@ -1,4 +1,4 @@
-//! Residual arcs between groups.
+//! Links: residual arcs between groups.
 
 use crate::number::Number;
 use crate::potentials::claim::Claim;
@@ -9,7 +9,7 @@ use dimacs_lines::Memory;
 use dimacs_network::Network;
 use std::alloc::{AllocError, Global};
 
-/// A residual arc from one group to another, which is at most so much farther.
+/// A residual arc from one group to another: the distance of `to` is at most that of `from` plus `cost`.
 pub(crate) struct Link<V> {
     pub cost: V,
     pub from: u32,
@@ -39,7 +39,7 @@ pub(crate) enum Linked<V> {
 }
 
 impl<V: Number> Link<V> {
-    /// The link of an arc that can carry more or can carry less, and not both.
+    /// The link of an arc that can carry either more or less, but not both.
     #[inline(always)]
     pub(crate) fn of<N: Network>(
         claim: &Claim<'_, N>,
@@ -61,7 +61,7 @@ impl<V: Number> Link<V> {
         }
     }
 
-    /// The link of a residual arc.
+    /// The link between these places.
     #[inline(always)]
     pub(crate) fn between(near: Place<V>, cost: V, far: Place<V>) -> Link<V> {
         Link {
@@ -71,18 +71,19 @@ impl<V: Number> Link<V> {
         }
     }
 
-    /// The same link where groups were joined.
+    /// The same link after groups were joined.
     #[inline(always)]
     pub(crate) fn joined(self, joints: &Places<V>) -> Link<V> {
         Link::between(joints.of(self.from), self.cost, joints.of(self.to))
     }
 
     #[inline(always)]
+    /// Whether it leads from a group to itself.
     pub(crate) fn is_within(&self) -> bool {
         self.from == self.to
     }
 
-    /// Lowers the distance of the group that it leads to. Whether that was needed.
+    /// Relaxes the link. Returns whether that lowered the distance of `to`.
     #[inline(always)]
     fn lower(&self, distances: &mut [V]) -> bool {
         let distance = member(distances, self.from, V::of(0)).plus(self.cost);
@@ -129,7 +130,7 @@ pub(crate) fn joined_links<V: Number>(links: Vec<Link<V>>, joints: &Places<V>) -
     Linked::Links(links)
 }
 
-/// Looks at all links once, in their order. Gives how many lowered a distance.
+/// Relaxes all links once, in order. Returns how many lowered a distance.
 pub(crate) fn round_forth<V: Number>(links: &[Link<V>], distances: &mut [V]) -> usize {
     let mut lowered: usize = 0;
     for link in links {
@@ -140,7 +141,7 @@ pub(crate) fn round_forth<V: Number>(links: &[Link<V>], distances: &mut [V]) -> 
     lowered
 }
 
-/// The same from the last link to the first.
+/// The same, from the last link to the first.
 pub(crate) fn round_back<V: Number>(links: &[Link<V>], distances: &mut [V]) -> usize {
     let mut lowered: usize = 0;
     for link in links.iter().rev() {

@@ -1,4 +1,4 @@
-//! Numbers of nodes in tables.
+//! Numbers of nodes for tables.
 
 use crate::node_numbers::NodeNumbers;
 use dimacs_lines::Memory;
@@ -8,9 +8,9 @@ use std::alloc::Global;
 /// A number for each node that has an arc.
 #[derive(Drop)]
 pub(crate) enum Numbering {
-    /// The node's ID, up to this: tables that have a place for each ID are no larger than one of the arcs.
+    /// The ID itself, up to this one: a table with a place for each ID isn't much larger than one of the arcs.
     ById(u32),
-    /// Numbers of their own, where most nodes have no arc.
+    /// Consecutive numbers, if most nodes have no arc.
     ByOccurrence(NodeNumbers),
 }
 
@@ -24,7 +24,7 @@ impl Numbering {
         Ok(Numbering::ByOccurrence(numbers))
     }
 
-    /// All numbers are less.
+    /// A bound above all numbers.
     pub(crate) fn count(&self) -> u32 {
         match self {
             Numbering::ById(nodes) => nodes.wrapping_add(1),
@@ -43,7 +43,7 @@ impl Numbering {
         }
     }
 
-    /// The node of a number, 0 where there is none.
+    /// The ID of a number; 0 if there is none.
     pub(crate) fn id(&self, number: u32) -> u32 {
         match self {
             Numbering::ById(_) => number,

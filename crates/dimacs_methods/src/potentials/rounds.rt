@@ -3,12 +3,12 @@
 use crate::number::Number;
 use crate::potentials::links::{Link, round_back, round_forth};
 
-/// So many rounds are made at most.
+/// The greatest number of rounds.
 const ROUNDS: u32 = 24;
 
-/// Lowers distances in rounds over the links, forth and back by turns, as long as a round lowers at most half of what the
-/// one two before it did, or hardly any. Whether all links are settled then. Where they aren't, the distances are no good
-/// start for a search: it would find a long cycle late.
+/// Relaxes all links in rounds, forth and back by turns, as long as each round lowers at most half as many distances as
+/// the round two before, or hardly any. Returns whether no link lowers a distance any more. If it returns false, the
+/// distances are a bad start for the search: it would find a long cycle late.
 pub(crate) fn settled_by_rounds<V: Number>(links: &[Link<V>], distances: &mut [V]) -> bool {
     let few = links.len() / 64;
     let mut last = usize::MAX;

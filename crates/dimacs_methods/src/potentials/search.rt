@@ -1,4 +1,4 @@
-//! Label correcting, with the tree of what was lowered.
+//! Label correcting, with the tree of the links that lowered last.
 
 use crate::number::Number;
 use crate::potentials::links::Link;
@@ -7,17 +7,17 @@ use crate::potentials::tree::Tree;
 use dimacs_lines::Memory;
 use std::alloc::Global;
 
-/// What a search ends with.
+/// The end of a search.
 #[derive(Drop)]
 pub(crate) enum End {
     Settled,
-    /// The groups of a cycle that costs less than nothing, each after the one from which a link leads to it.
+    /// The groups of a cycle with negative cost. A link leads from each to the next, and from the last to the first.
     Cycle(Vec<u32>),
-    /// It cost more than it may.
+    /// The search would exceed its budget.
     TooLong,
 }
 
-/// Lowers distances along links until all are settled, or a group would be lowered from one that hangs on it.
+/// Relaxes links until none lowers a distance, or one closes a cycle.
 pub(crate) fn lower_all<V: Number>(
     alloc: Global,
     links: &Listing<Link<V>>,
@@ -40,7 +40,7 @@ pub(crate) fn lower_all<V: Number>(
     Ok(End::TooLong)
 }
 
-/// Lets each group wait out of which a link lowers.
+/// Puts each group with a link that lowers a distance into the queue.
 fn begin<V: Number>(links: &Listing<Link<V>>, tree: &mut Tree<V>) {
     for group in 0..tree.groups() {
         if lowers(links, tree, group) {
@@ -49,7 +49,7 @@ fn begin<V: Number>(links: &Listing<Link<V>>, tree: &mut Tree<V>) {
     }
 }
 
-/// Whether a link out of a group lowers the group that it leads to.
+/// Whether a link out of a group lowers a distance.
 fn lowers<V: Number>(links: &Listing<Link<V>>, tree: &Tree<V>, group: u32) -> bool {
     let distance = tree.distance(group);
     for link in links.of(group) {
@@ -60,7 +60,7 @@ fn lowers<V: Number>(links: &Listing<Link<V>>, tree: &Tree<V>, group: u32) -> bo
     false
 }
 
-/// The groups from one down the tree to another.
+/// The groups on the path down the tree from one group to another.
 fn way<V: Number>(
     alloc: Global,
     tree: &Tree<V>,

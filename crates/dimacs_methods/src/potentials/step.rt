@@ -1,4 +1,4 @@
-//! Residual arcs with their ends and costs.
+//! Steps: residual arcs with their ends and costs.
 
 use crate::number::Number;
 use crate::potentials::claim::{Claim, ResidualArc};
@@ -8,7 +8,7 @@ use crate::potentials::listing::Listed;
 use dimacs_network::{Network, Side};
 use std::alloc::AllocError;
 
-/// A residual arc, between nodes by their numbers.
+/// A residual arc between nodes, by their numbers.
 pub(crate) struct Step<V> {
     pub cost: V,
     pub from: u32,
@@ -24,7 +24,7 @@ impl<V: Copy> Clone for Step<V> {
 
 impl<V: Copy> Copy for Step<V> {}
 
-/// Steps are listed by the node that they lead to.
+/// Steps are grouped by the node that they lead to.
 impl<V: Number> Listed for Step<V> {
     #[inline(always)]
     fn key(&self) -> u32 {
@@ -33,7 +33,7 @@ impl<V: Number> Listed for Step<V> {
 }
 
 impl<V: Number> Step<V> {
-    /// The step along an arc from a side, if there is room.
+    /// The step along an arc from this side, if the arc can carry more, or less, that way.
     pub(crate) fn of<N: Network>(claim: &Claim<'_, N>, i: u32, side: Side) -> Option<Step<V>> {
         let arc = claim.arc(i)?;
         let room = claim.room(i, arc);
@@ -52,12 +52,12 @@ impl<V: Number> Step<V> {
         })
     }
 
-    /// It as a link between groups.
+    /// The same as a link between groups.
     pub(crate) fn link(&self, places: &Places<V>) -> Link<V> {
         Link::between(places.of(self.from), self.cost, places.of(self.to))
     }
 
-    /// How much more it costs than the way from its beginning to its end, where these are in one group.
+    /// Its cost less the difference of its ends' shifts, if both are in one group.
     pub(crate) fn excess(&self, places: &Places<V>) -> Option<V> {
         let link = self.link(places);
         if link.is_within() {

@@ -1,4 +1,4 @@
-//! Ways within groups.
+//! Paths of tight steps within groups.
 
 use crate::number::Number;
 use crate::potentials::claim::{Claim, ResidualArc};
@@ -10,12 +10,11 @@ use dimacs_lines::Memory;
 use dimacs_network::{Network, Side};
 use std::alloc::Global;
 
-/// The steps within groups that cost no more than the way from their beginning to their end, and the ways over them that
-/// were found.
+/// The tight steps, whose cost is the difference of their ends' shifts within a group, and the paths found over them.
 #[derive(Drop)]
 pub(crate) struct Tight<V> {
     steps: Listing<Step<V>>,
-    /// The step by which a way leads on from a node that was found.
+    /// For each node that was found, the step by which its path goes on.
     onward: Vec<Option<Step<V>>>,
     queue: Vec<u32>,
 }
@@ -37,7 +36,7 @@ impl<V: Number> Tight<V> {
         })
     }
 
-    /// Adds these steps to a path that has come to this node, with a way before each of them.
+    /// Appends these steps to a path that has come to `start`, with a path of tight steps before each of them.
     pub(crate) fn connect_all(
         &mut self,
         start: u32,
@@ -53,7 +52,7 @@ impl<V: Number> Tight<V> {
         Ok(())
     }
 
-    /// Adds a way with fewest steps from one node to another to the end of a path. A group is connected once.
+    /// Appends a path with the fewest steps from one node to another. Each group may be connected only once.
     fn connect(&mut self, from: u32, to: u32, path: &mut Vec<ResidualArc>) -> Result<(), Memory> {
         self.search(from, to)?;
         let mut at = from;
@@ -70,7 +69,7 @@ impl<V: Number> Tight<V> {
         Ok(())
     }
 
-    /// Searches back from one node, until it comes to another.
+    /// Searches backwards from `to` until it finds `from`.
     fn search(&mut self, from: u32, to: u32) -> Result<(), Memory> {
         self.queue.clear();
         self.queue.push(to)?;
@@ -86,7 +85,7 @@ impl<V: Number> Tight<V> {
         Ok(())
     }
 
-    /// Finds the nodes from which a step leads to this one.
+    /// Finds the nodes with a step to this one.
     fn find_before(&mut self, node: u32, to: u32) -> Result<(), Memory> {
         for step in self.steps.of(node) {
             let found = member(&self.onward, step.from, Some(*step)).is_some();
@@ -113,7 +112,7 @@ fn tight_steps<N: Network, V: Number>(
     Ok(steps)
 }
 
-/// Adds the step of an arc from a side, if it is tight.
+/// Adds the step along an arc from this side, if it is tight.
 fn add_tight<N: Network, V: Number>(
     claim: &Claim<'_, N>,
     places: &Places<V>,

@@ -8,21 +8,20 @@ use crate::tables::{count_of, member, set_member};
 use dimacs_lines::Memory;
 use std::alloc::Global;
 
-/// Where a group hangs. All that are in the tree stand in a ring, each before those that hang on it, and these before
-/// any others.
+/// A group in the tree. The groups of the tree form a ring in preorder: each comes right before its subtree.
 #[derive(Clone, Copy)]
 struct Node {
     parent: u32,
     before: u32,
     after: u32,
-    /// How many groups hang on it directly, or `OUT`.
+    /// The number of children, or `OUT`.
     children: u32,
 }
 
-/// In the place of a number of children, of a group that isn't in the tree.
+/// Stands for the number of children if a group isn't in the tree.
 const OUT: u32 = u32::MAX;
 
-/// A part of the ring: a group and all that hangs on it.
+/// A part of the ring: a group and its subtree.
 #[derive(Clone, Copy)]
 struct Part {
     last: u32,
@@ -30,20 +29,20 @@ struct Part {
     after: u32,
 }
 
-/// What becomes of the groups that hang on one that is lowered.
+/// What happens to the subtree of a group that is lowered.
 #[derive(Drop)]
 enum Subtree<V> {
-    /// They change with it by so much.
+    /// It is lowered by the same amount.
     Moves(V),
-    /// They leave the tree, until they are reached again.
+    /// It leaves the tree until it is reached again.
     Leaves,
 }
 
-/// While walking over subtrees cost at most so many times the links that were looked at, they are lowered with their
-/// roots. Without this limit deep trees are walked over again and again.
+/// Subtrees are lowered with their roots while the groups walked over are at most this many times the links looked at.
+/// Without this limit, deep trees are walked over again and again.
 const WALKS: u64 = 2;
 
-/// Distances of groups, and the link by which each was lowered last.
+/// The distances of groups, and the link by which each was lowered last.
 #[derive(Drop)]
 pub(crate) struct Tree<V> {
     pub distances: Vec<V>,
@@ -51,11 +50,11 @@ pub(crate) struct Tree<V> {
     pub waiting: Waiting,
     /// How many links were looked at.
     looked: u64,
-    /// Over how many groups walks went.
+    /// How many groups were walked over.
     walked: u64,
 }
 
-/// So many groups in a ring in the order of their numbers, and after them a root, on which all hang.
+/// A ring of this many groups in the order of their numbers, then a root, which is the parent of all.
 fn ring(alloc: Global, groups: u32) -> Result<Vec<Node>, Memory> {
     let mut nodes = Vec::with_capacity(alloc, groups as usize + 1)?;
     let mut before = groups;
@@ -78,7 +77,7 @@ fn ring(alloc: Global, groups: u32) -> Result<Vec<Node>, Memory> {
 }
 
 impl<V: Number> Tree<V> {
-    /// All groups hang on one root, whose number is theirs.
+    /// All groups are children of one root, whose number is the number of groups.
     pub(crate) fn new(alloc: Global, groups: u32) -> Result<Tree<V>, Memory> {
         let nodes = ring(alloc, groups)?;
         let distances = vec![in alloc; V::of(0); groups as usize]?;
@@ -92,12 +91,12 @@ impl<V: Number> Tree<V> {
         })
     }
 
-    /// How many groups there are.
+    /// The number of groups.
     pub(crate) fn groups(&self) -> u32 {
         count_of(&self.distances)
     }
 
-    /// What the search has cost: links that were looked at, and groups that were walked over.
+    /// The work so far: links looked at, and groups walked over.
     #[inline(always)]
     pub(crate) fn work(&self) -> u64 {
         self.looked.wrapping_add(self.walked)
@@ -108,13 +107,13 @@ impl<V: Number> Tree<V> {
         member(&self.distances, group, V::of(0))
     }
 
-    /// The group on which one hangs.
+    /// The parent of a group.
     #[inline(always)]
     pub(crate) fn parent(&self, group: u32) -> u32 {
         self.node(group).parent
     }
 
-    /// Looks at the links out of a group. Gives the group to which one leads that closes a cycle.
+    /// Relaxes the links out of a group. Returns the group to which a link leads that closes a cycle.
     #[inline(always)]
     pub(crate) fn look(&mut self, links: &Listing<Link<V>>, from: u32) -> Option<u32> {
         if self.node(from).children == OUT {
@@ -136,7 +135,7 @@ impl<V: Number> Tree<V> {
         None
     }
 
-    /// Lowers a group by a change below 0, and hangs it on another. False where that one hangs on it.
+    /// Lowers a group by a negative change, and makes it a child of `parent`. False if `parent` is in its subtree.
     #[inline(never)]
     fn lower(&mut self, group: u32, parent: u32, change: V) -> bool {
         let node = self.node(group);
@@ -162,7 +161,7 @@ impl<V: Number> Tree<V> {
         true
     }
 
-    /// Walks over a group and what hangs on it. None where `other` hangs on it.
+    /// Walks over the subtree of a group. None if `other` is in it.
     #[inline(always)]
     fn walk(&mut self, group: u32, other: u32, subtree: &Subtree<V>) -> Option<Part> {
         let mut last = group;
@@ -188,7 +187,7 @@ impl<V: Number> Tree<V> {
         Some(Part { last, after: at })
     }
 
-    /// Changes the distance of a group, which waits then.
+    /// Changes the distance of a group, and puts it into the queue.
     #[inline(always)]
     fn change(&mut self, group: u32, change: V) {
         let distance = self.distance(group).plus(change);
@@ -196,14 +195,14 @@ impl<V: Number> Tree<V> {
         self.waiting.push(group);
     }
 
-    /// Changes the distance of a group that comes into the tree, with nothing that hangs on it.
+    /// Changes the distance of a group that enters the tree without children.
     #[inline(always)]
     fn reach(&mut self, group: u32, change: V) {
         self.change(group, change);
         self.set_children(group, 0);
     }
 
-    /// Takes the part out of the ring that begins with this node's group.
+    /// Removes the part of the ring that begins with this node's group.
     #[inline(always)]
     fn cut(&mut self, node: Node, part: Part) {
         self.neighbour(node.before, part.after);
@@ -211,7 +210,7 @@ impl<V: Number> Tree<V> {
         self.set_children(node.parent, children.wrapping_sub(1));
     }
 
-    /// Puts a part of the ring, up to its last group, after another group, on which its first then hangs.
+    /// Inserts a part of the ring, from `first` to `last`, after `parent`, and makes `first` a child of it.
     #[inline(always)]
     fn hang(&mut self, first: u32, last: u32, parent: u32) {
         let after = self.node(parent).after;
@@ -224,7 +223,7 @@ impl<V: Number> Tree<V> {
         }
     }
 
-    /// Puts one group right after another.
+    /// Makes one group follow another in the ring.
     #[inline(always)]
     fn neighbour(&mut self, before: u32, after: u32) {
         if let Some(node) = self.nodes.get_mut(before as usize) {
@@ -254,7 +253,7 @@ impl<V: Number> Tree<V> {
     }
 }
 
-/// The place of the first link that lowers, from a place on; else the end.
+/// The place of the first link from here on that lowers a distance; otherwise the end.
 #[inline(never)]
 fn next_lowering<V: Number>(links: &[Link<V>], distances: &[V], start: V, from: usize) -> usize {
     let mut at = from;

@@ -1,10 +1,10 @@
-//! Groups that wait to have their links looked at.
+//! The queue of groups whose links have to be relaxed.
 
 use crate::tables::{count_of, member, set_member};
 use dimacs_lines::Memory;
 use std::alloc::Global;
 
-/// Groups that wait, each at most once. They are taken in the order of their numbers, 64 by 64, round and round.
+/// Groups, each at most once. They are taken by number, 64 at a time, round and round.
 #[derive(Drop)]
 pub(crate) struct Waiting {
     /// A bit for each group, 64 in a word.
@@ -14,13 +14,13 @@ pub(crate) struct Waiting {
 }
 
 impl Waiting {
-    /// None of so many groups waits.
+    /// The empty queue.
     pub(crate) fn new(alloc: Global, groups: u32) -> Result<Waiting, Memory> {
         let words = vec![in alloc; 0u64; groups as usize / 64 + 1]?;
         Ok(Waiting { words, at: 0 })
     }
 
-    /// Lets a group wait.
+    /// Adds a group.
     #[inline(always)]
     pub(crate) fn push(&mut self, group: u32) {
         if let Some(word) = self.words.get_mut(group as usize / 64) {
@@ -28,7 +28,7 @@ impl Waiting {
         }
     }
 
-    /// The next group that waits. It waits no longer.
+    /// Takes the next group.
     #[inline(always)]
     pub(crate) fn pop(&mut self) -> Option<u32> {
         self.advance();
@@ -40,7 +40,7 @@ impl Waiting {
         Some(self.at.wrapping_mul(64).wrapping_add(word.trailing_zeros()))
     }
 
-    /// Goes on to a word of which a group waits, once round at most.
+    /// Goes on to a word with a group in it, at most once round.
     #[inline(always)]
     fn advance(&mut self) {
         let count = count_of(&self.words);

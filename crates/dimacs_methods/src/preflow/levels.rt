@@ -4,7 +4,7 @@ use crate::tables::{member, set_member};
 use dimacs_lines::Memory;
 use std::alloc::Global;
 
-/// The nodes of each height, in lists from which any of them can be taken out; 0 stands for no node.
+/// A linked list of the nodes of each height; 0 stands for no node.
 #[derive(Drop)]
 pub(crate) struct Levels {
     first: Vec<u32>,
@@ -14,7 +14,7 @@ pub(crate) struct Levels {
 }
 
 impl Levels {
-    /// Takes 12 bytes for each node.
+    /// Without nodes. Takes 12 bytes for each node.
     pub(crate) fn new(alloc: Global, nodes: u32) -> Result<Levels, Memory> {
         let size = nodes as usize + 1;
         Ok(Levels {
@@ -25,13 +25,13 @@ impl Levels {
         })
     }
 
-    /// Takes all nodes out.
+    /// Removes all nodes.
     pub(crate) fn clear(&mut self) {
         self.first.fill(0);
         self.highest = 0;
     }
 
-    /// The greatest height at which a node was put in.
+    /// The greatest height at which a node was inserted.
     pub(crate) fn highest(&self) -> u32 {
         self.highest
     }
@@ -70,7 +70,7 @@ impl Levels {
         }
     }
 
-    /// Takes out all nodes above a height.
+    /// Removes all nodes above a height.
     pub(crate) fn forget_above(&mut self, height: u32) {
         for above in height..self.highest {
             set_member(&mut self.first, above.wrapping_add(1), 0);

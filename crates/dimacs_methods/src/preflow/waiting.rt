@@ -1,10 +1,10 @@
-//! Nodes that wait, the highest first.
+//! The queue of nodes with excess, the highest first.
 
 use crate::tables::{count_of, member, set_member};
 use dimacs_lines::Memory;
 use std::alloc::Global;
 
-/// The nodes that wait at each height; 0 stands for none.
+/// A linked list of the queued nodes of each height; 0 stands for no node.
 #[derive(Drop)]
 pub(crate) struct Waiting {
     first: Vec<u32>,
@@ -14,7 +14,7 @@ pub(crate) struct Waiting {
 }
 
 impl Waiting {
-    /// Takes 9 bytes for each node.
+    /// The empty queue. Takes 9 bytes for each node.
     pub(crate) fn new(alloc: Global, nodes: u32) -> Result<Waiting, Memory> {
         let size = nodes as usize + 1;
         Ok(Waiting {
@@ -31,12 +31,12 @@ impl Waiting {
         self.highest = 0;
     }
 
-    /// The greatest height at which a node waits, after one was taken out.
+    /// The greatest height of a queued node, after one was taken.
     pub(crate) fn highest(&self) -> u32 {
         self.highest
     }
 
-    /// Lets a node wait at a height that the table has; one that waits keeps its place.
+    /// Queues a node at a height in the table's range. A node that is queued keeps its place.
     pub(crate) fn push(&mut self, node: u32, height: u32) {
         if member(&self.waits, node, true) || height >= count_of(&self.first) {
             return;
@@ -47,7 +47,7 @@ impl Waiting {
         self.highest = self.highest.max(height);
     }
 
-    /// Takes out a node of the greatest height.
+    /// Takes a node of the greatest height.
     pub(crate) fn pop(&mut self) -> Option<u32> {
         self.descend();
         let node = member(&self.first, self.highest, 0);
@@ -59,7 +59,7 @@ impl Waiting {
         Some(node)
     }
 
-    /// Goes down to the greatest height at which a node waits.
+    /// Goes down to the greatest height of a queued node.
     fn descend(&mut self) {
         for _ in 0..self.highest {
             if member(&self.first, self.highest, 0) > 0 {

@@ -1,22 +1,22 @@
-//! Short paths over arcs of negative reduced cost.
+//! Short paths of arcs with negative reduced cost.
 
 use crate::number::Number;
 use crate::scaling::residual::Node;
 use crate::scaling::{LONGEST, Scaling};
 use dimacs_lines::Memory;
 
-/// What the halves at a node have from its cursor on.
+/// The half-arcs of a node, from its cursor on.
 #[derive(Drop)]
 enum Scan<V> {
-    /// The first of negative reduced cost stands at this place.
+    /// The place of the first with negative reduced cost.
     Negative(u32),
-    /// None is of negative reduced cost, and this is the least.
+    /// None has a negative reduced cost; this is the least.
     Least(V),
 }
 
 impl<V: Number> Scaling<V> {
-    /// Finds a path from a node with excess, to a deficit or as far as paths go. Where no half leads on from a node, the
-    /// node's price is lowered.
+    /// Finds a path from a node with excess to a deficit, or as long as paths may be. If no half-arc leads on from a
+    /// node, the node's price is lowered.
     pub(crate) fn find_path(&mut self, start: u32) -> Result<(), Memory> {
         self.path.clear();
         let mut tip = start;
@@ -64,8 +64,9 @@ impl<V: Number> Scaling<V> {
         Scan::Least(least)
     }
 
-    /// Lowers a node's price, so that some arc gets a negative reduced cost: the best one before the cursor, that by which
-    /// the path came, or one of this reduced cost. Where there is none, an update finds that.
+    /// Lowers a node's price, so that an arc gets a negative reduced cost: the best one before the cursor, the one by
+    /// which the path came, or one with the reduced cost `least`. If there is none, the next global update finds that
+    /// out.
     fn relabel(&mut self, number: u32, least: V) {
         let node = self.residual.node(number);
         let least = least
@@ -79,7 +80,7 @@ impl<V: Number> Scaling<V> {
         self.left = self.left.saturating_sub(1);
     }
 
-    /// The least reduced cost of the halves with room before the cursor. The greatest number where there is none.
+    /// The least reduced cost of a residual arc before the cursor; the greatest number if there is none.
     #[inline(always)]
     fn least_before(&self, node: &Node<V>) -> V {
         let mut least = V::greatest();
@@ -91,8 +92,8 @@ impl<V: Number> Scaling<V> {
         least
     }
 
-    /// The reduced cost of the way back along the last arc of the path, to a node of this price. The greatest number
-    /// where there is none.
+    /// The reduced cost of going back along the last arc of the path, to a node with this price; the greatest number if
+    /// the path is empty.
     fn reduced_back(&self, price: V) -> V {
         match self.path.last() {
             Some(place) => {
@@ -104,7 +105,7 @@ impl<V: Number> Scaling<V> {
         }
     }
 
-    /// Moves excess along the path, as much as each arc has room for.
+    /// Moves excess along the path, as much as each arc's residual capacity allows.
     pub(crate) fn send_along(&mut self, start: u32) -> Result<(), Memory> {
         let mut from = start;
         for place in &self.path {

@@ -1,4 +1,4 @@
-//! Potentials for costs that aren't scaled.
+//! Potentials for the unscaled costs.
 
 use crate::number::Number;
 use crate::scaling::residual::{Node, Residual};
@@ -6,11 +6,11 @@ use dimacs_lines::Memory;
 use std::alloc::Global;
 
 impl<V: Number> Residual<V> {
-    /// The prices less a residue, divided by what costs were multiplied with, and rounded down.
+    /// The prices less a residue, divided by the scale of the costs and rounded down.
     ///
-    /// An arc with room whose scaled reduced cost is 0 or more then has one of 0 or more, whatever the residue is. So has
-    /// one of -1, unless the residue is that of the price of the node that it leads to. There are more residues than
-    /// nodes, so there is one that no such node has.
+    /// If the scaled reduced cost of a residual arc isn't negative, its reduced cost isn't either, whatever the residue
+    /// is. If it is -1, the same holds unless the residue is that of its head's price. There are more residues than
+    /// nodes, so some residue is free of such heads.
     pub(crate) fn potentials(&self, alloc: Global) -> Result<Vec<i128>, Memory> {
         let residue = self.free_residue(alloc)?;
         let mut potentials = Vec::with_capacity(alloc, self.nodes.len())?;
@@ -33,7 +33,7 @@ impl<V: Number> Residual<V> {
         Ok(0)
     }
 
-    /// The residues of the prices of nodes to which an arc of negative reduced cost leads.
+    /// The residues of the prices of heads of arcs with negative reduced cost.
     fn taken_residues(&self, alloc: Global) -> Result<Vec<bool>, Memory> {
         let residues = usize::try_from(1i128.doubled(self.doublings)).unwrap_or(0);
         let mut taken = vec![in alloc; false; residues]?;
@@ -43,7 +43,7 @@ impl<V: Number> Residual<V> {
         Ok(taken)
     }
 
-    /// Marks the residues of the prices to which an arc of negative reduced cost leads from this node.
+    /// Marks the residues of the prices of heads of arcs with negative reduced cost out of this node.
     fn take_residues(&self, node: &Node<V>, taken: &mut [bool]) {
         for half in self.between(node.start, node.end) {
             if half.room > 0 && self.reduced(node.price, half).is_negative() {

@@ -13,7 +13,7 @@ struct Link {
     after: u32,
 }
 
-/// The nodes of each rank, in lists from which any of them can be taken out.
+/// A linked list of the nodes of each rank.
 #[derive(Drop)]
 pub(crate) struct Ranks {
     first: Vec<u32>,
@@ -31,12 +31,12 @@ impl Ranks {
         Ok(Ranks { first, links })
     }
 
-    /// The number of ranks, which stands for that of a node that has none.
+    /// The number of ranks; it also stands for the rank of a node without one.
     pub(crate) fn count(&self) -> u32 {
         u32::try_from(self.first.len()).unwrap_or(u32::MAX)
     }
 
-    /// Takes all nodes out.
+    /// Removes all nodes.
     pub(crate) fn clear(&mut self) {
         self.first.fill(NONE);
     }
@@ -58,7 +58,7 @@ impl Ranks {
         set_member(&mut self.first, rank, node);
     }
 
-    /// Takes a node out of its rank.
+    /// Removes a node from its rank.
     pub(crate) fn remove(&mut self, node: u32, rank: u32) {
         let Some(link) = self.links.get(node as usize).copied() else {
             return;
@@ -73,7 +73,7 @@ impl Ranks {
         }
     }
 
-    /// Takes some node of this rank out.
+    /// Takes any node of this rank.
     pub(crate) fn take(&mut self, rank: u32) -> Option<u32> {
         let node = self.first(rank);
         if node == NONE {

@@ -1,4 +1,4 @@
-//! Lowering prices by how far nodes are from a deficit.
+//! The global update: prices fall by the nodes' distances to a deficit.
 
 use crate::number::Number;
 use crate::scaling::Scaling;
@@ -8,7 +8,7 @@ use dimacs_lines::Memory;
 use std::alloc::Global;
 
 impl<V: Number> Scaling<V> {
-    /// Lowers the price of each node by the tolerance for each rank between it and a deficit. `false` where some excess
+    /// Lowers the price of each node by the tolerance times its rank, its distance to a deficit. False if some excess
     /// reaches no deficit within the ranks.
     pub(crate) fn update(&mut self) -> bool {
         let count = self.ranks.count();
@@ -24,7 +24,7 @@ impl<V: Number> Scaling<V> {
         false
     }
 
-    /// Goes over the nodes of a rank, as long as less excess than `left` was found at them. Gives how much was.
+    /// Settles the nodes of a rank, until the excess found at them reaches `left`. Returns how much was found.
     fn settle(&mut self, rank: u32, left: V) -> V {
         let mut found = V::of(0);
         for _ in 0..u64::MAX {
@@ -46,7 +46,7 @@ impl<V: Number> Scaling<V> {
         found
     }
 
-    /// Ranks the node from which an arc leads to this one, where it is nearer that way.
+    /// Ranks the node at the other end, if an arc from it makes it nearer.
     #[inline(always)]
     fn reach(&mut self, node: &Node<V>, half: &Half<V>) {
         let other = self.residual.node(half.to);
@@ -62,7 +62,7 @@ impl<V: Number> Scaling<V> {
         if other.rank < self.ranks.count() {
             self.ranks.remove(half.to, other.rank);
         }
-        // A negative one counts as 0.
+        // A negative number counts as 0.
         let farther = u32::try_from(farther.narrow()).unwrap_or(0);
         let rank = node.rank.wrapping_add(farther);
         self.ranks.put(half.to, rank);
@@ -71,9 +71,9 @@ impl<V: Number> Scaling<V> {
         }
     }
 
-    /// Leaves the excess where it is at nodes that reach no deficit. `true` where there is some.
+    /// Gives up the excess of nodes that reach no deficit. Returns whether there is some.
     ///
-    /// No flow can leave these nodes any more, so that they stay cut off.
+    /// No flow can leave these nodes any more, so they stay cut off.
     pub(crate) fn park(&mut self, alloc: Global) -> Result<bool, Memory> {
         let reaching = self.reaching(alloc)?;
         let mut parked = false;
@@ -101,7 +101,7 @@ impl<V: Number> Scaling<V> {
         Ok(reaching)
     }
 
-    /// Marks the nodes from which flow can be sent to this one, and lets those wait that weren't marked.
+    /// Marks the nodes with a residual arc to this one, and puts those that weren't marked on the list.
     fn mark_before(
         &self,
         number: u32,
@@ -118,7 +118,7 @@ impl<V: Number> Scaling<V> {
     }
 }
 
-/// Puts the nodes with a deficit at rank 0, all others at none. Gives the sum of excesses.
+/// Gives rank 0 to the nodes with a deficit, and none to others. Returns the sum of the excesses.
 fn rank_deficits<V: Number>(nodes: &mut [Node<V>], ranks: &mut Ranks) -> V {
     ranks.clear();
     let none = ranks.count();
@@ -137,7 +137,7 @@ fn rank_deficits<V: Number>(nodes: &mut [Node<V>], ranks: &mut Ranks) -> V {
     sum
 }
 
-/// Lowers prices by ranks, up to this one.
+/// Lowers prices by ranks, up to `most`.
 fn lower<V: Number>(nodes: &mut [Node<V>], level: u32, most: u32) {
     for node in nodes.iter_mut() {
         let rank = node.rank.min(most);
@@ -148,7 +148,7 @@ fn lower<V: Number>(nodes: &mut [Node<V>], level: u32, most: u32) {
     }
 }
 
-/// Marks the nodes with a deficit, and lets them wait.
+/// Marks the nodes with a deficit, and puts them on the list.
 fn mark_deficits<V: Number>(
     nodes: &[Node<V>],
     marks: &mut [bool],
@@ -165,7 +165,7 @@ fn mark_deficits<V: Number>(
     Ok(())
 }
 
-/// Marks a node; `false` where it was marked before.
+/// Marks a node; false if it was marked before.
 fn mark(marks: &mut [bool], number: u32) -> bool {
     match marks.get_mut(number as usize) {
         Some(mark) => {

@@ -1,4 +1,4 @@
-//! The arcs by their positions.
+//! The arcs, by position.
 
 use crate::number::Number;
 use crate::problem::Problem;
@@ -8,7 +8,7 @@ use dimacs_lines::Memory;
 use dimacs_network::Network;
 use std::alloc::{AllocError, Global};
 
-/// What the search for an entering arc reads of an arc.
+/// What the search for an entering arc needs to know of an arc.
 pub(crate) struct Price<V> {
     pub cost: V,
     pub tail: u32,
@@ -23,19 +23,20 @@ impl<V: Copy> Clone for Price<V> {
 
 impl<V: Copy> Copy for Price<V> {}
 
-/// What an arc carries. The sign makes a reduced cost that should change the state negative.
+/// The state of an arc: the bound that it carries, or that it is in the tree. If the product of state and reduced cost
+/// is negative, the state should change.
 pub(crate) const AT_LOW: i8 = 1;
 
 pub(crate) const IN_TREE: i8 = 0;
 
 pub(crate) const AT_CAP: i8 = -1;
 
-/// The arcs by their positions.
+/// The arcs, by position.
 #[derive(Drop)]
 pub(crate) struct Arcs<V: Number> {
     pub prices: Vec<Price<V>>,
     states: Vec<i8>,
-    /// How much more than its lower bound an arc may carry; at the end how much more it does, where that isn't 0.
+    /// The capacity less the lower bound; at the end the amount less the lower bound, if it isn't 0.
     rooms: Vec<i64>,
 }
 
@@ -56,7 +57,7 @@ pub(crate) fn potential<V: Number>(potentials: &[V], node: u32) -> V {
 }
 
 impl<V: Number> Arcs<V> {
-    /// Each arc carries its lower bound.
+    /// At the start each arc carries its lower bound.
     pub(crate) fn new<N: Network>(
         alloc: Global,
         problem: &Problem<'_, N>,
@@ -114,12 +115,12 @@ impl<V: Number> Arcs<V> {
         member(&self.rooms, position, 0)
     }
 
-    /// Sets the room of an arc; at the end, what an arc of the tree carries more than its lower bound.
+    /// Sets the capacity less the lower bound; at the end, for a tree arc, the amount less the lower bound.
     pub(crate) fn set_room(&mut self, position: u32, room: i64) {
         set_member(&mut self.rooms, position, room);
     }
 
-    /// What an arc carries more than its lower bound, once those of the tree are settled.
+    /// The amount less the lower bound, after `settle`.
     pub(crate) fn above_low(&self, position: u32) -> i64 {
         if self.state(position) == AT_LOW {
             return 0;
@@ -127,7 +128,7 @@ impl<V: Number> Arcs<V> {
         self.room(position)
     }
 
-    /// The arc of least reduced cost among those from `start` to `end` that should change their state.
+    /// Of the arcs from `start` to `end` that should change their state, the one with the least reduced cost.
     pub(crate) fn best(&self, potentials: &[V], start: u32, end: u32) -> Option<u32> {
         let prices = self.prices.get(start as usize..end as usize)?;
         let states = self.states.get(start as usize..end as usize)?;
@@ -146,7 +147,7 @@ impl<V: Number> Arcs<V> {
     }
 }
 
-/// What stands in place of an arc where there is none.
+/// Stands for an arc if there is none.
 fn nowhere<V: Number>() -> Price<V> {
     Price {
         cost: V::of(0),

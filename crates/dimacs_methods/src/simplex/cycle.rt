@@ -3,7 +3,7 @@
 use crate::number::Number;
 use crate::simplex::tree::Tree;
 
-/// How flow moves round a cycle: from `join` down to `first`, over the arc, and from `second` up to `join`.
+/// Flow moves round the cycle from `join` down to `first`, along the arc, and from `second` up to `join`.
 #[derive(Drop)]
 pub(crate) struct Cycle<V> {
     pub first: u32,
@@ -15,7 +15,7 @@ pub(crate) struct Cycle<V> {
     pub steps: u64,
 }
 
-/// The arc that leaves the tree: that of a node on the way to `first` or from `second`, or the arc itself.
+/// The arc that leaves the tree: that of a node on the path to `first` or from `second`, or the entering arc itself.
 #[derive(Clone, Copy)]
 pub(crate) enum Leaving {
     OnFirst(u32),
@@ -23,22 +23,22 @@ pub(crate) enum Leaving {
     Itself,
 }
 
-/// One way up to the join.
+/// A path up to the join.
 #[derive(Drop)]
 struct Climb<V> {
     at: u32,
     depth: u32,
-    /// The least room so far, and the node whose arc has it.
+    /// The least residual capacity so far, and the node whose arc has it.
     room: V,
     narrow: Option<u32>,
 }
 
 impl<V: Number> Cycle<V> {
-    /// The cycle of an arc of this room from `first` to `second`.
+    /// The cycle of an arc from `first` to `second` with this residual capacity.
     ///
-    /// Of several arcs that come to a bound the last one on the cycle leaves, seen from the join on in the direction of
-    /// the flow: the first one met on the way up from `first`, the last one on the way up from `second`. That keeps
-    /// room towards the root everywhere in the tree, so that pivots that move nothing don't go round in a circle.
+    /// If several arcs come to a bound, the last one on the cycle leaves, seen from the join in the direction of the
+    /// flow: the first one on the path up from `first`, the last one on the path up from `second`. That keeps residual
+    /// capacity towards the root everywhere in the tree, so that pivots without flow don't cycle for ever.
     pub(crate) fn find(tree: &Tree<V>, first: u32, second: u32, room: V) -> Cycle<V> {
         let mut down = Climb::start(tree, first, room);
         let mut up = Climb::start(tree, second, room);
@@ -76,7 +76,7 @@ impl<V: Number> Climb<V> {
         }
     }
 
-    /// A step up, where flow comes down.
+    /// Goes one step up, against the flow.
     #[inline(always)]
     fn climb_against(&mut self, tree: &Tree<V>) {
         let node = tree.node(self.at);
@@ -88,7 +88,7 @@ impl<V: Number> Climb<V> {
         self.depth = self.depth.wrapping_sub(1);
     }
 
-    /// A step up, where flow goes up.
+    /// Goes one step up, with the flow.
     #[inline(always)]
     fn climb_along(&mut self, tree: &Tree<V>) {
         let node = tree.node(self.at);
@@ -101,8 +101,8 @@ impl<V: Number> Climb<V> {
     }
 }
 
-/// The arc of the least room. Where several have it, those on the way up come before the arc itself, and it before those
-/// on the way down.
+/// The arc with the least residual capacity. Among equals, those on the path from `second` come before the entering
+/// arc, and it before those on the path to `first`.
 fn narrowest<V: Number>(down: &Climb<V>, up: &Climb<V>) -> Leaving {
     if let Some(node) = up.narrow
         && !down.room.is_below(up.room)

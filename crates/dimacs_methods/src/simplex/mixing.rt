@@ -1,8 +1,8 @@
-//! The order in which arcs are looked at.
+//! The order in which arcs are searched.
 
-/// The positions of arcs, one after another in the order of the text, mixed: the text goes through a table column by
-/// column, and positions row by row. So a block of positions, which is some eight rows, has eight arcs in a row from
-/// each of many parts of the text. The last row may be short.
+/// The positions of the arcs, in the order of the text, mixed: the text fills a table column by column, and positions
+/// count row by row. A block of positions, some eight rows, thus has eight successive arcs from each of many parts of
+/// the text. The last row may be short.
 #[derive(Clone, Copy)]
 pub(crate) struct Mixing {
     arcs: u32,

@@ -7,7 +7,7 @@ use dimacs_lines::Memory;
 use std::alloc::Global;
 
 impl<V: Number> Tree<V> {
-    /// Numbers the nodes in preorder, so that those that move together lie together. Gives the new numbers.
+    /// Numbers the nodes in preorder, so that a subtree is contiguous in memory. Returns the new numbers.
     pub(crate) fn renumber(&mut self, alloc: Global) -> Result<Vec<u32>, Memory> {
         let order = self.preorder(alloc)?;
         let mut numbers = vec![in alloc; self.root(); self.nodes.len()]?;
@@ -42,7 +42,7 @@ impl<V: Number> Tree<V> {
     }
 }
 
-/// Gives the nodes numbers from 0, in this order.
+/// Numbers the nodes from 0, in this order.
 fn number_in_order(numbers: &mut [u32], order: &[u32]) {
     let mut number: u32 = 0;
     for node in order {
@@ -51,7 +51,7 @@ fn number_in_order(numbers: &mut [u32], order: &[u32]) {
     }
 }
 
-/// Puts the members of a table in this order, those that it has.
+/// Puts the members of a table into this order.
 fn arrange<T: Copy>(alloc: Global, table: &mut Vec<T>, order: &[u32]) -> Result<(), Memory> {
     let mut arranged = Vec::with_capacity(alloc, table.len())?;
     for place in order {

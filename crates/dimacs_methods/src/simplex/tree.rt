@@ -11,7 +11,7 @@ pub(crate) const ARTIFICIAL: u32 = u32::MAX;
 
 /// A node of the tree, with the arc between it and its parent.
 pub(crate) struct Node<V> {
-    /// How much more can flow to the parent, and from the parent.
+    /// The residual capacity to the parent, and from the parent.
     pub up: V,
     pub down: V,
     pub parent: u32,
@@ -29,7 +29,7 @@ impl<V: Copy> Clone for Node<V> {
 
 impl<V: Copy> Copy for Node<V> {}
 
-/// What is read and changed of every node of a subtree that moves, apart from its potential.
+/// What changes in every node of a subtree that moves, apart from its potential.
 #[derive(Clone, Copy)]
 pub(crate) struct Place {
     /// The node after this one in preorder; the root after the last.
@@ -37,7 +37,7 @@ pub(crate) struct Place {
     pub depth: u32,
 }
 
-/// An arc by which a subtree is hung on a node: its position, and its room towards that node and from it.
+/// The arc that joins a subtree to a parent: its position, and its residual capacity to the parent and from it.
 #[derive(Drop)]
 pub(crate) struct Hook<V> {
     pub parent: u32,
@@ -46,7 +46,7 @@ pub(crate) struct Hook<V> {
     pub down: V,
 }
 
-/// A tree over all nodes and a root, which is the last one: it has depth 0, potential 0, and is its own parent.
+/// A tree over all nodes and a root, which has the last number, depth 0 and potential 0, and is its own parent.
 #[derive(Drop)]
 pub(crate) struct Tree<V: Number> {
     pub nodes: Vec<Node<V>>,
@@ -57,7 +57,7 @@ pub(crate) struct Tree<V: Number> {
 }
 
 impl<V: Number> Node<V> {
-    /// A node of this excess that hangs on the root.
+    /// A node with this excess as a child of the root.
     fn on_root(root: u32, before: u32, excess: V) -> Node<V> {
         let has_deficit = excess.is_negative();
         let flow = if has_deficit {
@@ -77,9 +77,8 @@ impl<V: Number> Node<V> {
 }
 
 impl<V: Number> Tree<V> {
-    /// Each node hangs on the root by an artificial arc: one that takes its excess at no cost, or one that meets its
-    /// deficit at this price. A node without either has one to the root, so that more can flow to the root from
-    /// everywhere.
+    /// Each node is a child of the root, by an artificial arc that takes its excess at no cost, or fills its deficit at
+    /// this price. A node without either has an arc to the root, so that flow can go to the root from everywhere.
     pub(crate) fn star(alloc: Global, excess: &[i128], price: V) -> Result<Tree<V>, Memory> {
         let root = u32::try_from(excess.len()).unwrap_or(0);
         let nodes = star_nodes(alloc, excess, root)?;
@@ -99,7 +98,7 @@ impl<V: Number> Tree<V> {
         u32::try_from(self.names.len()).unwrap_or(0)
     }
 
-    /// How many nodes hang on the root by an artificial arc.
+    /// The number of artificial arcs.
     pub(crate) fn artificial_arcs(&self) -> usize {
         let mut count: usize = 0;
         for node in &self.nodes {
@@ -127,7 +126,7 @@ impl<V: Number> Tree<V> {
         member(&self.places, node, Place { after: 0, depth: 0 })
     }
 
-    /// Moves flow on the tree's part of a cycle.
+    /// Moves flow along the tree's part of a cycle.
     pub(crate) fn augment(&mut self, cycle: &Cycle<V>) {
         if cycle.amount.is_zero() {
             return;
@@ -151,11 +150,11 @@ impl<V: Number> Tree<V> {
         }
     }
 
-    /// Cuts the subtree of `out` off, makes `top` its root, hangs it up by the hook, and raises its potentials. Gives
+    /// Cuts off the subtree of `out`, makes `top` its root, joins it by the hook, and raises its potentials. Returns
     /// how many nodes moved.
     ///
-    /// The stem is the path from `top` to `out`. Each of its nodes brings what is left of its subtree after that of
-    /// the node before it, and gives its arc to its old parent.
+    /// The stem is the path from `top` to `out`. Each of its nodes brings the rest of its subtree, without that of the
+    /// node before it, and its arc goes to its old parent.
     pub(crate) fn rehang(&mut self, top: u32, out: u32, hook: Hook<V>, raise: V) -> u64 {
         let mut hook = hook;
         let mut stem = top;
@@ -192,7 +191,7 @@ impl<V: Number> Tree<V> {
         }
     }
 
-    /// Moves what is left of the subtree of `top` after the node `to` in preorder.
+    /// Moves the rest of the subtree of `top` after the node `to` in preorder.
     fn move_part(&mut self, top: u32, to: u32, depth: u32, raise: V) -> Part {
         let old = self.place(top).depth;
         let part = self.shift_part(top, old, depth.wrapping_sub(old), raise);
@@ -241,7 +240,7 @@ impl<V: Number> Tree<V> {
     }
 }
 
-/// The nodes of a star in the order of their numbers, and its root.
+/// The nodes of a star, ordered by number, then its root.
 fn star_nodes<V: Number>(
     alloc: Global,
     excess: &[i128],
