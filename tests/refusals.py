@@ -12,7 +12,7 @@ hold an old text, longer than the new one.
 Runs are made too with the standard devices closed: what is meant for these never lands in a file. Then texts are read that declare the greatest counts, which has to take as many growths, and of as many bytes, as the
 least ones do, and tiny texts with the greatest counts and IDs are judged and solved in little memory.
 
-BINARY is the built program; crates/dimacs/out/dimacs where none is given. TESTS is crates/dimacs_text_tests as
+BINARY is the built program; crates/dimacs/out/dimacs where none is given. TESTS is crates/dimacs_tests as
 `rt test` builds it: its tests of refused growths run with each growth refused. Where neither is given and TESTS isn't
 there, these are left out. refusals.c, which refuses the calls, is compiled with cc; and again so that it doesn't see one
 of the calls, where the runs have to fail.
@@ -699,7 +699,7 @@ def build(folder, unseen=None):
 def main():
     top = os.path.dirname(HERE)
     binary = sys.argv[1] if len(sys.argv) > 1 else os.path.join(top, "crates/dimacs/out/dimacs")
-    built = "crates/dimacs_text_tests/out/dimacs_text_tests_tests"
+    built = "crates/dimacs_tests/out/dimacs_tests_tests"
     tests = os.path.abspath(sys.argv[2] if len(sys.argv) > 2 else os.path.join(top, built))
     cases = Cases()
     with tempfile.TemporaryDirectory() as folder:

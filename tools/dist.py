@@ -33,7 +33,8 @@ Installed-Size: {size}
 Description: reads, writes and judges DIMACS texts of flows and shortest paths
  The command dimacs says whether a claimed maximum flow, flow of least cost or
  tree of shortest paths is right, and names the first fault. The library does the
- same for C and C++. Every function of both is proved to meet its contract.
+ same for C, C++ and Rust. Every function of both is proved to meet its
+ contract, but not the header for C++ and the crate for Rust over the library.
 """
 
 

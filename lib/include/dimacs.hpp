@@ -10,13 +10,12 @@
 //         std::cerr << answer.message();                                    // x arc 3 AboveCap
 //     }
 //
-// What says nothing of the claim is thrown: std::bad_alloc where there isn't enough memory, WrongLength where an array
-// has another length than it has to have, and PastLimit, which has the arc or the node, where a number of the instance is
+// What says nothing of the claim is thrown: std::bad_alloc if there isn't enough memory, WrongLength if an array
+// has another length than it has to have, and PastLimit, which has the arc or the node, if a number of the instance is
 // past its limit. All calls have the strong guarantee, keep nothing, and may run side by side in several threads.
 //
-// What dimacs.h says of lengths, alignment and overlaps holds of whatever a span and a vector are made of; that a span's
-// memory is there, and isn't written meanwhile, the caller answers for. Nothing here is proved: it is a layer over calls
-// that are. See docs/LIBRARY.md.
+// The caller answers for the memory of a span: it has to be there, and isn't written meanwhile. Nothing here is proved:
+// it is a layer over calls that are. See docs/LIBRARY.md.
 #ifndef DIMACS_HPP
 #define DIMACS_HPP
 
@@ -92,8 +91,8 @@ class span {
 
 // ---- What is handed in ----
 
-// Nodes and arcs count from 1. The k-th items of the spans by arc say what the k-th arc is, and the k-th item of a span by
-// node belongs to node k.
+// Nodes and arcs count from 1. The k-th items of the spans by arc say what the k-th arc is, and the k-th item of a span
+// by node belongs to node k.
 using Nodes = span<const std::uint32_t>;
 using Numbers = span<const std::int64_t>;
 
@@ -107,8 +106,8 @@ struct MaxInstance {
     Numbers caps;
 };
 
-// A minimum cost flow instance: an arc carries from its lower bound to its capacity, at a cost for each unit. What leaves a
-// node less what enters it is its supply, which is negative where it demands.
+// A minimum cost flow instance: an arc carries from its lower bound to its capacity, at a cost for each unit. What
+// leaves a node less what enters it is its supply, which is negative where it demands.
 struct MinInstance {
     std::uint32_t nodes = 0;
     Nodes tails, heads;
@@ -157,7 +156,7 @@ class Value {
 
     const std::string &str() const noexcept { return digits_; }
 
-    // The number, where it has 64 bits.
+    // The number, if it has 64 bits.
     std::optional<std::int64_t> to_int64() const noexcept {
         std::int64_t number = 0;
         const char *end = digits_.data() + digits_.size();
@@ -272,8 +271,8 @@ struct SolvedPathsText {
 
 // ---- What is answered: a no ----
 
-// Where a text has a fault: its name ("instance", "query", "solution", "distances", "certificate"), and its line and field
-// from 1. The field 0 is the whole line, and the line 0 the whole text.
+// Where a text has a fault: its name ("instance", "query", "solution", "distances", "certificate"), and its line and
+// field from 1. The field 0 is the whole line, and the line 0 the whole text.
 struct InText {
     std::string text;
     std::uint64_t line = 0, field = 0;
@@ -308,7 +307,7 @@ struct NotOptimal {
     const std::string &message() const noexcept { return line; }
 };
 
-// The same of the text of a solution. There is no better one where its cost is out of the range of such texts.
+// The same of the text of a solution. There is no better one if its cost is out of the range of such texts.
 using NotOptimalText = NotOptimal<std::optional<std::string>>;
 
 // No flow is feasible, as the set shows: nodes, or the text of a set.
@@ -327,7 +326,7 @@ struct Feasible {
     std::string message() const { return "x instance 0 0 Feasible"; }
 };
 
-// The same as the text of a solution; none where its cost is out of the range of such texts.
+// The same as the text of a solution; none if its cost is out of the range of such texts.
 using FeasibleText = Feasible<std::optional<std::string>>;
 
 // A limit was reached, the least cost is out of range, or what was found doesn't fit in 64 bits.
@@ -400,7 +399,7 @@ class [[nodiscard]] Answer {
         return std::move(*std::get_if<0>(&it_));
     }
 
-    // The yes or the no of this type, or null where the answer is another one.
+    // The yes or the no of this type, or null if the answer is another one.
     template <class It>
     const It *get_if() const noexcept {
         return std::get_if<It>(&it_);
@@ -566,7 +565,7 @@ inline void throw_for(std::uint32_t status, std::string_view line) {
     }
 }
 
-// Makes a call that hands out texts, again where one of them is longer than its room.
+// Makes a call that hands out texts, again if one of them is longer than its room.
 template <class Call, class... Rooms>
 std::uint32_t call_for_texts(const Call &call, TextRoom &line, Rooms &...rooms) {
     for (;;) {
@@ -593,9 +592,7 @@ inline const std::uint8_t *bytes(std::string_view text) noexcept {
 }
 
 // As many nodes as an instance may have. One with more of them is refused, and needs no room.
-inline std::size_t room_for(std::uint32_t nodes) noexcept {
-    return nodes <= (std::uint32_t(1) << 27) ? nodes : 0;
-}
+inline std::size_t room_for(std::uint32_t nodes) noexcept { return nodes <= (std::uint32_t(1) << 27) ? nodes : 0; }
 
 inline dimacs_nodes array(Nodes it) noexcept { return {it.data(), it.size()}; }
 inline dimacs_numbers array(Numbers it) noexcept { return {it.data(), it.size()}; }
@@ -605,7 +602,7 @@ inline dimacs_max arrays(const MaxInstance &it) noexcept {
 }
 
 inline dimacs_min arrays(const MinInstance &it) noexcept {
-    return {it.nodes,        array(it.tails), array(it.heads),   array(it.lows),
+    return {it.nodes,       array(it.tails), array(it.heads),   array(it.lows),
             array(it.caps), array(it.costs), array(it.supplies)};
 }
 
@@ -697,8 +694,8 @@ Answer<std::string, Refused> make_text(const Call &function, Text kind, std::str
 
 }  // namespace detail
 
-// Judges that a solution's flow is maximum, as the cut shows. Refused for the fault of the first text that has one, else
-// for the first test that fails.
+// Judges that a solution's flow is maximum, as the cut shows. Refused for the fault of the first text that has one,
+// else for the first test that fails.
 inline Answer<Judged, Refused> judge_max(std::string_view instance, std::string_view solution, std::string_view cut) {
     return detail::judge_flow(DIMACS_MAX, instance, solution, cut);
 }
@@ -717,25 +714,28 @@ inline Answer<Judged, Refused> judge_infeasible(std::string_view instance, std::
 }
 
 // Judges labels, and answers queries by them. Refused as judge_max.
-inline Answer<JudgedPaths, Refused> judge_paths(std::string_view graph, std::string_view queries, std::string_view labels) {
+inline Answer<JudgedPaths, Refused> judge_paths(std::string_view graph, std::string_view queries,
+                                                std::string_view labels) {
     auto it = detail::judge(DIMACS_PATHS, graph, queries, labels, detail::line_room + 4 * queries.size());
     if (auto *no = std::get_if<Refused>(&it)) return std::move(*no);
     return detail::paths_of(std::get<std::string>(it));
 }
 
-// Decides whether a solution's flow is maximum: the text of a cut; NotOptimalText, which has a better solution, where the
-// flow is feasible and has the claimed value; Refused where a text has a fault or the flow isn't what it claims.
-inline Answer<CertifiedText, NotOptimalText, Refused> certify_max(std::string_view instance, std::string_view solution) {
+// Decides whether a solution's flow is maximum: the text of a cut; NotOptimalText, which has a better solution, if the
+// flow is feasible and has the claimed value; Refused if a text has a fault or the flow isn't what it claims.
+inline Answer<CertifiedText, NotOptimalText, Refused> certify_max(std::string_view instance,
+                                                                  std::string_view solution) {
     return detail::certify_flow(DIMACS_MAX, instance, solution);
 }
 
 // Decides whether a solution's flow costs least: the text of potentials; else as certify_max.
-inline Answer<CertifiedText, NotOptimalText, Refused> certify_min(std::string_view instance, std::string_view solution) {
+inline Answer<CertifiedText, NotOptimalText, Refused> certify_min(std::string_view instance,
+                                                                  std::string_view solution) {
     return detail::certify_flow(DIMACS_MIN, instance, solution);
 }
 
-// Decides whether an instance has no feasible flow: the text of a set; FeasibleText, which has a solution with a feasible
-// flow, where there is one; Refused where the text has a fault.
+// Decides whether an instance has no feasible flow: the text of a set; FeasibleText, which has a solution with a
+// feasible flow, if there is one; Refused if the text has a fault.
 inline Answer<CertifiedInfeasible<std::string>, FeasibleText, Refused> certify_infeasible(std::string_view instance) {
     auto [is_yes, line, shown] = detail::certify(DIMACS_INFEASIBLE, instance, {});
     if (is_yes) return CertifiedInfeasible<std::string>{std::move(shown)};
@@ -744,16 +744,16 @@ inline Answer<CertifiedInfeasible<std::string>, FeasibleText, Refused> certify_i
     return FeasibleText{shown.empty() ? std::nullopt : std::optional(std::move(shown))};
 }
 
-// Decides whether distances are those of their nodes, and the nodes without one unreachable, block by block: the text of
-// labels. Refused where a text has a fault, or for the first test that fails.
+// Decides whether distances are those of their nodes, and the nodes without one unreachable, block by block: the text
+// of labels. Refused if a text has a fault, or for the first test that fails.
 inline Answer<CertifiedPathsText, Refused> certify_paths(std::string_view graph, std::string_view distances) {
     auto [is_yes, line, shown] = detail::certify(DIMACS_PATHS, graph, distances);
     if (!is_yes) return detail::refused(line);
     return CertifiedPathsText{detail::sources_of(line), std::move(shown)};
 }
 
-// Makes a maximum flow: the texts of a solution and of a cut. GaveUp after `limit` flows that aren't maximum; Refused where
-// the text has a fault.
+// Makes a maximum flow: the texts of a solution and of a cut. GaveUp after `limit` flows that aren't maximum; Refused
+// if the text has a fault.
 inline Answer<SolvedText, GaveUp, Refused> solve_max(std::string_view instance, std::uint64_t limit = default_limit) {
     auto it = detail::solve(DIMACS_MAX, instance, {}, limit);
     if (it.status == DIMACS_GAVE_UP) return GaveUp{};
@@ -761,8 +761,8 @@ inline Answer<SolvedText, GaveUp, Refused> solve_max(std::string_view instance, 
     return SolvedText{detail::value_of(it.lines), std::move(it.solution), std::move(it.certificate)};
 }
 
-// Makes a flow of least cost: the texts of a solution and of potentials. Infeasible, which has the text of a set, where no
-// flow is feasible; GaveUp after `limit` steps to better flows, or where the least cost is out of range; Refused where the
+// Makes a flow of least cost: the texts of a solution and of potentials. Infeasible, which has the text of a set, if no
+// flow is feasible; GaveUp after `limit` steps to better flows, or if the least cost is out of range; Refused if the
 // text has a fault.
 inline Answer<SolvedText, Infeasible<std::string>, GaveUp, Refused> solve_min(std::string_view instance,
                                                                               std::uint64_t limit = default_limit) {
@@ -773,7 +773,7 @@ inline Answer<SolvedText, Infeasible<std::string>, GaveUp, Refused> solve_min(st
     return SolvedText{detail::value_of(it.lines), std::move(it.solution), std::move(it.certificate)};
 }
 
-// Makes labels, and answers queries by them. Refused where a text has a fault, a query names no node, or a weight is
+// Makes labels, and answers queries by them. Refused if a text has a fault, a query names no node, or a weight is
 // negative.
 inline Answer<SolvedPathsText, Refused> solve_paths(std::string_view graph, std::string_view queries) {
     auto it = detail::solve(DIMACS_PATHS, graph, queries, default_limit);
@@ -782,20 +782,20 @@ inline Answer<SolvedPathsText, Refused> solve_paths(std::string_view graph, std:
     return SolvedPathsText{found.sources, std::move(found.pairs), std::move(it.certificate)};
 }
 
-// The canonical form of a text. Refused where it has a fault.
+// The canonical form of a text. Refused if it has a fault.
 inline Answer<std::string, Refused> convert(Text kind, std::string_view text) {
     return detail::make_text(dimacs_convert, kind, text);
 }
 
-// A line that says what a text is, as "i max 4 5 1 4\n". Refused where it has a fault.
+// A line that says what a text is, as "i max 4 5 1 4\n". Refused if it has a fault.
 inline Answer<std::string, Refused> show(Text kind, std::string_view text) {
     return detail::make_text(dimacs_show, kind, text);
 }
 
 // ---- Arrays in memory ----
 
-// Judges that a flow, by arc, is maximum, as the cut shows of the nodes whose byte in `inside` isn't 0. Refused for the first
-// test that fails; dimacs.h lists them. Each call over arrays throws WrongLength and PastLimit.
+// Judges that a flow, by arc, is maximum, as the cut shows of the nodes whose byte in `inside` isn't 0. Refused for the
+// first test that fails; dimacs.h lists them. Each call over arrays throws WrongLength and PastLimit.
 inline Answer<Judged, Refused> judge_max(const MaxInstance &instance, Numbers flows, Marks inside) {
     const dimacs_max arrays = detail::arrays(instance);
     detail::TextRoom line;
@@ -806,20 +806,22 @@ inline Answer<Judged, Refused> judge_max(const MaxInstance &instance, Numbers fl
     return Judged{detail::value_of(line.text())};
 }
 
-// Judges that a flow, by arc, costs least, as the potentials show, by node: the reduced cost of an arc is its cost, less the
-// potential of its tail, and with that of its head. Refused for the first test that fails.
+// Judges that a flow, by arc, costs least, as the potentials show, by node: the reduced cost of an arc is its cost,
+// less the potential of its tail, and with that of its head. Refused for the first test that fails.
 inline Answer<Judged, Refused> judge_min(const MinInstance &instance, Numbers flows, Numbers potentials) {
     const dimacs_min arrays = detail::arrays(instance);
     detail::TextRoom line;
     const auto call = [&](auto... rooms) {
-        return dimacs_judge_min_arrays(&arrays, flows.data(), flows.size(), potentials.data(), potentials.size(), rooms...);
+        return dimacs_judge_min_arrays(&arrays, flows.data(), flows.size(), potentials.data(), potentials.size(),
+                                       rooms...);
     };
     if (detail::call_for_items(call, line) == DIMACS_REFUSED) return detail::refused(line.text());
     return Judged{detail::value_of(line.text())};
 }
 
-// Judges that an instance has no feasible flow, as the set shows of the nodes whose byte in `inside` isn't 0. The yes has no
-// value. Where it is refused, as `x certificate 0 0 NotViolated`, there may be no flow all the same, by another set.
+// Judges that an instance has no feasible flow, as the set shows of the nodes whose byte in `inside` isn't 0. The yes
+// has no value. If it is refused, as `x certificate 0 0 NotViolated`, there may be no flow all the same, by another
+// set.
 inline Answer<Judged, Refused> judge_infeasible(const MinInstance &instance, Marks inside) {
     const dimacs_min arrays = detail::arrays(instance);
     detail::TextRoom line;
@@ -830,8 +832,8 @@ inline Answer<Judged, Refused> judge_infeasible(const MinInstance &instance, Mar
     return Judged{};
 }
 
-// Judges that the distances from the source, by node, are the least weights of walks, as the predecessors show, by node. The
-// yes has no value. Refused for the first test that fails.
+// Judges that the distances from the source, by node, are the least weights of walks, as the predecessors show, by
+// node. The yes has no value. Refused for the first test that fails.
 inline Answer<Judged, Refused> judge_paths(const Graph &graph, std::uint32_t source, Numbers distances,
                                            Nodes predecessors) {
     const dimacs_graph arrays = detail::arrays(graph);
@@ -844,10 +846,11 @@ inline Answer<Judged, Refused> judge_paths(const Graph &graph, std::uint32_t sou
     return Judged{};
 }
 
-// Decides whether a flow, by arc, is maximum: a cut by which judge_max says yes; NotOptimal, which has a feasible flow of
-// greater value, where it is feasible and isn't maximum; Refused where it isn't feasible. The time that it takes isn't
+// Decides whether a flow, by arc, is maximum: a cut by which judge_max says yes; NotOptimal, which has a feasible flow
+// of greater value, if it is feasible and isn't maximum; Refused if it isn't feasible. The time that it takes isn't
 // bounded by the number of arcs.
-inline Answer<CertifiedMax<Inside>, NotOptimal<Flows>, Refused> certify_max(const MaxInstance &instance, Numbers flows) {
+inline Answer<CertifiedMax<Inside>, NotOptimal<Flows>, Refused> certify_max(const MaxInstance &instance,
+                                                                            Numbers flows) {
     const dimacs_max arrays = detail::arrays(instance);
     detail::TextRoom line;
     detail::Room<std::uint8_t> inside(detail::room_for(instance.nodes));
@@ -862,8 +865,8 @@ inline Answer<CertifiedMax<Inside>, NotOptimal<Flows>, Refused> certify_max(cons
     return no;
 }
 
-// Decides whether a flow, by arc, costs least: potentials by which judge_min says yes, or GaveUp where those that were found
-// don't fit in 64 bits; NotOptimal, which has a feasible flow that costs less; Refused where it isn't feasible.
+// Decides whether a flow, by arc, costs least: potentials by which judge_min says yes, or GaveUp if those that were
+// found don't fit in 64 bits; NotOptimal, which has a feasible flow that costs less; Refused if it isn't feasible.
 inline Answer<CertifiedMin<Potentials>, NotOptimal<Flows>, GaveUp, Refused> certify_min(const MinInstance &instance,
                                                                                         Numbers flows) {
     const dimacs_min arrays = detail::arrays(instance);
@@ -880,8 +883,8 @@ inline Answer<CertifiedMin<Potentials>, NotOptimal<Flows>, GaveUp, Refused> cert
     return no;
 }
 
-// Decides whether an instance has no feasible flow: a set by which judge_infeasible says yes; Feasible, which has a feasible
-// flow, where there is one. The time that it takes isn't bounded by the number of arcs.
+// Decides whether an instance has no feasible flow: a set by which judge_infeasible says yes; Feasible, which has a
+// feasible flow, if there is one. The time that it takes isn't bounded by the number of arcs.
 inline Answer<CertifiedInfeasible<Inside>, Feasible<Flows>> certify_infeasible(const MinInstance &instance) {
     const dimacs_min arrays = detail::arrays(instance);
     detail::TextRoom line;
@@ -893,8 +896,8 @@ inline Answer<CertifiedInfeasible<Inside>, Feasible<Flows>> certify_infeasible(c
     return Feasible<Flows>{flows.take()};
 }
 
-// Decides whether the distances from the source, by node, are the least weights of walks, in time by the number of arcs and
-// nodes: predecessors by which judge_paths says yes; Refused for the first test that fails.
+// Decides whether the distances from the source, by node, are the least weights of walks, in time by the number of arcs
+// and nodes: predecessors by which judge_paths says yes; Refused for the first test that fails.
 inline Answer<CertifiedPaths<Predecessors>, Refused> certify_paths(const Graph &graph, std::uint32_t source,
                                                                    Numbers distances) {
     const dimacs_graph arrays = detail::arrays(graph);
@@ -909,7 +912,8 @@ inline Answer<CertifiedPaths<Predecessors>, Refused> certify_paths(const Graph &
 }
 
 // Makes a maximum flow, and a cut by which judge_max says yes. GaveUp after `limit` flows that aren't maximum.
-inline Answer<SolvedMax<Flows, Inside>, GaveUp> solve_max(const MaxInstance &instance, std::uint64_t limit = default_limit) {
+inline Answer<SolvedMax<Flows, Inside>, GaveUp> solve_max(const MaxInstance &instance,
+                                                          std::uint64_t limit = default_limit) {
     const dimacs_max arrays = detail::arrays(instance);
     detail::TextRoom line;
     detail::Room<std::int64_t> flows(instance.tails.size());
@@ -921,7 +925,7 @@ inline Answer<SolvedMax<Flows, Inside>, GaveUp> solve_max(const MaxInstance &ins
 }
 
 // Makes a flow of least cost, and potentials by which judge_min says yes. Infeasible, which has a set by which
-// judge_infeasible says yes, where no flow is feasible; GaveUp after `limit` steps to better flows, or where the least cost
+// judge_infeasible says yes, if no flow is feasible; GaveUp after `limit` steps to better flows, or if the least cost
 // or the potentials are out of range.
 inline Answer<SolvedMin<Flows, Potentials>, Infeasible<Inside>, GaveUp> solve_min(const MinInstance &instance,
                                                                                   std::uint64_t limit = default_limit) {
@@ -936,8 +940,8 @@ inline Answer<SolvedMin<Flows, Potentials>, Infeasible<Inside>, GaveUp> solve_mi
     return SolvedMin<Flows, Potentials>{detail::value_of(line.text()), flows.take(), potentials.take()};
 }
 
-// Makes distances from the source, and predecessors by which judge_paths says yes. Refused for the first arc of negative
-// weight; GaveUp where a distance is 2^63 - 1 or more.
+// Makes distances from the source, and predecessors by which judge_paths says yes. Refused for the first arc of
+// negative weight; GaveUp if a distance is 2^63 - 1 or more.
 inline Answer<SolvedPaths, GaveUp, Refused> solve_paths(const Graph &graph, std::uint32_t source) {
     const dimacs_graph arrays = detail::arrays(graph);
     detail::TextRoom line;
@@ -952,9 +956,15 @@ inline Answer<SolvedPaths, GaveUp, Refused> solve_paths(const Graph &graph, std:
 
 // ---- Graphs of other libraries ----
 //
-// An index of a graph has its arcs as arrays, and for each number of an arc or a node the library's own.
+// An index of a graph has its arcs as arrays, and for each number of an arc or a node the library's own. If a number is
+// past its limit, calls over graphs throw PastLimitAt, which has that arc or node.
 
 namespace detail {
+
+// A number of nodes. One with more than 32 bits is past its limit too.
+inline std::uint32_t node_count(std::size_t count) noexcept {
+    return static_cast<std::uint32_t>(std::min<std::size_t>(count, std::numeric_limits<std::uint32_t>::max()));
+}
 
 // A number of a map. Those that aren't whole aren't judged, and don't compile.
 template <class Number>
@@ -995,7 +1005,8 @@ MaxInstance max_over(const Index &index, std::uint32_t source, std::uint32_t sin
 }
 
 template <class Index>
-using CertifiedMaxOver = Answer<CertifiedMax<typename Index::Marked>, NotOptimal<typename Index::Flow>, RefusedOver<Index>>;
+using CertifiedMaxOver =
+    Answer<CertifiedMax<typename Index::Marked>, NotOptimal<typename Index::Flow>, RefusedOver<Index>>;
 
 template <class Index>
 CertifiedMaxOver<Index> certify_max_over(const Index &index, const MaxInstance &instance, Numbers flows) {
@@ -1008,8 +1019,8 @@ CertifiedMaxOver<Index> certify_max_over(const Index &index, const MaxInstance &
 }
 
 template <class Index>
-using CertifiedMinOver = Answer<CertifiedMin<typename Index::Potential>, NotOptimal<typename Index::Flow>, GaveUp,
-                                RefusedOver<Index>>;
+using CertifiedMinOver =
+    Answer<CertifiedMin<typename Index::Potential>, NotOptimal<typename Index::Flow>, GaveUp, RefusedOver<Index>>;
 
 template <class Index>
 CertifiedMinOver<Index> certify_min_over(const Index &index, const MinInstance &instance, Numbers flows) {
@@ -1050,7 +1061,8 @@ template <class Index>
 using CertifiedPathsOver = Answer<Judged, RefusedOver<Index>>;
 
 template <class Index>
-CertifiedPathsOver<Index> certify_paths_over(const Index &index, std::uint32_t source, Numbers weights, Numbers distances) {
+CertifiedPathsOver<Index> certify_paths_over(const Index &index, std::uint32_t source, Numbers weights,
+                                             Numbers distances) {
     const Graph graph{index.size(), index.tails(), index.heads(), weights};
     const auto answer = over(index, [&] { return certify_paths(graph, source, distances); });
     if (answer) return Judged{};
@@ -1059,9 +1071,9 @@ CertifiedPathsOver<Index> certify_paths_over(const Index &index, std::uint32_t s
 
 }  // namespace detail
 
-// Over the graphs and maps of LEMON. Flows, bounds, costs and lengths are maps by arc, supplies and potentials by node, of
-// whatever type LEMON reads; their values have to be integers. Of an undirected graph each edge is two arcs, as LEMON has
-// it. What is handed out are maps too, and refers to the graph.
+// Over the graphs and maps of LEMON. Flows, bounds, costs and lengths are maps by arc, supplies and potentials by node,
+// of whatever type LEMON reads; their values have to be integers. Of an undirected graph each edge is two arcs, as
+// LEMON has it. What is handed out are maps too, and refers to the graph.
 namespace lemon {
 
 // Numbers by node or by arc, by the graph's IDs, that LEMON reads as a map.
@@ -1105,7 +1117,7 @@ class Index {
         }
     }
 
-    std::uint32_t size() const { return static_cast<std::uint32_t>(nodes_.size()); }
+    std::uint32_t size() const { return detail::node_count(nodes_.size()); }
     std::uint32_t number(const Node &node) const { return numbers_[static_cast<std::size_t>(graph_->id(node))]; }
     const std::vector<Node> &nodes() const { return nodes_; }
     const std::vector<Arc> &arcs() const { return arcs_; }
@@ -1129,7 +1141,7 @@ class Index {
         return marks;
     }
 
-    // LEMON adds the potential of the tail to a cost, where here it is taken away; none where that doesn't fit in 64 bits.
+    // LEMON adds the potential of the tail to a cost, where here it is taken away; none if that doesn't fit in 64 bits.
     static std::optional<std::vector<std::int64_t>> turned(std::vector<std::int64_t> potentials) {
         const auto least = std::numeric_limits<std::int64_t>::min(), most = std::numeric_limits<std::int64_t>::max();
         const auto has = [&](std::int64_t it) {
@@ -1173,8 +1185,11 @@ template <class G>
 struct MinArrays {
     template <class Lower, class Upper, class Cost, class Supply>
     MinArrays(const G &graph, const Lower &lower, const Upper &upper, const Cost &cost, const Supply &supply)
-        : index(graph), lows(index.of(index.arcs(), lower)), caps(index.of(index.arcs(), upper)),
-          costs(index.of(index.arcs(), cost)), supplies(index.of(index.nodes(), supply)) {}
+        : index(graph),
+          lows(index.of(index.arcs(), lower)),
+          caps(index.of(index.arcs(), upper)),
+          costs(index.of(index.arcs(), cost)),
+          supplies(index.of(index.nodes(), supply)) {}
 
     MinInstance instance() const { return {index.size(), index.tails(), index.heads(), lows, caps, costs, supplies}; }
 
@@ -1182,14 +1197,16 @@ struct MinArrays {
     std::vector<std::int64_t> lows, caps, costs, supplies;
 };
 
-// Decides whether a flow, as Preflow's flowMap() is one, is maximum: a cut, as minCutMap fills in one; NotOptimal, which has
-// a better flow; RefusedAt the arc that carries too much or less than 0, or the node that keeps or loses some.
+// Decides whether a flow, as Preflow's flowMap() is one, is maximum: a cut, as minCutMap fills in one; NotOptimal,
+// which has a better flow; RefusedAt the arc that carries too much or less than 0, or the node that keeps or loses
+// some.
 template <class G, class Capacity, class Flow>
 detail::CertifiedMaxOver<Index<G>> certify_max(const G &graph, const Capacity &capacity, typename G::Node source,
                                                typename G::Node target, const Flow &flow) {
     const Index<G> index(graph);
     const auto caps = index.of(index.arcs(), capacity), flows = index.of(index.arcs(), flow);
-    return detail::certify_max_over(index, detail::max_over(index, index.number(source), index.number(target), caps), flows);
+    return detail::certify_max_over(index, detail::max_over(index, index.number(source), index.number(target), caps),
+                                    flows);
 }
 
 // Judges that a flow is maximum, as a cut shows, a map by node that is true on the source's side.
@@ -1202,9 +1219,9 @@ detail::JudgedOver<Index<G>> judge_max(const G &graph, const Capacity &capacity,
     return detail::judge_over(index, [&] { return dimacs::judge_max(instance, flows, index.marks(cut)); });
 }
 
-// Decides whether a flow, as NetworkSimplex' flowMap fills in one, costs least: potentials, as its potentialMap fills in;
-// NotOptimal, which has a flow that costs less; RefusedAt as certify_max. What leaves a node less what enters it has to be
-// its supply: the sum of supplies is 0.
+// Decides whether a flow, as NetworkSimplex' flowMap fills in one, costs least: potentials, as its potentialMap fills
+// in; NotOptimal, which has a flow that costs less; RefusedAt as certify_max. What leaves a node less what enters it
+// has to be its supply: the sum of supplies is 0.
 template <class G, class Lower, class Upper, class Cost, class Supply, class Flow>
 detail::CertifiedMinOver<Index<G>> certify_min(const G &graph, const Lower &lower, const Upper &upper, const Cost &cost,
                                                const Supply &supply, const Flow &flow) {
@@ -1213,8 +1230,8 @@ detail::CertifiedMinOver<Index<G>> certify_min(const G &graph, const Lower &lowe
     return detail::certify_min_over(arrays.index, arrays.instance(), flows);
 }
 
-// Decides whether no flow is feasible, as NetworkSimplex answers INFEASIBLE: a set of nodes whose supply can't be met, true in
-// the map; Feasible, which has a feasible flow.
+// Decides whether no flow is feasible, as NetworkSimplex answers INFEASIBLE: a set of nodes whose supply can't be met,
+// true in the map; Feasible, which has a feasible flow.
 template <class G, class Lower, class Upper, class Supply>
 detail::CertifiedInfeasibleOver<Index<G>> certify_infeasible(const G &graph, const Lower &lower, const Upper &upper,
                                                              const Supply &supply) {
@@ -1226,8 +1243,9 @@ detail::CertifiedInfeasibleOver<Index<G>> certify_infeasible(const G &graph, con
     return detail::certify_infeasible_over(index, instance);
 }
 
-// Judges that a flow costs least, as LEMON's potentials show: an arc's reduced cost is its cost, with the potential of its
-// source, less that of its target. Throws std::out_of_range for potentials that don't fit in 64 bits with the other sign.
+// Judges that a flow costs least, as LEMON's potentials show: an arc's reduced cost is its cost, with the potential of
+// its source, less that of its target. Throws std::out_of_range for potentials that don't fit in 64 bits with the other
+// sign.
 template <class G, class Lower, class Upper, class Cost, class Supply, class Flow, class Potential>
 detail::JudgedOver<Index<G>> judge_min(const G &graph, const Lower &lower, const Upper &upper, const Cost &cost,
                                        const Supply &supply, const Flow &flow, const Potential &potential) {
@@ -1239,8 +1257,9 @@ detail::JudgedOver<Index<G>> judge_min(const G &graph, const Lower &lower, const
     return detail::judge_over(index, [&] { return dimacs::judge_min(arrays.instance(), flows, *potentials); });
 }
 
-// Decides whether the distances that a search found, as Dijkstra, BellmanFord or Bfs with the lengths 1, are right: reached(v)
-// whether there is a walk to v, and dist(v) its length. RefusedAt the arc or the node that shows that they aren't.
+// Decides whether the distances that a search found, as Dijkstra, BellmanFord or Bfs with the lengths 1, are right:
+// reached(v) is whether there is a walk to v, and dist(v) its length. RefusedAt the arc or the node that shows that
+// they aren't.
 template <class G, class Length, class Search>
 detail::CertifiedPathsOver<Index<G>> certify_paths(const G &graph, const Length &length, typename G::Node source,
                                                    const Search &search) {
@@ -1256,19 +1275,20 @@ detail::CertifiedPathsOver<Index<G>> certify_paths(const G &graph, const Length 
 
 }  // namespace lemon
 
-// Over the graphs and property maps of Boost, for graphs whose edges() can be gone over. What is handed out doesn't refer to
-// the graph.
+// Over the graphs and property maps of Boost, for graphs whose edges() can be gone over. What is handed out doesn't
+// refer to the graph.
 namespace boost {
 
 namespace detail {
 
-// The number of each vertex, by the vertex itself where it is a number, else by a map.
+// The number of each vertex, by the vertex itself if it is a number, else by a map.
 template <class Vertex>
 class Numbering {
   public:
     void add(const Vertex &vertex, std::uint32_t number) {
         if constexpr (std::is_integral_v<Vertex>) {
-            if (static_cast<std::size_t>(vertex) >= numbers_.size()) numbers_.resize(static_cast<std::size_t>(vertex) + 1);
+            if (static_cast<std::size_t>(vertex) >= numbers_.size())
+                numbers_.resize(static_cast<std::size_t>(vertex) + 1);
             numbers_[static_cast<std::size_t>(vertex)] = number;
         } else {
             numbers_[vertex] = number;
@@ -1284,7 +1304,8 @@ class Numbering {
     }
 
   private:
-    std::conditional_t<std::is_integral_v<Vertex>, std::vector<std::uint32_t>, std::map<Vertex, std::uint32_t>> numbers_;
+    std::conditional_t<std::is_integral_v<Vertex>, std::vector<std::uint32_t>, std::map<Vertex, std::uint32_t>>
+        numbers_;
 };
 
 // The value of a property map, which may be a pointer.
@@ -1323,8 +1344,8 @@ class VertexMap {
     std::vector<Number> numbers_;
 };
 
-// The edges and vertices of a graph, in the order in which Boost goes over them. Of an undirected graph each edge is an arc
-// from its source to its target, and then one back.
+// The edges and vertices of a graph, in the order in which Boost goes over them. Of an undirected graph each edge is an
+// arc from its source to its target, and then one back.
 template <class G>
 class Index {
   public:
@@ -1348,7 +1369,7 @@ class Index {
         }
     }
 
-    std::uint32_t size() const { return static_cast<std::uint32_t>(nodes_.size()); }
+    std::uint32_t size() const { return dimacs::detail::node_count(nodes_.size()); }
     std::uint32_t number(const Node &node) const { return (*numbering_)[node]; }
     const std::vector<Node> &nodes() const { return nodes_; }
     const std::vector<Arc> &arcs() const { return arcs_; }
@@ -1397,9 +1418,9 @@ inline std::int64_t narrow(Wide number) {
     return it;
 }
 
-// What each edge carries: its capacity less its residual capacity, and nothing where that is below 0, as it is on the reverse
-// of an edge that carries some. The residual capacity of a reverse edge isn't compared with that of its edge: Boost has
-// searches that leave some as they were.
+// What each edge carries: its capacity less its residual capacity, and nothing if that is below 0, as it is on the
+// reverse of an edge that carries some. The residual capacity of a reverse edge isn't compared with that of its edge:
+// Boost has searches that leave some as they were.
 template <class G, class Capacity, class Residual>
 std::vector<std::int64_t> flows_of(const Index<G> &index, const Capacity &capacity, const Residual &residual) {
     std::vector<std::int64_t> flows;
@@ -1423,14 +1444,14 @@ std::int64_t net(const Index<G> &index, std::uint32_t node, const std::vector<st
 
 }  // namespace detail
 
-// Decides whether the flow that a search left in `residual` is maximum, as push_relabel_max_flow and its like do, whose maps
-// these are: an edge carries its capacity less its residual capacity, or nothing where that is below 0. A cut; NotOptimal,
-// which has a better flow, by edge; RefusedAt an edge that carries more than its capacity, or a vertex that keeps or loses
-// some. Throws std::out_of_range where an edge would carry more than 64 bits.
+// Decides whether the flow that a search left in `residual` is maximum, as push_relabel_max_flow and its like do, whose
+// maps these are: an edge carries its capacity less its residual capacity, or nothing if that is below 0. A cut;
+// NotOptimal, which has a better flow, by edge; RefusedAt an edge that carries more than its capacity, or a vertex that
+// keeps or loses some. Throws std::out_of_range if an edge would carry more than 64 bits.
 template <class G, class Capacity, class Residual>
 dimacs::detail::CertifiedMaxOver<Index<G>> certify_max(const G &graph, const typename Index<G>::Node &source_vertex,
-                                                       const typename Index<G>::Node &target_vertex, const Capacity &capacity,
-                                                       const Residual &residual) {
+                                                       const typename Index<G>::Node &target_vertex,
+                                                       const Capacity &capacity, const Residual &residual) {
     const Index<G> index(graph);
     const auto caps = index.of(capacity), flows = detail::flows_of(index, capacity, residual);
     const auto from = index.number(source_vertex), to = index.number(target_vertex);
@@ -1438,12 +1459,13 @@ dimacs::detail::CertifiedMaxOver<Index<G>> certify_max(const G &graph, const typ
 }
 
 // Decides whether that flow costs least of all flows of its value, as successive_shortest_path_nonnegative_weights and
-// cycle_canceling are to make one: potentials, by which the reduced cost of an edge is its weight, less the potential of its
-// source, and with that of its target; else as certify_max.
+// cycle_canceling are to make one: potentials, by which the reduced cost of an edge is its weight, less the potential
+// of its source, and with that of its target; else as certify_max.
 template <class G, class Capacity, class Residual, class Weight>
 dimacs::detail::CertifiedMinOver<Index<G>> certify_min(const G &graph, const typename Index<G>::Node &source_vertex,
-                                                       const typename Index<G>::Node &target_vertex, const Capacity &capacity,
-                                                       const Residual &residual, const Weight &weight) {
+                                                       const typename Index<G>::Node &target_vertex,
+                                                       const Capacity &capacity, const Residual &residual,
+                                                       const Weight &weight) {
     const Index<G> index(graph);
     const auto caps = index.of(capacity), costs = index.of(weight), flows = detail::flows_of(index, capacity, residual);
     const std::vector<std::int64_t> lows(flows.size());
@@ -1456,12 +1478,12 @@ dimacs::detail::CertifiedMinOver<Index<G>> certify_min(const G &graph, const typ
     return dimacs::detail::certify_min_over(index, instance, flows);
 }
 
-// Decides whether distances, as dijkstra_shortest_paths and bellman_ford_shortest_paths leave them in a map, are right. The
-// greatest number of its type is the distance of a vertex that isn't reached. RefusedAt the edge or the vertex that shows
-// that they aren't.
+// Decides whether distances, as dijkstra_shortest_paths and bellman_ford_shortest_paths leave them in a map, are right.
+// The greatest number of its type is the distance of a vertex that isn't reached. RefusedAt the edge or the vertex that
+// shows that they aren't.
 template <class G, class Weight, class Distance>
-dimacs::detail::CertifiedPathsOver<Index<G>> certify_paths(const G &graph, const typename Index<G>::Node &source_vertex, const Weight &weight,
-                                                           const Distance &distance) {
+dimacs::detail::CertifiedPathsOver<Index<G>> certify_paths(const G &graph, const typename Index<G>::Node &source_vertex,
+                                                           const Weight &weight, const Distance &distance) {
     const Index<G> index(graph);
     std::vector<std::int64_t> distances;
     for (const auto &it : index.nodes()) {

@@ -2,10 +2,12 @@
 #include "check.h"
 #include "dimacs.hpp"
 #include <boost/graph/adjacency_list.hpp>
+#include <boost/graph/bellman_ford_shortest_paths.hpp>
 #include <boost/graph/boykov_kolmogorov_max_flow.hpp>
 #include <boost/graph/compressed_sparse_row_graph.hpp>
 #include <boost/graph/cycle_canceling.hpp>
 #include <boost/graph/dijkstra_shortest_paths.hpp>
+#include <boost/graph/edmonds_karp_max_flow.hpp>
 #include <boost/graph/push_relabel_max_flow.hpp>
 #include <boost/graph/successive_shortest_path_nonnegative_weights.hpp>
 #include <climits>
@@ -62,14 +64,22 @@ static long send_by_augmenting(Graph &graph, Vertex from, Vertex to) {
 
 static void maximum_flow(Graph &graph) {
     const Vertex from = 0, to = NODES / 2;
-    const long value = boost::push_relabel_max_flow(
-        graph, from, to, get(&Street::capacity, graph), get(&Street::residual, graph), get(&Street::reverse, graph),
-        get(boost::vertex_index, graph));
+    const long value =
+        boost::push_relabel_max_flow(graph, from, to, get(&Street::capacity, graph), get(&Street::residual, graph),
+                                     get(&Street::reverse, graph), get(boost::vertex_index, graph));
     const auto yes = certify_max(graph, from, to);
     check_that("push_relabel_max_flow's flow", yes && yes->value == value && value > 0);
     check_that("by a cut", yes->inside[from] && !get(yes->inside, to));
     const long again = send_by_augmenting(graph, from, to);
     check_that("boykov_kolmogorov_max_flow's flow", certify_max(graph, from, to)->value == again && again == value);
+
+    boost::edmonds_karp_max_flow(graph, from, to,
+                                 boost::capacity_map(get(&Street::capacity, graph))
+                                     .residual_capacity_map(get(&Street::residual, graph))
+                                     .reverse_edge_map(get(&Street::reverse, graph))
+                                     .color_map(get(&Place::color, graph))
+                                     .predecessor_map(get(&Place::before, graph)));
+    check_that("edmonds_karp_max_flow's flow", certify_max(graph, from, to)->value == value);
 
     Edge full = *edges(graph).first;
     for (auto range = edges(graph); range.first != range.second; ++range.first) {
@@ -127,15 +137,14 @@ static auto certify_min(const Graph &graph, Vertex from, Vertex to) {
 
 static void least_cost(Graph &graph) {
     const Vertex from = 0, to = FEW_NODES / 2;
-    boost::successive_shortest_path_nonnegative_weights(
-        graph, from, to,
-        boost::capacity_map(get(&Street::capacity, graph))
-            .residual_capacity_map(get(&Street::residual, graph))
-            .weight_map(get(&Street::weight, graph))
-            .reverse_edge_map(get(&Street::reverse, graph))
-            .predecessor_map(get(&Place::before, graph))
-            .distance_map(get(&Place::far, graph))
-            .distance_map2(get(&Place::other, graph)));
+    boost::successive_shortest_path_nonnegative_weights(graph, from, to,
+                                                        boost::capacity_map(get(&Street::capacity, graph))
+                                                            .residual_capacity_map(get(&Street::residual, graph))
+                                                            .weight_map(get(&Street::weight, graph))
+                                                            .reverse_edge_map(get(&Street::reverse, graph))
+                                                            .predecessor_map(get(&Place::before, graph))
+                                                            .distance_map(get(&Place::far, graph))
+                                                            .distance_map2(get(&Place::other, graph)));
     const auto yes = certify_min(graph, from, to);
     check_that("successive_shortest_path's flow", yes && yes->cost != 0);
     check_that("which is maximum too", certify_max(graph, from, to).has_value());
@@ -172,14 +181,19 @@ static void distances(const Graph &graph) {
     check_that("dijkstra_shortest_paths' distances, of a vertex without any too", certify().has_value());
     check_that("a pointer as a map",
                dimacs::boost::certify_paths(roads, 7, get(&Street::weight, roads), far.data()).has_value());
+    boost::bellman_ford_shortest_paths(
+        roads, NODES + 1,
+        boost::weight_map(get(&Street::weight, roads)).distance_map(by_vertex).root_vertex(Csr::vertex_descriptor(7)));
+    check_that("bellman_ford_shortest_paths' distances", certify().has_value());
     far[8] -= 1;
     check_that("a distance less 1", !certify());
 }
 
 /* Vertices that are no numbers, and edges without a direction. */
 static void other_graphs() {
-    using Listed = boost::adjacency_list<boost::listS, boost::listS, boost::undirectedS, boost::property<boost::vertex_index_t, int>,
-                                         boost::property<boost::edge_weight_t, int>>;
+    using Listed =
+        boost::adjacency_list<boost::listS, boost::listS, boost::undirectedS,
+                              boost::property<boost::vertex_index_t, int>, boost::property<boost::edge_weight_t, int>>;
     Listed graph;
     const auto one = add_vertex(0, graph), other = add_vertex(1, graph), third = add_vertex(2, graph);
     add_edge(other, one, 4, graph);
@@ -187,8 +201,9 @@ static void other_graphs() {
     std::map<Listed::vertex_descriptor, int> far;
     boost::dijkstra_shortest_paths(graph, one, boost::distance_map(boost::make_assoc_property_map(far)));
     const auto weight = get(boost::edge_weight, graph);
-    check_that("edges without a direction", far[third] == 9 && dimacs::boost::certify_paths(graph, one, weight,
-                                                                                          boost::make_assoc_property_map(far)));
+    check_that(
+        "edges without a direction",
+        far[third] == 9 && dimacs::boost::certify_paths(graph, one, weight, boost::make_assoc_property_map(far)));
     far[third] = 10;
     const auto no = dimacs::boost::certify_paths(graph, one, weight, boost::make_assoc_property_map(far));
     check_that("refused at an edge", !no && no.message() == "arc: NotShortest");

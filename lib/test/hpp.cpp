@@ -62,12 +62,12 @@ static void judges_texts() {
     const auto answer = dimacs::judge_paths(graph, pairs, dist);
     check_that("two pairs", answer && answer->sources == 0 && answer->pairs.size() == 2);
     const dimacs::Pair &near = answer->pairs[0], &far = answer->pairs[1];
-    check_that("a distance", near.source == 1 && near.target == 2 && near.kind == dimacs::Pair::Kind::distance &&
-                                 near.number == 5);
+    check_that("a distance",
+               near.source == 1 && near.target == 2 && near.kind == dimacs::Pair::Kind::distance && near.number == 5);
     check_that("no walk", far.target == 4 && far.kind == dimacs::Pair::Kind::unreachable);
     const auto beyond = dimacs::judge_paths(graph, "p aux sp p2p 1\nq 1 2\n", "p dist 4 1\nt 1 0 4\n");
-    check_that("beyond a radius", beyond && beyond->pairs[0].kind == dimacs::Pair::Kind::beyond &&
-                                      beyond->pairs[0].number == 4);
+    check_that("beyond a radius",
+               beyond && beyond->pairs[0].kind == dimacs::Pair::Kind::beyond && beyond->pairs[0].number == 4);
     const auto none = dimacs::judge_max("", "", "");
     is("an empty text", none.message(), "x instance 1 0 ProblemMissing");
     const auto fault = dimacs::judge_max(max, "s six\n", cut);
@@ -105,7 +105,8 @@ static void certifies_texts() {
 
 static void certifies_whole_claims() {
     const auto none = dimacs::certify_infeasible(surplus);
-    check_that("no feasible flow in a text", none && none->inside == both && dimacs::judge_infeasible(surplus, none->inside));
+    check_that("no feasible flow in a text",
+               none && none->inside == both && dimacs::judge_infeasible(surplus, none->inside));
     const auto one = dimacs::certify_infeasible(min);
     const auto *flow_of = one.get_if<dimacs::FeasibleText>();
     check_that("a feasible flow in a text", flow_of && flow_of->flow && one.message() == "x instance 0 0 Feasible");
@@ -113,7 +114,8 @@ static void certifies_whole_claims() {
     is("a fault", dimacs::certify_infeasible(max).message(), "x instance 1 2 BadWord");
     const auto far = dimacs::certify_paths(graph, "p distances 4 1\nt 1 1\nd 2 5\n");
     check_that("distances in a text", far && far->sources == 1 && far->labels == dist);
-    is("a distance less 1", dimacs::certify_paths(graph, "p distances 4 1\nt 1 1\nd 2 4\n").message(), "x node 2 NoTightArc");
+    is("a distance less 1", dimacs::certify_paths(graph, "p distances 4 1\nt 1 1\nd 2 4\n").message(),
+       "x node 2 NoTightArc");
     is("a fault of distances", dimacs::certify_paths(graph, "p distances 4 1\nt 1 x\n").message(),
        "x distances 2 3 BadNumber");
 }
@@ -123,7 +125,8 @@ static void solves_texts() {
     check_that("a maximum flow", most && most->value == 6 && dimacs::judge_max(max, most->solution, most->certificate));
     check_that("no flow is asked about", dimacs::solve_max(max, 0).get_if<dimacs::GaveUp>() != nullptr);
     const auto cheap = dimacs::solve_min(min);
-    check_that("least cost", cheap && cheap->value == 14 && dimacs::judge_min(min, cheap->solution, cheap->certificate));
+    check_that("least cost",
+               cheap && cheap->value == 14 && dimacs::judge_min(min, cheap->solution, cheap->certificate));
     const auto none = dimacs::solve_min(surplus);
     const auto *set = none.get_if<dimacs::Infeasible<std::string>>();
     check_that("no feasible flow", set && set->inside == both && none.message() == "v infeasible");
@@ -132,7 +135,8 @@ static void solves_texts() {
     const auto found = dimacs::solve_paths(graph, pairs);
     check_that("paths", found && found->labels == dist && found->pairs.size() == 2 && found->pairs[0].number == 5);
     check_that("all paths", dimacs::solve_paths(graph, source)->sources == 1);
-    is("a weight below 0", dimacs::solve_paths("p sp 2 2\na 1 2 0\na 2 1 -1\n", source).message(), "x arc 2 NegativeWeight");
+    is("a weight below 0", dimacs::solve_paths("p sp 2 2\na 1 2 0\na 2 1 -1\n", source).message(),
+       "x arc 2 NegativeWeight");
 }
 
 static void makes_texts() {
@@ -184,13 +188,36 @@ static void misuses() {
     throws_length("fewer potentials", [&] { return dimacs::judge_min(shipping, flows, Amounts(3)); });
     throws_length("fewer distances", [&] { return dimacs::certify_paths({4, tails, heads, caps}, 1, Amounts(3)); });
     throws_length("no kind", [&] { return dimacs::convert(static_cast<Text>(99), max); });
-    throws_limit("a head", [&] { return dimacs::solve_max({3, 1, 3, tails, heads, caps}); }, "x arc 4 NodeRange");
-    throws_limit("the sink", [&] { return dimacs::certify_max({4, 1, 1, tails, heads, caps}, flows); }, "x node 1 NodeTwice");
-    throws_limit("too many nodes", [&] { return dimacs::solve_max({UINT32_MAX, 1, 2, {}, {}, {}}); },
-                 "x node 134217729 NumberRange");
-    throws_limit("bounds", [&] { return dimacs::solve_min({4, tails, heads, caps, lows, costs, supplies}); },
-                 "x arc 1 BoundOrder");
-    throws_limit("no source", [&] { return dimacs::solve_paths({4, tails, heads, caps}, 5); }, "x node 5 NodeRange");
+    throws_limit(
+        "a head",
+        [&] {
+            return dimacs::solve_max({3, 1, 3, tails, heads, caps});
+        },
+        "x arc 4 NodeRange");
+    throws_limit(
+        "the sink",
+        [&] {
+            return dimacs::certify_max({4, 1, 1, tails, heads, caps}, flows);
+        },
+        "x node 1 NodeTwice");
+    throws_limit(
+        "too many nodes",
+        [&] {
+            return dimacs::solve_max({UINT32_MAX, 1, 2, {}, {}, {}});
+        },
+        "x node 134217729 NumberRange");
+    throws_limit(
+        "bounds",
+        [&] {
+            return dimacs::solve_min({4, tails, heads, caps, lows, costs, supplies});
+        },
+        "x arc 1 BoundOrder");
+    throws_limit(
+        "no source",
+        [&] {
+            return dimacs::solve_paths({4, tails, heads, caps}, 5);
+        },
+        "x node 5 NodeRange");
 }
 
 static void least_costs() {
@@ -212,7 +239,8 @@ static void least_costs() {
     const auto other = dimacs::certify_infeasible(shipping);
     const auto *feasible = other.get_if<dimacs::Feasible<Flows>>();
     check_that("a feasible flow", feasible && !dimacs::certify_min(shipping, feasible->flow).get_if<Refused>());
-    is("there is one", dimacs::judge_infeasible(shipping, Inside{1, 0, 0, 0}).message(), "x certificate 0 0 NotViolated");
+    is("there is one", dimacs::judge_infeasible(shipping, Inside{1, 0, 0, 0}).message(),
+       "x certificate 0 0 NotViolated");
     check_that("given up", dimacs::solve_min(shipping, 0).get_if<dimacs::GaveUp>() != nullptr);
     const Ids chain{1, 2, 3}, next{2, 3, 4};
     const Amounts one(3, 1), zero(3), ends{1, 0, 0, -1}, low{-INT64_MAX, -INT64_MAX, -INT64_MAX};
@@ -231,9 +259,11 @@ static void distances() {
     check_that("made", made && made->distances == right && made->predecessors[0] == 0);
     const auto alone = dimacs::solve_paths(roads, 4);
     check_that("none is reached", alone->distances[0] == dimacs::unreached);
-    is("a weight below 0", dimacs::solve_paths({2, Ids{1}, Ids{2}, Amounts{-1}}, 1).message(), "x arc 1 NegativeWeight");
-    check_that("a distance that doesn't fit", dimacs::solve_paths({3, Ids{1, 2}, Ids{2, 3}, Amounts{INT64_MAX, 1}}, 1)
-                                                      .get_if<dimacs::GaveUp>() != nullptr);
+    is("a weight below 0", dimacs::solve_paths({2, Ids{1}, Ids{2}, Amounts{-1}}, 1).message(),
+       "x arc 1 NegativeWeight");
+    check_that(
+        "a distance that doesn't fit",
+        dimacs::solve_paths({3, Ids{1, 2}, Ids{2, 3}, Amounts{INT64_MAX, 1}}, 1).get_if<dimacs::GaveUp>() != nullptr);
 }
 
 static void takes_what_has_items() {

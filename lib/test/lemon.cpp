@@ -2,6 +2,7 @@
 #include "check.h"
 #include "dimacs.hpp"
 #include <lemon/bellman_ford.h>
+#include <lemon/bfs.h>
 #include <lemon/dijkstra.h>
 #include <lemon/list_graph.h>
 #include <lemon/maps.h>
@@ -64,8 +65,8 @@ static void maximum_flow(const Graph &graph, const Numbers &capacity) {
                                          refused.message() == "arc: AboveCap");
     flow[full] = 0;
     const auto lost = dimacs::lemon::certify_max(graph, capacity, source, sink, flow);
-    check_that("a node that loses some", lost.get_if<Refused>() && lost.get_if<Refused>()->node &&
-                                             lost.message() == "node: Balance");
+    check_that("a node that loses some",
+               lost.get_if<Refused>() && lost.get_if<Refused>()->node && lost.message() == "node: Balance");
 }
 
 static void least_cost(const Graph &graph, const Numbers &capacity, const Numbers &cost) {
@@ -93,9 +94,11 @@ static void least_cost(const Graph &graph, const Numbers &capacity, const Number
     const auto no = dimacs::lemon::certify_min(graph, lower, capacity, cost, supply, flow);
     check_that("a unit more round the ring", no.get_if<Better>() && no.message() == "x solution 0 0 NotLeast");
     lemon::mapCopy(graph, no.get_if<Better>()->better, flow);
-    check_that("a flow that costs less", !dimacs::lemon::certify_min(graph, lower, capacity, cost, supply, flow).get_if<Refused>());
+    check_that("a flow that costs less",
+               !dimacs::lemon::certify_min(graph, lower, capacity, cost, supply, flow).get_if<Refused>());
     const auto some = dimacs::lemon::certify_infeasible(graph, lower, capacity, supply);
-    check_that("a feasible flow", some.get_if<dimacs::Feasible<dimacs::lemon::Map<Graph, Arc, std::int64_t>>>() != nullptr);
+    check_that("a feasible flow",
+               some.get_if<dimacs::Feasible<dimacs::lemon::Map<Graph, Arc, std::int64_t>>>() != nullptr);
     supply[graph.nodeFromId(3)] += 1;
     const auto none = dimacs::lemon::certify_infeasible(graph, lower, capacity, supply);
     check_that("supplies of 1 in all", none && none->inside[graph.nodeFromId(0)]);
@@ -137,6 +140,10 @@ static void distances(const Graph &graph, const Numbers &cost) {
     lemon::BellmanFord<Graph, Numbers> other(graph, cost);
     other.run(source);
     check_that("BellmanFord's distances", dimacs::lemon::certify_paths(graph, cost, source, other).has_value());
+    lemon::Bfs<Graph> steps(graph);
+    steps.run(source);
+    check_that("Bfs' distances",
+               dimacs::lemon::certify_paths(graph, lemon::ConstMap<Arc, int>(1), source, steps).has_value());
     const Spoiled<lemon::Dijkstra<Graph, Numbers>> spoiled{solver, graph.nodeFromId(8)};
     const auto no = dimacs::lemon::certify_paths(graph, cost, source, spoiled);
     check_that("a distance less 1", no.get_if<Refused>() && (no.get_if<Refused>()->arc || no.get_if<Refused>()->node));

@@ -43,7 +43,10 @@ static RUNS: [(&str, &str); 16] = [
         "spread-max INSTANCE SOLUTION OUT",
         "Spreads sums over parallel arcs",
     ),
-    ("spread-min INSTANCE SOLUTION OUT", "The same, at least cost"),
+    (
+        "spread-min INSTANCE SOLUTION OUT",
+        "The same, at least cost",
+    ),
     ("explain COMMAND FILE...", "Does it, and explains a refusal"),
 ];
 

@@ -29,9 +29,7 @@ pub extern "C" fn dimacs_certify(
         (handed shown.old shown.new shown_told.new ∷ handed out.old out.new told.new ∷ []) }
 {
     match certify_of(kind) {
-        Some(kind) => certify(
-            alloc, kind, instance, claim, out, told, shown, shown_told,
-        ),
+        Some(kind) => certify(alloc, kind, instance, claim, out, told, shown, shown_told),
         None => {
             misuse(shown_told);
             misuse(told)

@@ -1,13 +1,20 @@
 //! Whether claimed distances from several sources are true.
 
-ghost use Rattle.std.specs.Prelude.{◌≡◌};
+ghost use Rattle.std.specs.Prelude.{◌≡◌, IfOk, IfSome, OnOk};
+ghost use Rattle.dimacs_lines.specs.Limits.{IsNode};
+ghost use Rattle.dimacs_network.specs.Links.{AreLinksOf};
+ghost use Rattle.dimacs_network.specs.declared.links.Side.TheVariants.{Tail};
 ghost use Rattle.dimacs_decide.specs.CertifiedPaths.{CertifiesPaths};
+ghost use Rattle.dimacs_decide.specs.inside.DistanceBlocks.{DecidesBlock};
 
 use crate::block_claim::BlockClaim;
+use crate::claim::DistanceClaim;
 use crate::distances::decide_block;
-use dimacs_claims::{Distances, Labels};
+use crate::rising::rising_block;
+use dimacs_claims::{Block, Distances, Labels};
 use dimacs_instance::Graph;
 use dimacs_judge::JudgeError;
+use dimacs_lines::Memory;
 use dimacs_network::{Links, Network, Side};
 use std::alloc::Global;
 
@@ -24,14 +31,48 @@ pub fn certify_paths<N: Network>(
     ensures { CertifiesPaths graph.now distances.now.blocks result }
 {
     let network = graph.network();
-    let links = Links::new(alloc, network, Side::Tail)?;
+    let mut links = None;
     let mut labels = Labels::new(alloc, network.nodes());
     let blocks = distances.blocks();
     for i in 0..blocks.len() {
         let claimed = &blocks[i];
         let claim = BlockClaim::new(alloc, claimed)?;
-        let block = decide_block(alloc, graph, &links, claimed.source(), &claim)?;
+        let block = certify_block(alloc, graph, &mut links, claimed.source(), &claim)?;
         labels.push(block)?;
     }
     Ok(labels)
+}
+
+/// Decides a block: by one pass over the arcs where those of positive weight make all distances, else by a search over the
+/// arcs by their tails, which are linked for the first block that needs it.
+fn certify_block<N: Network, C: DistanceClaim>(
+    alloc: Global,
+    graph: &Graph<N>,
+    links: &mut Option<Links>,
+    source: u32,
+    claim: &C,
+) -> Result<Block, JudgeError>
+    requires source { IsNode graph.now.nodes source }
+    requires links { IfSome links.old (AreLinksOf Tail graph.now.arcs) }
+    ensures decides { DecidesBlock graph.now source (C.claimed claim.now) result }
+    ensures links { OnOk result (IfSome links.new (AreLinksOf Tail graph.now.arcs)) }
+{
+    if let Some(block) = rising_block(alloc, graph, source, claim)? {
+        return Ok(block);
+    }
+    let linked = linked(alloc, graph.network(), links.take())?;
+    let block = decide_block(alloc, graph, &linked, source, claim)?;
+    *links = Some(linked);
+    Ok(block)
+}
+
+/// The arcs by their tails, which are linked now if they weren't before.
+fn linked<N: Network>(alloc: Global, network: &N, links: Option<Links>) -> Result<Links, Memory>
+    requires { IfSome links (AreLinksOf Tail (N.list network.now)) }
+    ensures { IfOk result (AreLinksOf Tail (N.list network.now)) }
+{
+    match links {
+        Some(links) => Ok(links),
+        None => Links::new(alloc, network, Side::Tail),
+    }
 }

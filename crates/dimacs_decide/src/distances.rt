@@ -105,7 +105,7 @@ fn arcs_hold<N: Network, C: DistanceClaim>(network: &N, claim: &C) -> Result<(),
 
 /// Looks the head up only where something is claimed of the tail.
 #[inline(always)]
-fn arc_fault<C: DistanceClaim>(claim: &C, arc: ArcView) -> Option<Reason>
+pub(crate) fn arc_fault<C: DistanceClaim>(claim: &C, arc: ArcView) -> Option<Reason>
     ensures { TellsReason (RelaxFails None (C.claimed claim.now arc.tail) (C.claimed claim.now arc.head) arc.cost) result }
 {
     let from = claim.of(arc.tail)?;

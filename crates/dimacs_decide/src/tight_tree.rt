@@ -1,6 +1,6 @@
 //! The search over tight arcs: those whose weight leads from the distance that is claimed of the tail to that of the head.
 
-ghost use Rattle.std.specs.Prelude.{◌≡◌, ◌<◌, ◌≤◌, ◌+ℤ◌, ◌↔◌, IsTrue, All, length, true, Some, IfOk, IfSome, OnOk, MatchOption, pos};
+ghost use Rattle.std.specs.Prelude.{◌≡◌, ◌≢◌, ◌<◌, ◌≤◌, ◌+ℤ◌, ◌↔◌, IsTrue, All, length, false, true, Some, IfOk, IfSome, OnOk, MatchOption, pos};
 ghost use Rattle.dimacs_lines.specs.Limits.{most_nodes, IsNode};
 ghost use Rattle.dimacs_records.specs.Ranges.{IsWide};
 ghost use Rattle.dimacs_network.specs.Arcs.{JoinsNodes, arc_at};
@@ -8,7 +8,7 @@ ghost use Rattle.dimacs_network.specs.Links.{AreLinksOf};
 ghost use Rattle.dimacs_network.specs.declared.links.Side.TheVariants.{Tail};
 ghost use Rattle.dimacs_nodes.specs.Tables.{value_of};
 ghost use Rattle.dimacs_decide.specs.Distances.{IsTight};
-ghost use Rattle.dimacs_decide.specs.inside.TightTrees.{IsPassed, IsTightTree, IsWholeTightTree, TreeGrows, node_at};
+ghost use Rattle.dimacs_decide.specs.inside.TightTrees.{AreTightTails, IsPassed, IsTightTree, IsWholeTightTree, TreeGrows, node_at};
 
 use crate::claim::DistanceClaim;
 use dimacs_claims::{Block, Label};
@@ -27,7 +27,7 @@ pub(crate) struct TightTree {
 
 impl TightTree {
     /// The search that has reached its source alone.
-    fn new<N: Network, C: DistanceClaim>(
+    pub fn new<N: Network, C: DistanceClaim>(
         alloc: Global,
         network: &N,
         source: u32,
@@ -79,6 +79,47 @@ impl TightTree {
         } else {
             self.block.labels().at(at - 1).id
         }
+    }
+
+    /// Reaches a node from its predecessor, if that was reached and the node was not.
+    #[inline(always)]
+    pub fn place<N: Network, C: DistanceClaim>(
+        &mut self,
+        network: &N,
+        claim: &C,
+        tails: &NodeTable<u32>,
+        node: u32,
+    ) -> Result<(), Memory>
+        requires few_nodes { N.node_count network.now ≤ most_nodes }
+        requires joined { All (JoinsNodes (N.node_count network.now)) (N.list network.now) }
+        requires tails { AreTightTails (N.list network.now) (C.claimed claim.now) (value_of tails.now) }
+        requires tree { IsTightTree (N.node_count network.now) (N.list network.now) (C.claimed claim.now) self.old.block (value_of self.old.reached) }
+        ensures tree { OnOk result (IsTightTree (N.node_count network.now) (N.list network.now) (C.claimed claim.now)
+            self.new.block (value_of self.new.reached)) }
+        ensures grows { OnOk result (TreeGrows self.old.block (value_of self.old.reached) self.new.block (value_of self.new.reached)) }
+    {
+        let pred = tails.get(node);
+        if !self.is_next(pred, node) {
+            return Ok(());
+        }
+        let Some(dist) = claim.of(node) else {
+            return Ok(());
+        };
+        self.reached.set(node, true)?;
+        self.block.add(Label {
+            dist,
+            id: node,
+            pred,
+        })?;
+        Ok(())
+    }
+
+    /// Whether a predecessor was reached, and its node was not.
+    #[inline(always)]
+    fn is_next(&self, pred: u32, node: u32) -> bool
+        ensures { IsTrue result → (pred ≢ 0) × (value_of self.now.reached pred ≡ true) × (value_of self.now.reached node ≡ false) }
+    {
+        pred > 0 && self.reached.get(pred) && !self.reached.get(node)
     }
 
     /// Goes over the arcs that leave a node that was reached.
@@ -146,7 +187,7 @@ impl TightTree {
 
 /// The distance that is claimed of the head of an arc, if the arc is tight.
 #[inline(always)]
-fn tight_dist<C: DistanceClaim>(claim: &C, arc: ArcView) -> Option<i128>
+pub(crate) fn tight_dist<C: DistanceClaim>(claim: &C, arc: ArcView) -> Option<i128>
     ensures tight { MatchOption result (¬ IsTight (C.claimed claim.now) arc)
         (λ dist. IsTight (C.claimed claim.now) arc × (C.claimed claim.now arc.head ≡ Some dist)) }
     ensures wide { IfSome result IsWide }

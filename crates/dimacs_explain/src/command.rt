@@ -5,10 +5,10 @@ ghost use Rattle.std.specs.String.{string_bytes};
 ghost use Rattle.dimacs_runs.specs.Commands.{seen_by};
 ghost use Rattle.dimacs_explain.specs.Explained.{Explains};
 
-use crate::faults::{Fault, cannot_read, explain_fault};
-use crate::first_line::FirstLine;
 use crate::better::explain_feasible;
 use crate::distance_tests::explain_distance;
+use crate::faults::{Fault, cannot_read, explain_fault};
+use crate::first_line::FirstLine;
 use crate::flow_tests::{explain_arc, explain_balance, explain_solution};
 use crate::path_tests::{explain_label, explain_query};
 use crate::refusal::{Place, Refusal};

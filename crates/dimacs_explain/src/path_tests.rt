@@ -113,9 +113,7 @@ fn failing_block<F: Files>(
             break;
         };
         match lines.record() {
-            Some(
-                Record::LabelsNode { id, dist, .. } | Record::DistancesNode { id, dist },
-            ) => {
+            Some(Record::LabelsNode { id, dist, .. } | Record::DistancesNode { id, dist }) => {
                 if let Some(ends) = &mut block {
                     ends.add(arc, id, dist);
                 }

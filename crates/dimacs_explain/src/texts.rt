@@ -43,8 +43,16 @@ impl<'a> Texts<'a> {
             },
             Job::Judge(kind, files) => judged(kind, files),
             Job::Certify(kind, files) => certified(kind, files),
-            Job::Spread(SpreadKind::Max, files) => claimed(TextKind::Max, TextKind::Solution, files),
-            Job::Spread(SpreadKind::Min, files) => claimed(TextKind::Min, TextKind::Solution, files),
+            Job::Spread(SpreadKind::Max, files) => claimed(
+                TextKind::Max,
+                TextKind::Solution,
+                files,
+            ),
+            Job::Spread(SpreadKind::Min, files) => claimed(
+                TextKind::Min,
+                TextKind::Solution,
+                files,
+            ),
             Job::Solve(job, files) => solved(job, files),
         }
     }

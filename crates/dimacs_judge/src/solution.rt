@@ -75,7 +75,11 @@ fn entry_of(arc: ArcView, i: u32, flow: i64) -> Entry
 
 /// An entry for every arc, in order, with its amount, on one line after another from line 2 on. `Memory` where there is
 /// none for them.
-pub fn entries_for<N: Network>(alloc: Global, network: &N, flow: &Flow) -> Result<Vec<Entry>, Memory>
+pub fn entries_for<N: Network>(
+    alloc: Global,
+    network: &N,
+    flow: &Flow,
+) -> Result<Vec<Entry>, Memory>
     requires few_arcs { length (N.list network.now) ≤ most_count }
     requires one_each { length flow.now ≡ length (N.list network.now) }
     ensures all { IfOk result (λ entries. AreEntriesOf (N.list network.now) entries.items) }

@@ -6,7 +6,6 @@ ghost use Rattle.dimacs_lines.specs.Devices.{one_more};
 ghost use Rattle.dimacs_tests.specs.MemoryFiles.{event_of, is_device, text_of};
 
 use crate::checks::{holds, same};
-use crate::conversions::ODD;
 use crate::memory_files::{Done, held};
 use crate::tables::{case, cell, rows};
 use crate::words::words;
@@ -18,8 +17,8 @@ use std::process::Abort;
 use std::test::Fail;
 
 /// Texts by the names of their files.
-static HELD: [(&str, &str); 22] = [
-    ("road", ODD),
+static HELD: [(&str, &str); 24] = [
+    ("road", "c x\n  p  sp 2 1\r\n\na 1 2 +007"),
     ("nothing", ""),
     (
         "max",
@@ -48,6 +47,8 @@ static HELD: [(&str, &str); 22] = [
         "dear",
         "p min 1 1\na 1 1 0 9000000000000000000 -9000000000000000000\n",
     ),
+    ("near", "p distances 4 1\nt 1 1\nd 2 5\n"),
+    ("far", "p distances 4 1\nt 1 1\nd 2 6\n"),
     ("broken", "p sp 1 0\n"),
     ("greedy", ""),
 ];
@@ -216,18 +217,27 @@ judge-max max cut flow | < max;< cut;< flow;- max;- cut;- flow; | x solution 1 1
 judge-min min least pot | < min;< least;< pot;- min;- least;- pot; | v min 14; |  | 0
 judge-infeasible unmet set | < unmet;< set;- unmet;- set; | v infeasible; |  | 0
 judge-paths cycle pairs labels | < cycle;< pairs;< labels;- cycle;- pairs;- labels; | v 1 2 5;v 1 4 unreachable; |  | 0
-certify-max max flow a | < max;< flow;> a;- max;- flow;= a;p cut 4 1;u 1; | v max 6; |  | 0
+certify-max max flow a | < max;< flow;- max;- flow;> a;= a;p cut 4 1;u 1; | v max 6; |  | 0
 certify-max max flow | < max;< flow;- max;- flow; | v max 6; |  | 0
-certify-max pipe zero a | < pipe;< zero;> a;- pipe;- zero;= a;s 3;f 1 2 3; | x solution 1 2 NotMaximum; |  | 1
-certify-max pipe zero zero | < pipe;< zero;> zero;- pipe;- zero;= zero;s 3;f 1 2 3; | x solution 1 2 NotMaximum; |  | 1
+certify-max pipe zero a | < pipe;< zero;- pipe;- zero;> a;= a;s 3;f 1 2 3; | x solution 1 2 NotMaximum; |  | 1
+certify-max pipe zero zero | < pipe;< zero;- pipe;- zero;> zero;= zero;s 3;f 1 2 3; | x solution 1 2 NotMaximum; |  | 1
 certify-max pipe zero | < pipe;< zero;- pipe;- zero; | x solution 1 2 NotMaximum; |  | 1
-certify-max pipe full-pipe a | < pipe;< full-pipe;> a;- pipe;- full-pipe;= a;p cut 2 1;u 1; | v max 3; |  | 0
-certify-max flow max a | < flow;< max;> a;- flow;- max;= a; | x instance 1 1 UnknownLine; |  | 1
-certify-max flow flow a | < flow;< flow;> a;- flow;- flow;= a; | x instance 1 1 UnknownLine; |  | 1
-certify-min min least a | < min;< least;> a;- min;- least;= a;p pot 4 3;y 1 3;y 2 1;y 4 -1; | v min 14; |  | 0
+certify-max pipe full-pipe a | < pipe;< full-pipe;- pipe;- full-pipe;> a;= a;p cut 2 1;u 1; | v max 3; |  | 0
+certify-max flow max a | < flow;< max;- flow;- max; | x instance 1 1 UnknownLine; |  | 1
+certify-max flow flow a | < flow;< flow;- flow;- flow; | x instance 1 1 UnknownLine; |  | 1
+certify-min min least a | < min;< least;- min;- least;> a;= a;p pot 4 3;y 1 3;y 2 1;y 4 -1; | v min 14; |  | 0
 certify-min min least | < min;< least;- min;- least; | v min 14; |  | 0
-certify-min min zero a | < min;< zero;> a;- min;- zero;= a; | x node 1 Balance; |  | 1
-certify-min dear zero a | < dear;< zero;> a;- dear;- zero;= a; | x solution 1 2 NotLeast; |  | 1
+certify-min min zero a | < min;< zero;- min;- zero; | x node 1 Balance; |  | 1
+certify-min dear zero a | < dear;< zero;- dear;- zero; | x solution 1 2 NotLeast; |  | 1
+certify-infeasible unmet a | < unmet;- unmet;> a;= a;p cut 2 2;u 1;u 2; | v infeasible; |  | 0
+certify-infeasible unmet | < unmet;- unmet; | v infeasible; |  | 0
+certify-infeasible supply a | < supply;- supply;> a;= a;s 3;f 1 2 1; | x instance 0 0 Feasible; |  | 1
+certify-infeasible flow a | < flow;- flow; | x instance 1 1 UnknownLine; |  | 1
+certify-paths cycle near a | < cycle;< near;- cycle;- near;> a;= a;p dist 4 1;t 1 1;d 2 5 1; | v sp distances 1; |  | 0
+certify-paths cycle near | < cycle;< near;- cycle;- near; | v sp distances 1; |  | 0
+certify-paths cycle far a | < cycle;< far;- cycle;- far; | x arc 1 NotShortest; |  | 1
+certify-paths cycle absent a | < cycle;! < absent; |  | absent cannot be opened | 3
+certify-paths cycle near full | < cycle;< near;- cycle;- near;> full;= full;p di |  | full cannot be written | 3
 solve-max pipe a b | < pipe;> a;> b;- pipe;= a;s 3;f 1 2 3;= b;p cut 2 1;u 1; | v max 3; |  | 0
 solve-max pipe a b --limit 0 | < pipe;> a;> b;- pipe;= a;= b; | g limit; |  | 5
 solve-max flow a b | < flow;> a;> b;- flow;= a;= b; | x instance 1 1 UnknownLine; |  | 1
@@ -245,10 +255,10 @@ judge-max broken broken broken | < broken;< broken;< broken;- broken;- broken;- 
 judge-infeasible unmet absent | < unmet;! < absent; |  | absent cannot be opened | 3
 certify-max max absent a | < max;! < absent; |  | absent cannot be opened | 3
 certify-max absent flow | ! < absent; |  | absent cannot be opened | 3
-certify-max max flow denied | < max;< flow;! > denied; |  | denied cannot be created | 3
-certify-max flow flow denied | < flow;< flow;! > denied; |  | denied cannot be created | 3
-certify-max max broken a | < max;< broken;> a;- max;- broken;= a; |  | broken cannot be read | 3
-certify-max max flow full | < max;< flow;> full;- max;- flow;= full;p cu |  | full cannot be written | 3
+certify-max max flow denied | < max;< flow;- max;- flow;! > denied; |  | denied cannot be created | 3
+certify-max flow flow denied | < flow;< flow;- flow;- flow; | x instance 1 1 UnknownLine; |  | 1
+certify-max max broken a | < max;< broken;- max;- broken; |  | broken cannot be read | 3
+certify-max max flow full | < max;< flow;- max;- flow;> full;= full;p cu |  | full cannot be written | 3
 certify-min min greedy a | < min;! < greedy; |  |  | 4
 solve-max absent a b | ! < absent; |  | absent cannot be opened | 3
 solve-max pipe denied b | < pipe;! > denied; |  | denied cannot be created | 3
@@ -293,7 +303,7 @@ fn ends(rt: &impl Abort, alloc: Global, line: &str) -> Result<(), Fail> {
 
 #[test]
 fn commands_end_as_they_say(rt: HostRuntime) -> Result<(), Fail> {
-    for line in rows(&rt, COMMANDS, 56) {
+    for line in rows(&rt, COMMANDS, 65) {
         ends(&rt, rt.alloc(), line)?;
     }
     Ok(())

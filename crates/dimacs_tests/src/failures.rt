@@ -300,7 +300,7 @@ fn each_call_of_a_producer_that_fails_is_told(rt: HostRuntime) -> Result<(), Fai
     Ok(())
 }
 
-static CERTIFIED: [Claimed<'static>; 5] = [
+static CERTIFIED: [Claimed<'static>; 8] = [
     Claimed {
         kind: CertifyKind::Max,
         instance: MAX,
@@ -325,6 +325,21 @@ static CERTIFIED: [Claimed<'static>; 5] = [
         kind: CertifyKind::Min,
         instance: MIN,
         solution: "s 16\nf 1 2 2\nf 1 3 2\nf 2 4 2\nf 3 4 2\n",
+    },
+    Claimed {
+        kind: CertifyKind::Infeasible,
+        instance: "p min 2 1\nn 1 1\na 1 2 0 5 1\n",
+        solution: "",
+    },
+    Claimed {
+        kind: CertifyKind::Infeasible,
+        instance: "p min 2 1\nn 1 1\nn 2 -1\na 1 2 0 1 3\n",
+        solution: "",
+    },
+    Claimed {
+        kind: CertifyKind::Paths,
+        instance: CYCLE,
+        solution: "p distances 4 1\nt 1 1\nd 2 5\n",
     },
 ];
 

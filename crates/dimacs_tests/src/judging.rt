@@ -4,10 +4,15 @@ use crate::checks::{holds, same};
 use crate::pieces::{SIZES, pieces};
 use crate::tables::{case, cell, rows};
 use crate::words::status;
-use dimacs_claims::{read_cut, read_labels, read_potentials, read_solution};
-use dimacs_instance::{read_plain_graph, read_plain_max, read_plain_min, read_queries};
+use dimacs_claims::{
+    Cut, Potentials, Solution, read_cut, read_labels, read_potentials, read_solution,
+};
+use dimacs_instance::{
+    MaxInstance, MinInstance, read_plain_graph, read_plain_max, read_plain_min, read_queries,
+};
 use dimacs_judge::{judge_infeasible, judge_max, judge_min, judge_paths};
 use dimacs_lines::{FlakySink, FlakySource, MemorySource};
+use dimacs_network::{ArcView, CapacityArc, PlainArcs};
 use dimacs_runs::{JudgeKind, RunError, Status, run_judge};
 use std::alloc::Global;
 use std::process::Abort;
@@ -51,7 +56,7 @@ pub fn judge_texts(
     )
 }
 
-/// Whether texts that come in pieces of these sizes are judged so.
+/// Whether texts are judged so that come in pieces of these sizes, as the verdict goes.
 fn judges_pieces(
     rt: &impl Abort,
     alloc: Global,
@@ -61,7 +66,7 @@ fn judges_pieces(
     status: Status,
     output: &str,
 ) {
-    let mut sink = FlakySink::new(alloc, &[], &[]);
+    let mut sink = FlakySink::new(alloc, sizes, &[]);
     let ended = judge_texts(alloc, texts, sizes, &mut sink);
     same(rt, name, ended, Ok(status));
     holds(rt, name, sink.bytes() == output.as_bytes());
@@ -99,10 +104,22 @@ fn judges_max_alike(
         && let Ok(claim) = read_solution(alloc, &mut source(texts.claim))
         && let Ok(cut) = read_cut(alloc, &mut source(texts.certificate))
     {
-        let scanned = judge_max(alloc, &plain, &claim, &cut);
-        let star = plain.indexed(alloc)?;
-        same(rt, name, judge_max(alloc, &star, &claim, &cut), scanned);
+        return max_alike(rt, alloc, name, plain, &claim, &cut);
     }
+    Ok(())
+}
+
+fn max_alike(
+    rt: &impl Abort,
+    alloc: Global,
+    name: &str,
+    plain: MaxInstance<PlainArcs<CapacityArc>>,
+    claim: &Solution,
+    cut: &Cut,
+) -> Result<(), Fail> {
+    let scanned = judge_max(alloc, &plain, claim, cut);
+    let star = plain.indexed(alloc)?;
+    same(rt, name, judge_max(alloc, &star, claim, cut), scanned);
     Ok(())
 }
 
@@ -117,10 +134,22 @@ fn judges_min_alike(
         && let Ok(claim) = read_solution(alloc, &mut source(texts.claim))
         && let Ok(slack) = read_potentials(alloc, &mut source(texts.certificate))
     {
-        let scanned = judge_min(alloc, &plain, &claim, &slack);
-        let star = plain.indexed(alloc)?;
-        same(rt, name, judge_min(alloc, &star, &claim, &slack), scanned);
+        return min_alike(rt, alloc, name, plain, &claim, &slack);
     }
+    Ok(())
+}
+
+fn min_alike(
+    rt: &impl Abort,
+    alloc: Global,
+    name: &str,
+    plain: MinInstance<PlainArcs<ArcView>>,
+    claim: &Solution,
+    slack: &Potentials,
+) -> Result<(), Fail> {
+    let scanned = judge_min(alloc, &plain, claim, slack);
+    let star = plain.indexed(alloc)?;
+    same(rt, name, judge_min(alloc, &star, claim, slack), scanned);
     Ok(())
 }
 
@@ -134,10 +163,21 @@ fn judges_infeasible_alike(
     if let Ok(plain) = read_plain_min(alloc, &mut source(texts.instance))
         && let Ok(set) = read_cut(alloc, &mut source(texts.certificate))
     {
-        let scanned = judge_infeasible(&plain, &set);
-        let star = plain.indexed(alloc)?;
-        same(rt, name, judge_infeasible(&star, &set), scanned);
+        return sets_alike(rt, alloc, name, plain, &set);
     }
+    Ok(())
+}
+
+fn sets_alike(
+    rt: &impl Abort,
+    alloc: Global,
+    name: &str,
+    plain: MinInstance<PlainArcs<ArcView>>,
+    set: &Cut,
+) -> Result<(), Fail> {
+    let scanned = judge_infeasible(&plain, set);
+    let star = plain.indexed(alloc)?;
+    same(rt, name, judge_infeasible(&star, set), scanned);
     Ok(())
 }
 
@@ -154,12 +194,8 @@ fn judges_paths_alike(
     {
         let scanned = judge_paths(alloc, &plain, &queries, &labels);
         let star = plain.indexed(alloc)?;
-        same(
-            rt,
-            name,
-            judge_paths(alloc, &star, &queries, &labels),
-            scanned,
-        );
+        let found = judge_paths(alloc, &star, &queries, &labels);
+        same(rt, name, found, scanned);
     }
     Ok(())
 }

@@ -1,10 +1,12 @@
-//! The tests of judges and runs, a file for each subject. They say what no contract says: that a call succeeds
-//! while memory lasts, what a device does in mid-stream, and that the contracts mean what was meant, by answers worked
-//! out by hand.
+//! The tests of runs, of what is decided, and of inner calls, a file for each subject. They say what no contract says:
+//! that a call succeeds while memory lasts, what a device does in mid-stream, and that the contracts mean what was meant,
+//! by answers worked out by hand.
 #![tactic(auto)]
 
 #[cfg(test)]
-mod calls;
+mod arrays;
+#[cfg(test)]
+mod canonical;
 #[cfg(test)]
 mod certifying;
 #[cfg(test)]
@@ -14,24 +16,34 @@ mod commands;
 #[cfg(test)]
 mod conversions;
 #[cfg(test)]
+mod deciding;
+#[cfg(test)]
 mod failures;
 #[cfg(test)]
 mod flows;
 #[cfg(test)]
 mod judging;
+#[cfg(test)]
+mod lookups;
 pub mod memory_files;
+#[cfg(test)]
+mod pages;
 #[cfg(test)]
 mod paths;
 #[cfg(test)]
 mod pieces;
 #[cfg(test)]
-mod radii;
+mod refused_growths;
 #[cfg(test)]
-mod shown;
+mod scan;
 #[cfg(test)]
 mod solving;
 #[cfg(test)]
+mod spread;
+#[cfg(test)]
 mod tables;
+#[cfg(test)]
+mod texts;
 #[cfg(test)]
 mod truncations;
 #[cfg(test)]

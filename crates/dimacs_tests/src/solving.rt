@@ -1,9 +1,9 @@
 //! Claims that are made. What was made is judged again.
 
-use crate::checks::{holds, holds_at, same};
+use crate::checks::{holds, same};
 use crate::judging::judge;
 use crate::pieces::{SIZES, pieces};
-use crate::tables::{case, cell, rows};
+use crate::tables::{case, cell, number, rows};
 use crate::words::status;
 use dimacs_lines::{FlakySink, FlakySource};
 use dimacs_runs::{JudgeKind, RunError, SolveJob, Status, run_solve};
@@ -122,49 +122,61 @@ fn puts_pieces(
     holds(rt, name, sinks.report.bytes() == report.as_bytes());
 }
 
-/// Queries that are answered, or refused.
-static PATHS: &str = "\
-one source | p sp 4 3;a 1 2 5;a 3 4 0;a 4 3 0; | p aux sp ss 1;s 1; | Done | p dist 4 1;t 1 1;d 2 5 1; | v sp ss 1;
-pairs of one source | p sp 4 3;a 1 2 5;a 3 4 0;a 4 3 0; | p aux sp p2p 2;q 1 2;q 1 4; | Done | p dist 4 1;t 1 1;d 2 5 1; | v 1 2 5;v 1 4 unreachable;
-a source that is asked for again | p sp 4 3;a 1 2 5;a 3 4 0;a 4 3 0; | p aux sp ss 3;s 2;s 1;s 2; | Done | p dist 4 2;t 2 0;t 1 1;d 2 5 1; | v sp ss 3;
-no query | p sp 4 3;a 1 2 5;a 3 4 0;a 4 3 0; | p aux sp p2p 0; | Done | p dist 4 0; |\x20
-the nearest first, by the lighter of two arcs | p sp 4 5;a 1 2 9;a 1 2 7;a 1 3 2;a 3 2 4;a 3 4 5; | p aux sp ss 1;s 1; | Done | p dist 4 1;t 1 3;d 3 2 1;d 2 6 3;d 4 7 3; | v sp ss 1;
-a node that is none | p sp 4 3;a 1 2 5;a 3 4 0;a 4 3 0; | p aux sp ss 1;s 5; | Refused |  | x node 5 QueryNode;
-a negative weight | p sp 2 2;a 1 2 -4;a 2 1 4; | p aux sp ss 1;s 1; | Refused |  | x arc 1 NegativeWeight;
-a negative weight after one of 0 | p sp 2 3;a 1 2 0;a 2 1 -1;a 1 1 -2; | p aux sp ss 1;s 1; | Refused |  | x arc 2 NegativeWeight;
-a target that is none, and a negative weight | p sp 2 1;a 1 2 -4; | p aux sp p2p 2;q 1 2;q 2 3; | Refused |  | x node 3 QueryNode;
-a faulty graph and faulty queries | p sp 2 1; | p aux sp foo 1; | Refused |  | x instance 2 0 TooFew;
-faulty queries of a graph with a negative weight | p sp 2 1;a 1 2 -4; | p aux sp foo 1; | Refused |  | x query 1 4 BadWord;";
+/// Runs in each line: what it shows, the producer and its limit, the instance, the queries, how the run ends, the claim,
+/// the certificate and the report.
+static RUNS: &str = "\
+one source | paths | p sp 4 3;a 1 2 5;a 3 4 0;a 4 3 0; | p aux sp ss 1;s 1; | Done |  | p dist 4 1;t 1 1;d 2 5 1; | v sp ss 1;
+pairs of one source | paths | p sp 4 3;a 1 2 5;a 3 4 0;a 4 3 0; | p aux sp p2p 2;q 1 2;q 1 4; | Done |  | p dist 4 1;t 1 1;d 2 5 1; | v 1 2 5;v 1 4 unreachable;
+a source that is asked for again | paths | p sp 4 3;a 1 2 5;a 3 4 0;a 4 3 0; | p aux sp ss 3;s 2;s 1;s 2; | Done |  | p dist 4 2;t 2 0;t 1 1;d 2 5 1; | v sp ss 3;
+no query | paths | p sp 4 3;a 1 2 5;a 3 4 0;a 4 3 0; | p aux sp p2p 0; | Done |  | p dist 4 0; |\x20
+the nearest first, by the lighter of two arcs | paths | p sp 4 5;a 1 2 9;a 1 2 7;a 1 3 2;a 3 2 4;a 3 4 5; | p aux sp ss 1;s 1; | Done |  | p dist 4 1;t 1 3;d 3 2 1;d 2 6 3;d 4 7 3; | v sp ss 1;
+a node that is none | paths | p sp 4 3;a 1 2 5;a 3 4 0;a 4 3 0; | p aux sp ss 1;s 5; | Refused |  |  | x node 5 QueryNode;
+a negative weight | paths | p sp 2 2;a 1 2 -4;a 2 1 4; | p aux sp ss 1;s 1; | Refused |  |  | x arc 1 NegativeWeight;
+a negative weight after one of 0 | paths | p sp 2 3;a 1 2 0;a 2 1 -1;a 1 1 -2; | p aux sp ss 1;s 1; | Refused |  |  | x arc 2 NegativeWeight;
+a target that is none, and a negative weight | paths | p sp 2 1;a 1 2 -4; | p aux sp p2p 2;q 1 2;q 2 3; | Refused |  |  | x node 3 QueryNode;
+a faulty graph and faulty queries | paths | p sp 2 1; | p aux sp foo 1; | Refused |  |  | x instance 2 0 TooFew;
+faulty queries of a graph with a negative weight | paths | p sp 2 1;a 1 2 -4; | p aux sp foo 1; | Refused |  |  | x query 1 4 BadWord;
+no flow | max 0 | p max 4 5;n 1 s;n 4 t;a 1 2 4;a 1 3 2;a 2 3 2;a 2 4 3;a 3 4 5; | p aux sp ss 1;s 1; | GaveUp |  |  | g limit;
+no flow | max 1 | p max 4 5;n 1 s;n 4 t;a 1 2 4;a 1 3 2;a 2 3 2;a 2 4 3;a 3 4 5; | p aux sp ss 1;s 1; | GaveUp |  |  | g limit;
+no flow | max 0 | p max 4 5;n 1 s;n 4 t;a 1 2 1;a 1 3 1;a 2 3 1;a 2 4 1;a 3 4 1; | p aux sp ss 1;s 1; | GaveUp |  |  | g limit;
+no flow | max 0 | p max 2 0;n 1 s;n 2 t; | p aux sp ss 1;s 1; | GaveUp |  |  | g limit;
+no flow | max 0 | p max 2 1;n 1 s; | p aux sp ss 1;s 1; | Refused |  |  | x instance 3 0 EndMissing;
+no flow | max 10 |  | p aux sp ss 1;s 1; | Refused |  |  | x instance 1 0 ProblemMissing;
+no flow | min 0 | p min 4 5;n 1 4;n 4 -4;a 1 2 0 4 2;a 1 3 0 2 2;a 2 3 0 2 1;a 2 4 0 3 3;a 3 4 0 5 1; | p aux sp ss 1;s 1; | GaveUp |  |  | g limit;
+no flow | min 10 | p min 1 1;a 1 1 0 9000000000000000000 -9000000000000000000; | p aux sp ss 1;s 1; | GaveUp |  |  | g limit;
+no flow | min 0 | p min 2 1;a 1 2 3 2 0; | p aux sp ss 1;s 1; | Refused |  |  | x instance 2 5 BoundOrder;
+no flow | min 10 | p max 4 5;n 1 s;n 4 t;a 1 2 4;a 1 3 2;a 2 3 2;a 2 4 3;a 3 4 5; | p aux sp ss 1;s 1; | Refused |  |  | x instance 1 2 BadWord;
+no flow | max 10 | p min 4 5;n 1 4;n 4 -4;a 1 2 0 4 2;a 1 3 0 2 2;a 2 3 0 2 1;a 2 4 0 3 3;a 3 4 0 5 1; | p aux sp ss 1;s 1; | Refused |  |  | x instance 1 2 BadWord;
+two arcs between two nodes | max 10 | p max 2 2;n 1 s;n 2 t;a 1 2 1;a 1 2 3; |  | Done | s 4;f 1 2 1;f 1 2 3; | p cut 2 1;u 1; | v max 4;
+too little room, and no step | min 0 | p min 2 1;n 1 3;n 2 -3;a 1 2 0 2 1; |  | GaveUp |  |  | g limit;
+a cost out of its range, and one step | min 1 | p min 1 1;a 1 1 0 9000000000000000000 -9000000000000000000; |  | GaveUp |  |  | g limit;
+numbers at the ends, of which the least cost is out of range | min 10 | p min 5 9;n 1 -9223372036854775807;n 3 2556873396304625729;n 4 9223372036854775807;n 5 -2556873396304625729;a 3 5 2556873396304625723 2556873396304625723 4294967296;a 3 5 0 4294967296 -9223372036854775808;a 1 5 0 4 -5;a 3 1 0 0 7;a 1 5 0 2 -5;a 4 1 0 9223372036854775807 9223372036854775806;a 3 1 2 3 4;a 3 1 1 3 -2;a 3 5 1 2 3; |  | GaveUp |  |  | g limit;
+FROM before TO | paths | p sp 2 1;a 1 2 1; | p aux sp p2p 2;q 1 2;q 4 3; | Refused |  |  | x node 4 QueryNode;
+a target of no node | paths | p sp 2 1;a 1 2 1; | p aux sp p2p 2;q 1 3;q 4 3; | Refused |  |  | x node 3 QueryNode;
+a negative weight | paths | p sp 2 2;a 1 2 -4;a 2 1 3; | p aux sp ss 1;s 1; | Refused |  |  | x arc 1 NegativeWeight;
+the first of two negative weights, after a weight of 0 | paths | p sp 3 3;a 1 2 0;a 2 3 -1;a 3 1 -5; | p aux sp ss 1;s 1; | Refused |  |  | x arc 2 NegativeWeight;
+a query before a weight | paths | p sp 2 1;a 1 2 -4; | p aux sp ss 1;s 3; | Refused |  |  | x node 3 QueryNode;
+a negative weight that no query leads to | paths | p sp 2 1;a 2 2 -1; | p aux sp ss 0; | Refused |  |  | x arc 1 NegativeWeight;
+no queries | paths | p sp 2 1;a 1 2 1; | p aux sp ss 0; | Done |  | p dist 2 0; | v sp ss 0;
+a source that is asked for twice | paths | p sp 3 2;a 1 2 1;a 2 3 1; | p aux sp ss 3;s 2;s 1;s 2; | Done |  | p dist 3 2;t 2 1;d 3 1 2;t 1 2;d 2 1 1;d 3 2 2; | v sp ss 3;
+sources in the order of first use, not targets | paths | p sp 3 2;a 1 2 1;a 2 3 1; | p aux sp p2p 3;q 2 3;q 1 3;q 2 1; | Done |  | p dist 3 2;t 2 1;d 3 1 2;t 1 2;d 2 1 1;d 3 2 2; | v 2 3 1;v 1 3 2;v 2 1 unreachable;
+a source without arcs | paths | p sp 2 1;a 1 2 1; | p aux sp ss 1;s 2; | Done |  | p dist 2 1;t 2 0; | v sp ss 1;
+two shortest walks | paths | p sp 4 4;a 1 2 1;a 1 3 1;a 2 4 1;a 3 4 1; | p aux sp ss 1;s 1; | Done |  | p dist 4 1;t 1 3;d 2 1 1;d 3 1 1;d 4 2 2; | v sp ss 1;
+a cycle of weight 0 | paths | p sp 3 3;a 1 2 0;a 2 3 0;a 3 1 0; | p aux sp ss 1;s 1; | Done |  | p dist 3 1;t 1 2;d 2 0 1;d 3 0 2; | v sp ss 1;
+loops and parallel arcs | paths | p sp 2 5;a 1 1 0;a 1 2 7;a 1 2 3;a 1 2 4;a 2 2 1; | p aux sp ss 1;s 1; | Done |  | p dist 2 1;t 1 1;d 2 3 1; | v sp ss 1;
+a shorter walk of more arcs | paths | p sp 3 3;a 1 2 5;a 1 3 1;a 3 2 1; | p aux sp ss 1;s 1; | Done |  | p dist 3 1;t 1 2;d 3 1 1;d 2 2 3; | v sp ss 1;
+the greatest sum of 64 bits | paths | p sp 3 2;a 1 2 6148914691236517205;a 2 3 6148914691236517205; | p aux sp ss 1;s 1; | Done |  | p dist 3 1;t 1 2;d 2 6148914691236517205 1;d 3 12297829382473034410 2; | v sp ss 1;
+the least product past 64 bits | paths | p sp 3 2;a 1 2 6148914691236517206;a 2 3 6148914691236517206; | p aux sp ss 1;s 1; | Done |  | p dist 3 1;t 1 2;d 2 6148914691236517206 1;d 3 12297829382473034412 2; | v sp ss 1;
+the greatest weights on the longest walk | paths | p sp 5 4;a 4 5 9223372036854775807;a 3 4 9223372036854775807;a 2 3 9223372036854775807;a 1 2 9223372036854775807; | p aux sp ss 1;s 1; | Done |  | p dist 5 1;t 1 4;d 2 9223372036854775807 1;d 3 18446744073709551614 2;d 4 27670116110564327421 3;d 5 36893488147419103228 4; | v sp ss 1;
+the greatest IDs | paths | p sp 134217728 2;a 134217728 1 5;a 1 134217727 0; | p aux sp ss 1;s 134217728; | Done |  | p dist 134217728 1;t 134217728 2;d 1 5 134217728;d 134217727 5 1; | v sp ss 1;";
 
-/// Whether a case is answered as it says: its name, the graph, the queries, how the run ends, the labels and the report.
-fn answers(rt: &impl Abort, alloc: Global, line: &str) -> Result<(), Fail> {
-    let case = case(alloc, line)?;
-    let (name, rest) = cell(rt, &case);
-    let (instance, rest) = cell(rt, rest);
-    let (queries, rest) = cell(rt, rest);
-    let (ended, rest) = cell(rt, rest);
-    let (labels, report) = cell(rt, rest);
-    let given = Given {
-        job: SolveJob::Paths,
-        instance,
-        queries,
-    };
-    let texts = ["", labels, report];
-    puts(rt, alloc, name, given, status(rt, ended), texts)
-}
-
-#[test]
-fn labels_are_made_of_queries(rt: HostRuntime) -> Result<(), Fail> {
-    for line in rows(&rt, PATHS, 11) {
-        answers(&rt, rt.alloc(), line)?;
-    }
-    Ok(())
-}
-
-/// The producer of flows that a case names, with its limit.
+/// The producer that a case names, with its limit.
 fn producer(rt: &impl Abort, named: &str) -> SolveJob {
-    let (word, digits) = named.split_once(' ').expect(rt, named);
-    let limit = digits.parse::<u64>().expect(rt, named);
+    let Some((word, limit)) = named.split_once(' ') else {
+        same(rt, "a producer", named, "paths");
+        return SolveJob::Paths;
+    };
+    let limit = number(rt, limit);
     if word == "max" {
         return SolveJob::Max(limit);
     }
@@ -172,51 +184,31 @@ fn producer(rt: &impl Abort, named: &str) -> SolveJob {
     SolveJob::Min(limit)
 }
 
-/// Runs that make no flow.
-static FLOWLESS: &str = "\
-max 0 | p max 4 5;n 1 s;n 4 t;a 1 2 4;a 1 3 2;a 2 3 2;a 2 4 3;a 3 4 5; | GaveUp | g limit;
-max 1 | p max 4 5;n 1 s;n 4 t;a 1 2 4;a 1 3 2;a 2 3 2;a 2 4 3;a 3 4 5; | GaveUp | g limit;
-max 0 | p max 4 5;n 1 s;n 4 t;a 1 2 1;a 1 3 1;a 2 3 1;a 2 4 1;a 3 4 1; | GaveUp | g limit;
-max 0 | p max 2 0;n 1 s;n 2 t; | GaveUp | g limit;
-max 0 | p max 2 1;n 1 s; | Refused | x instance 3 0 EndMissing;
-max 10 |  | Refused | x instance 1 0 ProblemMissing;
-min 0 | p min 4 5;n 1 4;n 4 -4;a 1 2 0 4 2;a 1 3 0 2 2;a 2 3 0 2 1;a 2 4 0 3 3;a 3 4 0 5 1; | GaveUp | g limit;
-min 10 | p min 1 1;a 1 1 0 9000000000000000000 -9000000000000000000; | GaveUp | g limit;
-min 0 | p min 2 1;a 1 2 3 2 0; | Refused | x instance 2 5 BoundOrder;
-min 10 | p max 4 5;n 1 s;n 4 t;a 1 2 4;a 1 3 2;a 2 3 2;a 2 4 3;a 3 4 5; | Refused | x instance 1 2 BadWord;
-max 10 | p min 4 5;n 1 4;n 4 -4;a 1 2 0 4 2;a 1 3 0 2 2;a 2 3 0 2 1;a 2 4 0 3 3;a 3 4 0 5 1; | Refused | x instance 1 2 BadWord;";
-
-/// Whether no flow is made in a case: the producer, the instance, how the run ends and the report.
-fn makes_no_flow(rt: &impl Abort, alloc: Global, line: &str) -> Result<(), Fail> {
+/// Whether the run of a line ends as it says, and puts these texts.
+fn ends(rt: &impl Abort, alloc: Global, line: &str) -> Result<(), Fail> {
     let case = case(alloc, line)?;
-    let (named, rest) = cell(rt, &case);
+    let (name, rest) = cell(rt, &case);
+    let (named, rest) = cell(rt, rest);
     let (instance, rest) = cell(rt, rest);
-    let (ended, report) = cell(rt, rest);
+    let (queries, rest) = cell(rt, rest);
+    let (ended, rest) = cell(rt, rest);
+    let (claim, rest) = cell(rt, rest);
+    let (certificate, report) = cell(rt, rest);
     let given = Given {
         job: producer(rt, named),
         instance,
-        queries: SOURCE,
+        queries,
     };
-    puts(rt, alloc, line, given, status(rt, ended), ["", "", report])
+    let texts = [claim, certificate, report];
+    puts(rt, alloc, name, given, status(rt, ended), texts)
 }
 
 #[test]
-fn no_flow_is_made_within_a_limit_or_of_a_faulty_instance(rt: HostRuntime) -> Result<(), Fail> {
-    for line in rows(&rt, FLOWLESS, 11) {
-        makes_no_flow(&rt, rt.alloc(), line)?;
+fn runs_end_and_put_texts(rt: HostRuntime) -> Result<(), Fail> {
+    for line in rows(&rt, RUNS, 44) {
+        ends(&rt, rt.alloc(), line)?;
     }
     Ok(())
-}
-
-#[test]
-fn each_of_two_arcs_between_two_nodes_has_an_entry(rt: HostRuntime) -> Result<(), Fail> {
-    let given = Given {
-        job: SolveJob::Max(10),
-        instance: "p max 2 2\nn 1 s\nn 2 t\na 1 2 1\na 1 2 3\n",
-        queries: "",
-    };
-    let texts = ["s 4\nf 1 2 1\nf 1 2 3\n", "p cut 2 1\nu 1\n", "v max 4\n"];
-    puts(&rt, rt.alloc(), "two arcs", given, Status::Done, texts)
 }
 
 /// Whether what is made is judged with this verdict, which is also reported, in pieces of each size.
@@ -285,26 +277,72 @@ fn is_judged(
     holds(rt, instance, verdict.bytes() == report.as_bytes());
 }
 
-/// Flows and sets that are made. In the seventh case the first choice takes the only partner of the second.
+/// What is made, in each line: the judge, the producer, the instance, the queries and the verdict. In the seventh case the
+/// first choice takes the only partner of the second; nodes of one distance may stand in any order.
 static MADE: &str = "\
-max | max 7 | p max 4 5;n 1 s;n 4 t;a 1 2 4;a 1 3 2;a 2 3 2;a 2 4 3;a 3 4 5; | v max 6;
-max | max 10 | p max 4 5;n 1 s;n 4 t;a 1 2 4;a 1 3 2;a 2 3 2;a 2 4 3;a 3 4 5; | v max 6;
-max | max 1000000 | p max 4 5;n 1 s;n 4 t;a 1 2 4;a 1 3 2;a 2 3 2;a 2 4 3;a 3 4 5; | v max 6;
-max | max 3 | p max 4 5;n 1 s;n 4 t;a 1 2 1;a 1 3 1;a 2 3 1;a 2 4 1;a 3 4 1; | v max 2;
-max | max 1 | p max 2 0;n 1 s;n 2 t; | v max 0;
-max | max 4 | p max 2 2;n 1 s;n 2 t;a 1 1 5;a 1 2 3; | v max 3;
-max | max 4 | p max 8 11;n 1 s;n 8 t;a 1 2 1;a 1 3 1;a 1 4 1;a 2 5 1;a 2 6 1;a 3 5 1;a 4 6 1;a 4 7 1;a 5 8 1;a 6 8 1;a 7 8 1; | v max 3;
-min | min 10 | p min 4 5;n 1 4;n 4 -4;a 1 2 0 4 2;a 1 3 0 2 2;a 2 3 0 2 1;a 2 4 0 3 3;a 3 4 0 5 1; | v min 14;
-min | min 10 | p min 1 1;a 1 1 0 9000000000000000000 9000000000000000000; | v min 0;
-min | min 10 | p min 2 2;n 1 2;n 2 -2;a 1 2 0 1 5;a 1 2 0 2 3; | v min 6;
-infeasible | min 10 | p min 2 1;n 1 1;a 1 2 0 5 1; | v infeasible;
-infeasible | min 10 | p min 2 1;n 1 -1;a 1 2 0 5 1; | v infeasible;";
+max | max 7 | p max 4 5;n 1 s;n 4 t;a 1 2 4;a 1 3 2;a 2 3 2;a 2 4 3;a 3 4 5; |  | v max 6;
+max | max 10 | p max 4 5;n 1 s;n 4 t;a 1 2 4;a 1 3 2;a 2 3 2;a 2 4 3;a 3 4 5; |  | v max 6;
+max | max 1000000 | p max 4 5;n 1 s;n 4 t;a 1 2 4;a 1 3 2;a 2 3 2;a 2 4 3;a 3 4 5; |  | v max 6;
+max | max 3 | p max 4 5;n 1 s;n 4 t;a 1 2 1;a 1 3 1;a 2 3 1;a 2 4 1;a 3 4 1; |  | v max 2;
+max | max 1 | p max 2 0;n 1 s;n 2 t; |  | v max 0;
+max | max 4 | p max 2 2;n 1 s;n 2 t;a 1 1 5;a 1 2 3; |  | v max 3;
+max | max 4 | p max 8 11;n 1 s;n 8 t;a 1 2 1;a 1 3 1;a 1 4 1;a 2 5 1;a 2 6 1;a 3 5 1;a 4 6 1;a 4 7 1;a 5 8 1;a 6 8 1;a 7 8 1; |  | v max 3;
+min | min 10 | p min 4 5;n 1 4;n 4 -4;a 1 2 0 4 2;a 1 3 0 2 2;a 2 3 0 2 1;a 2 4 0 3 3;a 3 4 0 5 1; |  | v min 14;
+min | min 10 | p min 1 1;a 1 1 0 9000000000000000000 9000000000000000000; |  | v min 0;
+min | min 10 | p min 2 2;n 1 2;n 2 -2;a 1 2 0 1 5;a 1 2 0 2 3; |  | v min 6;
+infeasible | min 10 | p min 2 1;n 1 1;a 1 2 0 5 1; |  | v infeasible;
+infeasible | min 10 | p min 2 1;n 1 -1;a 1 2 0 5 1; |  | v infeasible;
+paths | paths | p sp 4 3;a 1 2 5;a 3 4 0;a 4 3 0; | p aux sp p2p 3;q 3 4;q 1 2;q 4 3; | v 3 4 0;v 1 2 5;v 4 3 0;
+paths | paths | p sp 4 4;a 1 2 1;a 1 3 1;a 2 4 1;a 3 4 1; | p aux sp p2p 2;q 1 4;q 2 3; | v 1 4 2;v 2 3 unreachable;
+paths | paths | p sp 3 3;a 1 2 9223372036854775807;a 2 3 9223372036854775807;a 1 3 9223372036854775807; | p aux sp p2p 2;q 1 3;q 1 2; | v 1 3 9223372036854775807;v 1 2 9223372036854775807;
+paths | paths | p sp 3 2;a 1 2 9223372036854775807;a 2 3 9223372036854775807; | p aux sp p2p 1;q 1 3; | v 1 3 18446744073709551614;
+max | max 10 | p max 2 2;n 1 s;n 2 t;a 1 2 1;a 1 2 3; |  | v max 4;
+max | max 10 | p max 2 2;n 1 s;n 2 t;a 1 2 1;a 1 2 1; |  | v max 2;
+max | max 10 | p max 3 2;n 1 s;n 3 t;a 2 1 5;a 3 2 5; |  | v max 0;
+max | max 10 | p max 3 5;n 1 s;n 3 t;a 1 1 9;a 2 2 9;a 3 3 9;a 1 2 7;a 2 3 5; |  | v max 5;
+max | max 10 | p max 3 3;n 1 s;n 3 t;a 1 2 3;a 2 3 0;a 1 3 1; |  | v max 1;
+max | max 10 | p max 3 4;n 1 s;n 3 t;a 1 2 9223372036854775807;a 1 2 9223372036854775807;a 2 3 9223372036854775807;a 2 3 9223372036854775807; |  | v max 18446744073709551614;
+max | max 10 | p max 6 8;n 1 s;n 6 t;a 1 2 3;a 2 3 3;a 3 2 3;a 2 4 1;a 3 5 1;a 4 5 1;a 4 6 1;a 5 6 1; |  | v max 2;
+max | max 10 | p max 4 4;n 1 s;n 4 t;a 1 2 9;a 1 3 2;a 3 4 1;a 3 2 5; |  | v max 1;
+max | max 10 | p max 8 11;n 1 s;n 8 t;a 1 2 1;a 1 3 1;a 1 4 1;a 2 6 1;a 2 5 1;a 3 7 1;a 3 6 1;a 4 7 1;a 5 8 1;a 6 8 1;a 7 8 1; |  | v max 3;
+max | max 10 | p max 8 9;n 1 s;n 8 t;a 1 2 1;a 1 3 1;a 1 4 1;a 2 6 1;a 3 6 1;a 4 6 1;a 4 7 1;a 6 8 1;a 7 8 1; |  | v max 2;
+max | max 2 | p max 8 11;n 1 s;n 8 t;a 1 2 1;a 1 3 1;a 1 4 1;a 2 6 1;a 2 5 1;a 3 7 1;a 3 6 1;a 4 7 1;a 5 8 1;a 6 8 1;a 7 8 1; |  | v max 3;
+min | min 2 | p min 4 5;n 1 4;n 4 -4;a 1 2 0 4 2;a 1 3 0 2 2;a 2 3 0 2 1;a 2 4 0 3 3;a 3 4 0 5 1; |  | v min 14;
+min | min 1 | p min 4 5;n 1 4;n 4 -4;a 1 2 0 4 2;a 1 3 0 2 2;a 2 3 0 2 1;a 2 4 0 3 3;a 3 4 0 5 1; |  | v min 14;
+min | min 10 | p min 4 5;n 1 2;n 4 -2;a 1 2 0 1 1;a 1 3 0 1 10;a 2 3 0 1 1;a 2 4 0 1 10;a 3 4 0 1 1; |  | v min 22;
+min | min 0 | p min 3 1;a 1 3 0 5 1; |  | v min 0;
+min | min 0 | p min 0 0; |  | v min 0;
+infeasible | min 10 | p min 3 1;n 3 1;n 2 -1;a 1 2 0 5 1; |  | v infeasible;
+infeasible | min 1 | p min 2 1;n 1 3;n 2 -3;a 1 2 0 2 1; |  | v infeasible;
+infeasible | min 10 | p min 2 1;n 1 1;n 2 -1;a 1 2 2 5 0; |  | v infeasible;
+min | min 10 | p min 3 2;n 1 3;n 3 -3;a 1 2 1 3 1;a 2 3 2 3 1; |  | v min 6;
+min | min 10 | p min 2 2;a 1 2 2 5 1;a 2 1 0 5 1; |  | v min 4;
+min | min 0 | p min 1 1;a 1 1 1 4 2; |  | v min 2;
+min | min 0 | p min 1 1;a 1 1 1 4 -2; |  | v min -8;
+min | min 10 | p min 2 2;a 1 2 0 2 -3;a 2 1 0 2 1; |  | v min -4;
+min | min 10 | p min 2 1;a 1 2 0 2 -3; |  | v min 0;
+min | min 10 | p min 3 3;n 1 2;n 2 -1;n 3 -1;a 1 2 0 2 1;a 2 3 0 2 1;a 1 3 0 2 3; |  | v min 3;
+min | min 10 | p min 4 4;n 1 2;n 2 2;n 3 -2;n 4 -2;a 1 3 0 2 1;a 1 4 0 2 5;a 2 3 0 2 2;a 2 4 0 2 3; |  | v min 8;
+min | min 10 | p min 2 3;n 1 5;n 2 -5;a 1 2 0 3 4;a 1 2 0 3 1;a 1 2 1 3 9; |  | v min 16;
+min | min 10 | p min 2 2;n 1 3;n 2 -3;a 1 2 0 2 1;a 1 2 0 2 1; |  | v min 3;
+min | min 10 | p min 2 3;a 1 2 0 2 -3;a 1 2 0 2 -1;a 2 1 0 3 2; |  | v min -2;
+min | min 0 | p min 1 2;a 1 1 0 2 -1;a 1 1 1 2 1; |  | v min -1;
+min | min 10 | p min 4 3;n 1 1;n 4 -1;a 1 2 0 1 9223372036854775807;a 2 3 0 1 9223372036854775807;a 3 4 0 1 9223372036854775807; |  | v min 27670116110564327421;
+min | min 10 | p min 3 2;n 1 9223372036854775807;n 3 -9223372036854775807;a 1 2 0 9223372036854775807 1;a 2 3 0 9223372036854775807 -1; |  | v min 0;
+min | min 1 | p min 2 2;a 1 2 0 1 -9223372036854775808;a 2 1 0 1 0; |  | v min -9223372036854775808;
+min | min 1 | p min 2 1;a 1 2 0 1 -9223372036854775808; |  | v min 0;
+min | min 1 | p min 4 2;n 1 9223372036854775807;n 2 9223372036854775807;n 3 -9223372036854775807;n 4 -9223372036854775807;a 1 3 0 9223372036854775807 1;a 2 4 0 9223372036854775807 2; |  | v min 27670116110564327421;
+min | min 1 | p min 2 4;a 1 2 9223372036854775807 9223372036854775807 1;a 1 2 9223372036854775807 9223372036854775807 1;a 2 1 0 9223372036854775807 0;a 2 1 0 9223372036854775807 0; |  | v min 18446744073709551614;
+infeasible | min 1 | p min 2 1;n 1 3;n 2 -1;a 1 2 0 5 1; |  | v infeasible;
+infeasible | min 1 | p min 3 2;n 1 1;n 2 -1;n 3 -2;a 1 2 0 5 1;a 2 3 0 5 1; |  | v infeasible;
+infeasible | min 1 | p min 4 3;n 1 2;n 2 -2;n 3 5;n 4 -5;a 1 2 0 9 1;a 3 4 0 4 1;a 2 3 0 9 1; |  | v infeasible;";
 
 /// The judge that a case names.
 fn judge_named(rt: &impl Abort, word: &str) -> JudgeKind {
     match word {
         "max" => JudgeKind::Max,
         "min" => JudgeKind::Min,
+        "paths" => JudgeKind::Paths,
         _ => {
             same(rt, "a judge", word, "infeasible");
             JudgeKind::Infeasible
@@ -312,130 +350,25 @@ fn judge_named(rt: &impl Abort, word: &str) -> JudgeKind {
     }
 }
 
-/// Whether what is made in a case is judged as the case says: the judge, the producer, the instance and the verdict.
+/// Whether what is made in a case is judged as the case says.
 fn makes(rt: &impl Abort, alloc: Global, line: &str) -> Result<(), Fail> {
     let case = case(alloc, line)?;
     let (judge, rest) = cell(rt, &case);
     let (named, rest) = cell(rt, rest);
-    let (instance, report) = cell(rt, rest);
+    let (instance, rest) = cell(rt, rest);
+    let (queries, report) = cell(rt, rest);
     let given = Given {
         job: producer(rt, named),
         instance,
-        queries: "",
+        queries,
     };
     is_made(rt, alloc, judge_named(rt, judge), given, report)
 }
 
 #[test]
-fn flows_and_sets_that_are_made_are_judged_with_a_yes(rt: HostRuntime) -> Result<(), Fail> {
-    for line in rows(&rt, MADE, 12) {
+fn what_is_made_is_judged_with_a_yes(rt: HostRuntime) -> Result<(), Fail> {
+    for line in rows(&rt, MADE, 56) {
         makes(&rt, rt.alloc(), line)?;
-    }
-    Ok(())
-}
-
-/// Graphs, each with queries and the verdict. Nodes of one distance may stand in any order.
-static ANSWERS: &str = "\
-p sp 4 3;a 1 2 5;a 3 4 0;a 4 3 0; | p aux sp p2p 3;q 3 4;q 1 2;q 4 3; | v 3 4 0;v 1 2 5;v 4 3 0;
-p sp 4 4;a 1 2 1;a 1 3 1;a 2 4 1;a 3 4 1; | p aux sp p2p 2;q 1 4;q 2 3; | v 1 4 2;v 2 3 unreachable;
-p sp 3 3;a 1 2 9223372036854775807;a 2 3 9223372036854775807;a 1 3 9223372036854775807; | p aux sp p2p 2;q 1 3;q 1 2; | v 1 3 9223372036854775807;v 1 2 9223372036854775807;
-p sp 3 2;a 1 2 9223372036854775807;a 2 3 9223372036854775807; | p aux sp p2p 1;q 1 3; | v 1 3 18446744073709551614;";
-
-/// Whether labels that are made in a case are judged as the case says: the graph, the queries and the verdict.
-fn makes_distances(rt: &impl Abort, alloc: Global, line: &str) -> Result<(), Fail> {
-    let case = case(alloc, line)?;
-    let (instance, rest) = cell(rt, &case);
-    let (queries, report) = cell(rt, rest);
-    let given = Given {
-        job: SolveJob::Paths,
-        instance,
-        queries,
-    };
-    is_made(rt, alloc, JudgeKind::Paths, given, report)
-}
-
-#[test]
-fn labels_that_are_made_are_distances(rt: HostRuntime) -> Result<(), Fail> {
-    for line in rows(&rt, ANSWERS, 4) {
-        makes_distances(&rt, rt.alloc(), line)?;
-    }
-    Ok(())
-}
-
-/// A maximum flow, in ten steps.
-const FLOW: Given<'static> = Given {
-    job: SolveJob::Max(10),
-    instance: MAX,
-    queries: "",
-};
-
-#[test]
-fn a_certificate_that_fails_comes_after_the_whole_claim(rt: HostRuntime) {
-    let fails = [1];
-    let mut whole = new_outputs(rt.alloc(), &[]);
-    let ended = solve(rt.alloc(), FLOW, &[], &mut whole);
-    same(&rt, "with sinks that accept", ended, Ok(Status::Done));
-    let mut failing = new_outputs(rt.alloc(), &[]);
-    failing.certificate = FlakySink::new(rt.alloc(), &[], &fails);
-    let ended = solve(rt.alloc(), FLOW, &[], &mut failing);
-    same(&rt, "with a sink that fails", ended, Err(RunError::Device));
-    let claim = failing.claim.bytes();
-    holds(&rt, "the claim", claim == whole.claim.bytes());
-    holds(&rt, "a claim", !claim.is_empty());
-    holds(
-        &rt,
-        "the certificate",
-        failing.certificate.bytes().is_empty(),
-    );
-    holds(&rt, "the report", failing.report.bytes().is_empty());
-}
-
-#[test]
-fn a_put_that_fails_leaves_the_later_sinks_empty(rt: HostRuntime) -> Result<(), Fail> {
-    let ones = Vec::from_elem(rt.alloc(), 1, 1000)?;
-    let mut whole = new_outputs(rt.alloc(), &[]);
-    let ended = solve(rt.alloc(), FLOW, &[], &mut whole);
-    same(&rt, "with sinks that accept", ended, Ok(Status::Done));
-    for put in 1..=30 {
-        let fails = [put];
-        let mut failing = new_outputs(rt.alloc(), &ones);
-        failing.claim = FlakySink::new(rt.alloc(), &ones, &fails);
-        let ended = solve(rt.alloc(), FLOW, &[], &mut failing);
-        same(&rt, "the end", ended, Err(RunError::Device));
-        let claim = failing.claim.bytes();
-        holds_at(&rt, "the claim", put, claim.len() as u64 == put - 1);
-        holds_at(
-            &rt,
-            "the claim",
-            put,
-            whole.claim.bytes().starts_with(claim),
-        );
-        let later = failing.certificate.bytes().len() + failing.report.bytes().len();
-        holds_at(&rt, "the later sinks", put, later == 0);
-    }
-    Ok(())
-}
-
-#[test]
-fn a_pull_that_fails_leaves_all_sinks_empty(rt: HostRuntime) -> Result<(), Fail> {
-    let ones = Vec::from_elem(rt.alloc(), 1, 1000)?;
-    for pull in 1..=15 {
-        let fails = [pull];
-        let mut claim = FlakySink::new(rt.alloc(), &[], &[]);
-        let mut certificate = FlakySink::new(rt.alloc(), &[], &[]);
-        let mut report = FlakySink::new(rt.alloc(), &[], &[]);
-        let ended = run_solve(
-            rt.alloc(),
-            SolveJob::Paths,
-            &mut FlakySource::new(CYCLE.as_bytes(), &ones, &[]),
-            &mut FlakySource::new(SOURCE.as_bytes(), &ones, &fails),
-            &mut claim,
-            &mut certificate,
-            &mut report,
-        );
-        same(&rt, "the end", ended, Err(RunError::Device));
-        let bytes = claim.bytes().len() + certificate.bytes().len() + report.bytes().len();
-        holds_at(&rt, "the sinks", pull, bytes == 0);
     }
     Ok(())
 }

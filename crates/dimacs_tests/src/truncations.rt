@@ -1,9 +1,9 @@
-//! Texts that are cut off, and devices that fail while claims are judged.
+//! Texts that are cut off, and a claim that is never read.
 
 use crate::checks::{holds, same};
 use crate::judging::{Texts, judge, judge_texts, judges};
 use dimacs_lines::{FlakySink, FlakySource};
-use dimacs_runs::{JudgeKind, RunError, Status};
+use dimacs_runs::{JudgeKind, Status};
 use std::alloc::Global;
 use std::process::Abort;
 use std::test::Fail;
@@ -141,40 +141,4 @@ fn nothing_is_claimed_where_no_flow_is_feasible(rt: HostRuntime) {
     );
     same(&rt, "how it ended", ended, Ok(Status::Done));
     holds(&rt, "bytes", sink.bytes() == b"v infeasible\n".as_slice());
-}
-
-#[test]
-fn an_instance_that_fails_in_mid_stream_puts_nothing(rt: HostRuntime) {
-    let mut sink = FlakySink::new(rt.alloc(), &[], &[]);
-    let ended = judge(
-        rt.alloc(),
-        JudgeKind::Infeasible,
-        &mut FlakySource::new(INSTANCE, &[9], &[2]),
-        &mut FlakySource::new(b"", &[], &[1, 2, 3]),
-        &mut FlakySource::new(SET, &[], &[]),
-        &mut sink,
-    );
-    same(&rt, "how it ended", ended, Err(RunError::Device));
-    holds(&rt, "nothing was put", sink.bytes().is_empty());
-}
-
-#[test]
-fn a_slow_sink_gets_the_same_bytes(rt: HostRuntime) -> Result<(), Fail> {
-    let ones = Vec::from_elem(rt.alloc(), 1, 100)?;
-    let mut sink = FlakySink::new(rt.alloc(), &ones, &[]);
-    let ended = judge(
-        rt.alloc(),
-        JudgeKind::Paths,
-        &mut FlakySource::new(b"p sp 4 3\na 1 2 5\na 3 4 0\na 4 3 0\n", &[], &[]),
-        &mut FlakySource::new(b"p aux sp p2p 2\nq 1 2\nq 1 4\n", &[3], &[]),
-        &mut FlakySource::new(b"p dist 4 1\nt 1 1\nd 2 5 1\n", &[], &[]),
-        &mut sink,
-    );
-    same(&rt, "how it ended", ended, Ok(Status::Done));
-    holds(
-        &rt,
-        "bytes",
-        sink.bytes() == b"v 1 2 5\nv 1 4 unreachable\n".as_slice(),
-    );
-    Ok(())
 }

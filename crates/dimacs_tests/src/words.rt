@@ -1,8 +1,8 @@
 //! What the command's words mean, and its exit statuses.
 
 use crate::checks::same;
-use dimacs_records::TextKind;
-use dimacs_runs::{CertifyKind, Job, JudgeKind, RunError, SolveJob, Status, exit_status, job};
+use crate::tables::{cell, rows};
+use dimacs_runs::{RunError, Status, exit_status, job};
 use std::alloc::Global;
 use std::process::Abort;
 use std::test::Fail;
@@ -19,12 +19,6 @@ pub fn status(rt: &impl Abort, name: &str) -> Status {
     }
 }
 
-/// The kind of texts that this word stands for.
-pub fn kind(rt: &impl Abort, word: &str) -> TextKind {
-    let named = KINDS.iter().find(|named| named.0 == word);
-    named.expect(rt, word).1
-}
-
 /// The words of a line, parted by one blank.
 pub fn words(alloc: Global, line: &str) -> Result<Vec<String>, Fail> {
     let mut words = Vec::new(alloc);
@@ -34,184 +28,112 @@ pub fn words(alloc: Global, line: &str) -> Result<Vec<String>, Fail> {
     Ok(words)
 }
 
-/// Words of kinds.
-static KINDS: [(&str, TextKind); 9] = [
-    ("max", TextKind::Max),
-    ("min", TextKind::Min),
-    ("gr", TextKind::Graph),
-    ("query", TextKind::Queries),
-    ("solution", TextKind::Solution),
-    ("cut", TextKind::Cut),
-    ("pot", TextKind::Potentials),
-    ("dist", TextKind::Labels),
-    ("distances", TextKind::Distances),
-];
+/// Command lines, each with what it asks for.
+static LINES: &str = "\
+convert max file | Some(Convert(Max, \"file\"))
+show max file | Some(Show(Max, \"file\"))
+convert min file | Some(Convert(Min, \"file\"))
+show min file | Some(Show(Min, \"file\"))
+convert gr file | Some(Convert(Graph, \"file\"))
+show gr file | Some(Show(Graph, \"file\"))
+convert query file | Some(Convert(Queries, \"file\"))
+show query file | Some(Show(Queries, \"file\"))
+convert solution file | Some(Convert(Solution, \"file\"))
+show solution file | Some(Show(Solution, \"file\"))
+convert cut file | Some(Convert(Cut, \"file\"))
+show cut file | Some(Show(Cut, \"file\"))
+convert pot file | Some(Convert(Potentials, \"file\"))
+show pot file | Some(Show(Potentials, \"file\"))
+convert dist file | Some(Convert(Labels, \"file\"))
+show dist file | Some(Show(Labels, \"file\"))
+convert distances file | Some(Convert(Distances, \"file\"))
+show distances file | Some(Show(Distances, \"file\"))
+convert gr road.gr | Some(Convert(Graph, \"road.gr\"))
+convert gr - | Some(Convert(Graph, \"-\"))
+convert gr --help | Some(Convert(Graph, \"--help\"))
+convert gr convert | Some(Convert(Graph, \"convert\"))
+judge-max instance solution cut | Some(Judge(Max, [\"instance\", \"solution\", \"cut\"]))
+judge-min instance solution potentials | Some(Judge(Min, [\"instance\", \"solution\", \"potentials\"]))
+judge-infeasible instance cut | Some(Judge(Infeasible, [\"instance\", \"cut\"]))
+judge-paths graph query labels | Some(Judge(Paths, [\"graph\", \"query\", \"labels\"]))
+certify-max instance solution | Some(Certify(Max, [\"instance\", \"solution\"]))
+certify-max instance solution cut | Some(Certify(Max, [\"instance\", \"solution\", \"cut\"]))
+certify-min instance solution | Some(Certify(Min, [\"instance\", \"solution\"]))
+certify-min instance solution pot | Some(Certify(Min, [\"instance\", \"solution\", \"pot\"]))
+certify-min certify-max --help - | Some(Certify(Min, [\"certify-max\", \"--help\", \"-\"]))
+certify-infeasible instance | Some(Certify(Infeasible, [\"instance\"]))
+certify-infeasible instance cut | Some(Certify(Infeasible, [\"instance\", \"cut\"]))
+certify-paths graph distances | Some(Certify(Paths, [\"graph\", \"distances\"]))
+certify-paths graph distances labels | Some(Certify(Paths, [\"graph\", \"distances\", \"labels\"]))
+solve-max instance solution cut | Some(Solve(Max(1000000), [\"instance\", \"solution\", \"cut\"]))
+solve-max instance solution cut --limit 10 | Some(Solve(Max(10), [\"instance\", \"solution\", \"cut\"]))
+solve-max instance solution cut --limit 0 | Some(Solve(Max(0), [\"instance\", \"solution\", \"cut\"]))
+solve-max instance solution cut --limit -0 | Some(Solve(Max(0), [\"instance\", \"solution\", \"cut\"]))
+solve-max instance solution cut --limit +007 | Some(Solve(Max(7), [\"instance\", \"solution\", \"cut\"]))
+solve-max instance solution cut --limit 1000000000 | Some(Solve(Max(1000000000), [\"instance\", \"solution\", \"cut\"]))
+solve-max instance --limit 5 | Some(Solve(Max(1000000), [\"instance\", \"--limit\", \"5\"]))
+solve-max --limit 5 cut | Some(Solve(Max(1000000), [\"--limit\", \"5\", \"cut\"]))
+solve-max - --limit --limit --limit 5 | Some(Solve(Max(5), [\"-\", \"--limit\", \"--limit\"]))
+solve-min instance solution pot | Some(Solve(Min(1000000), [\"instance\", \"solution\", \"pot\"]))
+solve-min instance solution pot --limit 2 | Some(Solve(Min(2), [\"instance\", \"solution\", \"pot\"]))
+solve-paths graph query labels | Some(Solve(Paths, [\"graph\", \"query\", \"labels\"]))
+solve-paths --limit --help - | Some(Solve(Paths, [\"--limit\", \"--help\", \"-\"]))
+solve-paths solve-paths --limit 5 | Some(Solve(Paths, [\"solve-paths\", \"--limit\", \"5\"]))
+ | None
+convert | None
+convert gr | None
+convert foo road.gr | None
+convert GR road.gr | None
+convert gr road.gr road.gr | None
+Convert gr road.gr | None
+--help | None
+--version | None
+- | None
+gr convert road.gr | None
+show | None
+show gr | None
+show foo road.gr | None
+show gr road.gr road.gr | None
+judge-max | None
+judge-max instance solution | None
+judge-max instance solution cut cut | None
+judge-infeasible instance | None
+judge-infeasible instance solution cut | None
+judge instance solution cut | None
+certify-max | None
+certify-max instance | None
+certify-max instance solution cut cut | None
+certify-min instance solution pot --limit 5 | None
+certify-infeasible | None
+certify-infeasible instance cut cut | None
+certify-paths graph | None
+certify-paths graph distances labels labels | None
+certify instance solution cut | None
+solve-max | None
+solve-max instance solution | None
+solve-max instance solution cut cut | None
+solve-max instance solution cut --limit | None
+solve-max instance solution cut --limit 5 5 | None
+solve-max instance solution cut limit 5 | None
+solve-max instance solution cut 5 --limit | None
+solve-max instance solution cut --limit 1000000001 | None
+solve-max instance solution cut --limit -1 | None
+solve-max instance solution cut --limit 5. | None
+solve-max instance solution cut --limit  | None
+solve-max instance solution cut --limit 99999999999999999999 | None
+solve-max --limit 5 instance solution cut | None
+solve-min instance solution pot --limit -2 | None
+solve-paths graph query | None
+solve-paths graph query labels --limit 5 | None
+solve instance solution cut | None";
 
 #[test]
-fn words_ask_for_each_kind(rt: HostRuntime) -> Result<(), Fail> {
-    for &(word, kind) in &KINDS {
-        let converted = words(rt.alloc(), &format!(in rt.alloc(); "convert {word} file")?)?;
-        same(&rt, word, job(&converted), Some(Job::Convert(kind, "file")));
-        let shown = words(rt.alloc(), &format!(in rt.alloc(); "show {word} file")?)?;
-        same(&rt, word, job(&shown), Some(Job::Show(kind, "file")));
-    }
-    Ok(())
-}
-
-/// Command lines that ask for the conversion of a graph, each with its file.
-static CONVERSIONS: [(&str, &str); 4] = [
-    ("convert gr road.gr", "road.gr"),
-    ("convert gr -", "-"),
-    ("convert gr --help", "--help"),
-    ("convert gr convert", "convert"),
-];
-
-#[test]
-fn words_ask_for_a_conversion(rt: HostRuntime) -> Result<(), Fail> {
-    for &(line, file) in &CONVERSIONS {
+fn words_ask_for_jobs(rt: HostRuntime) -> Result<(), Fail> {
+    for row in rows(&rt, LINES, 96) {
+        let (line, wanted) = cell(&rt, row);
         let given = words(rt.alloc(), line)?;
-        let wanted = Some(Job::Convert(TextKind::Graph, file));
-        same(&rt, line, job(&given), wanted);
-    }
-    Ok(())
-}
-
-/// Command lines that ask for a judge.
-static JUDGES: [(&str, JudgeKind); 4] = [
-    ("judge-max instance solution cut", JudgeKind::Max),
-    ("judge-min instance solution potentials", JudgeKind::Min),
-    ("judge-infeasible instance cut", JudgeKind::Infeasible),
-    ("judge-paths graph query labels", JudgeKind::Paths),
-];
-
-#[test]
-fn words_ask_for_each_judge(rt: HostRuntime) -> Result<(), Fail> {
-    for &(line, kind) in &JUDGES {
-        let given = words(rt.alloc(), line)?;
-        let files = given.get(1..).unwrap_or_default();
-        same(&rt, line, job(&given), Some(Job::Judge(kind, files)));
-    }
-    Ok(())
-}
-
-/// Command lines that ask for a certificate.
-static CERTIFIERS: [(&str, CertifyKind); 5] = [
-    ("certify-max instance solution", CertifyKind::Max),
-    ("certify-max instance solution cut", CertifyKind::Max),
-    ("certify-min instance solution", CertifyKind::Min),
-    ("certify-min instance solution pot", CertifyKind::Min),
-    ("certify-min certify-max --help -", CertifyKind::Min),
-];
-
-#[test]
-fn words_ask_for_each_certifier(rt: HostRuntime) -> Result<(), Fail> {
-    for &(line, kind) in &CERTIFIERS {
-        let given = words(rt.alloc(), line)?;
-        let files = given.get(1..).unwrap_or_default();
-        same(&rt, line, job(&given), Some(Job::Certify(kind, files)));
-    }
-    Ok(())
-}
-
-/// Command lines that ask for a producer. The three words after the first are its files.
-static PRODUCERS: [(&str, SolveJob); 14] = [
-    ("solve-max instance solution cut", SolveJob::Max(1_000_000)),
-    (
-        "solve-max instance solution cut --limit 10",
-        SolveJob::Max(10),
-    ),
-    (
-        "solve-max instance solution cut --limit 0",
-        SolveJob::Max(0),
-    ),
-    (
-        "solve-max instance solution cut --limit -0",
-        SolveJob::Max(0),
-    ),
-    (
-        "solve-max instance solution cut --limit +007",
-        SolveJob::Max(7),
-    ),
-    (
-        "solve-max instance solution cut --limit 1000000000",
-        SolveJob::Max(1_000_000_000),
-    ),
-    ("solve-max instance --limit 5", SolveJob::Max(1_000_000)),
-    ("solve-max --limit 5 cut", SolveJob::Max(1_000_000)),
-    ("solve-max - --limit --limit --limit 5", SolveJob::Max(5)),
-    ("solve-min instance solution pot", SolveJob::Min(1_000_000)),
-    (
-        "solve-min instance solution pot --limit 2",
-        SolveJob::Min(2),
-    ),
-    ("solve-paths graph query labels", SolveJob::Paths),
-    ("solve-paths --limit --help -", SolveJob::Paths),
-    ("solve-paths solve-paths --limit 5", SolveJob::Paths),
-];
-
-#[test]
-fn words_ask_for_each_producer(rt: HostRuntime) -> Result<(), Fail> {
-    for &(line, producer) in &PRODUCERS {
-        let given = words(rt.alloc(), line)?;
-        let files = given.get(1..4).unwrap_or_default();
-        same(&rt, line, job(&given), Some(Job::Solve(producer, files)));
-    }
-    Ok(())
-}
-
-/// Command lines that ask for nothing.
-static OTHER_WORDS: [&str; 44] = [
-    "",
-    "convert",
-    "convert gr",
-    "convert foo road.gr",
-    "convert GR road.gr",
-    "convert gr road.gr road.gr",
-    "Convert gr road.gr",
-    "--help",
-    "--version",
-    "-",
-    "gr convert road.gr",
-    "show",
-    "show gr",
-    "show foo road.gr",
-    "show gr road.gr road.gr",
-    "judge-max",
-    "judge-max instance solution",
-    "judge-max instance solution cut cut",
-    "judge-infeasible instance",
-    "judge-infeasible instance solution cut",
-    "judge instance solution cut",
-    "certify-max",
-    "certify-max instance",
-    "certify-max instance solution cut cut",
-    "certify-min instance solution pot --limit 5",
-    "certify-paths graph query labels",
-    "certify instance solution cut",
-    "solve-max",
-    "solve-max instance solution",
-    "solve-max instance solution cut cut",
-    "solve-max instance solution cut --limit",
-    "solve-max instance solution cut --limit 5 5",
-    "solve-max instance solution cut limit 5",
-    "solve-max instance solution cut 5 --limit",
-    "solve-max instance solution cut --limit 1000000001",
-    "solve-max instance solution cut --limit -1",
-    "solve-max instance solution cut --limit 5.",
-    "solve-max instance solution cut --limit ",
-    "solve-max instance solution cut --limit 99999999999999999999",
-    "solve-max --limit 5 instance solution cut",
-    "solve-min instance solution pot --limit -2",
-    "solve-paths graph query",
-    "solve-paths graph query labels --limit 5",
-    "solve instance solution cut",
-];
-
-#[test]
-fn other_words_ask_for_nothing(rt: HostRuntime) -> Result<(), Fail> {
-    for &line in &OTHER_WORDS {
-        let given = words(rt.alloc(), line)?;
-        same(&rt, line, job(&given), None);
+        let said = format!(in rt.alloc(); "{:?}", job(&given))?;
+        same(&rt, line, said.as_str(), wanted);
     }
     let none = Vec::new(rt.alloc());
     same(&rt, "no words at all", job(&none), None);

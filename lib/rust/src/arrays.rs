@@ -231,7 +231,7 @@ pub fn judge_min(instance: &MinInstance, flows: &[i64], potentials: &[i64]) -> R
     Ok(value(&line_of(status, line)?))
 }
 
-/// Judges that an instance has no feasible flow, as a set of nodes shows. [`Error::Refused`] where this set doesn't;
+/// Judges that an instance has no feasible flow, as a set of nodes shows. [`Error::Refused`] if this set doesn't;
 /// there may be no flow all the same.
 ///
 /// ```
@@ -284,7 +284,7 @@ pub fn judge_paths(graph: &Graph, source: u32, distances: &[i64], predecessors: 
 }
 
 /// Decides whether a flow, by arc, is maximum: its value and a cut by which [`judge_max`] says yes. [`Error::NotOptimal`]
-/// with a feasible flow of greater value, and [`Error::Refused`] where the flow isn't feasible. The time that it takes isn't
+/// with a feasible flow of greater value, and [`Error::Refused`] if the flow isn't feasible. The time that it takes isn't
 /// bounded by the number of arcs.
 ///
 /// ```
@@ -318,8 +318,8 @@ pub fn certify_max(instance: &MaxInstance, flows: &[i64]) -> Result<CertifiedMax
 }
 
 /// Decides whether a flow, by arc, costs least: its cost and potentials by which [`judge_min`] says yes, or
-/// [`Error::GaveUp`] where those that were found don't fit in 64 bits. [`Error::NotOptimal`] with a feasible flow that costs
-/// less, and [`Error::Refused`] where the flow isn't feasible.
+/// [`Error::GaveUp`] if those that were found don't fit in 64 bits. [`Error::NotOptimal`] with a feasible flow that costs
+/// less, and [`Error::Refused`] if the flow isn't feasible.
 ///
 /// ```
 /// # use dimacs::arrays::{certify_min, Error, MinInstance};
@@ -354,7 +354,7 @@ pub fn certify_min(instance: &MinInstance, flows: &[i64]) -> Result<CertifiedMin
 }
 
 /// Decides whether an instance has no feasible flow: a set by which [`judge_infeasible`] says yes. [`Error::Feasible`] with
-/// a feasible flow, where there is one. The time that it takes isn't bounded by the number of arcs.
+/// a feasible flow, if there is one. The time that it takes isn't bounded by the number of arcs.
 ///
 /// ```
 /// # use dimacs::arrays::{certify_infeasible, Error, MinInstance};
@@ -450,7 +450,7 @@ pub fn solve_max(instance: &MaxInstance, limit: u64) -> Result<SolvedMax, Error>
 }
 
 /// Makes a flow of least cost, and potentials by which [`judge_min`] says yes. [`Error::Infeasible`] with a set by which
-/// [`judge_infeasible`] says yes, where no flow is feasible; [`Error::GaveUp`] after `limit` steps to better flows, or where
+/// [`judge_infeasible`] says yes, if no flow is feasible; [`Error::GaveUp`] after `limit` steps to better flows, or if
 /// the least cost or the potentials are out of range.
 ///
 /// ```
@@ -493,7 +493,7 @@ pub fn solve_min(instance: &MinInstance, limit: u64) -> Result<SolvedMin, Error>
 }
 
 /// Makes distances from the source, and predecessors by which [`judge_paths`] says yes. [`Error::Refused`] for the first arc
-/// of negative weight, and [`Error::GaveUp`] where a distance is 2^63 - 1 or more.
+/// of negative weight, and [`Error::GaveUp`] if a distance is 2^63 - 1 or more.
 ///
 /// ```
 /// # use dimacs::arrays::{solve_paths, Graph, UNREACHED};

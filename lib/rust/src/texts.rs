@@ -8,7 +8,7 @@ use crate::ffi::{self, DONE, GAVE_UP, NO_MEMORY, REFUSED};
 use crate::rooms::{Room, LINE};
 use crate::words::{is_feasible, is_infeasible, is_not_optimal, refused, value};
 
-/// Why a call over texts doesn't say yes: a better flow is the text of a solution, or `None` where its cost is out of the
+/// Why a call over texts doesn't say yes: a better flow is the text of a solution, or `None` if its cost is out of the
 /// range of such texts; a set is a text too.
 pub type Error = crate::Error<Option<String>, String>;
 
@@ -276,7 +276,7 @@ pub fn judge_paths(
 }
 
 /// Decides whether a solution's flow is maximum: its value and a cut with which [`judge_max`] says yes.
-/// [`Error::NotOptimal`] where the flow is feasible and has the claimed value.
+/// [`Error::NotOptimal`] if the flow is feasible and has the claimed value.
 ///
 /// ```
 /// # use dimacs::texts::{certify_max, Error};
@@ -289,7 +289,7 @@ pub fn certify_max(instance: impl AsRef<[u8]>, solution: impl AsRef<[u8]>) -> Re
 }
 
 /// Decides whether a solution's flow costs least: its cost and potentials with which [`judge_min`] says yes.
-/// [`Error::NotOptimal`] where the flow is feasible and has the claimed cost.
+/// [`Error::NotOptimal`] if the flow is feasible and has the claimed cost.
 ///
 /// ```
 /// # use dimacs::texts::certify_min;
@@ -302,7 +302,7 @@ pub fn certify_min(instance: impl AsRef<[u8]>, solution: impl AsRef<[u8]>) -> Re
 }
 
 /// Decides whether an instance has no feasible flow: the text of a set with which [`judge_infeasible`] says yes.
-/// [`Error::Feasible`] with a solution that has a feasible flow, where there is one.
+/// [`Error::Feasible`] with a solution that has a feasible flow, if there is one.
 ///
 /// ```
 /// # use dimacs::texts::{certify_infeasible, Error};
@@ -345,7 +345,7 @@ pub fn solve_max(instance: impl AsRef<[u8]>, limit: u64) -> Result<Solved, Error
 }
 
 /// Makes a flow of least cost: the texts of a solution and of potentials. [`Error::Infeasible`] with the text of a set
-/// where no flow is feasible; [`Error::GaveUp`] after `limit` steps to better flows, or where the least cost is out of range.
+/// if no flow is feasible; [`Error::GaveUp`] after `limit` steps to better flows, or if the least cost is out of range.
 ///
 /// ```
 /// # use dimacs::texts::{solve_min, Error};
@@ -360,7 +360,7 @@ pub fn solve_min(instance: impl AsRef<[u8]>, limit: u64) -> Result<Solved, Error
     Ok(Solved { value: value(&line), solution, certificate })
 }
 
-/// Makes labels, and answers queries by them. Refused too where a query names no node or a weight is negative.
+/// Makes labels, and answers queries by them. Refused too if a query names no node or a weight is negative.
 ///
 /// ```
 /// # use dimacs::texts::{solve_paths, Paths};

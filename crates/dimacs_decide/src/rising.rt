@@ -1,0 +1,157 @@
+//! Whether claimed distances are true, by predecessors that one pass over the arcs finds.
+
+ghost use Rattle.std.specs.Prelude.{◌≡◌, ◌≤◌, All, IfOk, IfSome, IsSome, IsTrue, OnOk, true};
+ghost use Rattle.dimacs_lines.specs.Limits.{most_nodes, IsNode};
+ghost use Rattle.dimacs_network.specs.Arcs.{JoinsNodes};
+ghost use Rattle.dimacs_judge.specs.Tests.{Clear};
+ghost use Rattle.dimacs_nodes.specs.Tables.{value_of};
+ghost use Rattle.dimacs_decide.specs.Distances.{AreDistancesFrom, claim_row};
+ghost use Rattle.dimacs_decide.specs.inside.DistanceBlocks.{IsBlockOf};
+ghost use Rattle.dimacs_decide.specs.inside.TightTrees.{AreTightTails, IsTightTree, NotesTail, ReachesAll, TreeGrows};
+
+use crate::claim::DistanceClaim;
+use crate::distances::{arc_fault, source_holds};
+use crate::tight_tree::{TightTree, tight_dist};
+use dimacs_claims::Block;
+use dimacs_instance::Graph;
+use dimacs_lines::Memory;
+use dimacs_network::{ArcView, Network};
+use dimacs_nodes::NodeTable;
+use std::alloc::Global;
+
+/// A block that shows that the claimed distances are true, where arcs of positive weight make them all. None says nothing
+/// of the claim. Goes over the arcs once.
+pub(crate) fn rising_block<N: Network, C: DistanceClaim>(
+    alloc: Global,
+    graph: &Graph<N>,
+    source: u32,
+    claim: &C,
+) -> Result<Option<Block>, Memory>
+    requires { IsNode graph.now.nodes source }
+    ensures { IfOk result (λ found. IfSome found (λ block. AreDistancesFrom graph.now source (C.claimed claim.now)
+        × IsBlockOf graph.now source (C.claimed claim.now) block)) }
+{
+    let network = graph.network();
+    if source_holds(source, claim).is_err() {
+        return Ok(None);
+    }
+    let Some(tails) = tight_tails(alloc, network, claim)? else {
+        return Ok(None);
+    };
+    let mut tree = TightTree::new(alloc, network, source, claim)?;
+    if lead_all(alloc, network, claim, &tails, &mut tree)? {
+        Ok(Some(tree.into_block()))
+    } else {
+        Ok(None)
+    }
+}
+
+/// For each node the tail of the last arc of positive weight that makes its distance, 0 for none. None where a test of an
+/// arc fails.
+#[inline(never)]
+fn tight_tails<N: Network, C: DistanceClaim>(
+    alloc: Global,
+    network: &N,
+    claim: &C,
+) -> Result<Option<NodeTable<u32>>, Memory>
+    ensures clear { IfOk result (λ found. IfSome found (λ tails. Clear (claim_row (N.list network.now) (C.claimed claim.now)))) }
+    ensures tails { IfOk result (λ found. IfSome found (λ tails. AreTightTails (N.list network.now) (C.claimed claim.now) (value_of tails))) }
+{
+    let mut tails = NodeTable::new(alloc, 0u32);
+    for i in 0..network.arcs() {
+        let arc = network.arc(i);
+        if arc_fault(claim, arc).is_some() {
+            return Ok(None);
+        }
+        note_tail(claim, arc, &mut tails)?;
+    }
+    Ok(Some(tails))
+}
+
+/// Notes the tail of an arc of positive weight that makes the distance of its head.
+#[inline(always)]
+fn note_tail<C: DistanceClaim>(
+    claim: &C,
+    arc: ArcView,
+    tails: &mut NodeTable<u32>,
+) -> Result<(), Memory>
+    ensures { OnOk result (NotesTail (C.claimed claim.now) arc (value_of tails.old) (value_of tails.new)) }
+{
+    if arc.cost > 0 && tight_dist(claim, arc).is_some() {
+        tails.set(arc.head, arc.tail)?;
+    }
+    Ok(())
+}
+
+/// Reaches all nodes of which something is claimed, in the order of IDs, each after its predecessors. Whether that works.
+#[inline(never)]
+fn lead_all<N: Network, C: DistanceClaim>(
+    alloc: Global,
+    network: &N,
+    claim: &C,
+    tails: &NodeTable<u32>,
+    tree: &mut TightTree,
+) -> Result<bool, Memory>
+    requires few_nodes { N.node_count network.now ≤ most_nodes }
+    requires joined { All (JoinsNodes (N.node_count network.now)) (N.list network.now) }
+    requires tails { AreTightTails (N.list network.now) (C.claimed claim.now) (value_of tails.now) }
+    requires tree { IsTightTree (N.node_count network.now) (N.list network.now) (C.claimed claim.now) tree.old.block (value_of tree.old.reached) }
+    ensures source { OnOk result (tree.new.block.source ≡ tree.old.block.source) }
+    ensures tree { OnOk result (IsTightTree (N.node_count network.now) (N.list network.now) (C.claimed claim.now) tree.new.block (value_of tree.new.reached)) }
+    ensures all { IfOk result (λ all. IsTrue all → ReachesAll (N.node_count network.now) (C.claimed claim.now) (value_of tree.new.reached)) }
+{
+    let mut way = Vec::new(alloc);
+    for v in 1..network.nodes() + 1 {
+        let led = lead(network, claim, tails, tree, &mut way, v)?;
+        if !led {
+            return Ok(false);
+        }
+    }
+    Ok(true)
+}
+
+/// Reaches a node, if something is claimed of it, after its predecessors from the last one on that was reached. Whether that
+/// works.
+#[inline(always)]
+fn lead<N: Network, C: DistanceClaim>(
+    network: &N,
+    claim: &C,
+    tails: &NodeTable<u32>,
+    tree: &mut TightTree,
+    way: &mut Vec<u32>,
+    node: u32,
+) -> Result<bool, Memory>
+    requires few_nodes { N.node_count network.now ≤ most_nodes }
+    requires joined { All (JoinsNodes (N.node_count network.now)) (N.list network.now) }
+    requires tails { AreTightTails (N.list network.now) (C.claimed claim.now) (value_of tails.now) }
+    requires tree { IsTightTree (N.node_count network.now) (N.list network.now) (C.claimed claim.now) tree.old.block (value_of tree.old.reached) }
+    ensures tree { OnOk result (IsTightTree (N.node_count network.now) (N.list network.now) (C.claimed claim.now) tree.new.block (value_of tree.new.reached)) }
+    ensures grows { OnOk result (TreeGrows tree.old.block (value_of tree.old.reached) tree.new.block (value_of tree.new.reached)) }
+    ensures led { IfOk result (λ led. IsTrue led → IsSome (C.claimed claim.now node) → value_of tree.new.reached node ≡ true) }
+{
+    if claim.of(node).is_none() {
+        return Ok(true);
+    }
+    climb(network, tails, tree, way, node)?;
+    while let Some(next) = way.pop() {
+        tree.place(network, claim, tails, next)?;
+    }
+    Ok(tree.reaches(node))
+}
+
+/// Adds a node and its predecessors to the way, as far as to one that was reached.
+#[inline(always)]
+fn climb<N: Network>(
+    network: &N,
+    tails: &NodeTable<u32>,
+    tree: &TightTree,
+    way: &mut Vec<u32>,
+    node: u32,
+) -> Result<(), Memory> {
+    let mut at = node;
+    while at > 0 && !tree.reaches(at) && way.len() < network.nodes() as usize {
+        way.push(at)?;
+        at = tails.get(at);
+    }
+    Ok(())
+}

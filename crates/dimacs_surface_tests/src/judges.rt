@@ -1,0 +1,235 @@
+//! The calls of the judges, one by one.
+
+ghost use Rattle.std.specs.Prelude.{◌≡◌, length, IfOk};
+
+use crate::checks::same;
+use dimacs_claims::{
+    Cut, Potentials, Solution, read_cut, read_labels, read_potentials, read_solution,
+    read_solution_into,
+};
+use dimacs_instance::{
+    MaxInstance, MinInstance, Network, read_graph, read_max, read_min, read_queries,
+};
+use dimacs_judge::{
+    Answer, Flow, FlowPlaces, JudgeError, Verdict, Where, cut_tests, feasible_max, feasible_min,
+    flow_of, judge_infeasible, judge_max, judge_max_placed, judge_min, judge_min_placed,
+    judge_paths, label_tests, slack_tests,
+};
+use dimacs_lines::MemorySource;
+use dimacs_records::{ReadError, Reason};
+use std::alloc::Global;
+use std::test::Fail;
+
+/// A network of three nodes.
+const MAX: &[u8] = b"p max 3 3\nn 1 s\nn 3 t\na 1 2 4\na 2 3 2\na 1 3 1\n";
+
+/// A maximum flow in it, and a cut that is tight for it.
+const MAXIMUM: &[u8] = b"f 1 3 1\nf 1 2 2\nf 2 3 2\ns 3\n";
+
+const CUT: &[u8] = b"p cut 3 2\nu 1\nu 2\n";
+
+fn solution(alloc: Global, text: &[u8]) -> Result<Solution, ReadError> {
+    read_solution(alloc, &mut MemorySource::new(text))
+}
+
+/// The amounts that a solution gives the arcs of a network, where they are as many as its arcs.
+fn flow_in<N: Network>(alloc: Global, network: &N, text: &[u8]) -> Result<Flow, Fail>
+    ensures { IfOk result (λ flow. length flow ≡ length (N.list network.now)) }
+{
+    let flow = flow_of(alloc, network, &solution(alloc, text)?)?;
+    if flow.len() != network.arcs() as usize {
+        return Err(Fail::from("a flow of other arcs"));
+    }
+    Ok(flow)
+}
+
+/// What is said of a claim of a maximum flow, as its entries are kept.
+fn kept_max<N: Network>(
+    alloc: Global,
+    instance: &MaxInstance<N>,
+    claim: &[u8],
+    cut: &Cut,
+) -> Result<Result<Verdict, JudgeError>, Fail> {
+    let solution = solution(alloc, claim)?;
+    Ok(judge_max(alloc, instance, &solution, cut))
+}
+
+/// The same, as its entries are placed.
+fn placed_max<N: Network>(
+    alloc: Global,
+    instance: &MaxInstance<N>,
+    claim: &[u8],
+    cut: &Cut,
+) -> Result<Result<Verdict, JudgeError>, Fail> {
+    let places = FlowPlaces::new(alloc, instance.network())?;
+    let placed = read_solution_into(alloc, places, &mut MemorySource::new(claim))?;
+    Ok(judge_max_placed(alloc, instance, &placed, cut))
+}
+
+/// What is said of a claim in the first network, of its entries as they are kept and as they are placed.
+fn judged_max(alloc: Global, claim: &[u8]) -> Result<[Result<Verdict, JudgeError>; 2], Fail> {
+    let instance = read_max(alloc, &mut MemorySource::new(MAX))?;
+    let cut = read_cut(alloc, &mut MemorySource::new(CUT))?;
+    let kept = kept_max(alloc, &instance, claim, &cut)?;
+    Ok([kept, placed_max(alloc, &instance, claim, &cut)?])
+}
+
+#[test]
+fn a_maximum_flow_is_judged_by_a_cut(rt: HostRuntime) -> Result<(), Fail> {
+    let [kept, placed] = judged_max(rt.alloc(), MAXIMUM)?;
+    same(&rt, "verdict", kept, Ok(Verdict::Max(3)));
+    same(
+        &rt,
+        "verdict on what is placed",
+        placed,
+        Ok(Verdict::Max(3)),
+    );
+    let [kept, placed] = judged_max(rt.alloc(), b"f 1 3 1\nc\nf 1 3 2\nf 3 1 2\ns 3\n")?;
+    let place = Where::Solution { line: 3, field: 0 };
+    let refusal = JudgeError::Refused(place, Reason::ArcTwice);
+    same(&rt, "the first entry that fails", kept, Err(refusal));
+    same(&rt, "the first that is placed", placed, Err(refusal));
+    Ok(())
+}
+
+/// What is said of the first arc's amount in the maximum flow, of the flow, and of a cut for it.
+fn tests_of_max(alloc: Global, cut: &[u8]) -> Result<Result<(), (Where, Reason)>, Fail> {
+    let instance = read_max(alloc, &mut MemorySource::new(MAX))?;
+    let flow = flow_in(alloc, instance.network(), MAXIMUM)?;
+    feasible_max(alloc, &instance, &flow)?;
+    if flow.len() != 3 || flow.amount(0) != 2 {
+        return Err(Fail::from("another flow"));
+    }
+    Ok(cut_tests(
+        &instance,
+        &flow,
+        &read_cut(alloc, &mut MemorySource::new(cut))?,
+    ))
+}
+
+#[test]
+fn a_maximum_flow_is_feasible_and_its_cut_is_tight(rt: HostRuntime) -> Result<(), Fail> {
+    same(&rt, "a tight cut", tests_of_max(rt.alloc(), CUT)?, Ok(()));
+    let refusal = (Where::Node(1), Reason::SourceOutside);
+    let tests = tests_of_max(rt.alloc(), b"p cut 3 0\n")?;
+    same(&rt, "the empty set", tests, Err(refusal));
+    Ok(())
+}
+
+/// Two nodes, and an arc each way between them.
+const MIN: &[u8] = b"p min 2 2\nn 1 1\nn 2 -1\na 1 2 0 1 3\na 2 1 0 1 0\n";
+
+/// A flow of least cost in it.
+const LEAST: &[u8] = b"s 3\nf 1 2 1\n";
+
+/// What is said of a claim of a least flow, as its entries are kept.
+fn kept_min<N: Network>(
+    alloc: Global,
+    instance: &MinInstance<N>,
+    potentials: &Potentials,
+) -> Result<Result<Verdict, JudgeError>, Fail> {
+    let solution = solution(alloc, LEAST)?;
+    Ok(judge_min(alloc, instance, &solution, potentials))
+}
+
+/// The same, as its entries are placed.
+fn placed_min<N: Network>(
+    alloc: Global,
+    instance: &MinInstance<N>,
+    potentials: &Potentials,
+) -> Result<Result<Verdict, JudgeError>, Fail> {
+    let places = FlowPlaces::new(alloc, instance.network())?;
+    let placed = read_solution_into(alloc, places, &mut MemorySource::new(LEAST))?;
+    Ok(judge_min_placed(alloc, instance, &placed, potentials))
+}
+
+/// What is said of the least flow with potentials, of its entries as they are kept and as they are placed.
+fn judged_min(alloc: Global, potentials: &[u8]) -> Result<[Result<Verdict, JudgeError>; 2], Fail> {
+    let instance = read_min(alloc, &mut MemorySource::new(MIN))?;
+    let potentials = read_potentials(alloc, &mut MemorySource::new(potentials))?;
+    let kept = kept_min(alloc, &instance, &potentials)?;
+    Ok([kept, placed_min(alloc, &instance, &potentials)?])
+}
+
+/// What is said of the least flow, and of potentials for it.
+fn tests_of_min(alloc: Global, potentials: &[u8]) -> Result<Result<(), (Where, Reason)>, Fail> {
+    let instance = read_min(alloc, &mut MemorySource::new(MIN))?;
+    let flow = flow_in(alloc, instance.network(), LEAST)?;
+    feasible_min(alloc, &instance, &flow)?;
+    let potentials = read_potentials(alloc, &mut MemorySource::new(potentials))?;
+    Ok(slack_tests(&instance, &flow, &potentials))
+}
+
+/// Potentials, and the first arc whose reduced cost fails.
+static POTENTIALS: [(&[u8], Result<(), (Where, Reason)>); 2] = [
+    (b"p pot 2 1\ny 1 3\n", Ok(())),
+    (
+        b"p pot 2 1\ny 1 2\n",
+        Err((Where::Arc(1), Reason::NotTight)),
+    ),
+];
+
+#[test]
+fn a_flow_of_least_cost_is_judged_by_potentials(rt: HostRuntime) -> Result<(), Fail> {
+    for &(potentials, wanted) in &POTENTIALS {
+        same(&rt, "tests", tests_of_min(rt.alloc(), potentials)?, wanted);
+        let [kept, placed] = judged_min(rt.alloc(), potentials)?;
+        same(&rt, "alike", kept.is_ok(), wanted.is_ok());
+        same(&rt, "as it is placed", placed, kept);
+    }
+    Ok(())
+}
+
+/// What is said of a set.
+fn judged_set(alloc: Global, text: &[u8]) -> Result<Result<Verdict, JudgeError>, Fail> {
+    let instance = read_min(alloc, &mut MemorySource::new(text))?;
+    let set = read_cut(alloc, &mut MemorySource::new(b"p cut 2 1\nu 1\n"))?;
+    Ok(judge_infeasible(&instance, &set))
+}
+
+#[test]
+fn a_set_is_judged(rt: HostRuntime) -> Result<(), Fail> {
+    let refusal = JudgeError::Refused(Where::Certificate, Reason::NotViolated);
+    same(&rt, "a set", judged_set(rt.alloc(), MIN)?, Err(refusal));
+    let said = judged_set(rt.alloc(), b"p min 2 1\nn 1 1\nn 2 -1\na 1 2 2 5 0\n")?;
+    same(&rt, "a violated one", said, Ok(Verdict::Infeasible));
+    Ok(())
+}
+
+/// What is said of labels, and the answers to two queries.
+fn judged_labels(alloc: Global, labels: &[u8]) -> Result<Result<Verdict, JudgeError>, Fail> {
+    let graph = read_graph(
+        alloc,
+        &mut MemorySource::new(b"p sp 3 2\na 1 2 5\na 2 1 -5\n"),
+    )?;
+    let text = b"p aux sp p2p 2\nq 1 3\nq 1 2\n";
+    let queries = read_queries(alloc, &mut MemorySource::new(text))?;
+    let labels = read_labels(alloc, &mut MemorySource::new(labels))?;
+    if let Err((place, reason)) = label_tests(&graph, &labels) {
+        return Ok(Err(JudgeError::Refused(place, reason)));
+    }
+    Ok(judge_paths(alloc, &graph, &queries, &labels))
+}
+
+#[test]
+fn labels_answer_queries(rt: HostRuntime) -> Result<(), Fail> {
+    let said = judged_labels(rt.alloc(), b"p dist 3 1\nt 1 1\nd 2 4 1\n")?;
+    let refusal = JudgeError::Refused(Where::Node(2), Reason::NoTightArc);
+    same(&rt, "a label that no arc makes", said, Err(refusal));
+    let said = judged_labels(rt.alloc(), b"p dist 3 1\nt 1 1\nd 2 5 1\n")?;
+    let Ok(Verdict::Pairs(answers)) = said else {
+        return Err(Fail::from("the labels are distances"));
+    };
+    let (from, beyond) = (1, None);
+    for (answer, (to, distance)) in answers.iter().zip([(3, None), (2, Some(5))]) {
+        let wanted = Answer {
+            from,
+            to,
+            distance,
+            beyond,
+        };
+        same(&rt, "an answer", *answer, wanted);
+    }
+    same(&rt, "answers", answers.len(), 2);
+    Ok(())
+}

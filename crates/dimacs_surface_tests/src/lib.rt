@@ -1,0 +1,28 @@
+//! The tests of the calls that a Rust program makes: each is called by its path, with nothing else of the crates, and has
+//! answers that were worked out by hand.
+#![tactic(auto)]
+
+#[cfg(test)]
+mod checks;
+#[cfg(test)]
+mod claims;
+#[cfg(test)]
+mod devices;
+#[cfg(test)]
+mod fields;
+#[cfg(test)]
+mod files;
+#[cfg(test)]
+mod instances;
+#[cfg(test)]
+mod judges;
+#[cfg(test)]
+mod lines;
+#[cfg(test)]
+mod producers;
+#[cfg(test)]
+mod records;
+#[cfg(test)]
+mod spelling;
+#[cfg(test)]
+mod tables;

@@ -1,0 +1,278 @@
+//! Records that are taken once more where there was no memory for them. `tests/refusals.py` runs these tests with each growth
+//! refused in turn; by themselves they meet no refusal.
+
+ghost use Rattle.std.specs.Prelude.{◌≡◌, None};
+
+use crate::checks::{holds, same, same_at};
+use dimacs_claims::{
+    CutReading, DistancesReading, Entry, LabelsReading, Placed, PotentialsReading, Solution,
+    SolutionReading,
+};
+use dimacs_instance::{GraphReading, LawfulQueries, MaxReading, MinReading, QueriesReading};
+use dimacs_lines::{DeviceFault, Sink};
+use dimacs_records::{Reading, TakeError, Text, TextKind, record};
+use std::process::Abort;
+use std::test::Fail;
+
+/// Compares what is put with a text, and takes no memory.
+#[derive(Drop)]
+struct Comparing<'a> {
+    rest: &'a [u8],
+    differs: bool,
+}
+
+impl<'a> Comparing<'a> {
+    fn new(text: &'a str) -> Comparing<'a> {
+        Comparing {
+            rest: text.as_bytes(),
+            differs: false,
+        }
+    }
+
+    /// Whether the text was put, and nothing else.
+    fn was_put(&self) -> bool {
+        self.rest.is_empty() && !self.differs
+    }
+}
+
+impl<'a> Sink for Comparing<'a> {
+    ghost seen = { λ s. record { accepted = None; faults = 0 } };
+
+    fn put(&mut self, bytes: &[u8]) -> Result<usize, DeviceFault> {
+        match self.rest.strip_prefix(bytes) {
+            Some(rest) => self.rest = rest,
+            None => self.differs = true,
+        }
+        Ok(bytes.len())
+    }
+}
+
+/// Gives a reading what a line says.
+fn take_line<R: Reading>(
+    reading: &mut R,
+    kind: TextKind,
+    number: u64,
+    line: &str,
+) -> Result<(), TakeError>
+    requires { R.kind reading.old ≡ kind }
+    ensures { R.kind reading.new ≡ kind }
+{
+    match record(kind, line.as_bytes()) {
+        Ok(Some(said)) => reading.take(number, said),
+        Ok(None) => Ok(()),
+        Err(fault) => Err(TakeError::Refused(fault)),
+    }
+}
+
+/// Gives a reading a line, and once more where there was no memory for it.
+fn take_at_last<R: Reading>(
+    rt: &impl Abort,
+    reading: &mut R,
+    kind: TextKind,
+    number: u64,
+    line: &str,
+)
+    requires { R.kind reading.old ≡ kind }
+    ensures { R.kind reading.new ≡ kind }
+{
+    let mut answer = take_line(reading, kind, number, line);
+    if answer == Err(TakeError::Memory) {
+        answer = take_line(reading, kind, number, line);
+    }
+    same_at(rt, line, number, answer, Ok(()));
+}
+
+/// Gives a reading the lines of a text, each once more where there was no memory for it.
+fn take_lines<R: Reading>(rt: &impl Abort, reading: &mut R, kind: TextKind, text: &str)
+    requires { R.kind reading.old ≡ kind }
+{
+    for (line, number) in text.lines().zip(1..=u64::MAX) {
+        take_at_last(rt, reading, kind, number, line);
+    }
+}
+
+/// The value of a reading that is given the lines of a text; none where there was no memory at its end.
+fn read_lines<R: Reading>(
+    rt: &impl Abort,
+    mut reading: R,
+    kind: TextKind,
+    text: &str,
+) -> Option<R::Value>
+    requires { R.kind reading ≡ kind }
+{
+    take_lines(rt, &mut reading, kind, text);
+    match reading.finish() {
+        Ok(value) => Some(value),
+        Err(error) => {
+            same(rt, text, error, TakeError::Memory);
+            None
+        }
+    }
+}
+
+/// Whether this text is written of a value, where there is one.
+fn is_whole<T: Text>(rt: &impl Abort, value: Option<T>, text: &str) -> Result<(), Fail> {
+    if let Some(value) = value {
+        let mut sink = Comparing::new(text);
+        value.write(&mut sink)?;
+        holds(rt, text, sink.was_put());
+    }
+    Ok(())
+}
+
+static MAX: &str = "\
+p max 70000 5
+n 1 s
+n 70000 t
+a 1 700 4
+a 700 70000 4
+a 1 700 5
+a 1 1 0
+a 3000 700 2
+";
+
+static MIN: &str = "\
+p min 70000 8
+n 1 2
+n 700 1
+n 70000 -3
+a 1 700 0 4 5
+a 700 70000 0 4 -5
+a 700 1 0 4 0
+a 1 1 1 4 0
+a 70000 1 0 4 0
+a 1 700 0 4 0
+a 3000 700 0 4 0
+a 1 9000 0 4 0
+";
+
+static GRAPH: &str = "\
+p sp 70000 5
+a 1 700 4
+a 700 70000 -4
+a 1 700 5
+a 1 1 0
+a 3000 700 2
+";
+
+static SOURCES: &str = "\
+p aux sp ss 5
+s 1
+s 70000
+s 1
+s 2
+s 3
+";
+
+static PAIRS: &str = "\
+p aux sp p2p 5
+q 1 2
+q 70000 1
+q 1 2
+q 3 3
+q 2 1
+";
+
+#[test]
+fn instances_and_queries_come_whole_after_a_refused_growth(rt: HostRuntime) -> Result<(), Fail> {
+    let alloc = rt.alloc();
+    let max = read_lines(&rt, MaxReading::new(alloc), TextKind::Max, MAX);
+    is_whole(&rt, max, MAX)?;
+    let min = read_lines(&rt, MinReading::new(alloc), TextKind::Min, MIN);
+    is_whole(&rt, min, MIN)?;
+    let graph = read_lines(&rt, GraphReading::new(alloc), TextKind::Graph, GRAPH);
+    is_whole(&rt, graph, GRAPH)?;
+    for text in [SOURCES, PAIRS] {
+        let reading = QueriesReading::new(alloc);
+        let queries = read_lines(&rt, reading, TextKind::Queries, text);
+        is_whole(&rt, queries.map(LawfulQueries::into_queries), text)?;
+    }
+    Ok(())
+}
+
+static SOLUTION: &str = "\
+s 12
+f 1 2 4
+f 1 2 -4
+f 3 3 0
+f 70000 1 9
+f 1 70000 3
+";
+
+static CUT: &str = "\
+p cut 70000 5
+u 1
+u 2
+u 300
+u 700
+u 70000
+";
+
+static POTENTIALS: &str = "\
+p pot 70000 6
+y 1 4
+y 2 -4
+y 300 1000000000000000000000000000000
+y 301 7
+y 700 -1000000000000000000000000000000
+y 70000 1
+";
+
+static LABELS: &str = "\
+p dist 70000 3
+t 70000 2 9
+d 1 5 70000
+d 700 6 1
+t 1 0
+t 2 7
+d 3 1 2
+d 300 1 2
+d 600 1 2
+d 900 1 2
+d 1200 1 2
+d 1500 1 2
+d 70000 1 2
+";
+
+static DISTANCES: &str = "\
+p distances 70000 3
+t 70000 2
+d 1 5
+d 700 6
+t 1 0
+t 2 7
+d 3 1
+d 300 2147483648
+d 600 1
+d 900 9223372036854775808
+d 1200 1
+d 1500 1
+d 70000 1
+";
+
+/// A solution whose entries were put in a list.
+fn solution(placed: Placed<Vec<Entry>>) -> Solution {
+    Solution {
+        value: placed.value,
+        value_line: placed.value_line,
+        entries: placed.place,
+    }
+}
+
+#[test]
+fn claims_and_certificates_come_whole_after_a_refused_growth(rt: HostRuntime) -> Result<(), Fail> {
+    let alloc = rt.alloc();
+    let reading = SolutionReading::new(Vec::new(alloc));
+    let placed = read_lines(&rt, reading, TextKind::Solution, SOLUTION);
+    is_whole(&rt, placed.map(solution), SOLUTION)?;
+    let cut = read_lines(&rt, CutReading::new(alloc), TextKind::Cut, CUT);
+    is_whole(&rt, cut, CUT)?;
+    let reading = PotentialsReading::new(alloc);
+    let potentials = read_lines(&rt, reading, TextKind::Potentials, POTENTIALS);
+    is_whole(&rt, potentials, POTENTIALS)?;
+    let labels = read_lines(&rt, LabelsReading::new(alloc), TextKind::Labels, LABELS);
+    is_whole(&rt, labels, LABELS)?;
+    let reading = DistancesReading::new(alloc);
+    let distances = read_lines(&rt, reading, TextKind::Distances, DISTANCES);
+    is_whole(&rt, distances, DISTANCES)
+}

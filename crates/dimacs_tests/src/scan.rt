@@ -1,0 +1,57 @@
+//! The fields of a line, and the numbers that are read in passing.
+
+use crate::checks::same;
+use dimacs_lines::{Fields, NumberFault, Scan, Token};
+
+/// Each field of a line, with the number and the wide number that it spells.
+static FIELDS: [(
+    &str,
+    usize,
+    Result<i64, NumberFault>,
+    Result<i128, NumberFault>,
+); 5] = [
+    (
+        "a",
+        1,
+        Err(NumberFault::BadNumber),
+        Err(NumberFault::BadNumber),
+    ),
+    ("-12345678", 4, Ok(-12_345_678), Ok(-12_345_678)),
+    ("123456789", 14, Ok(123_456_789), Ok(123_456_789)),
+    (
+        "9223372036854775808",
+        24,
+        Err(NumberFault::NumberRange),
+        Ok(9_223_372_036_854_775_808),
+    ),
+    ("+7", 44, Ok(7), Ok(7)),
+];
+
+const LINE: &[u8] = b" a\t -12345678 123456789 9223372036854775808\r+7";
+
+/// What is told of a token: its text, where it starts, and its numbers.
+type Told<'a> = (
+    &'a [u8],
+    usize,
+    Result<i64, NumberFault>,
+    Result<i128, NumberFault>,
+);
+
+fn told<'a>(token: Token<'a>) -> Told<'a> {
+    let field = token.field;
+    (field.text, field.start, token.number(), token.wide())
+}
+
+#[test]
+fn tokens_are_the_fields_of_a_line(rt: HostRuntime) {
+    let mut scan = Scan::new(LINE);
+    let mut fields = Fields::new(LINE);
+    for &(text, start, number, wide) in &FIELDS {
+        let wanted = Some((text.as_bytes(), start, number, wide));
+        let token = scan.next_token();
+        let field = token.map(|it| it.field);
+        same(&rt, text, fields.next(), field);
+        same(&rt, text, token.map(told), wanted);
+    }
+    same(&rt, "after the last", scan.next_token().map(told), None);
+}
