@@ -1,4 +1,4 @@
--- The distances of a block by node, from the last label to the first.
+-- The distances of a block by node, copied from the last label to the first.
 use Rattle.std.proofs.Common.{◌≡◌, inl, inr, ℕ, ◌+◌, ◌<◌, List, [], ◌∷◌, drop, length, get_or, Option, Some, ℤ, pos, sym, ap, ◌∙◌, arith}
 use Rattle.std.specs.Ordering.{nat_cmp}
 use Rattle.std.specs.Prelude.{IfSome}

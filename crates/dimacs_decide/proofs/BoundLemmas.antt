@@ -1,4 +1,4 @@
--- Whether the bounds of all arcs are kept.
+-- Whether a flow keeps the bounds of all arcs.
 use Rattle.std.proofs.Common.{◌≡◌, ◌≢◌, ◌↔◌, IsTrue, true, false, List, length, ℤ, refl, arith}
 use Rattle.std.proofs.lemmas.Bool.{false≢true}
 use Rattle.std.proofs.lemmas.Slice.Zip.{AllZip-long}

@@ -1,4 +1,4 @@
--- A flow sent round a cycle.
+-- Cancelling a cycle.
 use Rattle.std.proofs.Common.{◌≡◌, ◌≢◌, inl, inr, ℕ, suc, zero, ◌+◌, ◌-◌, ◌<◌, ◌==◌, List, length, set, ℤ, pos, neg_ℤ, ◌+ℤ◌, ◌-ℤ◌, ◌*ℤ◌, ◌≤ℤ◌, ◌<ℤ◌, refl, sym, ap, subst, ◌∙◌, arith, add-one, All}
 use Rattle.std.proofs.lemmas.Int.{ints}
 use Rattle.std.proofs.lemmas.Bool.{cases_eq, cases_order}
@@ -31,11 +31,11 @@ cap_most arcs k all less = let w : IsWhole (arc_at arcs k).cap = (arc_bounds arc
 low_least : (arcs : List ArcView) (k : ℕ) → All HasBounds arcs → k < length arcs → pos 0 ≤ℤ (arc_at arcs k).low
 low_least arcs k all less = (arc_bounds arcs k all less).0
 
--- ---- what costs and balances become
+-- ---- the new costs and balances
 cost-set : (arcs : List ArcView) (y : List ℤ) (k : ℕ) (z : ℤ) → k < length arcs → k < length y → cost arcs (set y k (amount_at y k +ℤ z)) ≡ cost arcs y +ℤ (arc_at arcs k).cost *ℤ z
 cost-set arcs y k z h g = omega (arith, ints, sum_arcs-set (λ a w. a.cost *ℤ w) arcs y k (amount_at y k +ℤ z) h g, mul_add (arc_at arcs k).cost (amount_at y k) z)
 
--- the costs that are saved, as a product
+-- the saved cost, as a product
 saved : (before after total amount gained c : ℤ) → before ≡ total -ℤ amount *ℤ gained → after ≡ before -ℤ c *ℤ amount → after ≡ total -ℤ amount *ℤ (gained +ℤ c)
 saved before after total amount gained c h g = omega (arith, ints, h, g, mul_add amount gained c, mul_comm c amount)
 
@@ -73,7 +73,7 @@ module _ (arcs : List ArcView) (x : List ℤ) (cycle : List ResidualArc) (saving
   pub inside : k < length arcs
   inside = leads.within
 
-  -- the least room so far, and this one's
+  --   the least residual capacity so far, and that of this residual arc
   pub room_more : (amount less : ℤ) → IsRoomFor arcs x cycle j amount → less ≤ℤ amount → less ≤ℤ room_on arcs x r.side k → (pos 0 <ℤ amount → pos 0 <ℤ room_on arcs x r.side k → pos 0 <ℤ less) → IsRoomFor arcs x cycle (j + 1) less
   room_more amount less is le here some = record {
     some = some is.some leads.room;
@@ -96,7 +96,7 @@ module _ (arcs : List ArcView) (x : List ℤ) (cycle : List ResidualArc) (saving
     cap_here : amount_at y k ≤ℤ (arc_at arcs k).cap
     cap_here = here.1
 
-    -- no residual arc before this one leads to the same node
+    --     no earlier residual arc leads to the same node
     fresh : (u : ℕ) → u ≡ to → (i : ℕ) → i < j → ending_of arcs (residual_at cycle i) ≢ u
     fresh u e i less q = saving.walked.apart i j less short (q ∙ e)
 
@@ -167,7 +167,7 @@ module _ (arcs : List ArcView) (x : List ℤ) (cycle : List ResidualArc) (saving
         costs = saved (cost arcs y) _ (cost arcs x) amount (gain_after arcs cycle j) (gain_at r.side (arc_at arcs k)) is.costs (rw backward (let c = cost-set arcs y k (neg_ℤ amount) inside long in omega (arith, ints, c, mul_neg (arc_at arcs k).cost amount)));
       })
 
-    -- the amount sent along this one, from either side
+    --     the amount sent along this residual arc, from either side
     from_side : (side : Side) → r.side ≡ side → IsCancelling arcs x (set y k (carried_after side amount (amount_at y k))) cycle (j + 1) amount
     from_side Tail forward = cancel_forward forward
     from_side Head backward = cancel_backward backward
@@ -180,9 +180,9 @@ module _ (arcs : List ArcView) (x : List ℤ) (cycle : List ResidualArc) (saving
         let between = within_at arcs y k (carried_after r.side amount (amount_at y k)) cancel_more.within inside long in
         omega (arith, ints, between, cap_most arcs k all inside, low_least arcs k all inside)
 
--- all round
+-- all round the cycle
 module _ (arcs : List ArcView) (x y : List ℤ) (cycle : List ResidualArc) (amount : ℤ) (saving : IsSaving arcs x cycle) (some : pos 0 <ℤ amount) (is : IsCancelling arcs x y cycle (length cycle) amount) where
-  -- a cycle that saves something has some residual arcs
+  --   a cycle that saves something isn't empty
   nonempty : (n : ℕ) → pos 0 <ℤ gain_after arcs cycle n → 0 < n
   nonempty zero h = absurd (omega (arith, ints, h))
   nonempty (suc n) h = omega arith

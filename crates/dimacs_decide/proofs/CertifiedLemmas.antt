@@ -1,4 +1,4 @@
--- A claimed flow of which something is decided.
+-- Decisions about a claimed flow.
 use Rattle.std.proofs.Common.{List, ℤ}
 use Rattle.dimacs_claims.specs.SolutionTexts.{SolutionValue}
 use Rattle.dimacs_instance.specs.MaxFlows.{MaxValue}
@@ -19,7 +19,7 @@ pub max_certified : (i : MaxValue) (s : SolutionValue) (x : List ℤ) (decision 
 max_certified i s x (of_max.Optimal cut) claim told = (x, record { claim = claim; nodes_are = told.2; tight = told.1 }, told.0)
 max_certified i s x (of_max.Better y) claim told = (x, record { claim = claim; not_maximum = told.0; feasible = told.1; greater = rw claim.value_is at told.2 })
 
--- whatever is said of it, it is what is claimed
+-- each answer is about the claimed flow
 pub max_claimed : (i : MaxValue) (s : SolutionValue) (decision : MaxDecision) → CertifiesMax i s decision → (x : List ℤ) × IsMaxClaim i s x
 max_claimed i s (of_max.Optimal cut) told = let (x, passes, best) = told in (x, passes.claim)
 max_claimed i s (of_max.Better y) told = let (x, improved) = told in (x, improved.claim)

@@ -1,4 +1,4 @@
--- Blocks of claimed distances, one after another.
+-- Blocks of claimed distances, block by block.
 use Rattle.std.proofs.Common.{◌≡◌, ◌≢◌, inl, inr, ℕ, suc, zero, ◌+◌, ◌<◌, ◌≤◌, List, [], ◌∷◌, ◌++◌, All, take, drop, length, get_or, Option, Some, None, Result, ℤ, Ok, Err, refl, sym, ap, subst, ◌∙◌, arith}
 use Rattle.std.specs.List.{AllZip}
 use Rattle.std.specs.Result.{IsErrAnd}
@@ -51,7 +51,7 @@ same_block blocks k b inside is = is ∙ get_or_default blocks k b no_block insi
 pub sources_within : (nodes : ℕ) (claim : LabelsValue) → claim.nodes ≡ nodes → AreLabels claim → All (λ (b : BlockValue). IsNode nodes b.source) claim.blocks
 sources_within nodes claim same are = All-weaker (IsBlock claim.nodes) (λ (b : BlockValue). IsNode nodes b.source) (λ b is. subst (λ n. IsNode n b.source) same is.source_within) claim.blocks are.blocks
 
--- ---- what is decided of a block that was copied by node
+-- ---- the decision about a block that was copied by node
 pub decided_here : (g : NetworkValue) (b d : BlockValue) (source : ℕ) (claim : ℕ → Option ℤ) (result : Result BlockValue JudgeError) → b ≡ d → source ≡ b.source → ((v : ℕ) → claim v ≡ label b v) → DecidesBlock g source claim result → DecidesBlock g d.source (label d) result
 decided_here g b d source claim result same from copied told =
     let here : DecidesBlock g b.source (label b) result = subst (λ c. DecidesBlock g b.source c result) (fun_ext copied) (subst (λ s. DecidesBlock g s claim result) from told) in
@@ -81,13 +81,13 @@ module _ (g : NetworkValue) (joined : All (JoinsNodes g.nodes) g.arcs) where
       ((first, λ other why also. one_first (distances_rows g blocks) other place why reason (all_one_way blocks) also first), λ are. told.1 (All-get_or (λ (b : BlockValue). AreDistancesFrom g b.source (label b)) blocks k no_block inside are))
   refuted blocks k Memory inside nodes hold told = tt
 
-  -- and where it is passed up
+  --   the same if it is returned as the function's own error
   pub refused_at : (blocks : List BlockValue) (k : ℕ) (error : JudgeError) → k < length blocks → All (λ (b : BlockValue). IsNode g.nodes b.source) blocks → AreAllDistances g (take k blocks)
       → DecidesBlock g (block_at blocks k).source (label (block_at blocks k)) (Err error) → (result : Result LabelsValue JudgeError) → IsErrAnd result (λ e. e ≡ error) → CertifiesPaths g blocks result
   refused_at blocks k error inside nodes hold told (Ok labels) is = absurd is
   refused_at blocks k error inside nodes hold told (Err e) is = subst (λ (e : JudgeError). CertifiesPaths g blocks (Err e)) (sym is) (refuted blocks k error inside nodes hold told)
 
--- ---- a block for each of the first ones
+-- ---- blocks for the first claims
 module _ (g : NetworkValue) (blocks made : List BlockValue) (k : ℕ) (inside : k < length blocks) (zip : AllZip (IsMadeOf g) (take k blocks) made) where
   so_many : length made ≡ k
   so_many = omega (arith, length_all_zip (IsMadeOf g) (take k blocks) made zip, length-take-le k blocks (omega (arith, inside)))
@@ -95,7 +95,7 @@ module _ (g : NetworkValue) (blocks made : List BlockValue) (k : ℕ) (inside : 
   pub fewer : length made < length blocks
   fewer = omega (arith, so_many, inside)
 
-  -- has none of the source that is next
+  --   none has the next source
   pub next_source : EachAfter IsNewSource blocks → (b : BlockValue) → b.source ≡ (block_at blocks k).source → IsNewSource made b
   next_source new b from other (j, within, is) same =
       let before : j < k = omega (arith, within, so_many) in
@@ -107,7 +107,7 @@ module _ (g : NetworkValue) (blocks made : List BlockValue) (k : ℕ) (inside : 
 pub made_more : (g : NetworkValue) (blocks made : List BlockValue) (k : ℕ) (m : BlockValue) → k < length blocks → AllZip (IsMadeOf g) (take k blocks) made → IsMadeOf g (block_at blocks k) m → AllZip (IsMadeOf g) (take (k + 1) blocks) (made ++ m ∷ [])
 made_more g blocks made k m inside zip of = all_zip_more (IsMadeOf g) blocks made k (block_at blocks k) m inside (get_or_default blocks k no_block (block_at blocks k) inside) zip of
 
--- ---- a block for each
+-- ---- a block for each claim
 module _ (g : NetworkValue) where
   zip_sources : (blocks made : List BlockValue) → AllZip (IsMadeOf g) blocks made → sources_of made ≡ sources_of blocks
   zip_sources [] [] zip = refl
@@ -122,7 +122,7 @@ module _ (g : NetworkValue) where
   zip_passes (b ∷ blocks) (m ∷ made) zip = All-cons (LabelsOk g.arcs) m made zip.0.passes (zip_passes blocks made zip.1)
 
   module _ (blocks made : List BlockValue) (new : EachAfter IsNewSource blocks) (zip : AllZip (IsMadeOf g) blocks made) where
-    -- the block of a source is that which was made for it
+    --     the block with a source is the one made for it
     found : (k : ℕ) → k < length blocks → (m : BlockValue) × (block_of made (block_at blocks k).source ≡ Some m) × IsMadeOf g (block_at blocks k) m
     found k inside =
         let long = length_all_zip (IsMadeOf g) blocks made zip in

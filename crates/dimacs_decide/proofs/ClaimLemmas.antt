@@ -1,4 +1,4 @@
--- What claimed distances show: that they are true, or that they aren't.
+-- Claimed distances: what shows that they are right, or wrong.
 use Rattle.std.proofs.Common.{◌≡◌, ◌≢◌, inl, inr, ℕ, ◌+◌, ◌≤◌, Bool, true, false, List, [], ◌∷◌, ◌++◌, All, Contains, Option, Some, None, IsSome, is_some, Result, Ok, Err, ℤ, pos, ◌+ℤ◌, ◌≤ℤ◌, refl, sym, ap, subst, ◌∙◌, arith}
 use Rattle.std.specs.Result.{IsErrAnd}
 use Rattle.std.proofs.lemmas.Bool.{cases_Bool}
@@ -29,7 +29,7 @@ use Rattle.dimacs_decide.specs.Distances.{AreDistancesFrom, AreLabelsOf, Decides
 use Rattle.dimacs_decide.specs.inside.DistanceBlocks.{DecidesBlock, IsBlockOf}
 use Rattle.dimacs_decide.specs.inside.TightTrees.{IsWholeTightTree}
 
--- ---- walks one after another
+-- ---- walks joined end to end
 walk_append : (g p q : List ArcView) (s u t : ℕ) → IsWalk g s u p → IsWalk g u t q → IsWalk g s t (p ++ q)
 walk_append g [] q s u t w v = rw w v
 walk_append g (a ∷ p) q s u t w v = (w.0, w.1, walk_append g p q a.head u t w.2 v)
@@ -42,7 +42,7 @@ pub walk_one : (g walk : List ArcView) (s : ℕ) (a : ArcView) → IsWalk g s a.
 walk_one g walk s a w has = walk_append g walk (a ∷ []) s a.tail a.head w (has, refl, refl)
 
 -- ---- distances pass the tests
--- a walk from a node to itself, taken twice, weighs no less than once
+-- twice round a walk from a node to itself weighs no less than once
 source_zero : (g : List ArcView) (s : ℕ) (told : Option ℤ) → IsDistance g s s told None → told ≡ Some (pos 0)
 source_zero g s None is = absurd (is [] refl)
 source_zero g s (Some d) is =
@@ -62,7 +62,7 @@ arc_holds g s a (Some c) (Some e) reason has t h (d, is, inr far) =
     let le = h.least (t.walk ++ a ∷ []) (walk_one g t.walk s a t.leads has) in
     omega (arith, ints, le, less, same_tail, same_head, weight_append t.walk (a ∷ []), t.weighs)
 
--- ---- where no arc fails
+-- ---- if no arc fails
 abbrev IsRelaxedBy : (ℕ → Option ℤ) → ArcView → Type 0
 IsRelaxedBy claim a = (d : ℤ) → claim a.tail ≡ Some d → (e : ℤ) × (claim a.head ≡ Some e) × (e ≤ℤ (d +ℤ a.cost))
 
@@ -75,7 +75,7 @@ all_relaxed arcs claim clear = All-from_get_or (IsRelaxedBy claim) arcs no_arc (
     relaxed_at (claim (arc_at arcs k).head) d (arc_at arcs k).cost (λ reason f. clear k (Arc (k + 1)) reason (h, refl, rw is f)))
 
 module _ (g : List ArcView) (claim : ℕ → Option ℤ) (relaxed : All (IsRelaxedBy claim) g) where
-  -- the claim at the end of a walk is at most that at its beginning and the weight
+  --   the claim at the end of a walk is at most that at its beginning plus the weight
   bounded : (walk : List ArcView) (u v : ℕ) (d : ℤ) → IsWalk g u v walk → claim u ≡ Some d → (e : ℤ) × (claim v ≡ Some e) × (e ≤ℤ (d +ℤ weight walk))
   bounded [] u v d w at = (d, rw (← w) at, omega (arith, ints))
   bounded (a ∷ walk) u v d w at =
@@ -83,7 +83,7 @@ module _ (g : List ArcView) (claim : ℕ → Option ℤ) (relaxed : All (IsRelax
       let (f, end, below) = bounded walk a.head v e w.2 head in
       (f, end, omega (arith, ints, le, below))
 
-  -- where it is as much, each arc of the walk is tight
+  --   if it is equal, each arc of the walk is tight
   tight_along : (walk : List ArcView) (u v : ℕ) (d e : ℤ) → IsWalk g u v walk → claim u ≡ Some d → claim v ≡ Some e → e ≡ d +ℤ weight walk → All (IsTight claim) walk
   tight_along [] u v d e w at end heavy = All-nil (IsTight claim)
   tight_along (a ∷ walk) u v d e w at end heavy =
@@ -100,7 +100,7 @@ some_value : (o : Option ℤ) → IsSome o → (e : ℤ) × (o ≡ Some e)
 some_value None some = absurd (let f : false ≡ true = some in cc)
 some_value (Some e) some = (e, refl)
 
--- tight arcs lead to each node with a distance
+-- a walk of tight arcs leads to each node with a distance
 true_reaches : (g : List ArcView) (s : ℕ) (claim : ℕ → Option ℤ) → Clear (claim_row g claim) → claim s ≡ Some (pos 0) → (v : ℕ) → IsSome (claim v) → IsDistance g s v (claim v) None → IsTightlyReached g s claim v
 true_reaches g s claim clear at v some is =
     let (e, named) = some_value (claim v) some in
@@ -159,7 +159,7 @@ same_zero s claim (Some d) is clear =
 pub zero_from_clear : (s : ℕ) (claim : ℕ → Option ℤ) → Clear (source_row s claim) → claim s ≡ Some (pos 0)
 zero_from_clear s claim clear = same_zero s claim (claim s) refl clear
 
--- ---- where no test fails
+-- ---- if no test fails
 carried : (g : List ArcView) (s s' v : ℕ) (told told' radius : Option ℤ) → s ≡ s' → told ≡ told' → radius ≡ None → IsDistance g s v told radius → IsDistance g s' v told' None
 carried g s s' v told told' radius source same none is = rw (← source, ← same, ← none) is
 
@@ -197,7 +197,7 @@ module _ (g : NetworkValue) (s : ℕ) (claim : ℕ → Option ℤ) (b : BlockVal
   pub made_of : IsBlockOf g s claim b
   made_of = record { lawful = whole.tree.lawful; source = source; whole = whole.tree.whole; passes = passes; says = says }
 
--- ---- a block alone
+-- ---- a single block
 found_alone : (b : BlockValue) (s : ℕ) → b.source ≡ s → block_of (b ∷ []) s ≡ Some b
 found_alone b s source = elim (eqb_tells b.source s) [ inl same ↦ rw same.0 refl | inr apart ↦ absurd (apart.1 source) ]
 
@@ -215,7 +215,7 @@ labelled g s claim b node is =
       says = λ v inside. ap (λ o. label_in o v) found ∙ is.says v inside;
     }
 
--- the first test that fails is the error
+-- the error is the first test that fails
 pub refused : (g : NetworkValue) (s : ℕ) (claim : ℕ → Option ℤ) (place : Where) (reason : Reason) → IsRefuted g s claim place reason → (result : Result BlockValue JudgeError) → IsErrAnd result (λ error. error ≡ Refused place reason) → DecidesBlock g s claim result
 refused g s claim place reason refuted (Ok b) is = absurd is
 refused g s claim place reason refuted (Err error) is = subst (λ (e : JudgeError). DecidesBlock g s claim (Err e)) (sym is) refuted
@@ -224,7 +224,7 @@ decided_alone : (g : NetworkValue) (s : ℕ) (claim : ℕ → Option ℤ) (error
 decided_alone g s claim (Refused place reason) told = told
 decided_alone g s claim Memory told = tt
 
--- and where it is passed up
+-- the same if it is returned as the function's own error
 pub refused_alone : (g : NetworkValue) (s : ℕ) (claim : ℕ → Option ℤ) (error : JudgeError) → DecidesBlock g s claim (Err error) → (result : Result LabelsValue JudgeError) → IsErrAnd result (λ e. e ≡ error) → DecidesDistances g s claim result
 refused_alone g s claim error told (Ok labels) is = absurd is
 refused_alone g s claim error told (Err e) is = subst (λ (e : JudgeError). DecidesDistances g s claim (Err e)) (sym is) (decided_alone g s claim error told)

@@ -1,4 +1,4 @@
--- How many nodes pass a test, where one of them fails it from now on.
+-- The number of nodes that pass a test, if one of them fails it from now on.
 use Rattle.std.proofs.Common.{◌≡◌, ◌≢◌, inl, inr, ℕ, suc, zero, ◌+◌, ◌<◌, ◌≤◌, ◌==◌, Bool, true, false, cond, refl, ap, ◌∙◌, arith, eq-eqb}
 use Rattle.std.proofs.lemmas.Bool.{cases_Bool, cases_order, ne_eqb}
 use Rattle.dimacs_decide.specs.inside.Counting.{count_below}

@@ -14,13 +14,13 @@ use Rattle.dimacs_decide.proofs.HeightLemmas.{arc_bounds, gain_least, gain_most}
 use Rattle.dimacs_decide.proofs.TraceLemmas.{below_some}
 use Rattle.dimacs_instance.specs.MinFlows.{HasBounds}
 
--- ---- a cycle of raised nodes, from the lowest on
+-- ---- a cycle of raised nodes, in the order of the cycle
 -- the residual arc along which a node was raised
 abbrev pub residual_by : Label → ResidualArc
 residual_by l = record { arc = l.via - 1; side = l.side }
 
 module _ (arcs : List ArcView) (x : List ℤ) (labels : ℕ → Label) (path : List ℕ) (first last : ℕ) (now : AreHeights arcs x labels) (is : IsCycle arcs labels path first last) where
-  -- the nodes counted from the last one
+  --   the nodes, counted from the last one
   abbrev node : ℕ → ℕ
   node k = slice_index path (last - k)
 
@@ -64,7 +64,7 @@ module _ (arcs : List ArcView) (x : List ℤ) (labels : ℕ → Label) (path : L
     climbs_or_later : (height_of labels (node (suc k)) <ℤ (height_of labels (node k) +ℤ gain_of arcs (raised_by k))) ⊎ (now.time (node k) < now.time (node (suc k)))
     climbs_or_later = rw (begins, higher) at raised.strict
 
-  -- a list of them all
+  --   a list of all of them
   module _ (cycle : List ResidualArc) (long : length cycle ≡ last - first) (told : (k : ℕ) → k < last - first → residual_at cycle k ≡ raised_by k) where
     ends_at : (k : ℕ) → k < last - first → ending_of arcs (residual_at cycle k) ≡ slice_index path (last - k - 1)
     ends_at k short = ap (ending_of arcs) (told k short) ∙ ends k short
@@ -89,7 +89,7 @@ module _ (arcs : List ArcView) (x : List ℤ) (labels : ℕ → Label) (path : L
         let low : i < last - first = omega (arith, less, short) in
         is.apart (last - k - 1) (last - i - 1) (behind k short) (omega (arith, less, short)) (before i low) (sym (ends_at k short) ∙ sym q ∙ ends_at i low)
 
-    -- after so many of them a node is no higher than what they gain, and if it is as high, it was raised later
+    --     after some of them a node is at most as high as their gain; if it is as high, it was raised later
     abbrev Rises : ℕ → Type 0
     Rises k = (height_of labels (node k) ≤ℤ (height_of labels (node 0) +ℤ gain_after arcs cycle k))
         × ((k ≡ 0) ⊎ ((height_of labels (node k) <ℤ (height_of labels (node 0) +ℤ gain_after arcs cycle k)) ⊎ (now.time (node 0) < now.time (node k))))
@@ -136,7 +136,7 @@ module _ (arcs : List ArcView) (x : List ℤ) (labels : ℕ → Label) (path : L
       gain = rw long gains;
     }
 
--- ---- a cycle that was handed over
+-- ---- a cycle that a heuristic found
 pub walk_none : (arcs : List ArcView) (x : List ℤ) (cycle : List ResidualArc) → IsWalked arcs x cycle 0
 walk_none arcs x cycle = record { each = λ j h. absurd (omega (arith, h)); apart = λ i j less h. absurd (omega (arith, h)) }
 
@@ -154,7 +154,7 @@ module _ (arcs : List ArcView) (x : List ℤ) (cycle : List ResidualArc) (j : �
     ];
   }
 
-  -- the nodes to which they lead are marked
+  --   the nodes to which they lead are marked
   pub reached_more : (was now : ℕ → Bool) → ((i : ℕ) → i < j → was (ending_of arcs (residual_at cycle i)) ≡ true) → was (ending_of arcs (residual_at cycle j)) ≡ false
       → now (ending_of arcs (residual_at cycle j)) ≡ true → ((v : ℕ) → v ≢ ending_of arcs (residual_at cycle j) → now v ≡ was v) → (i : ℕ) → i < j + 1 → now (ending_of arcs (residual_at cycle i)) ≡ true
   reached_more was now marked free here others i h = elim (cases_order i j) [
@@ -165,7 +165,7 @@ module _ (arcs : List ArcView) (x : List ℤ) (cycle : List ResidualArc) (j : �
     ]
   ]
 
--- what so many residual arcs gain is not great
+-- the gain of some residual arcs is bounded
 pub gain_size : (arcs : List ArcView) (x : List ℤ) (cycle : List ResidualArc) (n : ℕ) → All HasBounds arcs → IsWalked arcs x cycle n
     → (neg_ℤ (pos (n * 9223372036854775808)) ≤ℤ gain_after arcs cycle n) × (gain_after arcs cycle n ≤ℤ pos (n * 9223372036854775808))
 gain_size arcs x cycle zero bounds is = (omega (arith, ints), omega (arith, ints))

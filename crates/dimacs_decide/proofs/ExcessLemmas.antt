@@ -1,4 +1,4 @@
--- The sum of excesses, node by node.
+-- Summing excesses, node by node.
 use Rattle.std.proofs.Common.{◌≡◌, ℕ, suc, zero, ◌+◌, ◌-◌, ◌*◌, ◌^◌, ◌≤◌, List, ℤ, pos, negsuc, ◌+ℤ◌, ◌≤ℤ◌, refl, ap, arith}
 use Rattle.std.proofs.lemmas.Int.{ints}
 use Rattle.dimacs_instance.specs.MinFlows.{MinValue, positive_part}
@@ -8,7 +8,7 @@ use Rattle.dimacs_judge.proofs.Sums.{sum_nodes-same}
 use Rattle.dimacs_decide.specs.FeasibilityDecision.{surplus_at, total_excess}
 use Rattle.dimacs_decide.specs.inside.Surpluses.{AreSurpluses}
 
--- the sum of the excesses of the nodes below this one, which is not large
+-- the sum of the excesses of the nodes below this one, which is bounded
 pub record IsExcessBelow (surplus : ℕ → ℤ) (id : ℕ) (sum : ℤ) : Type 0 where
   pub is : sum ≡ sum_nodes (λ v. pos (positive_part (surplus v))) (id - 1)
   pub least : pos 0 ≤ℤ sum

@@ -1,4 +1,4 @@
--- What surpluses tell of a flow that keeps the bounds.
+-- What excesses show of a flow that keeps the bounds.
 use Rattle.std.proofs.Common.{◌≡◌, ◌≢◌, inl, inr, ℕ, ◌+◌, ◌<◌, ◌≤◌, ◌==◌, ◌&&◌, Bool, true, false, not, List, [], ◌∷◌, All, ℤ, pos, negsuc, ◌+ℤ◌, ◌-ℤ◌, ◌≤ℤ◌, ◌<ℤ◌, refl, sym, ap, subst, ◌∙◌, arith, eq-eqb}
 use Rattle.std.proofs.lemmas.Int.{ints}
 use Rattle.std.proofs.lemmas.Bool.{cases_eq, cases_order, false≢true, ne_eqb}
@@ -34,14 +34,14 @@ part_none : (z : ℤ) → z ≤ℤ pos 0 → pos (positive_part z) ≡ pos 0
 part_none (pos n) h = omega (arith, ints)
 part_none (negsuc n) h = refl
 
--- ---- no surplus
+-- ---- no excess
 pub even_tells : (i : MinValue) (x : List ℤ) (surplus : ℕ → ℤ) → KeepsBounds i.arcs x → AreSurpluses i x surplus → ((v : ℕ) → 1 ≤ v → v < i.nodes + 1 → surplus v ≡ pos 0) → FeasibleMin i x
 even_tells i x surplus within are none = record {
   within = within;
   balanced = λ v node. omega (arith, ints, are v node, none v node.0 (omega (arith, node.1)));
 }
 
--- ---- a set that more is supplied in than can leave it
+-- ---- a set whose supply is more than can leave it
 shows : (i : MinValue) (set : CutValue) → IsMin i → set.nodes ≡ i.nodes → Violated i (members set) → ShowsNoFlow i set
 shows i set law of bad = (record { nodes_are = of; violated = bad }, violated_has_no_flow i law.joined (members set) bad)
 
@@ -62,7 +62,7 @@ stuck_tells i x surplus reached set law are r node begun some is =
     let most = across_of (λ a. a.cap) (λ a. a.low) c i.arcs x is.shut.shut in
     shows i set law is.of (inl (omega (arith, ints, more, sum_nodes-zero (λ v. pos 0) i.nodes (λ v h. refl), split, crossing, most)))
 
--- ---- all nodes lack
+-- ---- no excess, and some deficit
 when_all : (b : Bool) (z : ℤ) → b ≡ true → when b z ≡ z
 when_all b z e = rw e refl
 
@@ -148,7 +148,7 @@ module _ (i : MinValue) (x y : List ℤ) (surplus : ℕ → ℤ) (are : AreSurpl
     sum_nodes-less (left y) (left x) i.nodes sent.from no_more sent.from_within less_at,
   )
 
--- ---- the surpluses of the nodes below this one
+-- ---- the excesses of the nodes below this one
 pub record AreSurplusesBelow (i : MinValue) (x : List ℤ) (id : ℕ) (surplus : ℕ → ℤ) : Type 0 where
   pub below : (v : ℕ) → 1 ≤ v → v < id → surplus v ≡ surplus_at i x v
   pub above : (v : ℕ) → id ≤ v → surplus v ≡ pos 0
@@ -199,7 +199,7 @@ all_more nodes id set is =
       ];
     }
 
--- ---- how the nodes below this one stand
+-- ---- the excesses of the nodes below this one, summed up
 pub record StandsLow (nodes id : ℕ) (surplus : ℕ → ℤ) (standing : Standing) : Type 0 where
   pub low : (v : ℕ) → 1 ≤ v → v < id → surplus v ≤ℤ pos 0
   pub stands : Stands nodes id surplus standing

@@ -17,7 +17,7 @@ less_part (pos m) (pos n) some less = omega (arith, ints, less)
 less_part (pos m) (negsuc n) some less = absurd (omega (arith, ints, less))
 less_part (negsuc m) b some less = absurd (omega (arith, ints, some))
 
--- the measure: a nearer flow leaves less excess, and what is made of it no more
+-- the measure: a nearer flow leaves less excess, and the heuristic's no more than that
 pub falls : (i : MinValue) (x y z : List ℤ) → total_excess i y <ℤ total_excess i x → total_excess i z ≤ℤ total_excess i y
     → positive_part (total_excess i z) < positive_part (total_excess i x)
 falls i x y z less no_more = less_part (total_excess i z) (total_excess i x) (excess_some i z) (omega (arith, ints, less, no_more))

@@ -1,4 +1,4 @@
--- What heights and cycles tell of a flow.
+-- What heights and cycles show of a flow.
 use Rattle.std.proofs.Common.{◌≡◌, ◌≢◌, inl, inr, ℕ, ◌+◌, ◌<◌, ◌≤◌, ◌==◌, cond, if◌then◌else◌, Bool, true, false, List, length, Some, ℤ, pos, ◌<ℤ◌, refl, sym, ap, subst, ◌∙◌, arith, eq-eqb}
 use Rattle.std.proofs.lemmas.Int.{ints}
 use Rattle.std.proofs.lemmas.Bool.{cases_order, ne_eqb}
@@ -26,7 +26,7 @@ use Rattle.dimacs_decide.specs.inside.Heights.{AreSettled, height_of}
 use Rattle.dimacs_decide.proofs.HeightLemmas.{settled_slack}
 use Rattle.dimacs_decide.proofs.SideLemmas.{near_within}
 
--- ---- potentials that are set
+-- ---- setting potentials
 pub potential_set : (p : PotentialsValue) (id : ℕ) (n : ℤ) → n ≢ pos 0 → (v : ℕ) → potential_of (with_potential p id n) v ≡ cond (v == id) n (potential_of p v)
 potential_set p id n some v = by_test (int_eq n (pos 0)) refl
   where
@@ -38,7 +38,7 @@ potential_set p id n some v = by_test (int_eq n (pos 0)) refl
     by_test true e = absurd (some ((Decides-int_eq n (pos 0)).0 e))
     by_test false e = ap (λ o. unwrap_or o (pos 0)) (get-insert p.values id v n) ∙ by_found (v == id)
 
--- the potentials of the nodes below id are their heights, and the others are 0
+-- the nodes below id have their heights as potentials, and the others 0
 pub record AreHeightsBelow (labels : ℕ → Label) (nodes id : ℕ) (p : PotentialsValue) : Type 0 where
   pub of : p.nodes ≡ nodes
   pub below : (v : ℕ) → 1 ≤ v → v < id → potential_of p v ≡ height_of labels v

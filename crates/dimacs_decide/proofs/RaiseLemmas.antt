@@ -1,4 +1,4 @@
--- A flow raised along a way whose ranks fall from the sink to the source.
+-- Sending flow along a path whose ranks fall from its end to its root.
 use Rattle.std.proofs.Common.{◌≡◌, ◌≢◌, ℕ, suc, zero, ◌==◌, ◌<◌, ℤ, pos, ◌+ℤ◌, ◌-ℤ◌, ◌≤ℤ◌, ◌<ℤ◌, Bool, true, false, neg_ℤ, List, [], ◌∷◌, length, get_or, set, refl, sym, ap, subst, ◌∙◌, arith, w64, SFits}
 use Rattle.std.proofs.lemmas.Int.{ints}
 use Rattle.std.proofs.lemmas.List.{get_or-set_other, get_or-set_same}
@@ -19,7 +19,7 @@ use Rattle.dimacs_decide.specs.Bounds.{KeepsBounds}
 use Rattle.dimacs_decide.specs.inside.Residual.{IsReachedBy, rank_of, room_of, via_of}
 use Rattle.dimacs_decide.specs.inside.Raising.{Pushed, IsRaising}
 
--- ---- one amount changed
+-- ---- one amount changes
 pub sum_arcs-set : (f : ArcView → ℤ → ℤ) (arcs : List ArcView) (y : List ℤ) (k : ℕ) (z : ℤ) → k < length arcs → k < length y
     → sum_arcs f arcs (set y k z) +ℤ f (arc_at arcs k) (amount_at y k) ≡ sum_arcs f arcs y +ℤ f (arc_at arcs k) z
 sum_arcs-set f [] y k z h g = absurd (omega arith)
@@ -35,7 +35,7 @@ pub when-neg : (b : Bool) (x : ℤ) → when b (neg_ℤ x) ≡ neg_ℤ (when b x
 when-neg true x = refl
 when-neg false x = refl
 
--- z more on the arc k
+-- z more on arc k
 pub net-raise : (arcs : List ArcView) (y : List ℤ) (k : ℕ) (z : ℤ) (u : ℕ) → k < length arcs → k < length y
     → net arcs (set y k (amount_at y k +ℤ z)) u ≡ (net arcs y u +ℤ when ((arc_at arcs k).tail == u) z) -ℤ when ((arc_at arcs k).head == u) z
 net-raise arcs y k z u h g =
@@ -49,11 +49,11 @@ AllZip-set R (x ∷ xs) [] k d z all here = absurd all
 AllZip-set R (x ∷ xs) (y ∷ ys) zero d z all here = (here, all.1)
 AllZip-set R (x ∷ xs) (y ∷ ys) (suc k) d z all here = (all.0, AllZip-set R xs ys k d z all.1 here)
 
--- the new amount lies within the bounds of its arc
+-- the new amount keeps the bounds of its arc
 pub within_at : (arcs : List ArcView) (y : List ℤ) (k : ℕ) (z : ℤ) → KeepsBounds arcs (set y k z) → k < length arcs → k < length y → ((arc_at arcs k).low ≤ℤ z) × (z ≤ℤ (arc_at arcs k).cap)
 within_at arcs y k z within h long = rw (get_or-set_same y k z (pos 0) long) at (pair_at _ arcs (set y k z) k no_arc (pos 0) within h)
 
--- ---- the amount sent on
+-- ---- the amount that was sent
 push_none : (arcs : List ArcView) (rank : ℕ → ℕ) (x : List ℤ) (sink : ℕ) (amount : ℤ) → KeepsBounds arcs x → Pushed arcs rank x x sink sink amount
 push_none arcs rank x sink amount within = record {
   within = within;
@@ -61,7 +61,7 @@ push_none arcs rank x sink amount within = record {
   below = λ k h p q. refl;
 }
 
--- along an arc whose end is nearer to the root
+-- along an arc whose other end is nearer to the root
 push : (side : Side) (arcs : List ArcView) (rank : ℕ → ℕ) (x y : List ℤ) (t k : ℕ) (amount : ℤ) → Pushed arcs rank x y t (other_end side (arc_at arcs k)) amount → k < length arcs
     → rank (end_of side (arc_at arcs k)) < rank (other_end side (arc_at arcs k)) → pos 0 ≤ℤ amount → amount ≤ℤ room_at side (arc_at arcs k) (amount_at x k)
     → Pushed arcs rank x (set y k (carried_after side amount (amount_at y k))) t (end_of side (arc_at arcs k)) amount
@@ -93,7 +93,7 @@ raising_none arcs x visits to amount reached some room within = record {
   pushed = push_none arcs (rank_of visits) x to amount within;
 }
 
--- ---- one step of the way back
+-- ---- one step back on the path
 module _ (arcs : List ArcView) (x y : List ℤ) (visits : ℕ → Visit) (t at : ℕ) (amount : ℤ)
     (now : IsRaising arcs x y visits t at amount) (by : IsReachedBy arcs x visits at) where
   abbrev k : ℕ
@@ -102,7 +102,7 @@ module _ (arcs : List ArcView) (x y : List ℤ) (visits : ℕ → Visit) (t at :
   pub long : k < length y
   long = omega (arith, by.within, AllZip-long _ arcs y now.pushed.within)
 
-  -- the arc was not left from the node to which it leads
+  --   the arc wasn't taken from the node to which it leads
   pub apart : end_of by.side (arc_at arcs k) ≢ at
   apart e = let f = ap (rank_of visits) e in omega (arith, f, by.rank)
 
@@ -114,7 +114,7 @@ module _ (arcs : List ArcView) (x y : List ℤ) (visits : ℕ → Visit) (t at :
     pushed = push by.side arcs (rank_of visits) x y t k amount (rw by.to now.pushed) by.within (rw by.to by.rank) (omega (arith, ints, now.some)) (omega (arith, ints, by.room, now.room));
   }
 
-  -- the arc, and the side that is told of it
+  --   the arc, and the side that was found for it
   module _ (a : ArcView) (is : arc_at arcs k ≡ a) (side : Side) (told : (s : Side) → other_end s a ≡ at → end_of s a ≢ at → side ≡ s) where
     side_is : side ≡ by.side
     side_is = told by.side (subst (λ (b : ArcView). other_end by.side b ≡ at) is by.to) (λ e. apart (subst (λ (b : ArcView). end_of by.side b ≡ at) (sym is) e))

@@ -1,4 +1,4 @@
--- Predecessors by tight arcs, and the nodes that they lead to.
+-- Predecessors by tight arcs, and the nodes reached by them.
 use Rattle.std.proofs.Common.{◌≡◌, ◌≢◌, inl, inr, ℕ, ◌+◌, ◌<◌, ◌≤◌, Bool, true, false, ◌==◌, cond, length, List, [], ◌∷◌, All, Contains, Option, Some, None, IsSome, is_some, ℤ, pos, refl, sym, ap, subst, ◌∙◌, arith}
 use Rattle.std.proofs.lemmas.Bool.{cases_eq, cases_order}
 use Rattle.std.proofs.lemmas.Bool.Decides.{eqb_tells}
@@ -38,7 +38,7 @@ tails_more arcs claim a before after has notes are v some = elim (notes v) [
   | inr new ↦ (a, has, sym new.0, sym new.1, new.2)
 ]
 
--- ---- one node more
+-- ---- one more node
 module _ (nodes : ℕ) (arcs : List ArcView) (claim : ℕ → Option ℤ) (b : BlockValue) (reached : ℕ → Bool) (is : IsTightTree nodes arcs claim b reached) (joined : All (JoinsNodes nodes) arcs) (tails : ℕ → ℕ) (are : AreTightTails arcs claim tails)
     (node pred : ℕ) (from : pred ≡ tails node) (some : pred ≢ 0) where
   arc : (a : ArcView) × Contains arcs a × (a.tail ≡ tails node) × (a.head ≡ node) × IsTight claim a
@@ -87,7 +87,7 @@ all_more nodes v claim reached after before kept here u less node some = elim (c
 -- ---- all nodes
 module _ (g : NetworkValue) (s : ℕ) (claim : ℕ → Option ℤ) (b : BlockValue) (reached : ℕ → Bool) (joined : All (JoinsNodes g.nodes) g.arcs) (source : b.source ≡ s)
     (is : IsTightTree g.nodes g.arcs claim b reached) (all : ReachesAll g.nodes claim reached) where
-  -- tight arcs lead to nodes of which something is claimed
+  --   tight arcs lead to nodes with a claim
   claimed_along : (walk : List ArcView) (u v : ℕ) → IsWalk g.arcs u v walk → All (IsTight claim) walk → IsNode g.nodes u → IsSome (claim u) → IsNode g.nodes v × IsSome (claim v)
   claimed_along [] u v w tight at some = rw (← w) (at, some)
   claimed_along (a ∷ walk) u v w tight at some =

@@ -32,7 +32,7 @@ grows_then nodes a p b q c r f g = record {
 pub passed_still : (arcs : List ArcView) (x : List ℤ) (visits visits' : ℕ → Visit) (v : ℕ) (side : Side) → ((u : ℕ) → 0 < rank_of visits u → 0 < rank_of visits' u) → IsSidePassed arcs x visits v side → IsSidePassed arcs x visits' v side
 passed_still arcs x visits visits' v side more is k inside near room = more _ (is k inside near room)
 
--- ---- one node more, which was not reached
+-- ---- one more node, which wasn't reached
 module _ (visits : ℕ → Visit) (at : ℕ) (e : Visit) (after : ℕ → Visit) (new : rank_of visits at ≡ 0) (becomes : Becomes visits at e after) where
   kept : (v : ℕ) → 0 < rank_of visits v → after v ≡ visits v
   kept v h = becomes.others v (λ q. let f = ap (rank_of visits) q in omega (arith, f, h, new))
@@ -138,7 +138,7 @@ module _ (visits : ℕ → Visit) (at : ℕ) (e : Visit) (after : ℕ → Visit)
             ]);
       }
 
--- from another, by an arc with room
+-- from another node, by a residual arc
 pub reached_search : (nodes : ℕ) (arcs : List ArcView) (x : List ℤ) (surplus : ℕ → ℤ) (visits : ℕ → Visit) (queue : List ℕ) (done : ℕ) (side : Side) (k from at : ℕ) (e : Visit) (after : ℕ → Visit)
     → IsResidualSearch nodes arcs x surplus visits queue done → at ≤ nodes → rank_of visits at ≡ 0 → 0 < rank_of visits from → k < length arcs → end_of side (arc_at arcs k) ≡ from → other_end side (arc_at arcs k) ≡ at
     → IsNext (visits from) k (room_on arcs x side k) e → Becomes visits at e after → done ≤ length queue → IsResidualSearch nodes arcs x surplus after (queue ++ at ∷ []) done
@@ -146,7 +146,7 @@ reached_search nodes arcs x surplus visits queue done side k from at e after now
     one_search visits at e after new becomes nodes queue inside (omega (arith, next.rank)) arcs x surplus done now next.some (omega (arith, next.rank, now.ranks from))
     (λ h. is_reached visits at e after new becomes arcs x side k from old within near far next) (λ one. absurd (omega (arith, one, next.rank, old))) short
 
--- a root
+-- or as a root
 pub root_search : (nodes : ℕ) (arcs : List ArcView) (x : List ℤ) (surplus : ℕ → ℤ) (visits : ℕ → Visit) (queue : List ℕ) (at : ℕ) (e : Visit) (after : ℕ → Visit)
     → IsResidualSearch nodes arcs x surplus visits queue 0 → IsNode nodes at → rank_of visits at ≡ 0 → Becomes visits at e after → e.rank ≡ 1 → pos 0 <ℤ e.room → e.room ≤ℤ surplus at
     → IsResidualSearch nodes arcs x surplus after (queue ++ at ∷ []) 0
@@ -154,7 +154,7 @@ root_search nodes arcs x surplus visits queue at e after now node new becomes on
     one_search visits at e after new becomes nodes queue node.1 (omega (arith, one)) arcs x surplus 0 now some (omega (arith, one, count_most (λ v. rank_of visits v == 0) (nodes + 1)))
     (λ h. absurd (omega (arith, one, h))) (λ e. (node, enough)) (omega arith)
 
--- ---- one arc more, from the last one at the node down
+-- ---- one more arc, from the last arc of the node down
 pub record IsPassing (nodes : ℕ) (arcs : List ArcView) (x : List ℤ) (surplus : ℕ → ℤ) (side : Side) (at from next : ℕ) (visits : ℕ → Visit) (queue : List ℕ) (visits' : ℕ → Visit) (queue' : List ℕ) : Type 0 where
   pub within : next ≤ length arcs
   pub found : 0 < next → end_of side (arc_at arcs (next - 1)) ≡ from
@@ -214,7 +214,7 @@ module _ (nodes : ℕ) (arcs : List ArcView) (x : List ℤ) (surplus : ℕ → �
         passing_with search grows (λ room. omega (arith, ap (λ (z : Visit). z.rank) becomes.here, next_is.rank))
   ]
 
--- nothing is left at the node
+-- all arcs of the node
 pub passing_all : (nodes : ℕ) (arcs : List ArcView) (x : List ℤ) (surplus : ℕ → ℤ) (side : Side) (at from next : ℕ) (visits : ℕ → Visit) (queue : List ℕ) (visits' : ℕ → Visit) (queue' : List ℕ) → (¬ (0 < next)) → IsPassing nodes arcs x surplus side at from next visits queue visits' queue' → IsSidePassed arcs x visits' from side
 passing_all nodes arcs x surplus side at from next visits queue visits' queue' over is k inside near room = is.passed k (omega (arith, over_is next over)) inside near room
   where
@@ -227,7 +227,7 @@ both_sides : (P : Side → Type 0) → P Tail → P Head → (side : Side) → P
 both_sides P t h Tail = t
 both_sides P t h Head = h
 
--- the next of the queue is done
+-- the next node of the queue is done
 pub search_next : (nodes : ℕ) (arcs : List ArcView) (x : List ℤ) (surplus : ℕ → ℤ) (visits : ℕ → Visit) (queue : List ℕ) (at : ℕ) → IsResidualSearch nodes arcs x surplus visits queue at → pos 0 ≤ℤ surplus (slice_index queue at)
     → IsSidePassed arcs x visits (slice_index queue at) Tail → IsSidePassed arcs x visits (slice_index queue at) Head → IsResidualSearch nodes arcs x surplus visits queue (at + 1)
 search_next nodes arcs x surplus visits queue at is enough tail head = record {
@@ -247,7 +247,7 @@ search_next nodes arcs x surplus visits queue at is enough tail head = record {
   ];
 }
 
--- all of the queue is done
+-- the whole queue is done
 pub search_over : (nodes : ℕ) (arcs : List ArcView) (x : List ℤ) (surplus : ℕ → ℤ) (visits : ℕ → Visit) (queue : List ℕ) (at : ℕ) → IsResidualSearch nodes arcs x surplus visits queue at → length queue ≤ at → IsExplored nodes arcs x surplus visits None
 search_over nodes arcs x surplus visits queue at is over = record {
   tree = is.tree;
@@ -259,7 +259,7 @@ search_over nodes arcs x surplus visits queue at is over = record {
   ];
 }
 
--- the next of the queue lacks some
+-- the next node of the queue has a deficit
 pub search_found : (nodes : ℕ) (arcs : List ArcView) (x : List ℤ) (surplus : ℕ → ℤ) (visits : ℕ → Visit) (queue : List ℕ) (at t : ℕ) → IsResidualSearch nodes arcs x surplus visits queue at → at < length queue → slice_index queue at ≡ t → surplus t <ℤ pos 0
     → IsExplored nodes arcs x surplus visits (Some t)
 search_found nodes arcs x surplus visits queue at t is inside here lacks = record {
@@ -269,7 +269,7 @@ search_found nodes arcs x surplus visits queue at t is inside here lacks = recor
   found_is = (subst (λ u. 0 < rank_of visits u) here (is.queued at inside).1, lacks);
 }
 
--- nothing is reached
+-- no node is reached
 pub search_none : (nodes : ℕ) (arcs : List ArcView) (x : List ℤ) (surplus : ℕ → ℤ) (visits : ℕ → Visit) → ((v : ℕ) → visits v ≡ unvisited) → IsResidualSearch nodes arcs x surplus visits [] 0
 search_none nodes arcs x surplus visits none =
     let rank : (v : ℕ) → rank_of visits v ≡ 0 = λ v. ap (λ (z : Visit). z.rank) (none v) in

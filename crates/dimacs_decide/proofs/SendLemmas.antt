@@ -1,4 +1,4 @@
--- What a search that is over tells, and more that was sent by it.
+-- The result of a search, and the flow after sending.
 use Rattle.std.proofs.Common.{◌≡◌, inl, inr, ℕ, suc, zero, ◌+◌, ◌<◌, ◌≤◌, ◌&&◌, Bool, true, false, not, nat_lt, List, length, All, ℤ, pos, ◌+ℤ◌, ◌-ℤ◌, ◌≤ℤ◌, ◌<ℤ◌, Some, refl, sym, subst, ◌∙◌, arith, eq-eqb}
 use Rattle.std.proofs.lemmas.Int.{ints, by_lt_z}
 use Rattle.std.proofs.lemmas.Bool.{cases_order, lt-ltb, ne_eqb, false≢true}
@@ -22,7 +22,7 @@ use Rattle.dimacs_decide.specs.inside.Residual.{HaveSurplus, IsDone, IsExplored,
 use Rattle.dimacs_decide.specs.inside.Sending.{IsSent, IsShut, IsShutAt}
 use Rattle.dimacs_decide.proofs.SideLemmas.{far_within, near_within}
 
--- ---- a set that no step leaves
+-- ---- a set that no residual arc leaves
 shut_arc : (b d : Bool) (z low cap : ℤ) → low ≤ℤ z → z ≤ℤ cap → (b ≡ true → pos 0 <ℤ (cap -ℤ z) → d ≡ true) → (d ≡ true → pos 0 <ℤ (z -ℤ low) → b ≡ true) → ((b && not d) ≡ true → z ≡ cap) × ((d && not b) ≡ true → z ≡ low)
 shut_arc true true z low cap h g to back = (λ e. absurd (false≢true e), λ e. absurd (false≢true e))
 shut_arc true false z low cap h g to back = (λ e. by_lt_z z cap (λ l. absurd (false≢true (to refl (omega (arith, ints, l))))) (λ l. omega (arith, ints, l, g)), λ e. absurd (false≢true e))
@@ -53,7 +53,7 @@ module _ (nodes : ℕ) (arcs : List ArcView) (x : List ℤ) (surplus : ℕ → �
     none_lacks = λ v node inside. (done v (inside_reached v node inside)).0;
   }
 
--- ---- what was sent
+-- ---- the flow after sending
 pub reached_node : (nodes : ℕ) (arcs : List ArcView) (x : List ℤ) (surplus : ℕ → ℤ) (visits : ℕ → Visit) → All (JoinsNodes nodes) arcs → IsResidualTree arcs x visits → HaveSurplus nodes surplus visits → (v : ℕ) → 0 < rank_of visits v → IsNode nodes v
 reached_node nodes arcs x surplus visits joined tree roots v some = elim (cases_order (rank_of visits v) 1) [
   | inl same ↦ (roots v same).0

@@ -19,7 +19,7 @@ pub sum_nodes-le : (f g : ℕ → ℤ) (n : ℕ) → ((v : ℕ) → IsNode n v �
 sum_nodes-le f g zero each = omega (arith, ints)
 sum_nodes-le f g (suc n) each = let here = each (suc n) (omega arith, omega arith) in omega (arith, ints, here, sum_nodes-le f g n (λ v h. each v (h.0, omega (arith, h.1))))
 
--- one term less, and none more
+-- one term is less, and none is greater
 pub sum_nodes-less : (f g : ℕ → ℤ) (n r : ℕ) → ((v : ℕ) → IsNode n v → f v ≤ℤ g v) → IsNode n r → f r <ℤ g r → sum_nodes f n <ℤ sum_nodes g n
 sum_nodes-less f g zero r each node less = absurd (omega (arith, node.0, node.1))
 sum_nodes-less f g (suc n) r each node less =
@@ -36,7 +36,7 @@ when-split : (b : Bool) (s d : ℤ) → when b s ≡ when b (s -ℤ d) +ℤ when
 when-split true s d = omega (arith, ints)
 when-split false s d = omega (arith, ints)
 
--- what the nodes of a set supply is what they have too much, with what leaves them
+-- the supply of a set is the sum of its nodes' excesses and balances
 pub sum_nodes-split : (set : ℕ → Bool) (supply out : ℕ → ℤ) (n : ℕ) → sum_nodes (λ v. when (set v) (supply v)) n ≡ sum_nodes (λ v. when (set v) (supply v -ℤ out v)) n +ℤ sum_nodes (λ v. when (set v) (out v)) n
 sum_nodes-split set supply out zero = omega (arith, ints)
 sum_nodes-split set supply out (suc n) = let here = when-split (set (suc n)) (supply (suc n)) (out (suc n)) in omega (arith, ints, here, sum_nodes-split set supply out n)
@@ -48,7 +48,7 @@ crossing_term true false z out back h = omega (arith, ints, h.0 refl)
 crossing_term false true z out back h = omega (arith, ints, h.1 refl)
 crossing_term false false z out back h = omega (arith, ints)
 
--- what crosses a set, where that is known of each arc
+-- the flow over the boundary of a set, if it is known for each arc
 pub across_of : (out back : ArcView → ℤ) (set : ℕ → Bool) (arcs : List ArcView) (x : List ℤ) → AllZip (λ a z. (leaves set a ≡ true → z ≡ out a) × (enters set a ≡ true → z ≡ back a)) arcs x
     → across set arcs x ≡ sum_where (leaves set) out arcs -ℤ sum_where (enters set) back arcs
 across_of out back set [] [] w = refl

@@ -22,7 +22,7 @@ use Rattle.dimacs_decide.proofs.CountLemmas.{count_all, one_fewer}
 one_reached : (reached after : ℕ → Bool) (at : ℕ) → ((v : ℕ) → v ≢ at → after v ≡ reached v) → (n : ℕ) → at < n → reached at ≡ false → after at ≡ true → absent after n + 1 ≡ absent reached n
 one_reached reached after at others n h old new = one_fewer (λ v. not (reached v)) (λ v. not (after v)) at (λ v ne. ap not (others v ne)) n h (ap not old) (ap not new)
 
--- ---- the source alone
+-- ---- only the source
 pub begun : (nodes : ℕ) (arcs : List ArcView) (claim : ℕ → Option ℤ) (s : ℕ) (reached : ℕ → Bool) → IsNode nodes s → claim s ≡ Some (pos 0) → IsBlock nodes (record { source = s; radius = None; labels = [] })
     → reached s ≡ true → ((v : ℕ) → v ≢ s → reached v ≡ false) → IsTightTree nodes arcs claim (record { source = s; radius = None; labels = [] }) reached
 begun nodes arcs claim s reached node at lawful here others = record {
@@ -58,7 +58,7 @@ grows_then a p b q c r f g = record {
 pub passed_still : (arcs : List ArcView) (claim : ℕ → Option ℤ) (reached after : ℕ → Bool) (v : ℕ) → ((u : ℕ) → reached u ≡ true → after u ≡ true) → IsPassed arcs claim reached v → IsPassed arcs claim after v
 passed_still arcs claim reached after v more passed = All-weaker (λ (a : ArcView). a.tail ≡ v → IsTight claim a → reached a.head ≡ true) (λ (a : ArcView). a.tail ≡ v → IsTight claim a → after a.head ≡ true) (λ a is from tight. more _ (is from tight)) arcs passed
 
--- ---- one node more
+-- ---- one more node
 some_of : (o : Option ℤ) → is_some o ≡ true → (d : ℤ) × (o ≡ Some d)
 some_of None some = absurd (cc)
 some_of (Some d) some = (d, refl)
@@ -208,7 +208,7 @@ some_under : (t : Bool) (d : ℤ) (o : Option ℤ) → is_some o ≡ true → is
 some_under true d o some = refl
 some_under false d o some = some
 
--- the source is reached, and each node of a label
+-- the source and the nodes of all labels are reached
 pub node_reached : (nodes : ℕ) (arcs : List ArcView) (claim : ℕ → Option ℤ) (b : BlockValue) (reached : ℕ → Bool) → IsTightTree nodes arcs claim b reached → (j : ℕ) → j ≤ length b.labels → reached (node_at b j) ≡ true
 node_reached nodes arcs claim b reached is zero h = is.marked b.source ∙ own
   where
@@ -221,7 +221,7 @@ node_reached nodes arcs claim b reached is (suc k) h = is.marked _ ∙ some_unde
     named (m ∷ labels) zero inside = elim (eqb_tells m.id m.id) [ inl same ↦ rw same.0 refl | inr apart ↦ absurd (apart.1 refl) ]
     named (m ∷ labels) (suc i) inside = some_under (m.id == (get_or labels i no_label).id) m.dist _ (named labels i (omega (arith, inside)))
 
--- the nodes at the first so many places are passed
+-- the nodes at the first places are passed
 abbrev pub ArePassed : List ArcView → (ℕ → Option ℤ) → BlockValue → (ℕ → Bool) → ℕ → Type 0
 ArePassed arcs claim b reached so_many = (j : ℕ) → j < so_many → IsPassed arcs claim reached (node_at b j)
 

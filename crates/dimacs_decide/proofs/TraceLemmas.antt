@@ -1,4 +1,4 @@
--- The ways down, followed.
+-- Going down from raised nodes.
 use Rattle.std.proofs.Common.{◌≡◌, ◌≢◌, ◌⊎◌, inl, inr, ℕ, suc, zero, ◌+◌, ◌-◌, ◌<◌, ◌≤◌, ◌==◌, true, false, List, [], ◌∷◌, ◌++◌, length, ℤ, pos, ◌+ℤ◌, ◌≤ℤ◌, refl, sym, ap, subst, ◌∙◌, arith, eq-eqb, All}
 use Rattle.std.specs.Prelude.{slice_index}
 use Rattle.std.proofs.lemmas.Int.{ints}
@@ -54,7 +54,7 @@ module _ (nodes : ℕ) (arcs : List ArcView) (x : List ℤ) (labels : ℕ → La
         rw b (near_within l.side nodes arcs (l.via - 1) joined (omega (arith, some, r.within))).1
   ]
 
-  -- no arc leads to node 0
+  --   no arc leads to node 0
   pub height_zero : height_of labels 0 ≤ℤ bound 0
   height_zero = elim (cases_via (labels 0).via) [
     | inl none ↦ (now.low 0 none).1
@@ -65,7 +65,7 @@ module _ (nodes : ℕ) (arcs : List ArcView) (x : List ℤ) (labels : ℕ → La
         absurd (let e = r.to in omega (arith, e, node.0))
   ]
 
--- node 0 alone
+-- only node 0
 pub trace_none : (nodes : ℕ) (labels : ℕ → Label) (places : ℕ → ℕ) → places 0 ≡ 1 → ((v : ℕ) → v ≢ 0 → places v ≡ 0) → height_of labels 0 ≤ℤ bound 0 → IsTrace nodes labels (0 ∷ []) places
 trace_none nodes labels places one others low =
     let count = one_zero_fewer (λ v. 0) places 0 others (nodes + 1) (omega arith) refl (omega (arith, one)) in
@@ -79,7 +79,7 @@ trace_none nodes labels places one others low =
       low = λ v some. subst (λ u. height_of labels u ≤ℤ bound 1) (sym (zero_alone v some)) (omega (arith, ints, low));
     }
 
--- ---- a way down
+-- ---- one path down
 pub follow_begin : (nodes : ℕ) (arcs : List ArcView) (labels : ℕ → Label) (start : ℕ) (path : List ℕ) (places : ℕ → ℕ) → start ≤ nodes → IsTrace nodes labels path places
     → IsFollowing nodes arcs labels start (length path) path places start
 follow_begin nodes arcs labels start path places inside is = record {
@@ -171,7 +171,7 @@ module _ (nodes : ℕ) (arcs : List ArcView) (x : List ℤ) (labels : ℕ → La
           started = inr (elim is.started [ inl same ↦ subst (λ u. 0 < after u) same (omega (arith, here)) | inr seen ↦ follow_keeps start seen ]);
         }
 
-  -- the way came to a node of an earlier one
+  --   the path came to a node of an earlier one
   pub follow_over : 0 < places at → places at ≤ begin → IsTrace nodes labels path places × (0 < places start)
   follow_over seen within = (
     record {
@@ -190,7 +190,7 @@ module _ (nodes : ℕ) (arcs : List ArcView) (x : List ℤ) (labels : ℕ → La
     elim is.started [ inl same ↦ subst (λ u. 0 < places u) same seen | inr there ↦ there ],
   )
 
-  -- or to one of its own
+  --   or to a node of its own
   back : begin < places at → IsCycle arcs labels longer (places at - 1) (length path)
   back more =
       let f = is.found at (omega (arith, more)) in
@@ -227,7 +227,7 @@ module _ (nodes : ℕ) (arcs : List ArcView) (x : List ℤ) (labels : ℕ → La
   pub follow_back : begin < places at → IsCycle arcs labels longer (places at - 1) (length longer - 1)
   follow_back more = let e : length longer - 1 ≡ length path = omega (arith, length_is) in rw e (back more)
 
--- ---- all ways down
+-- ---- all paths down
 pub all_low : (nodes : ℕ) (arcs : List ArcView) (x : List ℤ) (labels : ℕ → Label) (path : List ℕ) (places : ℕ → ℕ) → AreHeights arcs x labels → IsTrace nodes labels path places
     → ((k : ℕ) → k < length arcs → (0 < places (arc_at arcs k).tail) × (0 < places (arc_at arcs k).head)) → BelowBound (nodes + 1) labels
 all_low nodes arcs x labels path places now is seen v = elim (cases_via (labels v).via) [

@@ -1,4 +1,4 @@
--- What certifying says of a claimed flow and its value.
+-- Certifying that a claimed flow is maximum.
 use Rattle.std.specs.Prelude.{List, ℤ, ◌<ℤ◌}
 use Rattle.dimacs_claims.specs.SolutionTexts.{SolutionValue}
 use Rattle.dimacs_instance.specs.MaxFlows.{MaxValue}
@@ -8,14 +8,14 @@ use Rattle.dimacs_judge.specs.Optimum.{Maximum}
 use Rattle.dimacs_decide.specs.declared.maximum.MaxDecision.{MaxDecision}
 use Rattle.dimacs_decide.specs.declared.maximum.MaxDecision.TheVariants.{Optimal, Better}
 
--- the flow is what is claimed and isn't maximum, and the other is feasible and has greater value
+-- x is the claimed flow and isn't maximum; y is feasible and has a greater value
 pub record IsMaxImproved (i : MaxValue) (s : SolutionValue) (x y : List ℤ) : Type 0 where
   pub claim : IsMaxClaim i s x
   pub not_maximum : ¬ Maximum i x
   pub feasible : FeasibleMax i y
   pub greater : s.value <ℤ value i y
 
--- the cut shows that the claimed flow is maximum; or it isn't, and the other is better
+-- the cut shows that the claimed flow is maximum; or it isn't, and the other flow is better
 abbrev pub CertifiesMax : MaxValue → SolutionValue → MaxDecision → Type 0
 CertifiesMax i s (Optimal cut) = ShowsMaximum i s cut
 CertifiesMax i s (Better y) = (x : List ℤ) × IsMaxImproved i s x y

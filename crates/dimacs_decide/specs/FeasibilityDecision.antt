@@ -1,4 +1,4 @@
--- What a decision says of a flow that keeps the bounds.
+-- Decisions about a flow that keeps the bounds.
 use Rattle.std.specs.Prelude.{ℕ, List, ℤ, pos, ◌-ℤ◌, ◌<ℤ◌}
 use Rattle.dimacs_instance.specs.MinFlows.{MinValue, positive_part, supply_of}
 use Rattle.dimacs_judge.specs.Feasible.{FeasibleMin}
@@ -8,7 +8,7 @@ use Rattle.dimacs_decide.specs.Bounds.{KeepsBounds}
 use Rattle.dimacs_decide.specs.declared.feasible.FeasibilityDecision.{FeasibilityDecision}
 use Rattle.dimacs_decide.specs.declared.feasible.FeasibilityDecision.TheVariants.{Balanced, Infeasible, Nearer}
 
--- the supply of a node, less what the flow takes out of it: its excess, or without sign its deficit
+-- the excess of a node: its supply less its balance; a negative one is a deficit
 abbrev pub surplus_at : MinValue → List ℤ → ℕ → ℤ
 surplus_at i x v = supply_of i v -ℤ net i.arcs x v
 
@@ -16,7 +16,7 @@ surplus_at i x v = supply_of i v -ℤ net i.arcs x v
 abbrev pub total_excess : MinValue → List ℤ → ℤ
 total_excess i x = sum_nodes (λ v. pos (positive_part (surplus_at i x v))) i.nodes
 
--- the flow is feasible; or a set of the instance's nodes shows that no flow is; or the other keeps the bounds too, and leaves less excess
+-- the flow is feasible; or a set shows that no flow is; or the other flow keeps the bounds and leaves less excess
 abbrev pub DecidesFeasible : MinValue → List ℤ → FeasibilityDecision → Type 0
 DecidesFeasible i x Balanced = FeasibleMin i x
 DecidesFeasible i x (Infeasible set) = ShowsNoFlow i set

@@ -1,4 +1,4 @@
--- What a decision says of the value of a flow.
+-- Decisions about the value of a flow.
 use Rattle.std.specs.Prelude.{◌≡◌, List, ℤ, ◌<ℤ◌}
 use Rattle.dimacs_instance.specs.MaxFlows.{MaxValue}
 use Rattle.dimacs_judge.specs.Cuts.{CutTight, members}
@@ -7,7 +7,7 @@ use Rattle.dimacs_judge.specs.Optimum.{Maximum}
 use Rattle.dimacs_decide.specs.declared.maximum.MaxDecision.{MaxDecision}
 use Rattle.dimacs_decide.specs.declared.maximum.MaxDecision.TheVariants.{Optimal, Better}
 
--- the flow is maximum, and the cut of the instance's nodes is tight; or it isn't, and the other is feasible and has greater value
+-- the flow is maximum, and the cut is tight; or it isn't, and the other flow is feasible with a greater value
 abbrev pub DecidesMax : MaxValue → List ℤ → MaxDecision → Type 0
 DecidesMax i x (Optimal cut) = Maximum i x × CutTight i x (members cut) × (cut.nodes ≡ i.nodes)
 DecidesMax i x (Better y) = (¬ Maximum i x) × FeasibleMax i y × (value i x <ℤ value i y)

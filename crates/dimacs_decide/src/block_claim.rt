@@ -1,4 +1,4 @@
-//! What a block of distances claims, by node.
+//! The claimed distances of a block, by node.
 
 ghost use Rattle.std.specs.Prelude.{◌≡◌, ℕ, IfOk};
 ghost use Rattle.std.specs.FinMap as map;
@@ -12,7 +12,7 @@ use dimacs_lines::Memory;
 use dimacs_nodes::WideMap;
 use std::alloc::Global;
 
-/// The distances that a block claims, each of which is looked up in constant time, whatever the order of the block is.
+/// The claimed distances of a block, each found in constant time, whatever the order of its labels is.
 #[derive(Drop)]
 pub(crate) struct BlockClaim {
     distances: WideMap,
@@ -20,7 +20,7 @@ pub(crate) struct BlockClaim {
 }
 
 impl BlockClaim {
-    /// Goes over the labels once, from the last to the first. Takes 16 bytes for each node, or 32, by pages of 64.
+    /// Copies the labels, from the last to the first. Takes 16 or 32 bytes for each node, in pages of 64 nodes.
     pub(crate) fn new(alloc: Global, block: &Block) -> Result<BlockClaim, Memory>
         requires { (nodes : ℕ) × IsBlock nodes block.now }
         ensures { IfOk result (λ claim. (id : ℕ) → map.get claim.distances id ≡ label block.now id) }

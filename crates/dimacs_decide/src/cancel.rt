@@ -1,4 +1,4 @@
-//! Sending round a cycle what there is room for.
+//! Cancelling a cycle: sending as much round it as its residual capacity allows.
 
 ghost use Rattle.std.specs.Prelude.{ℕ, ◌≡◌, ◌≤ℤ◌, ◌<ℤ◌, pos, All, length};
 ghost use Rattle.dimacs_instance.specs.MinFlows.{HasBounds};
@@ -21,7 +21,7 @@ fn lesser(a: i64, b: i64) -> i64
     if a < b { a } else { b }
 }
 
-/// What can be sent along all residual arcs of a cycle.
+/// The least residual capacity of the residual arcs of a cycle.
 fn least_room<N: Network>(network: &N, cycle: &[ResidualArc], flow: &Flow) -> i64
     requires bounds { All HasBounds (N.list network.now) }
     requires within { KeepsBounds (N.list network.now) flow.now }
@@ -38,7 +38,7 @@ fn least_room<N: Network>(network: &N, cycle: &[ResidualArc], flow: &Flow) -> i6
     least
 }
 
-/// Sends round a cycle what there is room for.
+/// Sends as much round a cycle as its residual capacity allows.
 pub(crate) fn cancel<N: Network>(network: &N, cycle: &[ResidualArc], flow: &mut Flow)
     requires bounds { All HasBounds (N.list network.now) }
     requires within { KeepsBounds (N.list network.now) flow.old }

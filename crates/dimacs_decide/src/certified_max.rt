@@ -1,4 +1,4 @@
-//! Whether a claimed flow is maximum.
+//! Certifying that a claimed flow is maximum.
 
 ghost use Rattle.std.specs.Prelude.{◌≡◌};
 ghost use Rattle.dimacs_claims.specs.SolutionReading.{IsPlaced};
@@ -15,9 +15,9 @@ use dimacs_judge::{FlowPlaces, JudgeError, max_claim_tests, placed};
 use dimacs_network::Network;
 use std::alloc::Global;
 
-/// Whether the solution's flow is maximum. `Optimal` with a cut with which `judge_max` says yes to the solution; `Better`
-/// with a feasible flow of greater value than the solution claims. Else the first test that fails of those which
-/// `judge_max` makes before it looks at a cut, in the same order; `Memory` says nothing of the claim.
+/// Decides whether the solution's flow is maximum. `Optimal` has a cut with which `judge_max` accepts the solution, and
+/// `Better` a feasible flow of greater value. Otherwise the error is the first test that fails of those that
+/// `judge_max` makes before it looks at a cut, in the same order. `Memory` is no answer about the claim.
 pub fn certify_max<N: Network>(
     alloc: Global,
     instance: &MaxInstance<N>,
@@ -29,7 +29,7 @@ pub fn certify_max<N: Network>(
     certify_max_placed(alloc, instance, &placed)
 }
 
-/// The same of a solution whose entries were placed on the arcs of the instance: what `certify_max` answers of any
+/// The same for a solution whose entries were put on the arcs. The result is one that `certify_max` may have for any
 /// solution that the placed values stand for.
 pub fn certify_max_placed<N: Network>(
     alloc: Global,

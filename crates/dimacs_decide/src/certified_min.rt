@@ -1,4 +1,4 @@
-//! Whether a claimed flow is of least cost.
+//! Certifying that a claimed flow costs least.
 
 ghost use Rattle.std.specs.Prelude.{◌≡◌};
 ghost use Rattle.dimacs_claims.specs.SolutionReading.{IsPlaced};
@@ -15,10 +15,10 @@ use dimacs_judge::{FlowPlaces, JudgeError, min_claim_tests, placed};
 use dimacs_network::Network;
 use std::alloc::Global;
 
-/// Whether the solution's flow is of least cost. `Optimal` with potentials with which `judge_min` says yes to the
-/// solution; `Better` with a feasible flow that costs less than the solution claims, which may be less than a text of a
-/// solution can say. Else the first test that fails of those which `judge_min` makes before it looks at potentials, in the
-/// same order; `Memory` says nothing of the claim.
+/// Decides whether the solution's flow costs least. `Optimal` has potentials with which `judge_min` accepts the
+/// solution, and `Better` a feasible flow that costs less; its cost may be out of the range of solutions. Otherwise the
+/// error is the first test that fails of those that `judge_min` makes before it looks at potentials, in the same order.
+/// `Memory` is no answer about the claim.
 pub fn certify_min<N: Network>(
     alloc: Global,
     instance: &MinInstance<N>,
@@ -30,7 +30,7 @@ pub fn certify_min<N: Network>(
     certify_min_placed(alloc, instance, &placed)
 }
 
-/// The same of a solution whose entries were placed on the arcs of the instance: what `certify_min` answers of any
+/// The same for a solution whose entries were put on the arcs. The result is one that `certify_min` may have for any
 /// solution that the placed values stand for.
 pub fn certify_min_placed<N: Network>(
     alloc: Global,

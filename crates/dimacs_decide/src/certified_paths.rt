@@ -1,4 +1,4 @@
-//! Whether claimed distances from several sources are true.
+//! Certifying claimed distances from several sources.
 
 ghost use Rattle.std.specs.Prelude.{◌≡◌, IfOk, IfSome, OnOk};
 ghost use Rattle.dimacs_lines.specs.Limits.{IsNode};
@@ -18,10 +18,13 @@ use dimacs_lines::Memory;
 use dimacs_network::{Links, Network, Side};
 use std::alloc::Global;
 
-/// Whether the distances are true in every block. Labels with which `judge_paths` says yes for each source, block by block
-/// in the order of the claim, exactly where they are; else the first test that fails, block by block, of those that
-/// `decide_distances` makes; `Memory` says nothing of the claim. Weights may be negative. Takes time in proportion to the
-/// nodes and arcs for each block, and memory by the arcs, and by the nodes that are reached from each source.
+/// Decides whether the distances in every block are right. Weights may be negative. If they are right, it returns
+/// labels with which `judge_paths` answers yes for each source, block by block in the order of the claim. Otherwise the
+/// error is the first test that fails, block by block, of those that `decide_distances` makes. `Memory` is no answer
+/// about the claim.
+///
+/// Takes time in proportion to the nodes and arcs for each block, and memory for the arcs and for the nodes reached
+/// from each source.
 pub fn certify_paths<N: Network>(
     alloc: Global,
     graph: &Graph<N>,
@@ -43,8 +46,8 @@ pub fn certify_paths<N: Network>(
     Ok(labels)
 }
 
-/// Decides a block: by one pass over the arcs where those of positive weight make all distances, else by a search over the
-/// arcs by their tails, which are linked for the first block that needs it.
+/// Decides one block: by one pass over the arcs, if each distance has a tight arc of positive weight, otherwise by a
+/// search over adjacency lists, which are built for the first block that needs them.
 fn certify_block<N: Network, C: DistanceClaim>(
     alloc: Global,
     graph: &Graph<N>,
@@ -66,7 +69,7 @@ fn certify_block<N: Network, C: DistanceClaim>(
     Ok(block)
 }
 
-/// The arcs by their tails, which are linked now if they weren't before.
+/// The adjacency lists, built now if they weren't before.
 fn linked<N: Network>(alloc: Global, network: &N, links: Option<Links>) -> Result<Links, Memory>
     requires { IfSome links (AreLinksOf Tail (N.list network.now)) }
     ensures { IfOk result (AreLinksOf Tail (N.list network.now)) }

@@ -1,4 +1,4 @@
-//! Cycles of residual arcs: one that was handed over is tested, and one of raised nodes is told.
+//! Cycles of residual arcs: testing one that a heuristic found, and reading one from the labels of nodes.
 
 ghost use Rattle.std.specs.Prelude.{◌≡◌, ◌<◌, ◌≤◌, ◌+◌, ◌-◌, IsTrue, All, length, IfOk};
 ghost use Rattle.dimacs_lines.specs.Limits.{most_nodes};
@@ -19,8 +19,8 @@ use dimacs_network::Network;
 use dimacs_nodes::NodeTable;
 use std::alloc::Global;
 
-/// Whether residual arcs, of which nothing is known, are a cycle along which there is room, which comes to no node twice
-/// and saves something. Takes memory by the nodes that it comes to.
+/// Whether these residual arcs, about which nothing is known, form a cycle with residual capacity and negative cost
+/// that visits no node twice. Takes memory for the nodes on it.
 pub(crate) fn is_saving<N: Network>(
     alloc: Global,
     network: &N,
@@ -54,7 +54,7 @@ pub(crate) fn is_saving<N: Network>(
     Ok(saved > 0)
 }
 
-/// Whether a residual arc begins at a node, and there is room along it.
+/// Whether a residual arc begins at the node and has residual capacity.
 #[inline(always)]
 fn leads_from<N: Network>(network: &N, flow: &Flow, from: u32, residual: ResidualArc) -> bool
     requires bounds { All HasBounds (N.list network.now) }
@@ -68,7 +68,7 @@ fn leads_from<N: Network>(network: &N, flow: &Flow, from: u32, residual: Residua
     residual.side.near(arc) == from && room_from(residual.side, arc, flow.amount(residual.arc)) > 0
 }
 
-/// The node to which a residual arc leads, 0 where it has no arc.
+/// The node to which a residual arc leads; 0 if its arc doesn't exist.
 #[inline(always)]
 fn ending<N: Network>(network: &N, residual: ResidualArc) -> u32
     ensures { result ≡ ending_of (N.list network.now) residual }
@@ -79,7 +79,7 @@ fn ending<N: Network>(network: &N, residual: ResidualArc) -> u32
     residual.side.far(network.arc(residual.arc))
 }
 
-/// The residual arcs by which the nodes of a cycle were raised, from the lowest on.
+/// The residual arcs by which the nodes of a cycle were raised, in the order of the cycle.
 pub(crate) fn raised_along<N: Network>(
     alloc: Global,
     network: &N,

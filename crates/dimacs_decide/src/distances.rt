@@ -1,4 +1,4 @@
-//! Whether claimed distances are true, by a search over the arcs that are tight.
+//! Deciding whether claimed distances are right, by a search over tight arcs.
 
 ghost use Rattle.std.specs.Prelude.{◌≤◌, ◌+ℤ◌, ◌<ℤ◌, ◌↔◌, IsTrue, None};
 ghost use Rattle.dimacs_lines.specs.Limits.{most_nodes, IsNode};
@@ -22,14 +22,14 @@ use dimacs_network::{ArcView, Links, Network, Side};
 use dimacs_records::Reason;
 use std::alloc::Global;
 
-/// Decides whether claimed distances from a source are true: labels that say the same and pass the judge's tests, exactly
-/// where they are; else the first test that fails, which shows that they aren't. Weights may be negative. Takes time in
-/// proportion to the nodes and arcs, and memory by the arcs and the nodes that are reached; the one error besides is
-/// `Memory`, which says nothing of the claim.
+/// Decides whether the claimed distances from a source are right. Weights may be negative. If they are right, it
+/// returns labels with these distances that pass the judge's tests. Otherwise the error is the first test that fails,
+/// which shows that they are wrong. `Memory` is no answer about the claim. Takes time in proportion to the nodes and
+/// arcs, and memory for the arcs and the nodes that are reached.
 ///
-/// The tests in their order: `NotShortest` at the source, where its claim isn't 0; each arc of whose tail something is
-/// claimed, from 1: `Escapes` where nothing is claimed of its head, else `NotShortest`; then each node, by ID:
-/// `NoTightArc` where something is claimed of it and no tight arcs lead to it from the source.
+/// The tests, in order: `NotShortest` at the source if its claim isn't 0; for each arc with a claim at its tail, from
+/// 1, `Escapes` if its head has no claim, and `NotShortest` if its head's claim is too great; for each node with a
+/// claim, by ID, `NoTightArc` if no path of tight arcs leads to it from the source.
 pub fn decide_distances<N: Network, C: DistanceClaim>(
     alloc: Global,
     graph: &Graph<N>,
@@ -43,7 +43,7 @@ pub fn decide_distances<N: Network, C: DistanceClaim>(
     decide_distances_over(alloc, graph, &links, source, claim)
 }
 
-/// Decides it over the arcs by their tails, which several questions can share.
+/// The same over adjacency lists that several calls can share.
 pub fn decide_distances_over<N: Network, C: DistanceClaim>(
     alloc: Global,
     graph: &Graph<N>,
@@ -61,7 +61,7 @@ pub fn decide_distances_over<N: Network, C: DistanceClaim>(
     Ok(labels)
 }
 
-/// Decides it, with the labels as a block that others can follow.
+/// The same, with the labels as one block.
 pub(crate) fn decide_block<N: Network, C: DistanceClaim>(
     alloc: Global,
     graph: &Graph<N>,
@@ -91,7 +91,7 @@ pub fn source_holds<C: DistanceClaim>(source: u32, claim: &C) -> Result<(), (Whe
     }
 }
 
-/// The first arc with a claimed tail of whose head nothing is claimed, or too much.
+/// Refuses the first arc with a claim at its tail whose head has no claim or too great a one.
 fn arcs_hold<N: Network, C: DistanceClaim>(network: &N, claim: &C) -> Result<(), (Where, Reason)>
     ensures { TellsRow (claim_row (N.list network.now) (C.claimed claim.now)) result }
 {
@@ -103,7 +103,7 @@ fn arcs_hold<N: Network, C: DistanceClaim>(network: &N, claim: &C) -> Result<(),
     Ok(())
 }
 
-/// Looks the head up only where something is claimed of the tail.
+/// The reason to refuse an arc, if there is one. Looks at the head only if the tail has a claim.
 #[inline(always)]
 pub(crate) fn arc_fault<C: DistanceClaim>(claim: &C, arc: ArcView) -> Option<Reason>
     ensures { TellsReason (RelaxFails None (C.claimed claim.now arc.tail) (C.claimed claim.now arc.head) arc.cost) result }
@@ -116,7 +116,7 @@ pub(crate) fn arc_fault<C: DistanceClaim>(claim: &C, arc: ArcView) -> Option<Rea
     }
 }
 
-/// Whether `to` is further than the weight leads from `from`.
+/// Whether `to` is greater than `from` and the weight.
 #[inline(always)]
 fn is_beyond(to: i128, from: i128, weight: i64) -> bool
     requires { IsWide from }
@@ -125,7 +125,7 @@ fn is_beyond(to: i128, from: i128, weight: i64) -> bool
     to > from + i128::from(weight)
 }
 
-/// The first node of which something is claimed and that the search did not reach.
+/// Refuses the first node with a claim that the search didn't reach.
 fn nodes_hold<N: Network, C: DistanceClaim>(
     network: &N,
     claim: &C,

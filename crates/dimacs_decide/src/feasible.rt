@@ -1,4 +1,4 @@
-//! Whether a flow that keeps the bounds is feasible, by a search from its excesses to its deficits.
+//! Deciding whether a flow within the bounds is feasible, by a search from its excesses to its deficits.
 
 ghost use Rattle.std.specs.Prelude.{◌≡◌, ◌≤◌, ◌+◌, ◌<ℤ◌, ℕ, pos, true, IfOk};
 ghost use Rattle.dimacs_lines.specs.Limits.{most_nodes, IsNode};
@@ -21,20 +21,19 @@ use dimacs_network::Network;
 use dimacs_nodes::NodeTable;
 use std::alloc::Global;
 
-/// What is said of a flow that keeps the bounds of the arcs.
+/// The answer about a flow that keeps the bounds of the arcs.
 #[derive(Drop)]
 pub enum FeasibilityDecision {
     /// It is feasible.
     Balanced,
-    /// No flow is feasible, by this set, which is violated.
+    /// No flow is feasible; this violated set shows it.
     Infeasible(Cut),
-    /// This flow keeps the bounds too, and leaves less excess.
+    /// It isn't feasible. This flow keeps the bounds, too, and leaves less excess.
     Nearer(Flow),
 }
 
-/// Decides whether a flow that keeps the bounds is feasible, and if not, whether one can be. Takes time in proportion
-/// to the nodes and arcs, and memory by the arcs and the nodes that have one. The one error is `Memory`, which says
-/// nothing of the flow.
+/// Decides whether a flow that keeps the bounds is feasible, and if it isn't, whether some flow can be. Takes time in
+/// proportion to the nodes and arcs, and memory for the arcs and the nodes that have one. The only error is `Memory`.
 pub fn decide_feasible<N: Network>(
     alloc: Global,
     instance: &MinInstance<N>,
@@ -52,7 +51,7 @@ pub fn decide_feasible<N: Network>(
     }
 }
 
-/// Decides it over the arcs by their ends, which several questions can share.
+/// The same over adjacency lists that several calls can share.
 pub fn decide_feasible_over<N: Network>(
     alloc: Global,
     instance: &MinInstance<N>,
@@ -69,16 +68,16 @@ pub fn decide_feasible_over<N: Network>(
     }
 }
 
-/// What a look at the nodes gives.
+/// The result of looking only at the nodes.
 #[derive(Drop)]
 enum Look {
-    /// No node has an excess.
+    /// No node has excess, which decides the question.
     Decided(FeasibilityDecision),
-    /// Some node has one: what each has too much.
+    /// Some node has excess. The table has the excess of each node, a deficit being negative.
     Excess(NodeTable<i128>),
 }
 
-/// Decides it where no node has an excess.
+/// Decides the question if no node has excess.
 fn first_look<N: Network>(
     alloc: Global,
     instance: &MinInstance<N>,
@@ -98,7 +97,7 @@ fn first_look<N: Network>(
     }
 }
 
-/// Decides it where some node has an excess.
+/// Decides the question if some node has excess.
 fn nearer_or_stuck<N: Network>(
     alloc: Global,
     instance: &MinInstance<N>,

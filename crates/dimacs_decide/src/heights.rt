@@ -1,4 +1,4 @@
-//! Raising potentials over the steps that a flow leaves.
+//! Raising potentials over residual arcs.
 
 ghost use Rattle.std.specs.Prelude.{ℕ, ℤ, List, ◌≡◌, ◌<◌, ◌≤◌, ◌+◌, ◌*◌, ◌<ℤ◌, ◌≤ℤ◌, pos, All, length, IfOk, OnOk};
 ghost use Rattle.std.specs.List.{AllZip};
@@ -19,8 +19,8 @@ use dimacs_lines::Memory;
 use dimacs_network::{ArcView, Network, Side};
 use dimacs_nodes::NodeTable;
 
-/// How high a node's potential was raised, and by which arc: 1 + its index, 0 for none, and the end from which it is
-/// taken.
+/// How high a node's potential was raised, and by which residual arc: 1 plus the index of its arc, 0 for none, and the
+/// side from which it is taken.
 #[derive(Clone, Copy)]
 pub(crate) struct Label {
     pub height: i128,
@@ -28,7 +28,7 @@ pub(crate) struct Label {
     pub side: Side,
 }
 
-/// The label of a node that was not raised.
+/// The label of a node that wasn't raised.
 pub(crate) fn unraised_label() -> Label
     ensures { result ≡ unraised }
 {
@@ -39,7 +39,7 @@ pub(crate) fn unraised_label() -> Label
     }
 }
 
-/// The node from which a label was raised, 0 for none.
+/// The node from which a label was raised; 0 for none.
 #[inline(always)]
 pub(crate) fn below<N: Network>(network: &N, label: Label) -> u32
     requires { label.via ≤ length (N.list network.now) }
@@ -51,7 +51,7 @@ pub(crate) fn below<N: Network>(network: &N, label: Label) -> u32
     label.side.near(network.arc(label.via - 1))
 }
 
-/// What is saved for each unit that is sent along the arc from this side.
+/// What sending one unit along the arc from this side saves.
 #[inline(always)]
 pub(crate) fn gain(side: Side, arc: ArcView) -> i128
     requires { IsWhole arc.cost }
@@ -63,7 +63,8 @@ pub(crate) fn gain(side: Side, arc: ArcView) -> i128
     }
 }
 
-/// Raises the node at the other end of an arc, where the arc has room from this side and the node is too low.
+/// Raises the node at the other end of an arc, if the arc has residual capacity from this side and the node is too low.
+/// Returns whether it did.
 #[inline(always)]
 fn lift<N: Network>(
     network: &N,
@@ -98,7 +99,7 @@ fn lift<N: Network>(
     Ok(true)
 }
 
-/// Whether something had changed, or one of both sides was raised.
+/// Whether something had changed before, or a node was raised in one of both directions.
 #[inline(always)]
 fn either(changed: bool, forward: bool, backward: bool) -> bool
     ensures { result ≡ either_of changed forward backward }
@@ -106,7 +107,7 @@ fn either(changed: bool, forward: bool, backward: bool) -> bool
     if forward || backward { true } else { changed }
 }
 
-/// Goes over all arcs once, from both sides, and says whether a node was raised.
+/// Goes over all arcs once, in both directions, and returns whether a node was raised.
 pub(crate) fn round<N: Network>(
     network: &N,
     flow: &Flow,

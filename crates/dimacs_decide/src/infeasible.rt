@@ -1,4 +1,4 @@
-//! Whether an instance has a feasible flow, by one flow after another that leaves less excess.
+//! Deciding whether an instance has a feasible flow, by flows that leave less and less excess.
 
 ghost use Rattle.std.specs.Prelude.{◌≡◌, ◌≤ℤ◌, map, IfOk, IsTrue};
 ghost use Rattle.dimacs_network.specs.declared.network.ArcView.{ArcView};
@@ -17,18 +17,18 @@ use dimacs_methods::send_excess;
 use dimacs_network::Network;
 use std::alloc::Global;
 
-/// What is said of an instance.
+/// The answer about an instance.
 #[derive(Drop)]
 pub enum Feasibility {
-    /// No flow is feasible, by this set, which is violated.
+    /// No flow is feasible; this violated set shows it.
     Infeasible(Cut),
     /// This flow is feasible.
     Feasible(Flow),
 }
 
-/// Decides whether an instance has no feasible flow. It never gives up: it asks `decide_feasible` of one flow after another,
-/// each of which leaves less excess than the one before, until that says either. Mostly one question does. The one error
-/// is `Memory`, which says nothing of the instance.
+/// Decides whether no flow is feasible. It never gives up: it calls `decide_feasible` for successive flows, each of
+/// which leaves less excess, until one decides the question. Usually one call does. The only error is `Memory`, which
+/// is no answer about the instance.
 pub fn decide_infeasible<N: Network>(
     alloc: Global,
     instance: &MinInstance<N>,
@@ -45,7 +45,8 @@ pub fn decide_infeasible<N: Network>(
     }
 }
 
-/// The flow to start from: what the preflows make of the lower bounds, if it keeps the bounds; else the lower bounds.
+/// The start flow: what the preflow method makes of the lower bounds, if that keeps the bounds; otherwise the lower
+/// bounds.
 fn started<N: Network>(alloc: Global, instance: &MinInstance<N>) -> Result<Flow, Memory>
     ensures { IfOk result (KeepsBounds instance.now.arcs) }
 {
@@ -68,8 +69,8 @@ fn lower_bounds<N: Network>(alloc: Global, network: &N) -> Result<Flow, Memory>
     Ok(Flow::from_vec(amounts))
 }
 
-/// What the preflows make of a flow, of which nothing is believed, if it keeps the bounds and leaves no more excess; else
-/// the flow itself.
+/// What the preflow method makes of a flow, if that keeps the bounds and leaves no more excess; otherwise the flow
+/// itself.
 fn sent_on<N: Network>(alloc: Global, instance: &MinInstance<N>, flow: Flow) -> Result<Flow, Memory>
     requires { KeepsBounds instance.now.arcs flow }
     ensures bounds { IfOk result (KeepsBounds instance.now.arcs) }
@@ -82,7 +83,7 @@ fn sent_on<N: Network>(alloc: Global, instance: &MinInstance<N>, flow: Flow) -> 
     Ok(flow)
 }
 
-/// Whether a flow leaves no more excess than another.
+/// Whether `other` leaves no more excess than `flow`.
 fn leaves_no_more<N: Network>(
     alloc: Global,
     instance: &MinInstance<N>,

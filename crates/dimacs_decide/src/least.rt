@@ -1,5 +1,5 @@
-//! Whether a flow is of least cost: by potentials or a cycle that were guessed, which are tested, or else by raising
-//! potentials over the steps that it leaves.
+//! Deciding whether a flow costs least: a heuristic proposes potentials or a cycle, which are tested. If they fail,
+//! potentials are raised over residual arcs.
 
 ghost use Rattle.std.specs.Prelude.{◌≡◌, ◌≤◌, ◌≤ℤ◌, ◌+◌, ℕ, pos, IfOk, OnOk, IsTrue};
 ghost use Rattle.dimacs_lines.specs.Limits.{most_nodes, IsNode};
@@ -25,17 +25,17 @@ use dimacs_network::{Network, Side};
 use dimacs_nodes::NodeTable;
 use std::alloc::Global;
 
-/// What is said of the cost of a feasible flow.
+/// The answer about the cost of a feasible flow.
 #[derive(Drop)]
 pub enum MinDecision {
-    /// It is least, by these potentials, which are slack.
+    /// It costs least; these potentials are slack.
     Optimal(Potentials),
-    /// It isn't: this flow is feasible and costs less.
+    /// It doesn't: this flow is feasible and costs less.
     Better(Flow),
 }
 
-/// Decides whether a feasible flow is of least cost. Mostly takes a few passes over the arcs, and memory by the arcs and
-/// by the nodes that have one. The one error is `Memory`, which says nothing of the flow.
+/// Decides whether a feasible flow costs least. It usually takes a few passes over the arcs, and memory for the arcs
+/// and the nodes that have one. The only error is `Memory`, which is no answer about the flow.
 pub fn decide_min<N: Network>(
     alloc: Global,
     instance: &MinInstance<N>,
@@ -52,9 +52,9 @@ pub fn decide_min<N: Network>(
     }
 }
 
-/// Decides it by these potentials: where they are slack, in one pass over the arcs, else by raising them. Any potentials
-/// will do. Goes over the arcs in rounds, no more than there are nodes and mostly far fewer. Takes memory by the nodes that
-/// have an arc.
+/// The same, from any potentials: one pass over the arcs, if they are slack; otherwise they are raised in rounds over
+/// the arcs, at most as many rounds as there are nodes and usually far fewer. Takes memory for the nodes that have an
+/// arc.
 pub fn decide_min_from<N: Network>(
     alloc: Global,
     instance: &MinInstance<N>,
@@ -71,7 +71,7 @@ pub fn decide_min_from<N: Network>(
     decided(alloc, instance, flow, labels)
 }
 
-/// Whether potentials show that the flow is least: they are those of the instance's nodes, and slack.
+/// Whether the potentials have the nodes of the instance and are slack.
 fn show_least<N: Network>(instance: &MinInstance<N>, flow: &Flow, potentials: &Potentials) -> bool
     requires { FeasibleMin instance.now flow.now }
     ensures { IsTrue result → DecidesMin instance.now flow.now (MinDecision.Optimal potentials.now) }
@@ -80,7 +80,7 @@ fn show_least<N: Network>(instance: &MinInstance<N>, flow: &Flow, potentials: &P
         && slack_tests(instance, flow, potentials).is_ok()
 }
 
-/// Decides it by residual arcs of which nothing is known.
+/// Decides the question by residual arcs about which nothing is known.
 fn decided_by_cycle<N: Network>(
     alloc: Global,
     instance: &MinInstance<N>,
@@ -97,7 +97,7 @@ fn decided_by_cycle<N: Network>(
     decided(alloc, instance, flow, labels)
 }
 
-/// Sends round a cycle that saves something what there is room for.
+/// The flow after cancelling this cycle, which costs less.
 fn better_by<N: Network>(
     alloc: Global,
     instance: &MinInstance<N>,
@@ -113,7 +113,7 @@ fn better_by<N: Network>(
     Ok(MinDecision::Better(better))
 }
 
-/// Goes over the arcs in rounds.
+/// Decides the question by raising potentials in rounds over the arcs.
 fn decided<N: Network>(
     alloc: Global,
     instance: &MinInstance<N>,
@@ -140,10 +140,10 @@ fn decided<N: Network>(
     Ok(MinDecision::Optimal(potentials))
 }
 
-/// The greatest height from which raising begins: 2^96.
+/// The greatest height at which raising starts: 2^96.
 const HIGHEST: i128 = 79228162514264337593543950336;
 
-/// A number in the range of heights from which raising begins.
+/// The nearest number in the range of start heights.
 fn clamped(number: i128) -> i128
     ensures low { pos 0 ≤ℤ result }
     ensures high { result ≤ℤ bound 0 }
@@ -177,7 +177,8 @@ fn lesser(a: i128, b: i128) -> i128
     if a < b { a } else { b }
 }
 
-/// Heights that differ as these potentials do, where those don't differ by more than 2^96. Nodes without an arc have none.
+/// Start heights with the same differences as these potentials, if no difference is more than 2^96. Nodes without an
+/// arc get none.
 fn started<N: Network>(
     alloc: Global,
     network: &N,
@@ -196,7 +197,7 @@ fn started<N: Network>(
     Ok(labels)
 }
 
-/// Gives a node the height from which it is raised. Node 0 stays the highest.
+/// Gives a node its start height. Node 0 stays the highest.
 fn start_at(labels: &mut NodeTable<Label>, id: u32, height: i128) -> Result<(), Memory>
     requires started { AreStarted (value_of labels.old) }
     requires root { height_of (value_of labels.old) 0 ≡ bound 0 }
@@ -211,7 +212,7 @@ fn start_at(labels: &mut NodeTable<Label>, id: u32, height: i128) -> Result<(), 
     labels.set(id, unraised_at(height))
 }
 
-/// The label of a node that is this high and was not raised.
+/// The label of a node with this height that wasn't raised.
 fn unraised_at(height: i128) -> Label
     ensures { result ≡ record { height = height; via = 0; side = Tail } }
 {
@@ -222,7 +223,7 @@ fn unraised_at(height: i128) -> Label
     }
 }
 
-/// The heights of the nodes.
+/// The heights as potentials.
 fn potentials_of(alloc: Global, nodes: u32, labels: &NodeTable<Label>) -> Result<Potentials, Memory>
     requires few_nodes { nodes ≤ most_nodes }
     requires least { (v : ℕ) → pos 0 ≤ℤ height_of (value_of labels.now) v }

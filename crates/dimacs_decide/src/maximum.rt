@@ -1,4 +1,4 @@
-//! Whether a flow is maximum, by a search of the steps that it leaves.
+//! Deciding whether a flow is maximum, by a search for an augmenting path.
 
 ghost use Rattle.std.specs.Prelude.{◌≢◌, ◌<◌, ℕ, List, ℤ, IfOk};
 ghost use Rattle.dimacs_lines.specs.Limits.{IsNode};
@@ -21,17 +21,17 @@ use dimacs_network::Network;
 use dimacs_nodes::NodeTable;
 use std::alloc::Global;
 
-/// What is said of the value of a feasible flow.
+/// The answer about the value of a feasible flow.
 #[derive(Drop)]
 pub enum MaxDecision {
-    /// It is maximum, by this cut, which is tight.
+    /// It is maximum; this tight cut shows it.
     Optimal(Cut),
-    /// It isn't: this flow is feasible and has greater value.
+    /// It isn't: this flow is feasible and has a greater value.
     Better(Flow),
 }
 
-/// Decides whether a feasible flow is maximum. Takes time in proportion to the nodes and arcs, and memory by the arcs and
-/// the nodes that have one. The one error is `Memory`, which says nothing of the flow.
+/// Decides whether a feasible flow is maximum. Takes time in proportion to the nodes and arcs, and memory for the arcs
+/// and the nodes that have one. The only error is `Memory`, which is no answer about the flow.
 pub fn decide_max<N: Network>(
     alloc: Global,
     instance: &MaxInstance<N>,
@@ -44,7 +44,7 @@ pub fn decide_max<N: Network>(
     decide_max_over(alloc, instance, &incidence, flow)
 }
 
-/// Decides it over the arcs by their ends, which several questions can share.
+/// The same over adjacency lists that several calls can share.
 pub fn decide_max_over<N: Network>(
     alloc: Global,
     instance: &MaxInstance<N>,

@@ -1,4 +1,4 @@
-//! Whether claimed distances are true, by predecessors that one pass over the arcs finds.
+//! Deciding whether claimed distances are right, by predecessors that one pass over the arcs finds.
 
 ghost use Rattle.std.specs.Prelude.{◌≡◌, ◌≤◌, All, IfOk, IfSome, IsSome, IsTrue, OnOk, true};
 ghost use Rattle.dimacs_lines.specs.Limits.{most_nodes, IsNode};
@@ -19,8 +19,8 @@ use dimacs_network::{ArcView, Network};
 use dimacs_nodes::NodeTable;
 use std::alloc::Global;
 
-/// A block that shows that the claimed distances are true, where arcs of positive weight make them all. None says nothing
-/// of the claim. Goes over the arcs once.
+/// A block that shows the claimed distances, if each has a tight arc of positive weight. None doesn't mean that they
+/// are wrong. One pass over the arcs.
 pub(crate) fn rising_block<N: Network, C: DistanceClaim>(
     alloc: Global,
     graph: &Graph<N>,
@@ -46,8 +46,7 @@ pub(crate) fn rising_block<N: Network, C: DistanceClaim>(
     }
 }
 
-/// For each node the tail of the last arc of positive weight that makes its distance, 0 for none. None where a test of an
-/// arc fails.
+/// For each node the tail of the last tight arc of positive weight to it, 0 for none. None if an arc fails its test.
 #[inline(never)]
 fn tight_tails<N: Network, C: DistanceClaim>(
     alloc: Global,
@@ -68,7 +67,7 @@ fn tight_tails<N: Network, C: DistanceClaim>(
     Ok(Some(tails))
 }
 
-/// Notes the tail of an arc of positive weight that makes the distance of its head.
+/// Keeps the tail of an arc, if the arc is tight and its weight is positive.
 #[inline(always)]
 fn note_tail<C: DistanceClaim>(
     claim: &C,
@@ -83,7 +82,7 @@ fn note_tail<C: DistanceClaim>(
     Ok(())
 }
 
-/// Reaches all nodes of which something is claimed, in the order of IDs, each after its predecessors. Whether that works.
+/// Reaches all nodes with a claim, in the order of IDs, each after its predecessors. Returns whether that succeeds.
 #[inline(never)]
 fn lead_all<N: Network, C: DistanceClaim>(
     alloc: Global,
@@ -110,8 +109,8 @@ fn lead_all<N: Network, C: DistanceClaim>(
     Ok(true)
 }
 
-/// Reaches a node, if something is claimed of it, after its predecessors from the last one on that was reached. Whether that
-/// works.
+/// Reaches a node, if it has a claim, after those of its predecessors that weren't reached. Returns whether that
+/// succeeds.
 #[inline(always)]
 fn lead<N: Network, C: DistanceClaim>(
     network: &N,
@@ -139,7 +138,7 @@ fn lead<N: Network, C: DistanceClaim>(
     Ok(tree.reaches(node))
 }
 
-/// Adds a node and its predecessors to the way, as far as to one that was reached.
+/// Puts a node and its predecessors on the path, up to the first that was reached.
 #[inline(always)]
 fn climb<N: Network>(
     network: &N,

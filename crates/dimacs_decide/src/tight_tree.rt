@@ -1,4 +1,4 @@
-//! The search over tight arcs: those whose weight leads from the distance that is claimed of the tail to that of the head.
+//! The search over tight arcs: their weight is the difference of the claims of their ends.
 
 ghost use Rattle.std.specs.Prelude.{◌≡◌, ◌≢◌, ◌<◌, ◌≤◌, ◌+ℤ◌, ◌↔◌, IsTrue, All, length, false, true, Some, IfOk, IfSome, OnOk, MatchOption, pos};
 ghost use Rattle.dimacs_lines.specs.Limits.{most_nodes, IsNode};
@@ -17,8 +17,8 @@ use dimacs_network::{ArcView, Links, Network};
 use dimacs_nodes::NodeTable;
 use std::alloc::Global;
 
-/// The nodes that a search over tight arcs has reached, as labels in the order of the search, each with the node from
-/// which it was reached.
+/// The nodes that a search over tight arcs has reached: labels in the order of the search, each with the node from
+/// which it was reached as predecessor.
 #[derive(Drop)]
 pub(crate) struct TightTree {
     block: Block,
@@ -26,7 +26,7 @@ pub(crate) struct TightTree {
 }
 
 impl TightTree {
-    /// The search that has reached its source alone.
+    /// The search that has reached only its source.
     pub fn new<N: Network, C: DistanceClaim>(
         alloc: Global,
         network: &N,
@@ -60,7 +60,7 @@ impl TightTree {
         self.block
     }
 
-    /// How many nodes were reached from the source.
+    /// The number of nodes reached from the source, which doesn't count.
     #[inline(always)]
     fn len(&self) -> usize
         ensures { result ≡ length self.now.block.labels }
@@ -68,7 +68,7 @@ impl TightTree {
         self.block.labels().len()
     }
 
-    /// The node at a place in the order of the search, the source at 0.
+    /// The node at a place in the order of the search; the source is at 0.
     #[inline(always)]
     fn node(&self, at: usize) -> u32
         requires { at ≤ length self.now.block.labels }
@@ -81,7 +81,7 @@ impl TightTree {
         }
     }
 
-    /// Reaches a node from its predecessor, if that was reached and the node was not.
+    /// Reaches a node from its predecessor, if that was reached and the node wasn't.
     #[inline(always)]
     pub fn place<N: Network, C: DistanceClaim>(
         &mut self,
@@ -114,7 +114,7 @@ impl TightTree {
         Ok(())
     }
 
-    /// Whether a predecessor was reached, and its node was not.
+    /// Whether a predecessor was reached and its node wasn't.
     #[inline(always)]
     fn is_next(&self, pred: u32, node: u32) -> bool
         ensures { IsTrue result → (pred ≢ 0) × (value_of self.now.reached pred ≡ true) × (value_of self.now.reached node ≡ false) }
@@ -149,7 +149,7 @@ impl TightTree {
         Ok(())
     }
 
-    /// Reaches the head of an arc from its tail, which was reached, if the arc is tight and the head was not reached.
+    /// Reaches the head of an arc, if the arc is tight and the head wasn't reached. Its tail was.
     #[inline(always)]
     fn follow<N: Network, C: DistanceClaim>(
         &mut self,
@@ -185,7 +185,7 @@ impl TightTree {
     }
 }
 
-/// The distance that is claimed of the head of an arc, if the arc is tight.
+/// The claim of the head of an arc, if the arc is tight.
 #[inline(always)]
 pub(crate) fn tight_dist<C: DistanceClaim>(claim: &C, arc: ArcView) -> Option<i128>
     ensures tight { MatchOption result (¬ IsTight (C.claimed claim.now) arc)
@@ -201,7 +201,7 @@ pub(crate) fn tight_dist<C: DistanceClaim>(claim: &C, arc: ArcView) -> Option<i1
     }
 }
 
-/// Whether the weight leads from `from` to `to`.
+/// Whether `to` is the sum of `from` and the weight.
 #[inline(always)]
 fn leads_to(from: i128, weight: i64, to: i128) -> bool
     requires { IsWide from }
@@ -210,7 +210,7 @@ fn leads_to(from: i128, weight: i64, to: i128) -> bool
     to == from + i128::from(weight)
 }
 
-/// The nodes that tight arcs lead to from the source, in the order of a search.
+/// All nodes that paths of tight arcs lead to from the source, in the order of the search.
 pub(crate) fn tight_tree<N: Network, C: DistanceClaim>(
     alloc: Global,
     network: &N,

@@ -1,4 +1,4 @@
--- Inside: a flow that is sent round a cycle.
+-- Inside: cancelling a cycle.
 use Rattle.std.specs.Prelude.{ℕ, ◌≡◌, ◌≢◌, ◌==◌, ◌<◌, List, length, ℤ, pos, ◌+ℤ◌, ◌-ℤ◌, ◌*ℤ◌, ◌≤ℤ◌, ◌<ℤ◌}
 use Rattle.dimacs_network.specs.declared.network.ArcView.{ArcView}
 use Rattle.dimacs_methods.specs.declared.potentials.claim.ResidualArc.{ResidualArc}
@@ -9,12 +9,12 @@ use Rattle.dimacs_decide.specs.Bounds.{KeepsBounds}
 use Rattle.dimacs_decide.specs.inside.Cycles.{ending_of, gain_after, node_after, residual_at}
 use Rattle.dimacs_decide.specs.inside.Rooms.{room_on}
 
--- the amount, which is some, can be sent along the first so many residual arcs
+-- the amount is positive, and the first n residual arcs have capacity for it
 pub record IsRoomFor (arcs : List ArcView) (x : List ℤ) (cycle : List ResidualArc) (n : ℕ) (amount : ℤ) : Type 0 where
   pub some : pos 0 <ℤ amount
   pub each : (j : ℕ) → j < n → amount ≤ℤ room_on arcs x (residual_at cycle j).side (residual_at cycle j).arc
 
--- the amount was sent along the first n residual arcs, and costs so much less
+-- the amount was sent along the first n residual arcs, which costs less by their gain for each unit
 pub record IsCancelling (arcs : List ArcView) (x y : List ℤ) (cycle : List ResidualArc) (n : ℕ) (amount : ℤ) : Type 0 where
   pub within : KeepsBounds arcs y
   pub balance : (u : ℕ) → net arcs y u ≡ (net arcs x u +ℤ when (node_after arcs cycle 0 == u) amount) -ℤ when (node_after arcs cycle n == u) amount

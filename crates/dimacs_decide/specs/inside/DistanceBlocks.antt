@@ -1,4 +1,4 @@
--- Inside: what a decision says of claimed distances, as one block of labels.
+-- Inside: decisions about claimed distances, as one block of labels.
 use Rattle.std.specs.Prelude.{ℕ, ◌≡◌, Option, None, ℤ, Result, Ok, Err}
 use Rattle.dimacs_lines.specs.Limits.{IsNode}
 use Rattle.dimacs_network.specs.Arcs.{NetworkValue}
@@ -9,7 +9,7 @@ use Rattle.dimacs_judge.specs.declared.verdict.JudgeError.{JudgeError}
 use Rattle.dimacs_judge.specs.declared.verdict.JudgeError.TheVariants.{Refused, Memory}
 use Rattle.dimacs_decide.specs.Distances.{AreDistancesFrom, claim_rows}
 
--- the block of the source, without a radius, which passes the judge's tests and says what is claimed
+-- a block of the source, without a radius, that passes the judge's tests and has the claimed distances
 pub record IsBlockOf (g : NetworkValue) (s : ℕ) (claim : ℕ → Option ℤ) (b : BlockValue) : Type 0 where
   pub lawful : IsBlock g.nodes b
   pub source : b.source ≡ s
@@ -17,11 +17,11 @@ pub record IsBlockOf (g : NetworkValue) (s : ℕ) (claim : ℕ → Option ℤ) (
   pub passes : LabelsOk g.arcs b
   pub says : (v : ℕ) → IsNode g.nodes v → label b v ≡ claim v
 
--- a block for one that is claimed
+-- a block made for a claimed one
 abbrev pub IsMadeOf : NetworkValue → BlockValue → BlockValue → Type 0
 IsMadeOf g claimed b = IsBlockOf g claimed.source (label claimed) b
 
--- the claim is true, with a block that shows it; or the first test that fails, and the claim isn't true
+-- the claim is true, with a block that shows it; or wrong, with the first test that fails
 abbrev pub DecidesBlock : NetworkValue → ℕ → (ℕ → Option ℤ) → Result BlockValue JudgeError → Type 0
 DecidesBlock g s claim (Ok b) = AreDistancesFrom g s claim × IsBlockOf g s claim b
 DecidesBlock g s claim (Err (Refused place reason)) = FirstAlone (claim_rows g s claim) place reason × ¬ AreDistancesFrom g s claim

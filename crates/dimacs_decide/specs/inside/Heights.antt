@@ -1,4 +1,4 @@
--- Inside: potentials that were raised over the steps that a flow leaves.
+-- Inside: potentials that were raised over residual arcs.
 use Rattle.std.specs.Prelude.{ℕ, suc, zero, ◌≡◌, ◌≢◌, ◌⊎◌, ◌<◌, ◌≤◌, ◌+◌, ◌-◌, ◌*◌, ◌==◌, if◌then◌else◌, Bool, true, false, List, length, ℤ, pos, neg_ℤ, ◌+ℤ◌, ◌-ℤ◌, ◌≤ℤ◌, ◌<ℤ◌}
 use Rattle.dimacs_network.specs.declared.network.ArcView.{ArcView}
 use Rattle.dimacs_instance.specs.MinFlows.{positive_part}
@@ -15,23 +15,23 @@ unraised = record { height = pos 0; via = 0; side = Tail }
 abbrev pub height_of : (ℕ → Label) → ℕ → ℤ
 height_of labels v = (labels v).height
 
--- what is saved for each unit that is sent along the arc from this side
+-- what sending one unit along the arc from this side saves
 abbrev pub gain_at : Side → ArcView → ℤ
 gain_at Tail a = neg_ℤ a.cost
 gain_at Head a = a.cost
 
--- the node from which a label was raised, 0 for none
+-- the node from which a label was raised; 0 for none
 abbrev pub below_of : List ArcView → Label → ℕ
 below_of arcs l = if l.via == 0 then 0 else end_of l.side (arc_at arcs (l.via - 1))
 
--- the greatest height after so many steps
+-- the greatest height after this many steps
 abbrev pub bound : ℕ → ℤ
 bound n = pos (79228162514264337593543950336 + n * 9223372036854775808)
 
 abbrev pub BelowBound : ℕ → (ℕ → Label) → Type 0
 BelowBound n labels = (v : ℕ) → height_of labels v ≤ℤ bound n
 
--- a step from this side of the arc doesn't raise its other end
+-- the residual arc from this side can't raise its other end
 abbrev pub IsSettled : List ArcView → List ℤ → (ℕ → Label) → Side → ℕ → Type 0
 IsSettled arcs x labels side k =
     pos 0 <ℤ room_on arcs x side k → (height_of labels (end_of side (arc_at arcs k)) +ℤ gain_at side (arc_at arcs k)) ≤ℤ height_of labels (other_end side (arc_at arcs k))
@@ -39,7 +39,7 @@ IsSettled arcs x labels side k =
 abbrev pub AreSettled : List ArcView → List ℤ → ℕ → (ℕ → Label) → Type 0
 AreSettled arcs x n labels = (k : ℕ) → k < n → (side : Side) → IsSettled arcs x labels side k
 
--- v was raised along an arc with room, since when the node before it sank not; and if that was not raised either, it was raised before v
+-- v was raised along a residual arc, to at most its tail's height plus the gain; if to just that, after its tail
 pub record IsRaised (arcs : List ArcView) (x : List ℤ) (height : ℕ → ℤ) (time : ℕ → ℕ) (v : ℕ) (l : Label) : Type 0 where
   pub within : l.via ≤ length arcs
   pub to : other_end l.side (arc_at arcs (l.via - 1)) ≡ v
@@ -47,7 +47,7 @@ pub record IsRaised (arcs : List ArcView) (x : List ℤ) (height : ℕ → ℤ) 
   pub low : height v ≤ℤ (height (end_of l.side (arc_at arcs (l.via - 1))) +ℤ gain_at l.side (arc_at arcs (l.via - 1)))
   pub strict : (height v <ℤ (height (end_of l.side (arc_at arcs (l.via - 1))) +ℤ gain_at l.side (arc_at arcs (l.via - 1)))) ⊎ (time (end_of l.side (arc_at arcs (l.via - 1))) < time v)
 
--- heights that came to be by raising, each node at a time of its own
+-- heights that came from raising, each node at its own time
 pub record AreHeights (arcs : List ArcView) (x : List ℤ) (labels : ℕ → Label) : Type 0 where
   pub time : ℕ → ℕ
   pub now : ℕ
@@ -56,11 +56,11 @@ pub record AreHeights (arcs : List ArcView) (x : List ℤ) (labels : ℕ → Lab
   pub low : (v : ℕ) → (labels v).via ≡ 0 → (height_of labels v ≤ℤ height_of labels 0) × (height_of labels v ≤ℤ bound 0)
   pub raised : (v : ℕ) → 0 < (labels v).via → IsRaised arcs x (height_of labels) time v (labels v)
 
--- heights from which raising may begin: no node is higher than node 0, which no arc joins
+-- start heights: no node is higher than node 0, which has no arc
 abbrev pub AreStarted : (ℕ → Label) → Type 0
 AreStarted labels = (v : ℕ) → ((labels v).via ≡ 0) × (pos 0 ≤ℤ height_of labels v) × (height_of labels v ≤ℤ height_of labels 0) × (height_of labels v ≤ℤ bound 0)
 
--- the other end of the arc is raised by a step from this side
+-- the other end of the arc is raised from this side
 pub record Lifted (arcs : List ArcView) (x : List ℤ) (side : Side) (k : ℕ) (labels labels' : ℕ → Label) : Type 0 where
   pub room : pos 0 <ℤ room_on arcs x side k
   pub rises : height_of labels (other_end side (arc_at arcs k)) <ℤ (height_of labels (end_of side (arc_at arcs k)) +ℤ gain_at side (arc_at arcs k))
@@ -69,18 +69,18 @@ pub record Lifted (arcs : List ArcView) (x : List ℤ) (side : Side) (k : ℕ) (
   pub side_is : (labels' (other_end side (arc_at arcs k))).side ≡ side
   pub others : (v : ℕ) → v ≢ other_end side (arc_at arcs k) → labels' v ≡ labels v
 
--- it is raised, or it needn't be
+-- it is raised, or needn't be
 abbrev pub Lifts : List ArcView → List ℤ → Side → ℕ → (ℕ → Label) → Bool → (ℕ → Label) → Type 0
 Lifts arcs x side k labels true labels' = Lifted arcs x side k labels labels'
 Lifts arcs x side k labels false labels' = ((v : ℕ) → labels' v ≡ labels v) × IsSettled arcs x labels side k
 
--- whether something had changed, or one of both sides was raised
+-- whether something had changed before, or a node was raised in one of both directions
 abbrev pub either_of : Bool → Bool → Bool → Bool
 either_of changed true b = true
 either_of changed false true = true
 either_of changed false false = changed
 
--- a round over the first so many arcs
+-- a round over the first n arcs
 pub record IsRound (nodes : ℕ) (arcs : List ArcView) (x : List ℤ) (n : ℕ) (labels : ℕ → Label) (changed : Bool) (labels' : ℕ → Label) : Type 0 where
   pub grows : (v : ℕ) → height_of labels v ≤ℤ height_of labels' v
   pub bounded : BelowBound (nodes + 1 + 2 * n) labels'
@@ -88,7 +88,7 @@ pub record IsRound (nodes : ℕ) (arcs : List ArcView) (x : List ℤ) (n : ℕ) 
   pub settled : changed ≡ false → AreSettled arcs x n labels'
   pub more : changed ≡ true → (v : ℕ) × (v ≤ nodes) × (height_of labels v <ℤ height_of labels' v)
 
--- how much the first so many nodes may rise
+-- how much the first nodes can still rise
 abbrev pub lacks : ℤ → (ℕ → ℤ) → ℕ → ℕ
 lacks most height zero = 0
 lacks most height (suc n) = lacks most height n + positive_part (most -ℤ height n)

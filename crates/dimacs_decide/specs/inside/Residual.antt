@@ -1,4 +1,4 @@
--- Inside: what a search over the steps that a flow leaves has found.
+-- Inside: what a search over residual arcs has found.
 use Rattle.std.specs.Prelude.{ℕ, ◌≡◌, ◌≢◌, ◌⊎◌, ◌<◌, ◌≤◌, ◌+◌, ◌==◌, Bool, nat_lt, List, [], ◌∷◌, ◌++◌, length, slice_index, ℤ, pos, ◌≤ℤ◌, ◌<ℤ◌, Option, Some, None}
 use Rattle.dimacs_network.specs.declared.network.ArcView.{ArcView}
 use Rattle.dimacs_lines.specs.Limits.{IsNode}
@@ -21,7 +21,7 @@ room_of visits v = (visits v).room
 abbrev pub via_of : (ℕ → Visit) → ℕ → ℕ
 via_of visits v = (visits v).via
 
--- v was reached along an arc with room, from a node that was reached before with no less room
+-- v was reached along a residual arc, from a node that was reached earlier with no less capacity
 pub record IsReachedBy (arcs : List ArcView) (x : List ℤ) (visits : ℕ → Visit) (v : ℕ) : Type 0 where
   pub side : Side
   pub within : via_of visits v < length arcs
@@ -36,31 +36,31 @@ pub record IsReachedBy (arcs : List ArcView) (x : List ℤ) (visits : ℕ → Vi
 abbrev pub IsResidualTree : List ArcView → List ℤ → (ℕ → Visit) → Type 0
 IsResidualTree arcs x visits = (v : ℕ) → 1 < rank_of visits v → IsReachedBy arcs x visits v
 
--- no more is sent from a root than it has too much
+-- no more is sent from a root than its excess
 abbrev pub HaveSurplus : ℕ → (ℕ → ℤ) → (ℕ → Visit) → Type 0
 HaveSurplus nodes surplus visits = (v : ℕ) → rank_of visits v ≡ 1 → IsNode nodes v × (room_of visits v ≤ℤ surplus v)
 
--- how many of the nodes below n are not reached
+-- how many of the nodes below n weren't reached
 abbrev pub unreached : (ℕ → Visit) → ℕ → ℕ
 unreached visits n = count_below (λ v. rank_of visits v == 0) n
 
 abbrev pub is_in : (ℕ → Visit) → ℕ → Bool
 is_in visits v = nat_lt 0 (rank_of visits v)
 
--- each arc with room that is left from v on this side leads to a node that was reached
+-- each residual arc from v of this side leads to a node that was reached
 abbrev pub IsSidePassed : List ArcView → List ℤ → (ℕ → Visit) → ℕ → Side → Type 0
 IsSidePassed arcs x visits v side =
     (k : ℕ) → k < length arcs → end_of side (arc_at arcs k) ≡ v → pos 0 <ℤ room_on arcs x side k → 0 < rank_of visits (other_end side (arc_at arcs k))
 
--- nothing is left to do at a node that lacks nothing and is passed on both sides
+-- a node without deficit whose residual arcs were followed on both sides
 abbrev pub IsDone : List ArcView → List ℤ → (ℕ → ℤ) → (ℕ → Visit) → ℕ → Type 0
 IsDone arcs x surplus visits v = (pos 0 ≤ℤ surplus v) × ((side : Side) → IsSidePassed arcs x visits v side)
 
--- v stands in the queue after the first so many
+-- v is in the queue after the first places
 abbrev pub IsQueued : List ℕ → ℕ → ℕ → Type 0
 IsQueued queue done v = (j : ℕ) × (done ≤ j) × (j < length queue) × (slice_index queue j ≡ v)
 
--- a search among so many nodes, from some that have too much, of which the first so many of the queue are done
+-- a search from nodes with excess; the first nodes of the queue are done
 pub record IsResidualSearch (nodes : ℕ) (arcs : List ArcView) (x : List ℤ) (surplus : ℕ → ℤ) (visits : ℕ → Visit) (queue : List ℕ) (done : ℕ) : Type 0 where
   pub tree : IsResidualTree arcs x visits
   pub roots : HaveSurplus nodes surplus visits
@@ -69,7 +69,7 @@ pub record IsResidualSearch (nodes : ℕ) (arcs : List ArcView) (x : List ℤ) (
   pub queued : (j : ℕ) → j < length queue → (slice_index queue j ≤ nodes) × (0 < rank_of visits (slice_index queue j))
   pub pending : (v : ℕ) → 0 < rank_of visits v → IsQueued queue done v ⊎ IsDone arcs x surplus visits v
 
--- the entry of a node that is reached from another by an arc that has so much room
+-- the visit of a node from another, by an arc with this residual capacity
 pub record IsNext (from : Visit) (arc : ℕ) (most : ℤ) (e : Visit) : Type 0 where
   pub rank : e.rank ≡ from.rank + 1
   pub via : e.via ≡ arc
@@ -77,12 +77,12 @@ pub record IsNext (from : Visit) (arc : ℕ) (most : ℤ) (e : Visit) : Type 0 w
   pub before : e.room ≤ℤ from.room
   pub room : e.room ≤ℤ most
 
--- one entry is another
+-- one visit is set
 pub record Becomes (visits : ℕ → Visit) (at : ℕ) (e : Visit) (visits' : ℕ → Visit) : Type 0 where
   pub here : visits' at ≡ e
   pub others : (v : ℕ) → v ≢ at → visits' v ≡ visits v
 
--- nothing, where there is no room or the node was reached; else the node's entry, and its place in the queue
+-- nothing changes without residual capacity, or if the node was reached; otherwise its visit is set, and it is queued
 abbrev pub Reaches : ℕ → ℕ → ℕ → ℤ → (ℕ → Visit) → List ℕ → (ℕ → Visit) → List ℕ → Type 0
 Reaches from to via room visits queue visits' queue' =
     ((visits' ≡ visits) × (queue' ≡ queue) × ((room ≤ℤ pos 0) ⊎ (0 < rank_of visits to)))
@@ -95,12 +95,12 @@ pub record Grows (nodes : ℕ) (visits : ℕ → Visit) (queue : List ℕ) (visi
   pub longer : length queue ≤ length queue'
   pub each : unreached visits' (nodes + 1) + length queue' ≡ unreached visits (nodes + 1) + length queue
 
--- a reached node that lacks some; where there is none, all that can be reached are done
+-- a reached node with a deficit; if there is none, all that can be reached are done
 abbrev pub IsFound : List ArcView → List ℤ → (ℕ → ℤ) → (ℕ → Visit) → Option ℕ → Type 0
 IsFound arcs x surplus visits (Some t) = (0 < rank_of visits t) × (surplus t <ℤ pos 0)
 IsFound arcs x surplus visits None = (v : ℕ) → 0 < rank_of visits v → IsDone arcs x surplus visits v
 
--- a search that came to a node that lacks some, or to all that can be reached
+-- a search that came to a node with a deficit, or to all nodes that it can reach
 pub record IsExplored (nodes : ℕ) (arcs : List ArcView) (x : List ℤ) (surplus : ℕ → ℤ) (visits : ℕ → Visit) (found : Option ℕ) : Type 0 where
   pub tree : IsResidualTree arcs x visits
   pub roots : HaveSurplus nodes surplus visits

@@ -1,4 +1,4 @@
--- Inside: how much more arcs can carry, and what they carry after it was sent.
+-- Inside: residual capacities, and the amounts of arcs after some was sent.
 use Rattle.std.specs.Prelude.{ℕ, List, ℤ, ◌+ℤ◌, ◌-ℤ◌}
 use Rattle.dimacs_network.specs.declared.network.ArcView.{ArcView}
 use Rattle.dimacs_network.specs.declared.links.Side.{Side}
@@ -6,16 +6,16 @@ use Rattle.dimacs_network.specs.declared.links.Side.TheVariants.{Tail, Head}
 use Rattle.dimacs_judge.specs.Rows.{amount_at}
 use Rattle.dimacs_network.specs.Arcs.{arc_at}
 
--- how much more can be sent along the arc from this end
+-- the residual capacity of an arc from this end
 abbrev pub room_at : Side → ArcView → ℤ → ℤ
 room_at Tail a x = a.cap -ℤ x
 room_at Head a x = x -ℤ a.low
 
--- what an arc carries after an amount was sent along it from this end
+-- the amount on an arc after some was sent along it from this end
 abbrev pub carried_after : Side → ℤ → ℤ → ℤ
 carried_after Tail amount x = x +ℤ amount
 carried_after Head amount x = x -ℤ amount
 
--- how much more can be sent along the arc of this index from this end
+-- the residual capacity of the arc with this index from this end
 abbrev pub room_on : List ArcView → List ℤ → Side → ℕ → ℤ
 room_on arcs x side k = room_at side (arc_at arcs k) (amount_at x k)

@@ -1,4 +1,4 @@
--- Inside: more sent from nodes that have too much to one that lacks some.
+-- Inside: sending flow from nodes with excess to one with a deficit.
 use Rattle.std.specs.Prelude.{ℕ, ◌≡◌, Bool, true, List, ℤ, pos, ◌+ℤ◌, ◌≤ℤ◌, ◌<ℤ◌}
 use Rattle.std.specs.List.{AllZip}
 use Rattle.dimacs_claims.specs.Cuts.{CutValue}
@@ -10,7 +10,7 @@ use Rattle.dimacs_decide.specs.declared.send.Sending.{Sending}
 use Rattle.dimacs_decide.specs.declared.send.Sending.TheVariants.{Sent, Stuck}
 use Rattle.dimacs_decide.specs.inside.Raising.{Shifts}
 
--- y is x with an amount sent from a node that has as much too much to one that lacks as much
+-- y is x with an amount sent from a node with that much excess to one with that much deficit
 pub record IsSent (nodes : ℕ) (arcs : List ArcView) (x y : List ℤ) (surplus : ℕ → ℤ) : Type 0 where
   pub from : ℕ
   pub to : ℕ
@@ -27,12 +27,12 @@ pub record IsSent (nodes : ℕ) (arcs : List ArcView) (x y : List ℤ) (surplus 
 abbrev pub IsShutAt : (ℕ → Bool) → ArcView → ℤ → Type 0
 IsShutAt set a x = (leaves set a ≡ true → x ≡ a.cap) × (enters set a ≡ true → x ≡ a.low)
 
--- no more can leave the set, and no node of it lacks some
+-- no more can leave the set, and no node of it has a deficit
 pub record IsShut (nodes : ℕ) (arcs : List ArcView) (x : List ℤ) (surplus : ℕ → ℤ) (set : ℕ → Bool) : Type 0 where
   pub shut : AllZip (IsShutAt set) arcs x
   pub none_lacks : (v : ℕ) → IsNode nodes v → set v ≡ true → pos 0 ≤ℤ surplus v
 
--- the set is of so many nodes, and has all that were reached before
+-- the set has this number of nodes in all, and contains the nodes that were reached before
 pub record IsStuck (nodes : ℕ) (arcs : List ArcView) (x : List ℤ) (surplus : ℕ → ℤ) (reached : ℕ → Type 0) (set : CutValue) : Type 0 where
   pub of : set.nodes ≡ nodes
   pub has : (v : ℕ) → IsNode nodes v → reached v → members set v ≡ true

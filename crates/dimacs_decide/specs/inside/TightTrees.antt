@@ -7,16 +7,16 @@ use Rattle.dimacs_judge.specs.Labels.{HasTightArc}
 use Rattle.dimacs_decide.specs.Distances.{IsTight, IsTightlyReached}
 use Rattle.dimacs_decide.specs.inside.Counting.{count_below}
 
--- the node at a place of a block: first the source, then those of the labels
+-- the node at a place of a block: first the source, then the nodes of the labels
 abbrev pub node_at : BlockValue → ℕ → ℕ
 node_at b zero = b.source
 node_at b (suc k) = (get_or b.labels k no_label).id
 
--- how many of the nodes below n are not reached
+-- how many of the nodes below n weren't reached
 abbrev pub absent : (ℕ → Bool) → ℕ → ℕ
 absent reached n = count_below (λ v. not (reached v)) n
 
--- the labels of nodes that were reached over tight arcs; each has the distance that is claimed of its node
+-- the labels of nodes reached over tight arcs; each has the claim of its node
 pub record IsTightTree (nodes : ℕ) (arcs : List ArcView) (claim : ℕ → Option ℤ) (b : BlockValue) (reached : ℕ → Bool) : Type 0 where
   pub whole : b.radius ≡ None
   pub lawful : IsBlock nodes b
@@ -30,25 +30,25 @@ pub record IsTightTree (nodes : ℕ) (arcs : List ArcView) (claim : ℕ → Opti
 abbrev pub IsPassed : List ArcView → (ℕ → Option ℤ) → (ℕ → Bool) → ℕ → Type 0
 IsPassed arcs claim reached v = All (λ a. a.tail ≡ v → IsTight claim a → reached a.head ≡ true) arcs
 
--- more nodes may be reached, and those before keep their places
+-- more nodes may be reached, and earlier ones keep their places
 pub record TreeGrows (b : BlockValue) (reached : ℕ → Bool) (b' : BlockValue) (reached' : ℕ → Bool) : Type 0 where
   pub kept : (v : ℕ) → reached v ≡ true → reached' v ≡ true
   pub places : (j : ℕ) → j ≤ length b.labels → node_at b' j ≡ node_at b j
   pub longer : length b.labels ≤ length b'.labels
 
--- all nodes that tight arcs lead to
+-- all nodes that paths of tight arcs lead to
 pub record IsWholeTightTree (nodes : ℕ) (arcs : List ArcView) (claim : ℕ → Option ℤ) (b : BlockValue) (reached : ℕ → Bool) : Type 0 where
   pub tree : IsTightTree nodes arcs claim b reached
   pub closed : (v : ℕ) → IsTightlyReached arcs b.source claim v → reached v ≡ true
 
--- each tail but 0 is that of a tight arc to the node
+-- each tail but 0 has a tight arc to the node
 abbrev pub AreTightTails : List ArcView → (ℕ → Option ℤ) → (ℕ → ℕ) → Type 0
 AreTightTails arcs claim tails = (v : ℕ) → tails v ≢ 0 → (a : ArcView) × Contains arcs a × (a.tail ≡ tails v) × (a.head ≡ v) × IsTight claim a
 
--- no tail is another, but that of the head where the arc is tight
+-- tails change only at the head, to the tail of this arc, if the arc is tight
 abbrev pub NotesTail : (ℕ → Option ℤ) → ArcView → (ℕ → ℕ) → (ℕ → ℕ) → Type 0
 NotesTail claim a before after = (v : ℕ) → (after v ≡ before v) ⊎ ((after v ≡ a.tail) × (v ≡ a.head) × IsTight claim a)
 
--- each node of which something is claimed was reached
+-- each node with a claim was reached
 abbrev pub ReachesAll : ℕ → (ℕ → Option ℤ) → (ℕ → Bool) → Type 0
 ReachesAll nodes claim reached = (v : ℕ) → IsNode nodes v → IsSome (claim v) → reached v ≡ true

@@ -1,4 +1,4 @@
--- Inside: the ways down from nodes that were raised.
+-- Inside: going down from raised nodes to those that they were raised from.
 use Rattle.std.specs.Prelude.{ℕ, ◌≡◌, ◌≢◌, ◌⊎◌, ◌<◌, ◌≤◌, ◌+◌, ◌-◌, ◌==◌, List, length, slice_index, ◌+ℤ◌, ◌≤ℤ◌, Option, Some, None}
 use Rattle.dimacs_network.specs.declared.network.ArcView.{ArcView}
 use Rattle.dimacs_decide.specs.declared.heights.Label.{Label}
@@ -9,7 +9,7 @@ use Rattle.dimacs_decide.specs.inside.Heights.{below_of, bound, height_of}
 abbrev pub blanks : (ℕ → ℕ) → ℕ → ℕ
 blanks places n = count_below (λ v. places v == 0) n
 
--- all nodes that were seen, each once, with their places counted from 1; all of them are low
+-- all visited nodes, each once, with their places from 1; their heights are bounded
 pub record IsTrace (nodes : ℕ) (labels : ℕ → Label) (path : List ℕ) (places : ℕ → ℕ) : Type 0 where
   pub first : places 0 ≡ 1
   pub each : length path + blanks places (nodes + 1) ≡ nodes + 1
@@ -17,7 +17,7 @@ pub record IsTrace (nodes : ℕ) (labels : ℕ → Label) (path : List ℕ) (pla
   pub found : (v : ℕ) → 0 < places v → (places v ≤ length path) × (slice_index path (places v - 1) ≡ v)
   pub low : (v : ℕ) → 0 < places v → height_of labels v ≤ℤ bound (length path)
 
--- the way down from a node was followed, after so many nodes of earlier ways, up to `at`
+-- a path down from a node, after the nodes of earlier paths, up to `at`
 pub record IsFollowing (nodes : ℕ) (arcs : List ArcView) (labels : ℕ → Label) (start begin : ℕ) (path : List ℕ) (places : ℕ → ℕ) (at : ℕ) : Type 0 where
   pub first : places 0 ≡ 1
   pub some : 1 ≤ begin
@@ -32,7 +32,7 @@ pub record IsFollowing (nodes : ℕ) (arcs : List ArcView) (labels : ℕ → Lab
   pub inside : at ≤ nodes
   pub started : (at ≡ start) ⊎ (0 < places start)
 
--- a way down that comes back to its first node: the places of the path from the first on
+-- a path down that returns to its first node: the places from `first` on
 pub record IsCycle (arcs : List ArcView) (labels : ℕ → Label) (path : List ℕ) (first last : ℕ) : Type 0 where
   pub ends : length path ≡ last + 1
   pub some : first < last
@@ -41,7 +41,7 @@ pub record IsCycle (arcs : List ArcView) (labels : ℕ → Label) (path : List �
   pub apart : (i j : ℕ) → first ≤ i → i < j → j < last → slice_index path i ≢ slice_index path j
   pub raised : (j : ℕ) → first ≤ j → j < last → 0 < (labels (slice_index path j)).via
 
--- all nodes down from the start were seen, or they lead back to one of themselves
+-- all nodes down from the start were visited, or they lead back to one of themselves
 abbrev pub Follows : ℕ → List ArcView → (ℕ → Label) → ℕ → List ℕ → (ℕ → ℕ) → Option ℕ → Type 0
 Follows nodes arcs labels start path places None = IsTrace nodes labels path places × (0 < places start)
 Follows nodes arcs labels start path places (Some first) = IsCycle arcs labels path first (length path - 1)

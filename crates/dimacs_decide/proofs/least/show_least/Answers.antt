@@ -10,7 +10,7 @@ use Rattle.dimacs_judge.specs.Tests.{Row, Decides}
 use Rattle.dimacs_judge.proofs.Duality.{slack_is_least}
 use Rattle.dimacs_decide.proofs.least.show_least.Goals as goal
 
--- where no test fails, it holds
+-- if no test fails, it holds
 holds : {P : Type 0} (rows : List Row) (tested : Result Unit (Where × Reason)) → Decides P rows tested → IsTrue (is_ok tested) → P
 holds rows (Ok done) decided ok = decided
 holds rows (Err refusal) decided ok = absurd (false≢true ok)

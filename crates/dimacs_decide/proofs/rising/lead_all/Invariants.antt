@@ -4,7 +4,7 @@ use Rattle.dimacs_nodes.specs.Tables.{value_of}
 use Rattle.dimacs_decide.specs.inside.TightTrees.{IsTightTree}
 use Rattle.dimacs_decide.proofs.rising.lead_all.Given as goal
 
--- the nodes before v are reached, if something is claimed of them
+-- the nodes before v with a claim are reached
 abbrev pub invariant-loop-v : goal.invariant-loop-v
 invariant-loop-v g l = record {
   source : l.tree.block.source ≡ l.initial.tree.block.source;
