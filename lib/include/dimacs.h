@@ -94,6 +94,15 @@ uint32_t dimacs_certify(uint32_t kind, const uint8_t *instance, size_t instance_
                         size_t claim_length, uint8_t *out, size_t room, size_t *told, uint8_t *shown,
                         size_t shown_room, size_t *shown_told);
 
+/* Deals a claimed flow out to parallel arcs: DIMACS_MAX or DIMACS_MIN. Adds up the entries of each two ends, in whatever
+ * order they stand, and hands out to `shown` a solution with the claimed value and an entry for every arc, in the order of
+ * the instance: each sum is dealt out to the arcs with these ends, within their bounds if that can be, for DIMACS_MIN at the
+ * least cost. The line is empty then; else it is that of a text's fault, of `x solution LINE 0 UnknownArc`, or of
+ * `x arc K AboveCap` or `BelowLow`, if no numbers of 64 bits on the arcs add up to a sum, and nothing is handed out. */
+uint32_t dimacs_spread(uint32_t kind, const uint8_t *instance, size_t instance_length, const uint8_t *claim,
+                       size_t claim_length, uint8_t *out, size_t room, size_t *told, uint8_t *shown, size_t shown_room,
+                       size_t *shown_told);
+
 /* Solves an instance: DIMACS_MAX, DIMACS_MIN or DIMACS_PATHS. Hands out the line of the verdict to `out`, and texts with
  * which dimacs_judge says yes to `solution` and `certificate`: a solution and a cut or potentials; where no flow is feasible,
  * `v infeasible`, a set alone; for paths, whose queries are read (else they aren't), labels alone, and the lines that answer

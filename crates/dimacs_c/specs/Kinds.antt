@@ -8,6 +8,8 @@ use Rattle.dimacs_runs.specs.declared.jobs.JudgeKind.{JudgeKind}
 use Rattle.dimacs_runs.specs.declared.jobs.JudgeKind.TheVariants as judges
 use Rattle.dimacs_runs.specs.declared.jobs.SolveJob.{SolveJob}
 use Rattle.dimacs_runs.specs.declared.jobs.SolveJob.TheVariants as jobs
+use Rattle.dimacs_runs.specs.declared.jobs.SpreadKind.{SpreadKind}
+use Rattle.dimacs_runs.specs.declared.jobs.SpreadKind.TheVariants as spreads
 
 abbrev pub judge_kind : ℕ → Option JudgeKind
 judge_kind number =
@@ -23,6 +25,12 @@ certify_kind number =
     else if number == 1 then Some claims.Min
     else if number == 2 then Some claims.Infeasible
     else if number == 3 then Some claims.Paths
+    else None
+
+abbrev pub spread_kind : ℕ → Option SpreadKind
+spread_kind number =
+    if number == 0 then Some spreads.Max
+    else if number == 1 then Some spreads.Min
     else None
 
 -- there is no 2: minimum cost flow also finds sets that show that no flow is feasible

@@ -1,10 +1,10 @@
 //! The numbers of the kinds, as `dimacs.h` defines them.
 
 ghost use Rattle.std.specs.Prelude.{◌≡◌};
-ghost use Rattle.dimacs_c.specs.Kinds.{certify_kind, judge_kind, solve_job, text_kind};
+ghost use Rattle.dimacs_c.specs.Kinds.{certify_kind, judge_kind, solve_job, spread_kind, text_kind};
 
 use dimacs_records::TextKind;
-use dimacs_runs::{CertifyKind, JudgeKind, SolveJob};
+use dimacs_runs::{CertifyKind, JudgeKind, SolveJob, SpreadKind};
 
 /// The kind of claim to judge.
 pub(crate) fn judge_of(number: u32) -> Option<JudgeKind>
@@ -28,6 +28,17 @@ pub(crate) fn certify_of(number: u32) -> Option<CertifyKind>
         1 => Some(CertifyKind::Min),
         2 => Some(CertifyKind::Infeasible),
         3 => Some(CertifyKind::Paths),
+        _ => None,
+    }
+}
+
+/// The kind of instance whose claimed flow is dealt out.
+pub(crate) fn spread_of(number: u32) -> Option<SpreadKind>
+    ensures { result ≡ spread_kind number }
+{
+    match number {
+        0 => Some(SpreadKind::Max),
+        1 => Some(SpreadKind::Min),
         _ => None,
     }
 }

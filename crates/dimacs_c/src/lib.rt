@@ -16,5 +16,6 @@ mod max;
 mod min;
 mod paths;
 mod solve;
+mod spread;
 mod texts;
 mod version;

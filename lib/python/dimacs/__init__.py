@@ -56,6 +56,8 @@ from .texts import (
     solve_max,
     solve_min,
     solve_paths,
+    spread_max,
+    spread_min,
 )
 
 __version__ = "0.1.0"
@@ -106,4 +108,6 @@ __all__ = [
     "solve_networkx_paths",
     "solve_paths",
     "solve_paths_arrays",
+    "spread_max",
+    "spread_min",
 ]

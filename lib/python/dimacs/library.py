@@ -51,6 +51,7 @@ def _export(name: str, *words: Any, texts: int = 0, more: Sequence[Any] = (), ro
 
 judge = _export("dimacs_judge", _number, texts=3)
 certify = _export("dimacs_certify", _number, texts=2, rooms=2)
+spread = _export("dimacs_spread", _number, texts=2, rooms=2)
 solve = _export("dimacs_solve", _number, texts=2, more=[_limit], rooms=3)
 convert = _export("dimacs_convert", _number, texts=1)
 show = _export("dimacs_show", _number, texts=1)

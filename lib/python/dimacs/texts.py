@@ -109,6 +109,30 @@ def certify_paths(graph: Text, distances: Text) -> Certified:
     return Certified(None, _in_form_of(graph, shown))
 
 
+def _spread(kind: str, instance: Text, solution: Text) -> Any:
+    texts = bytes_of(instance), bytes_of(solution)
+    words = texts[0].words() + texts[1].words()
+    rooms = [library.LINE, library.LINE + texts[0].length + texts[1].length]
+    status, (said, spread) = library.call_for_texts(library.spread, _KINDS[kind], *words, rooms=rooms)
+    if status == library.REFUSED:
+        raise library.refusal(said)
+    return _in_form_of(solution, spread)
+
+
+def spread_max(instance: Text, solution: Text) -> Any:
+    """Deals a solution out to parallel arcs: adds up the entries of each two ends, and gives each arc with these ends its
+    share, within its bounds if that can be; the text of a solution with an entry for every arc and the claimed value.
+
+    Raises Refused where a text has a fault or an entry is of no arc. The text is str where the solution is.
+    """
+    return _spread("max", instance, solution)
+
+
+def spread_min(instance: Text, solution: Text) -> Any:
+    """The same for least cost: of all dealings within the bounds, one that costs least."""
+    return _spread("min", instance, solution)
+
+
 def _solve(kind: str, instance: Text, queries: Text, limit: int) -> Solved:
     texts = bytes_of(instance), bytes_of(queries)
     words = [*texts[0].words(), *texts[1].words(), number_of(limit, LIMITS, "limit")]

@@ -10,7 +10,7 @@ pub returns : goal.returns
 returns c =
     let a = c.args.instance.now in
     let b = c.args.claim.now in
-    let told = c.run_certify-ended.ensures.reports a b (ap Some c.new-first.ensures) (ap Some c.new-second.ensures) in
+    let told = c.run_certify-ended.ensures.reports a b (ap Some c.new-first.ensures) (λ some. ap Some c.new-second.ensures) in
     let reports = rw (ap (λ (m : InMemory). m.bytes) c.new-certificate.ensures, ap (λ (m : InMemory). m.bytes) c.new-report.ensures) at told in
     let shown = rw c.bytes.ensures at c.end.ensures in
     let said = rw c.bytes-2.ensures at c.end-2.ensures in

@@ -1,0 +1,67 @@
+//! Dealing out claimed flows in memory.
+
+ghost use Rattle.std.specs.Prelude.{◌∷◌, []};
+ghost use Rattle.dimacs_c.specs.Calls.{AnswersTexts, AnswersTextsKind, handed};
+ghost use Rattle.dimacs_c.specs.Kinds.{spread_kind};
+ghost use Rattle.dimacs_runs.specs.Spread.{Spreads};
+
+use crate::answer::{end, misuse};
+use crate::kinds::spread_of;
+use dimacs_lines::{MemorySink, MemorySource};
+use dimacs_runs::{SpreadKind, run_spread};
+use std::alloc::Global;
+
+/// Deals out a claimed flow to parallel arcs, as `dimacs spread-max` and `dimacs spread-min`. `shown` receives the text of
+/// the solution.
+#[unsafe(no_mangle)]
+pub extern "C" fn dimacs_spread(
+    alloc: Global,
+    kind: u32,
+    instance: &[u8],
+    claim: &[u8],
+    out: &mut [u8],
+    told: &mut usize,
+    shown: &mut [u8],
+    shown_told: &mut usize,
+) -> u32
+    ensures { AnswersTextsKind (spread_kind kind) (λ k. Spreads k instance.now claim.now) result
+        (handed shown.old shown.new shown_told.new ∷ handed out.old out.new told.new ∷ []) }
+{
+    match spread_of(kind) {
+        Some(kind) => spread(alloc, kind, instance, claim, out, told, shown, shown_told),
+        None => {
+            misuse(shown_told);
+            misuse(told)
+        }
+    }
+}
+
+/// Deals out a claimed flow of an instance of this kind.
+fn spread(
+    alloc: Global,
+    kind: SpreadKind,
+    instance: &[u8],
+    claim: &[u8],
+    out: &mut [u8],
+    told: &mut usize,
+    shown: &mut [u8],
+    shown_told: &mut usize,
+) -> u32
+    ensures { AnswersTexts (Spreads kind instance.now claim.now) result
+        (handed shown.old shown.new shown_told.new ∷ handed out.old out.new told.new ∷ []) }
+{
+    let mut certificate = MemorySink::new(alloc);
+    let mut report = MemorySink::new(alloc);
+    let mut first = MemorySource::new(instance);
+    let mut second = MemorySource::new(claim);
+    let ended = run_spread(
+        alloc,
+        kind,
+        &mut first,
+        &mut second,
+        &mut certificate,
+        &mut report,
+    );
+    end(ended, certificate.bytes(), shown, shown_told);
+    end(ended, report.bytes(), out, told)
+}
