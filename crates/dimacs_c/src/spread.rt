@@ -11,8 +11,8 @@ use dimacs_lines::{MemorySink, MemorySource};
 use dimacs_runs::{SpreadKind, run_spread};
 use std::alloc::Global;
 
-/// Deals out a claimed flow to parallel arcs, as `dimacs spread-max` and `dimacs spread-min`. `shown` receives the text of
-/// the solution.
+/// Deals out a claimed flow to parallel arcs, as `dimacs spread-max` and the like. `shown` receives the text of the
+/// solution.
 #[unsafe(no_mangle)]
 pub extern "C" fn dimacs_spread(
     alloc: Global,
