@@ -21,7 +21,7 @@ const YES: u32 = 0;
 /// The status of a test that fails.
 const NO: u32 = 1;
 
-/// The status if a limit was reached, or the answer doesn't fit into arrays.
+/// The status if a solver gave up, or the answer doesn't fit into arrays.
 const GAVE_UP: u32 = 5;
 
 /// The place of a refusal that concerns a flow as a whole, not one arc or node.

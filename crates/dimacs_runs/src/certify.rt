@@ -74,7 +74,7 @@ pub fn run_certify<P: Source, Q: Source, C: Sink, K: Sink>(
     put_produced(produced, &mut Discard, certificate_out, report)
 }
 
-/// Certifies a claim: what is to be written of it.
+/// Certifies a claim. Returns what is to be written.
 pub(crate) fn certify_claim<P: Source, Q: Source>(
     alloc: Global,
     kind: CertifyKind,

@@ -31,11 +31,11 @@ use std::alloc::Global;
 /// Reads an instance, and writes a claim about it, its certificate and the judge's verdict on them, in this order. If
 /// it refuses an instance or gives up, it writes only the line that reports that.
 ///
-/// `Max` writes a solution and a cut. It gives up if the first `limit` flows, from the zero flow on, aren't maximum.
-/// `Min` writes a solution and potentials, or, if no flow is feasible, only a set of nodes. It gives up if `limit`
-/// steps, each to a better flow, don't suffice, or if the least cost is out of range. `Paths` also reads queries,
-/// unless the graph has a fault, and writes only labels. It never gives up; it refuses a query with a node that doesn't
-/// exist, then a negative weight.
+/// `Max` writes a solution and a cut. It tests as many flows as its limit allows, from the zero flow on, and gives up
+/// if none is maximum. `Min` writes a solution and potentials, or, if no flow is feasible, only a set of nodes. It
+/// gives up if as many steps as its limit allows, each to a better flow, don't suffice, or if the least cost is out of
+/// range. `Paths` also reads queries, unless the graph has a fault, and writes only labels. It never gives up; it
+/// refuses a query with a node that doesn't exist, then a negative weight.
 pub fn run_solve<P: Source, Q: Source, C: Sink, D: Sink, K: Sink>(
     alloc: Global,
     job: SolveJob,

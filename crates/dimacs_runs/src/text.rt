@@ -54,8 +54,8 @@ pub fn run_convert<S: Source, K: Sink>(
     }
 }
 
-/// Reads a text of this kind, and prints one line that describes it, or the line of its fault. Instances aren't kept in
-/// memory.
+/// Reads a text of this kind, and prints one line that describes it, or the line of its fault. The arcs of an instance
+/// aren't kept in memory.
 pub fn run_show<S: Source, K: Sink>(
     alloc: Global,
     kind: TextKind,
