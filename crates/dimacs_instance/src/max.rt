@@ -55,12 +55,14 @@ impl<N: Network> MaxInstance<N> {
         &self.network
     }
 
+    /// The ID of the source.
     pub fn source(&self) -> u32
         ensures { result ≡ self.now.source }
     {
         self.source
     }
 
+    /// The ID of the sink.
     pub fn sink(&self) -> u32
         ensures { result ≡ self.now.sink }
     {

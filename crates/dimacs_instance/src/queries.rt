@@ -32,6 +32,7 @@ pub enum Queries {
 }
 
 impl Queries {
+    /// Whether they ask for sources or for pairs.
     pub fn kind(&self) -> QueryKind
         ensures { result ≡ kind_asked (asked self.now) }
     {
