@@ -646,13 +646,24 @@ struct CertifyAnswer {
     std::string line, shown;
 };
 
-inline CertifyAnswer certify(std::uint32_t kind, std::string_view instance, std::string_view claim) {
+template <class Call>
+CertifyAnswer call_of_two(const Call &function, std::uint32_t kind, std::string_view instance, std::string_view claim) {
     TextRoom line, shown(line_room + instance.size() + claim.size());
     const auto call = [&](auto... rooms) {
-        return dimacs_certify(kind, bytes(instance), instance.size(), bytes(claim), claim.size(), rooms...);
+        return function(kind, bytes(instance), instance.size(), bytes(claim), claim.size(), rooms...);
     };
     const bool is_yes = call_for_texts(call, line, shown) == DIMACS_DONE;
     return {is_yes, line.take(), shown.take()};
+}
+
+inline CertifyAnswer certify(std::uint32_t kind, std::string_view instance, std::string_view claim) {
+    return call_of_two(dimacs_certify, kind, instance, claim);
+}
+
+inline Answer<std::string, Refused> spread(std::uint32_t kind, std::string_view instance, std::string_view solution) {
+    auto [is_yes, line, spread] = call_of_two(dimacs_spread, kind, instance, solution);
+    if (!is_yes) return refused(line);
+    return std::move(spread);
 }
 
 inline Answer<CertifiedText, NotOptimalText, Refused> certify_flow(std::uint32_t kind, std::string_view instance,
@@ -750,6 +761,18 @@ inline Answer<CertifiedPathsText, Refused> certify_paths(std::string_view graph,
     auto [is_yes, line, shown] = detail::certify(DIMACS_PATHS, graph, distances);
     if (!is_yes) return detail::refused(line);
     return CertifiedPathsText{detail::sources_of(line), std::move(shown)};
+}
+
+// Deals a solution out to parallel arcs: adds up the entries of each two ends, and gives each arc with these ends its
+// share, within its bounds if that can be; the text of a solution with an entry for every arc and the claimed value.
+// Refused if a text has a fault, or for an entry that no arc has.
+inline Answer<std::string, Refused> spread_max(std::string_view instance, std::string_view solution) {
+    return detail::spread(DIMACS_MAX, instance, solution);
+}
+
+// The same for least cost: of all dealings within the bounds, one that costs least.
+inline Answer<std::string, Refused> spread_min(std::string_view instance, std::string_view solution) {
+    return detail::spread(DIMACS_MIN, instance, solution);
 }
 
 // Makes a maximum flow: the texts of a solution and of a cut. GaveUp after `limit` flows that aren't maximum; Refused

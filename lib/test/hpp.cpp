@@ -143,6 +143,12 @@ static void makes_texts() {
     is("converted", dimacs::convert(Text::max, "c\n" + max).value(), max);
     is("shown", dimacs::show(Text::max, max).value(), "i max 4 5 1 4\n");
     is("of another kind", dimacs::show(Text::min, max).message(), "x instance 1 2 BadWord");
+    const std::string parallel = "p max 2 2\nn 1 s\nn 2 t\na 1 2 3\na 1 2 5\n";
+    is("spread", dimacs::spread_max(parallel, "s 6\nf 1 2 4\nf 1 2 2\n").value(), "s 6\nf 1 2 3\nf 1 2 3\n");
+    is("of no arc", dimacs::spread_max(parallel, "s 6\nf 2 1 6\n").message(), "x solution 2 0 UnknownArc");
+    is("spread by costs",
+       dimacs::spread_min("p min 2 2\na 1 2 0 3 9\na 1 2 0 5 1\n", "s 0\nf 1 2 6\n").value(),
+       "s 0\nf 1 2 1\nf 1 2 5\n");
     std::string queries = "p aux sp p2p 900\n";
     for (int k = 0; k < 900; k++) queries += "q 1 4\n";
     const auto many = dimacs::judge_paths(graph, queries, dist);

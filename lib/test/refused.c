@@ -83,6 +83,7 @@ static uint32_t certify_min(void) { return dimacs_certify(DIMACS_MIN, TEXT(min),
 static uint32_t certify_infeasible(void) { return dimacs_certify(DIMACS_INFEASIBLE, TEXT(surplus), NULL, 0, OUT, SHOWN); }
 static uint32_t certify_feasible(void) { return dimacs_certify(DIMACS_INFEASIBLE, TEXT(min), NULL, 0, OUT, SHOWN); }
 static uint32_t certify_paths(void) { return dimacs_certify(DIMACS_PATHS, TEXT(graph), TEXT(near), OUT, SHOWN); }
+static uint32_t spread_max(void) { return dimacs_spread(DIMACS_MAX, TEXT(max), TEXT(flow), OUT, SHOWN); }
 static uint32_t certify_dear(void) { return dimacs_certify(DIMACS_MIN, TEXT(min), TEXT(dear), OUT, SHOWN); }
 static uint32_t solve(uint32_t kind, const char *instance, uint64_t limit) {
     return dimacs_solve(kind, TEXT(instance), TEXT(pairs), limit, OUT, (uint8_t *)to.better, 400, &to.better_told, SHOWN);
@@ -151,6 +152,7 @@ static const struct {
     {"certify that no flow is feasible", certify_infeasible, 0},
     {"certify it of an instance with a flow", certify_feasible, 1},
     {"certify paths", certify_paths, 0},
+    {"spread a flow", spread_max, 0},
     {"solve max", solve_max, 0},
     {"solve min", solve_min, 0},
     {"solve min without a flow", solve_surplus, 0},

@@ -154,6 +154,17 @@ class Certifies(unittest.TestCase):
             self.assertEqual(str(caught.exception), wanted)
 
 
+class Spreads(unittest.TestCase):
+    def test_sums(self):
+        parallel = "p max 2 2\nn 1 s\nn 2 t\na 1 2 3\na 1 2 5\n"
+        self.assertEqual(dimacs.spread_max(parallel, "s 6\nf 1 2 4\nf 1 2 2\n"), "s 6\nf 1 2 3\nf 1 2 3\n")
+        self.assertEqual(dimacs.spread_max(parallel, b"s 6\nf 1 2 6\n"), b"s 6\nf 1 2 3\nf 1 2 3\n")
+        self.assertEqual(dimacs.spread_min("p min 2 2\na 1 2 0 3 9\na 1 2 0 5 1\n", "s 0\nf 1 2 6\n"), "s 0\nf 1 2 1\nf 1 2 5\n")
+        with self.assertRaises(dimacs.Refused) as caught:
+            dimacs.spread_max(parallel, "s 6\nf 2 1 6\n")
+        self.assertEqual(str(caught.exception), "solution 2 0 UnknownArc")
+
+
 class Texts(unittest.TestCase):
     def test_forms(self):
         for kind, text, shown in [

@@ -241,9 +241,25 @@ static void reads_any_bytes(void) {
     }
 }
 
+/* Sums are dealt out to parallel arcs, and an entry that no arc has is refused. */
+static void spreads(void) {
+    static const char parallel[] = "p min 2 2\na 1 2 0 3 9\na 1 2 0 5 1\n", arcs[] = "p max 2 2\nn 1 s\nn 2 t\na 1 2 3\na 1 2 5\n";
+    uint32_t status = dimacs_spread(DIMACS_MAX, TEXT(arcs), TEXT("s 6\nf 1 2 4\nf 1 2 2\n"), out, sizeof out, &told, shown, sizeof shown, &shown_told);
+    check("a sum by the order of the arcs", status, out, told, 0, "");
+    check("its solution", status, shown, shown_told, 0, "s 6\nf 1 2 3\nf 1 2 3\n");
+    status = dimacs_spread(DIMACS_MIN, TEXT(parallel), TEXT("s 0\nf 1 2 6\n"), out, sizeof out, &told, shown, sizeof shown, &shown_told);
+    check("a sum by the costs of the arcs", status, shown, shown_told, 0, "s 0\nf 1 2 1\nf 1 2 5\n");
+    status = dimacs_spread(DIMACS_MAX, TEXT(arcs), TEXT("s 6\nf 2 1 6\n"), out, sizeof out, &told, shown, sizeof shown, &shown_told);
+    check("an entry of no arc", status, out, told, 1, "x solution 2 0 UnknownArc\n");
+    check_that("no solution", shown_told == 0);
+    status = dimacs_spread(DIMACS_INFEASIBLE, TEXT(arcs), TEXT("s 6\n"), out, sizeof out, &told, shown, sizeof shown, &shown_told);
+    check_that("no kind to spread", status == 2 && told == 0 && shown_told == 0);
+}
+
 int main(void) {
     judges();
     certifies();
+    spreads();
     accepts_its_own();
     solves_all();
     converts_and_shows();

@@ -78,6 +78,20 @@ extern "C" {
         shown_told: *mut usize,
     ) -> u32;
 
+    pub fn dimacs_spread(
+        kind: u32,
+        instance: *const u8,
+        instance_length: usize,
+        claim: *const u8,
+        claim_length: usize,
+        out: *mut u8,
+        room: usize,
+        told: *mut usize,
+        shown: *mut u8,
+        shown_room: usize,
+        shown_told: *mut usize,
+    ) -> u32;
+
     pub fn dimacs_solve(
         kind: u32,
         instance: *const u8,

@@ -137,12 +137,32 @@ fn judge(kind: u32, texts: [&[u8]; 3], room: usize) -> Result<String, Error> {
     }
 }
 
-/// A line, or what the status means, and the text that shows it.
-fn certify(kind: u32, instance: &[u8], claim: &[u8]) -> Result<(Result<String, Error>, String), Error> {
+/// A call over two texts of a kind, which answers a line and another text.
+type CallOfTwo = unsafe extern "C" fn(
+    u32,
+    *const u8,
+    usize,
+    *const u8,
+    usize,
+    *mut u8,
+    usize,
+    *mut usize,
+    *mut u8,
+    usize,
+    *mut usize,
+) -> u32;
+
+/// A line, or what the status means, and the text that comes with it.
+fn call_of_two(
+    call: CallOfTwo,
+    kind: u32,
+    instance: &[u8],
+    claim: &[u8],
+) -> Result<(Result<String, Error>, String), Error> {
     let (mut line, mut shown) = (Room::new(LINE)?, Room::new(LINE + instance.len() + claim.len())?);
     loop {
         let status = unsafe {
-            ffi::dimacs_certify(
+            call(
                 kind,
                 instance.as_ptr(),
                 instance.len(),
@@ -160,6 +180,15 @@ fn certify(kind: u32, instance: &[u8], claim: &[u8]) -> Result<(Result<String, E
             return Ok((lines_of(status, line), shown.text()));
         }
     }
+}
+
+fn certify(kind: u32, instance: &[u8], claim: &[u8]) -> Result<(Result<String, Error>, String), Error> {
+    call_of_two(ffi::dimacs_certify, kind, instance, claim)
+}
+
+fn spread(kind: u32, instance: &[u8], solution: &[u8]) -> Result<String, Error> {
+    let (line, spread) = call_of_two(ffi::dimacs_spread, kind, instance, solution)?;
+    line.map(|_| spread)
 }
 
 fn certify_flow(kind: u32, instance: &[u8], solution: &[u8]) -> Result<Certified, Error> {
@@ -370,6 +399,29 @@ pub fn solve_min(instance: impl AsRef<[u8]>, limit: u64) -> Result<Solved, Error
 pub fn solve_paths(graph: impl AsRef<[u8]>, queries: impl AsRef<[u8]>) -> Result<(Paths, String), Error> {
     let (lines, _, labels) = solve(PATHS, graph.as_ref(), queries.as_ref(), crate::LIMIT)?;
     Ok((paths(&lines), labels))
+}
+
+/// Deals a solution out to parallel arcs: adds up the entries of each two ends, and gives each arc with these ends its
+/// share, within its bounds if that can be; the text of a solution with an entry for every arc and the claimed value.
+///
+/// ```
+/// # use dimacs::texts::spread_max;
+/// let instance = "p max 2 2\nn 1 s\nn 2 t\na 1 2 3\na 1 2 5\n";
+/// assert_eq!(spread_max(instance, "s 6\nf 1 2 6\n").unwrap(), "s 6\nf 1 2 3\nf 1 2 3\n");
+/// ```
+pub fn spread_max(instance: impl AsRef<[u8]>, solution: impl AsRef<[u8]>) -> Result<String, Error> {
+    spread(MAX, instance.as_ref(), solution.as_ref())
+}
+
+/// The same for least cost: of all dealings within the bounds, one that costs least.
+///
+/// ```
+/// # use dimacs::texts::spread_min;
+/// let instance = "p min 2 2\na 1 2 0 3 9\na 1 2 0 5 1\n";
+/// assert_eq!(spread_min(instance, "s 0\nf 1 2 6\n").unwrap(), "s 0\nf 1 2 1\nf 1 2 5\n");
+/// ```
+pub fn spread_min(instance: impl AsRef<[u8]>, solution: impl AsRef<[u8]>) -> Result<String, Error> {
+    spread(MIN, instance.as_ref(), solution.as_ref())
 }
 
 /// The canonical form of a text.
