@@ -1,5 +1,6 @@
 """The calls over texts, from Python."""
 
+import array
 import mmap
 import tempfile
 import unittest
@@ -163,6 +164,17 @@ class Spreads(unittest.TestCase):
         with self.assertRaises(dimacs.Refused) as caught:
             dimacs.spread_max(parallel, "s 6\nf 2 1 6\n")
         self.assertEqual(str(caught.exception), "solution 2 0 UnknownArc")
+
+    def test_arrays(self):
+        arcs = [1, 1, 2], [2, 2, 1], [3, 5, 4]
+        self.assertEqual(dimacs.spread_max_arrays(2, 1, 2, *arcs, [1, 2], [2, 1], [6, 1]), [3, 3, 1])
+        self.assertEqual(dimacs.spread_min_arrays(2, [1, 1], [2, 2], [0, 0], [3, 5], [9, 1], [1], [2], [6]), [1, 5])
+        given = array.array("q", [6])
+        self.assertEqual(dimacs.spread_max_arrays(2, 1, 2, *arcs, [1], [2], given), array.array("q", [3, 3, 0]))
+        with self.assertRaises(dimacs.Refused):
+            dimacs.spread_max_arrays(3, 1, 2, *arcs, [3], [1], [6])
+        with self.assertRaises(ValueError):
+            dimacs.spread_max_arrays(2, 1, 2, *arcs, [1], [2, 1], [6])
 
 
 class Texts(unittest.TestCase):

@@ -42,6 +42,7 @@ from .graphs import (
     solve_networkx_min,
     solve_networkx_paths,
 )
+from .spread import spread_max_arrays, spread_min_arrays
 from .texts import (
     certify_infeasible,
     certify_max,
@@ -109,5 +110,7 @@ __all__ = [
     "solve_paths",
     "solve_paths_arrays",
     "spread_max",
+    "spread_max_arrays",
     "spread_min",
+    "spread_min_arrays",
 ]

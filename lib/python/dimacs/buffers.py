@@ -248,6 +248,14 @@ class Room:
         self._kept = array.array(items.code, (0,)) * length
         self._told = ctypes.c_size_t()
 
+    @classmethod
+    def of(cls, items: Items, numbers: Sequence[int]) -> Room:
+        """Items that were handed out otherwise."""
+        room = cls(items, 0)
+        room._kept.extend(numbers)
+        room._told.value = len(room._kept)
+        return room
+
     def words(self) -> tuple[int, int, Any]:
         """Where the memory lies, for how many items there is room, and where to tell how many there are."""
         address, length = self._kept.buffer_info()
