@@ -11,8 +11,7 @@ use crate::tables::{case, cell, rows};
 use crate::words::words;
 use dimacs_lines::{FlakySink, FlakySource, MemorySink};
 use dimacs_runs::{Counted, Files, RunError, run_command};
-use std::alloc::Global;
-use std::fmt::Write;
+use std::alloc::{AllocError, Global};
 use std::process::Abort;
 use std::test::Fail;
 
@@ -191,18 +190,25 @@ fn shown(alloc: Global, done: &[Done]) -> Result<String, Fail> {
     let mut lines = String::new(alloc);
     for it in done {
         match it {
-            Done::Opened(name) => writeln!(lines, "< {name}")?,
-            Done::NotOpened(name, _) => writeln!(lines, "! < {name}")?,
-            Done::Created(name) => writeln!(lines, "> {name}")?,
-            Done::NotCreated(name, _) => writeln!(lines, "! > {name}")?,
-            Done::Read(name, _) => writeln!(lines, "- {name}")?,
+            Done::Opened(name) => add(&mut lines, "< ", name)?,
+            Done::NotOpened(name, _) => add(&mut lines, "! < ", name)?,
+            Done::Created(name) => add(&mut lines, "> ", name)?,
+            Done::NotCreated(name, _) => add(&mut lines, "! > ", name)?,
+            Done::Read(name, _) => add(&mut lines, "- ", name)?,
             Done::Wrote(name, text, _) => {
-                let text = str::from_utf8(text).unwrap_or("not UTF-8");
-                write!(lines, "= {name}\n{text}")?;
+                add(&mut lines, "= ", name)?;
+                lines.push_str(str::from_utf8(text).unwrap_or("not UTF-8"))?;
             }
         }
     }
     Ok(lines)
+}
+
+/// Adds a line with the name of a file.
+fn add(lines: &mut String, sign: &str, name: &str) -> Result<(), AllocError> {
+    lines.push_str(sign)?;
+    lines.push_str(name)?;
+    lines.push('\n')
 }
 
 /// Command lines, each with what is done with files, what it prints, the device that fails and what could not be done
