@@ -65,6 +65,8 @@ certify-infeasible instance | Some(Certify(Infeasible, [\"instance\"]))
 certify-infeasible instance cut | Some(Certify(Infeasible, [\"instance\", \"cut\"]))
 certify-paths graph distances | Some(Certify(Paths, [\"graph\", \"distances\"]))
 certify-paths graph distances labels | Some(Certify(Paths, [\"graph\", \"distances\", \"labels\"]))
+spread-max instance solution out | Some(Spread(Max, [\"instance\", \"solution\", \"out\"]))
+spread-min instance solution out | Some(Spread(Min, [\"instance\", \"solution\", \"out\"]))
 solve-max instance solution cut | Some(Solve(Max(1000000), [\"instance\", \"solution\", \"cut\"]))
 solve-max instance solution cut --limit 10 | Some(Solve(Max(10), [\"instance\", \"solution\", \"cut\"]))
 solve-max instance solution cut --limit 0 | Some(Solve(Max(0), [\"instance\", \"solution\", \"cut\"]))
@@ -109,6 +111,10 @@ certify-infeasible instance cut cut | None
 certify-paths graph | None
 certify-paths graph distances labels labels | None
 certify instance solution cut | None
+spread-max | None
+spread-max instance solution | None
+spread-min instance solution out out | None
+spread instance solution out | None
 solve-max | None
 solve-max instance solution | None
 solve-max instance solution cut cut | None
@@ -129,7 +135,7 @@ solve instance solution cut | None";
 
 #[test]
 fn words_ask_for_jobs(rt: HostRuntime) -> Result<(), Fail> {
-    for row in rows(&rt, LINES, 96) {
+    for row in rows(&rt, LINES, 102) {
         let (line, wanted) = cell(&rt, row);
         let given = words(rt.alloc(), line)?;
         let said = format!(in rt.alloc(); "{:?}", job(&given))?;
