@@ -1,6 +1,7 @@
 #!/bin/bash
 # Runs the recipes whose packages are there on the examples and on generated instances. Fails if a verdict isn't the
-# expected one, or if an answer that is spoiled on purpose isn't refused as it should be.
+# expected one, if an answer that is spoiled on purpose isn't refused as it should be, or if a flow of LEMON in another
+# order isn't certified once it is spread.
 #
 #   recipes/check.sh [BINARY]
 #
@@ -13,7 +14,8 @@
 #   BUILD    the folder where make built the library; build
 #   ONLY     run only the recipes whose names match this pattern, as 'lemon|glpsol'
 #
-# The last lines name what was left out, and count the answers that were accepted, refused and judged unexpectedly.
+# The last lines name what was left out, and count the answers that were accepted, spread, refused and judged
+# unexpectedly.
 set -eu
 
 here=$(cd "$(dirname "$0")" && pwd)
@@ -94,6 +96,7 @@ beyond=' scipy_max.py:wide.max scipy_min.py:wide.min glpsol_min.sh:wide.min '
 
 accepted=0
 refused=0
+spread=0
 failed=0
 
 fail() {
@@ -141,6 +144,21 @@ solve() {
     esac
 }
 
+# A flow whose entries stand in another order, without zeros, or as one sum for each pair of nodes: spread, it is certified.
+# try_spread KIND VERDICT INSTANCE SOLUTION
+try_spread() {
+    local form found
+    for form in all flowing sums; do
+        "$PYTHON" "$here/check/reordered.py" "$form" "$4" >"$dir/reordered"
+        found=$("$DIMACS" "spread-$1" "$3" "$dir/reordered" "$dir/spread" && "$DIMACS" "certify-$1" "$3" "$dir/spread") || true
+        if [ "$found" = "$2" ]; then
+            spread=$((spread + 1))
+        else
+            fail "$(basename "$4") of $(basename "$3"), $form of its entries spread: wanted '$2', got '$found'"
+        fi
+    done
+}
+
 # One recipe on one instance, and its answer spoiled: try RECIPE RUN VERDICT TEXT..
 try() {
     local recipe=$1 run=$2 wanted=$3 claim=("${@:4}") found count name seen
@@ -167,6 +185,7 @@ try() {
     if is_in_process "$recipe"; then
         return
     fi
+    case $recipe in lemon_max.cpp | lemon_min.cpp) try_spread "${run#judge-}" "$wanted" "${claim[@]:0:2}" ;; esac
     [ "$run" != certify-paths ] || claim=("${claim[0]}" "${claim[2]}") # without the queries
     if count=$("$PYTHON" "$here/check/wrong.py" "$run" "${claim[@]}"); then
         refused=$((refused + count))
@@ -222,5 +241,5 @@ while read -r recipe run kind need; do
 done <<<"$recipes"
 try_batch
 [ -z "$left_out" ] || printf 'left out:\n%s' "$left_out"
-echo "$accepted answers accepted, $refused wrong answers refused, $failed failed"
+echo "$accepted answers accepted, $spread reordered ones spread and certified, $refused wrong answers refused, $failed failed"
 [ "$failed" = 0 ] && [ "$accepted" -gt 0 ]
