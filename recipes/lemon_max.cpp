@@ -1,6 +1,8 @@
 // A maximum flow and a minimum cut by LEMON, judged: lemon_max INSTANCE SOLUTION CUT
 //
 // Reads INSTANCE, writes SOLUTION and CUT, and runs `dimacs judge-max` on the three; DIMACS names the judge.
+// SOLUTION gets an entry for every arc, in the order of INSTANCE. `dimacs spread-max` makes such a text of entries in any
+// other order, or of one sum for each pair of nodes.
 //
 //     g++ -O2 -std=c++17 -o lemon_max lemon_max.cpp
 #include <lemon/preflow.h>

@@ -1,6 +1,8 @@
 // A flow of least cost and its potentials by LEMON, judged: lemon_min INSTANCE SOLUTION POTENTIALS
 //
 // Reads INSTANCE, writes SOLUTION and POTENTIALS, and runs `dimacs judge-min` on the three; DIMACS names the judge.
+// SOLUTION gets an entry for every arc, in the order of INSTANCE. `dimacs spread-min` makes such a text of entries in any
+// other order, or of one sum for each pair of nodes.
 //
 //     g++ -O2 -std=c++17 -o lemon_min lemon_min.cpp
 #include <lemon/cost_scaling.h>

@@ -1,8 +1,9 @@
 #!/usr/bin/env python3
 """A maximum flow by SciPy, certified: scipy_max.py INSTANCE SOLUTION CUT
 
-Reads INSTANCE, writes SOLUTION, and runs `dimacs certify-max` on the two, which writes CUT. The variable DIMACS names the
-judge. SciPy's capacities have 32 bits; a greater one ends it with a message.
+Reads INSTANCE, writes what flows between each pair of nodes as SOLUTION, has `dimacs spread-max` deal it out to parallel
+arcs, and runs `dimacs certify-max` on the two, which writes CUT. The variable DIMACS names the program. SciPy's capacities
+have 32 bits; a greater one ends it with a message.
 """
 import os
 import subprocess
@@ -30,7 +31,7 @@ def read(path):
 
 
 def solve(nodes, source, sink, arcs):
-    """The flow of each arc. Row and column 0 stay empty."""
+    """What flows between each pair of nodes. Row and column 0 stay empty."""
     between = {}
     for tail, head, capacity in arcs:
         between[tail, head] = between.get((tail, head), 0) + capacity
@@ -41,12 +42,7 @@ def solve(nodes, source, sink, arcs):
     capacities = csr_matrix((list(between.values()), (tails, heads)), shape=(nodes + 1, nodes + 1), dtype="int32")
     flow = maximum_flow(capacities, source, sink).flow.todok()
     # Of two arcs that lead to and fro the matrix has the difference of the flows: less than 0 on one of them.
-    left = {ends: max(0, int(flow.get(ends, 0))) for ends in between}
-    flows = []
-    for tail, head, capacity in arcs:
-        flows.append(min(capacity, left[tail, head]))
-        left[tail, head] -= flows[-1]
-    return flows
+    return {ends: max(0, int(flow.get(ends, 0))) for ends in between}
 
 
 def write(path, lines):
@@ -57,10 +53,12 @@ def write(path, lines):
 def main():
     instance, solution, cut = sys.argv[1:]
     nodes, source, sink, arcs = read(instance)
-    flows = solve(nodes, source, sink, arcs)
-    value = sum(flow * ((arc[0] == source) - (arc[1] == source)) for arc, flow in zip(arcs, flows))
-    write(solution, [f"s {value}", *(f"f {arc[0]} {arc[1]} {flow}" for arc, flow in zip(arcs, flows))])
-    return subprocess.call([os.environ.get("DIMACS", "dimacs"), "certify-max", instance, solution, cut])
+    flow = solve(nodes, source, sink, arcs)
+    value = sum(amount * ((tail == source) - (head == source)) for (tail, head), amount in flow.items())
+    write(solution, [f"s {value}", *(f"f {tail} {head} {amount}" for (tail, head), amount in flow.items())])
+    dimacs = os.environ.get("DIMACS", "dimacs")
+    spread = subprocess.call([dimacs, "spread-max", instance, solution, solution])
+    return spread or subprocess.call([dimacs, "certify-max", instance, solution, cut])
 
 
 if __name__ == "__main__":
