@@ -288,6 +288,8 @@ PATH_RUNS = [
     Run("certify-paths gr distances shown", 0, "v sp distances 1\n"),
     Run("convert dist shown", 0, File("dist")),
     Run("certify-paths gr distances", 0, "v sp distances 1\n"),
+    Run("certify-paths loops apart shown", 0, f"v sp distances {ITEMS}\n"),
+    Run("convert dist shown", 0, File("blocks")),
     Run("certify-paths short distances shown", 1, f"x arc {ITEMS} NotShortest\n"),
     Run("certify-paths gr.last distances shown", 1, GRAPH_FAULT),
     Run("certify-paths gr distances.last shown", 1, f"x distances {1 + ITEMS} 3 BadNumber\n"),

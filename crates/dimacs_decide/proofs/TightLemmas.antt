@@ -198,7 +198,7 @@ placed_in (l ∷ labels) v d at = elim (eqb_tells l.id v) [
   | inr apart ↦ (let (k, inside, is) = placed_in labels v d (rw apart.0 at at) in (suc k, omega (arith, inside), is))
 ]
 
-placed : (b : BlockValue) (v : ℕ) (d : ℤ) → label b v ≡ Some d → (j : ℕ) × (j ≤ length b.labels) × (node_at b j ≡ v)
+pub placed : (b : BlockValue) (v : ℕ) (d : ℤ) → label b v ≡ Some d → (j : ℕ) × (j ≤ length b.labels) × (node_at b j ≡ v)
 placed b v d at = elim (eqb_tells b.source v) [
   | inl same ↦ (zero, omega arith, same.1)
   | inr apart ↦ (let (k, inside, is) = placed_in b.labels v d (rw apart.0 at at) in (suc k, omega (arith, inside), is))

@@ -2,6 +2,7 @@ pub mod Cancelling
 pub mod Counting
 pub mod Cycles
 pub mod DistanceBlocks
+pub mod FewLabels
 pub mod Heights
 pub mod Raising
 pub mod Residual

@@ -4,12 +4,16 @@ ghost use Rattle.std.specs.Prelude.{◌≡◌, IfOk, IfSome, OnOk};
 ghost use Rattle.dimacs_lines.specs.Limits.{IsNode};
 ghost use Rattle.dimacs_network.specs.Links.{AreLinksOf};
 ghost use Rattle.dimacs_network.specs.declared.links.Side.TheVariants.{Tail};
+ghost use Rattle.dimacs_claims.specs.Labels.{IsBlock, label};
 ghost use Rattle.dimacs_decide.specs.CertifiedPaths.{CertifiesPaths};
-ghost use Rattle.dimacs_decide.specs.inside.DistanceBlocks.{DecidesBlock};
+ghost use Rattle.dimacs_decide.specs.Distances.{AreDistancesFrom};
+ghost use Rattle.dimacs_decide.specs.inside.DistanceBlocks.{DecidesBlock, IsMadeOf};
+ghost use Rattle.dimacs_decide.specs.inside.FewLabels.{AreFree};
 
 use crate::block_claim::BlockClaim;
 use crate::claim::DistanceClaim;
 use crate::distances::decide_block;
+use crate::few_labels::{Tables, few_block, labels_few};
 use crate::rising::rising_block;
 use dimacs_claims::{Block, Distances, Labels};
 use dimacs_instance::Graph;
@@ -23,8 +27,8 @@ use std::alloc::Global;
 /// error is the first test that fails, block by block, of those that `decide_distances` makes. `Memory` is no answer
 /// about the claim.
 ///
-/// Takes time in proportion to the nodes and arcs for each block, and memory for the arcs and for the nodes reached
-/// from each source.
+/// A block with few labels that are right takes time in proportion to them and to the arcs that leave their nodes, any
+/// other block in proportion to all nodes and arcs. Takes memory for the arcs and for the nodes reached from each source.
 pub fn certify_paths<N: Network>(
     alloc: Global,
     graph: &Graph<N>,
@@ -35,18 +39,70 @@ pub fn certify_paths<N: Network>(
 {
     let network = graph.network();
     let mut links = None;
+    let mut tables = Some(Tables::new(alloc));
     let mut labels = Labels::new(alloc, network.nodes());
     let blocks = distances.blocks();
     for i in 0..blocks.len() {
-        let claimed = &blocks[i];
-        let claim = BlockClaim::new(alloc, claimed)?;
-        let block = certify_block(alloc, graph, &mut links, claimed.source(), &claim)?;
+        let block = certify_one(alloc, graph, &mut links, &mut tables, &blocks[i])?;
         labels.push(block)?;
     }
     Ok(labels)
 }
 
-/// Decides one block: by one pass over the arcs, if each distance has a tight arc of positive weight, otherwise by a
+/// Decides one block: by the arcs that leave its nodes, if it has few labels and they are right, otherwise over all arcs.
+fn certify_one<N: Network>(
+    alloc: Global,
+    graph: &Graph<N>,
+    links: &mut Option<Links>,
+    tables: &mut Option<Tables>,
+    claimed: &Block,
+) -> Result<Block, JudgeError>
+    requires lawful { IsBlock graph.now.nodes claimed.now }
+    requires links { IfSome links.old (AreLinksOf Tail graph.now.arcs) }
+    requires free { IfSome tables.old AreFree }
+    ensures decides { DecidesBlock graph.now claimed.now.source (label claimed.now) result }
+    ensures links { OnOk result (IfSome links.new (AreLinksOf Tail graph.now.arcs)) }
+    ensures free { OnOk result (IfSome tables.new AreFree) }
+{
+    if labels_few(claimed, graph.network()) {
+        if let Some(block) = certify_few(alloc, graph, links, tables, claimed)? {
+            return Ok(block);
+        }
+    }
+    let claim = BlockClaim::new(alloc, claimed)?;
+    certify_block(alloc, graph, links, claimed.source(), &claim)
+}
+
+/// Labels for the claimed distances, found by the arcs that leave the block's nodes, if the distances are right.
+fn certify_few<N: Network>(
+    alloc: Global,
+    graph: &Graph<N>,
+    links: &mut Option<Links>,
+    tables: &mut Option<Tables>,
+    claimed: &Block,
+) -> Result<Option<Block>, Memory>
+    requires lawful { IsBlock graph.now.nodes claimed.now }
+    requires links { IfSome links.old (AreLinksOf Tail graph.now.arcs) }
+    requires free { IfSome tables.old AreFree }
+    ensures distances { IfOk result (λ found. IfSome found (λ block. AreDistancesFrom graph.now claimed.now.source (label claimed.now))) }
+    ensures made { IfOk result (λ found. IfSome found (IsMadeOf graph.now claimed.now)) }
+    ensures links { OnOk result (IfSome links.new (AreLinksOf Tail graph.now.arcs)) }
+    ensures free { OnOk result (IfSome tables.new AreFree) }
+{
+    let Some(own) = tables.take() else {
+        return Ok(None);
+    };
+    let linked = linked(alloc, graph.network(), links.take())?;
+    let found = few_block(alloc, graph, &linked, claimed, own)?;
+    *links = Some(linked);
+    let Some((block, own)) = found else {
+        return Ok(None);
+    };
+    *tables = Some(own);
+    Ok(Some(block))
+}
+
+/// Decides one block over all arcs: by one pass over the arcs, if each distance has a tight arc of positive weight, otherwise by a
 /// search over adjacency lists, which are built for the first block that needs them.
 fn certify_block<N: Network, C: DistanceClaim>(
     alloc: Global,

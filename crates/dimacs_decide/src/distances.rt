@@ -19,6 +19,7 @@ use dimacs_claims::{Block, Labels};
 use dimacs_instance::Graph;
 use dimacs_judge::{JudgeError, Where};
 use dimacs_network::{ArcView, Links, Network, Side};
+use dimacs_nodes::NodeTable;
 use dimacs_records::Reason;
 use std::alloc::Global;
 
@@ -76,7 +77,8 @@ pub(crate) fn decide_block<N: Network, C: DistanceClaim>(
     let network = graph.network();
     source_holds(source, claim)?;
     arcs_hold(network, claim)?;
-    let tree = tight_tree(alloc, network, links, source, claim)?;
+    let reached = NodeTable::new(alloc, false);
+    let tree = tight_tree(alloc, network, links, source, claim, reached)?;
     nodes_hold(network, claim, &tree)?;
     Ok(tree.into_block())
 }

@@ -38,7 +38,8 @@ pub(crate) fn rising_block<N: Network, C: DistanceClaim>(
     let Some(tails) = tight_tails(alloc, network, claim)? else {
         return Ok(None);
     };
-    let mut tree = TightTree::new(alloc, network, source, claim)?;
+    let reached = NodeTable::new(alloc, false);
+    let mut tree = TightTree::new(alloc, network, source, claim, reached)?;
     if lead_all(alloc, network, claim, &tails, &mut tree)? {
         Ok(Some(tree.into_block()))
     } else {

@@ -1,13 +1,15 @@
 //! The search over tight arcs: their weight is the difference of the claims of their ends.
 
-ghost use Rattle.std.specs.Prelude.{◌≡◌, ◌≢◌, ◌<◌, ◌≤◌, ◌+ℤ◌, ◌↔◌, IsTrue, All, length, false, true, Some, IfOk, IfSome, OnOk, MatchOption, pos};
+ghost use Rattle.std.specs.Prelude.{◌≡◌, ◌≢◌, ◌<◌, ◌≤◌, ◌+ℤ◌, ◌↔◌, ℕ, is_some, IsTrue, All, length, false, true, Some, IfOk, IfSome, OnOk, MatchOption, pos};
 ghost use Rattle.dimacs_lines.specs.Limits.{most_nodes, IsNode};
 ghost use Rattle.dimacs_records.specs.Ranges.{IsWide};
 ghost use Rattle.dimacs_network.specs.Arcs.{JoinsNodes, arc_at};
 ghost use Rattle.dimacs_network.specs.Links.{AreLinksOf};
 ghost use Rattle.dimacs_network.specs.declared.links.Side.TheVariants.{Tail};
+ghost use Rattle.dimacs_claims.specs.Labels.{label};
 ghost use Rattle.dimacs_nodes.specs.Tables.{value_of};
 ghost use Rattle.dimacs_decide.specs.Distances.{IsTight};
+ghost use Rattle.dimacs_decide.specs.inside.FewLabels.{IsUnreached};
 ghost use Rattle.dimacs_decide.specs.inside.TightTrees.{AreTightTails, IsPassed, IsTightTree, IsWholeTightTree, TreeGrows, node_at};
 
 use crate::claim::DistanceClaim;
@@ -26,20 +28,22 @@ pub(crate) struct TightTree {
 }
 
 impl TightTree {
-    /// The search that has reached only its source.
+    /// The search that has reached only its source, over a table that marks no node yet.
     pub fn new<N: Network, C: DistanceClaim>(
         alloc: Global,
         network: &N,
         source: u32,
         claim: &C,
+        reached: NodeTable<bool>,
     ) -> Result<TightTree, Memory>
         requires source { IsNode (N.node_count network.now) source }
         requires claimed { C.claimed claim.now source ≡ Some (pos 0) }
+        requires unreached { IsUnreached (value_of reached) }
         ensures source { IfOk result (λ tree. tree.block.source ≡ source) }
         ensures tree { IfOk result (λ tree. IsTightTree (N.node_count network.now) (N.list network.now)
             (C.claimed claim.now) tree.block (value_of tree.reached)) }
     {
-        let mut reached = NodeTable::new(alloc, false);
+        let mut reached = reached;
         reached.set(source, true)?;
         let block = Block::new(alloc, source);
         Ok(TightTree { block, reached })
@@ -58,6 +62,23 @@ impl TightTree {
         ensures { result ≡ self.block }
     {
         self.block
+    }
+
+    /// The labels of the nodes that were reached, and the table, with no node marked. Takes time in proportion to the
+    /// labels.
+    pub fn into_parts(self) -> Result<(Block, NodeTable<bool>), Memory>
+        requires { (v : ℕ) → value_of self.reached v ≡ is_some (label self.block v) }
+        ensures block { IfOk result (λ parts. parts.0 ≡ self.block) }
+        ensures unreached { IfOk result (λ parts. IsUnreached (value_of parts.1)) }
+    {
+        let block = self.block;
+        let mut reached = self.reached;
+        reached.set(block.source(), false)?;
+        let labels = block.labels();
+        for i in 0..labels.len() {
+            reached.set(labels.at(i).id, false)?;
+        }
+        Ok((block, reached))
     }
 
     /// The number of nodes reached from the source, which doesn't count.
@@ -210,24 +231,27 @@ fn leads_to(from: i128, weight: i64, to: i128) -> bool
     to == from + i128::from(weight)
 }
 
-/// All nodes that paths of tight arcs lead to from the source, in the order of the search.
+/// All nodes that paths of tight arcs lead to from the source, in the order of the search, over a table that marks no
+/// node yet.
 pub(crate) fn tight_tree<N: Network, C: DistanceClaim>(
     alloc: Global,
     network: &N,
     links: &Links,
     source: u32,
     claim: &C,
+    reached: NodeTable<bool>,
 ) -> Result<TightTree, Memory>
     requires few_nodes { N.node_count network.now ≤ most_nodes }
     requires joined { All (JoinsNodes (N.node_count network.now)) (N.list network.now) }
     requires links { AreLinksOf Tail (N.list network.now) links.now }
     requires source { IsNode (N.node_count network.now) source }
     requires claimed { C.claimed claim.now source ≡ Some (pos 0) }
+    requires unreached { IsUnreached (value_of reached) }
     ensures source { IfOk result (λ tree. tree.block.source ≡ source) }
     ensures tree { IfOk result (λ tree. IsWholeTightTree (N.node_count network.now) (N.list network.now)
         (C.claimed claim.now) tree.block (value_of tree.reached)) }
 {
-    let mut tree = TightTree::new(alloc, network, source, claim)?;
+    let mut tree = TightTree::new(alloc, network, source, claim, reached)?;
     let mut at = 0;
     while at <= tree.len() {
         let from = tree.node(at);

@@ -1,0 +1,6 @@
+use Rattle.dimacs_nodes.specs.Tables.{value_of}
+use Rattle.dimacs_decide.proofs.FewLemmas.{ArePlacedFirst}
+use Rattle.dimacs_decide.proofs.placed_claim.PlacedClaim.new.Given as goal
+
+abbrev pub invariant-loop-i : goal.invariant-loop-i
+invariant-loop-i l = ArePlacedFirst l.block l.i (value_of l.places)

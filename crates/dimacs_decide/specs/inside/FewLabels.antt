@@ -1,0 +1,29 @@
+-- Inside: blocks that label few nodes.
+use Rattle.std.specs.Prelude.{ℕ, ◌≡◌, ◌<◌, Bool, false, List, length, get_or, Option, Some, None, ℤ}
+use Rattle.dimacs_network.specs.declared.network.ArcView.{ArcView}
+use Rattle.dimacs_network.specs.Arcs.{arc_at}
+use Rattle.dimacs_records.specs.declared.reasons.Reason.{Reason}
+use Rattle.dimacs_judge.specs.CertificateTests.{RelaxFails}
+use Rattle.dimacs_nodes.specs.Tables.{value_of}
+use Rattle.dimacs_claims.specs.Labels.{BlockValue, distance_in, no_label}
+use Rattle.dimacs_decide.specs.declared.few_labels.Tables.{Tables}
+
+-- the place of each label, by its node; those of other nodes may be any
+abbrev pub ArePlaced : BlockValue → (ℕ → ℕ) → Type 0
+ArePlaced b places = (j : ℕ) → j < length b.labels → places (get_or b.labels j no_label).id ≡ j
+
+-- each label is the one of its node
+abbrev pub AreNamed : BlockValue → Type 0
+AreNamed b = (j : ℕ) → j < length b.labels → distance_in b.labels (get_or b.labels j no_label).id ≡ Some (get_or b.labels j no_label).dist
+
+-- no arc that leaves this node fails
+abbrev pub ArePassedFrom : List ArcView → (ℕ → Option ℤ) → ℕ → Type 0
+ArePassedFrom arcs claim v = (k : ℕ) → k < length arcs → (arc_at arcs k).tail ≡ v → (reason : Reason) → ¬ RelaxFails None (claim (arc_at arcs k).tail) (claim (arc_at arcs k).head) (arc_at arcs k).cost reason
+
+-- no node is reached
+abbrev pub IsUnreached : (ℕ → Bool) → Type 0
+IsUnreached reached = (v : ℕ) → reached v ≡ false
+
+-- a search can begin in these tables
+abbrev pub AreFree : Tables → Type 0
+AreFree tables = IsUnreached (value_of tables.reached)
