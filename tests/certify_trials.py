@@ -156,9 +156,10 @@ class Trials(Program):
         arcs = [(rng.randint(1, nodes), rng.randint(1, nodes), rng.randint(-2, 5)) for _ in range(rng.randint(0, 8))]
         sources = rng.sample(range(1, nodes + 1), rng.randint(0, min(3, nodes)))
         blocks = [(source, claimed(rng, nodes, arcs, source)) for source in sources]
+        declared = rng.choice([nodes, 300])  # where few of the nodes are labelled, other code decides
         self.claims += 1
-        self.write("instance", graph_text(nodes, arcs))
-        self.write("claim", distances_text(rng, nodes, blocks))
+        self.write("instance", graph_text(declared, arcs))
+        self.write("claim", distances_text(rng, declared, blocks))
         self.write("written", "untouched\n")
         wanted = next(filter(None, (first_fault(nodes, arcs, *block) for block in blocks)), f"v sp distances {len(blocks)}")
         said = self.run("certify-paths", "instance", "claim", "written")
