@@ -1,5 +1,5 @@
-//! Assertions for tests. A test says here what it wants in one call, which costs the checker less than an `assert_eq!` in
-//! its place.
+//! Assertions for tests. A test states here what it expects in one call, which costs the checker less than an
+//! `assert_eq!` in its place.
 
 use std::fmt::Debug;
 use std::process::Abort;

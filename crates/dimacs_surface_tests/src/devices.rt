@@ -41,7 +41,7 @@ fn sizes(rt: &impl Abort, alloc: Global, cell: &str) -> Result<Vec<usize>, Alloc
     Ok(list)
 }
 
-/// Whether a source gives what the line of a table says.
+/// Whether a source behaves as its row of a table expects.
 fn gives(rt: &impl Abort, alloc: Global, line: &str) -> Result<(), Fail> {
     let (name, rest) = cell(rt, line);
     let (which, rest) = cell(rt, rest);
@@ -77,7 +77,7 @@ a fault at once |  | 1 | Err(DeviceFault) |\x20
 a fault in mid-stream | 3 1 | 3 | Err(DeviceFault) | abcd
 a fault after the last put | 3 1 | 4 | Ok(()) | abcdefg";
 
-/// Whether a sink takes what the line of a table says.
+/// Whether a sink behaves as its row of a table expects.
 fn takes(rt: &impl Abort, alloc: Global, line: &str) -> Result<(), Fail> {
     let (name, rest) = cell(rt, line);
     let (pieces, rest) = cell(rt, rest);

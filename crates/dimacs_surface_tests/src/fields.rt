@@ -35,7 +35,7 @@ fn spell_fields(alloc: Global, line: &[u8]) -> Result<String, Fail> {
     Ok(spelled)
 }
 
-/// Fields, each with what is told of it as a number, and as a wide one. `~` stands for 700 noughts.
+/// Fields, each with its value as a number and as a wide number. `~` stands for 700 zeros.
 static NUMBERS: &str = "\
 nothing |  | Err(BadNumber) | Err(BadNumber)
 a minus alone | - | Err(BadNumber) | Err(BadNumber)
@@ -85,7 +85,7 @@ a letter after them | ~x | Err(BadNumber) | Err(BadNumber)
 one past the greatest after them | ~9223372036854775808 | Err(NumberRange) | Ok(9223372036854775808)
 hundreds of digits | 9~ | Err(NumberRange) | Err(NumberRange)";
 
-/// Whether a field spells the numbers that its line in a table says.
+/// Whether a field spells the numbers of its row.
 fn spells(rt: &impl Abort, alloc: Global, line: &str, noughts: &str) -> Result<(), Fail> {
     let (name, rest) = cell(rt, line);
     let (text, wanted) = cell(rt, rest);

@@ -18,7 +18,7 @@ const MIN: &[u8] =
 
 const GRAPH: &[u8] = b"p sp 2 3\na 1 2 5\na 2 1 -6\na 1 2 7\n";
 
-/// Arcs of the three, each with what is told of it.
+/// Arcs of the three instances, each with its description.
 static ARCS: &str = "\
 max | 0 | ArcView { tail: 1, head: 2, low: 0, cap: 4, cost: 0 }
 max | 4 | ArcView { tail: 3, head: 4, low: 0, cap: 5, cost: 0 }
@@ -27,7 +27,7 @@ min | 3 | ArcView { tail: 2, head: 4, low: 0, cap: 3, cost: 3 }
 graph | 1 | ArcView { tail: 2, head: 1, low: 0, cap: 0, cost: -6 }
 graph | 3 | no arc";
 
-/// What is told of an arc.
+/// The description of an arc.
 fn told<N: Network>(alloc: Global, network: &N, i: u32) -> Result<String, Fail> {
     if i < network.arcs() {
         let arc: ArcView = network.arc(i);
@@ -36,7 +36,7 @@ fn told<N: Network>(alloc: Global, network: &N, i: u32) -> Result<String, Fail> 
     Ok(String::from_str(alloc, "no arc")?)
 }
 
-/// What is told of an arc of the first instance.
+/// The description of an arc of the first instance.
 fn max_arc(alloc: Global, i: u32) -> Result<String, Fail> {
     let max = read_max(alloc, &mut MemorySource::new(MAX))?;
     told(alloc, max.network(), i)
@@ -54,7 +54,7 @@ fn graph_arc(alloc: Global, i: u32) -> Result<String, Fail> {
     told(alloc, graph.network(), i)
 }
 
-/// Whether the arc in a line of a table is what it says.
+/// Whether an arc has the description in its row.
 fn has_arc(rt: &impl Abort, alloc: Global, line: &str) -> Result<(), Fail> {
     let (which, rest) = cell(rt, line);
     let (i, wanted) = cell(rt, rest);

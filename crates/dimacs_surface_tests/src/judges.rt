@@ -43,7 +43,7 @@ fn flow_in<N: Network>(alloc: Global, network: &N, text: &[u8]) -> Result<Flow, 
     Ok(flow)
 }
 
-/// What is said of a claim of a maximum flow, as its entries are kept.
+/// The judge's answers to a claimed maximum flow whose entries are kept.
 fn kept_max<N: Network>(
     alloc: Global,
     instance: &MaxInstance<N>,
@@ -66,7 +66,7 @@ fn placed_max<N: Network>(
     Ok(judge_max_placed(alloc, instance, &placed, cut))
 }
 
-/// What is said of a claim in the first network, of its entries as they are kept and as they are placed.
+/// The judge's answers to a claim in the first network, with its entries kept and with its entries placed.
 fn judged_max(alloc: Global, claim: &[u8]) -> Result<[Result<Verdict, JudgeError>; 2], Fail> {
     let instance = read_max(alloc, &mut MemorySource::new(MAX))?;
     let cut = read_cut(alloc, &mut MemorySource::new(CUT))?;
@@ -92,7 +92,7 @@ fn a_maximum_flow_is_judged_by_a_cut(rt: HostRuntime) -> Result<(), Fail> {
     Ok(())
 }
 
-/// What is said of the first arc's amount in the maximum flow, of the flow, and of a cut for it.
+/// The amount of the first arc in the maximum flow, and the judge's answers to the flow and to a cut for it.
 fn tests_of_max(alloc: Global, cut: &[u8]) -> Result<Result<(), (Where, Reason)>, Fail> {
     let instance = read_max(alloc, &mut MemorySource::new(MAX))?;
     let flow = flow_in(alloc, instance.network(), MAXIMUM)?;
@@ -122,7 +122,7 @@ const MIN: &[u8] = b"p min 2 2\nn 1 1\nn 2 -1\na 1 2 0 1 3\na 2 1 0 1 0\n";
 /// A flow of least cost in it.
 const LEAST: &[u8] = b"s 3\nf 1 2 1\n";
 
-/// What is said of a claim of a least flow, as its entries are kept.
+/// The judge's answers to a claimed least cost flow whose entries are kept.
 fn kept_min<N: Network>(
     alloc: Global,
     instance: &MinInstance<N>,
@@ -143,7 +143,7 @@ fn placed_min<N: Network>(
     Ok(judge_min_placed(alloc, instance, &placed, potentials))
 }
 
-/// What is said of the least flow with potentials, of its entries as they are kept and as they are placed.
+/// The judge's answers to the least cost flow with potentials, with its entries kept and with its entries placed.
 fn judged_min(alloc: Global, potentials: &[u8]) -> Result<[Result<Verdict, JudgeError>; 2], Fail> {
     let instance = read_min(alloc, &mut MemorySource::new(MIN))?;
     let potentials = read_potentials(alloc, &mut MemorySource::new(potentials))?;
@@ -151,7 +151,7 @@ fn judged_min(alloc: Global, potentials: &[u8]) -> Result<[Result<Verdict, Judge
     Ok([kept, placed_min(alloc, &instance, &potentials)?])
 }
 
-/// What is said of the least flow, and of potentials for it.
+/// The judge's answers to the least cost flow, and to potentials for it.
 fn tests_of_min(alloc: Global, potentials: &[u8]) -> Result<Result<(), (Where, Reason)>, Fail> {
     let instance = read_min(alloc, &mut MemorySource::new(MIN))?;
     let flow = flow_in(alloc, instance.network(), LEAST)?;
@@ -180,7 +180,7 @@ fn a_flow_of_least_cost_is_judged_by_potentials(rt: HostRuntime) -> Result<(), F
     Ok(())
 }
 
-/// What is said of a set.
+/// The judge's answer to a set.
 fn judged_set(alloc: Global, text: &[u8]) -> Result<Result<Verdict, JudgeError>, Fail> {
     let instance = read_min(alloc, &mut MemorySource::new(text))?;
     let set = read_cut(alloc, &mut MemorySource::new(b"p cut 2 1\nu 1\n"))?;
@@ -196,7 +196,7 @@ fn a_set_is_judged(rt: HostRuntime) -> Result<(), Fail> {
     Ok(())
 }
 
-/// What is said of labels, and the answers to two queries.
+/// The judge's answer to labels, and the answers to two queries.
 fn judged_labels(alloc: Global, labels: &[u8]) -> Result<Result<Verdict, JudgeError>, Fail> {
     let graph = read_graph(
         alloc,

@@ -1,4 +1,4 @@
-//! What lines say, how records are written, and readings.
+//! What lines spell, how records are written, and readings.
 
 use crate::checks::{holds, same};
 use crate::tables::{cell, rows};
@@ -10,7 +10,7 @@ use dimacs_records::{
 use std::alloc::Global;
 use std::test::Fail;
 
-/// Lines of a graph, each with what it says: a record, nothing, or the field and the reason of its fault.
+/// Lines of a graph, each with what it spells: a record, nothing, or the field and the reason of its fault.
 static LINES: &str = "\
 problem | p sp 2 1 | GraphProblem { nodes: 2, arcs: 1 }
 no node and no arc | p sp 0 0 | GraphProblem { nodes: 0, arcs: 0 }
@@ -86,7 +86,7 @@ weight of many digits | a 1 2 99999999999999999999999999999999999999999999 | 4 N
 weight past 64 bits that ends like a small one | a 1 2 18446744073709551617 | 4 NumberRange
 many digits and a letter | a 1 2 99999999999999999999999999999999999999999999x | 4 BadNumber";
 
-/// What is told of a line.
+/// What a line spells.
 fn told(alloc: Global, line: &[u8]) -> Result<String, Fail> {
     match record(TextKind::Graph, line) {
         Ok(Some(said)) => Ok(format!(in alloc; "{said:?}")?),
@@ -146,7 +146,7 @@ fn records_have_one_canonical_line(rt: HostRuntime) -> Result<(), Fail> {
     Ok(())
 }
 
-/// Gives a reading what a line says.
+/// Gives a reading the record of a line.
 fn take(reading: &mut GraphReading, number: u64, line: &str) -> Result<(), TakeError> {
     match record(TextKind::Graph, line.as_bytes()) {
         Ok(Some(said)) => reading.take(number, said),

@@ -109,7 +109,7 @@ fn id(rt: &impl Abort, cell: &str) -> u32 {
     cell.parse::<u32>().expect(rt, cell)
 }
 
-/// Whether it is answered of the arrays of a line what the line says.
+/// Whether the arrays of a row have the answer in that row.
 fn answers(rt: &impl Abort, alloc: Global, line: &str) -> Result<(), Fail> {
     let (name, rest) = cell(rt, line);
     let (what, rest) = cell(rt, rest);

@@ -53,7 +53,7 @@ fn certify(
     )
 }
 
-/// Whether the judge says yes to a claim with this certificate, in these words.
+/// Whether the judge answers yes to a claim with this certificate, in these words.
 fn judged(rt: &impl Abort, alloc: Global, claimed: Claimed<'_>, certificate: &[u8], report: &str) {
     let kind = if claimed.kind == CertifyKind::Max {
         JudgeKind::Max
@@ -203,7 +203,7 @@ fn certified(rt: &impl Abort, word: &str) -> CertifyKind {
     CertifyKind::Min
 }
 
-/// Whether the claim of a line is certified as it says, with what is put in pieces of these sizes.
+/// Whether the claim of a row is certified as the row expects, if output is taken in pieces of these sizes.
 fn certifies(rt: &impl Abort, alloc: Global, line: &str, sizes: &[usize]) -> Result<(), Fail> {
     let case = case(alloc, line)?;
     let (name, rest) = cell(rt, &case);
@@ -263,7 +263,7 @@ the first of two blocks that fail | paths | p sp 3 2;a 1 3 1;a 3 2 1; | p distan
 a fault in each text | paths | p sp 3 2; | p distances; | Refused |  | x instance 2 0 TooFew;
 faulty distances | paths | p sp 3 1;a 1 3 1; | p distances 3 1; | Refused |  | x distances 2 0 TooFew;";
 
-/// Whether the case of a line is certified as it says, with what is put in pieces of these sizes.
+/// Whether the case of a row is certified as the row expects, if output is taken in pieces of these sizes.
 fn shows(rt: &impl Abort, alloc: Global, line: &str, sizes: &[usize]) -> Result<(), Fail> {
     let case = case(alloc, line)?;
     let (name, rest) = cell(rt, &case);

@@ -280,7 +280,7 @@ certify-max max flow a b |  |  |  | 2
 --help |  |  |  | 2
 solve-max pipe a b --limit |  |  |  | 2";
 
-/// Whether the command line of a case ends as the case says.
+/// Whether the command line of a case ends as the case expects.
 fn ends(rt: &impl Abort, alloc: Global, line: &str) -> Result<(), Fail> {
     let case = case(alloc, line)?;
     let (command, rest) = cell(rt, &case);

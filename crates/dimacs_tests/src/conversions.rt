@@ -187,7 +187,7 @@ fn puts_fail_in_turn(
     Ok(())
 }
 
-/// Whether the texts of a kind are what a table says. A refusal names the text so.
+/// Whether the texts of a kind have the results in a table. A refusal names the text so.
 fn each_holds(
     rt: &impl Abort,
     alloc: Global,

@@ -76,7 +76,7 @@ fn told<N: Network>(
     }
 }
 
-/// Whether it is decided of the flow of a line what the line says.
+/// Whether the flow of a row is decided as the row expects.
 fn decides_flow(rt: &impl Abort, alloc: Global, line: &str) -> Result<(), Fail> {
     let case = case(alloc, line)?;
     let (name, rest) = cell(rt, &case);
@@ -155,7 +155,7 @@ fn decided<N: Network>(
     }
 }
 
-/// Whether it is decided of the instance of a line what the line says.
+/// Whether the instance of a row is decided as the row expects.
 fn decides_instance(rt: &impl Abort, alloc: Global, line: &str) -> Result<(), Fail> {
     let case = case(alloc, line)?;
     let (name, rest) = cell(rt, &case);
@@ -241,7 +241,7 @@ fn decides<N: Network, C: DistanceClaim>(
     answers(rt, alloc, name, answer, wanted)
 }
 
-/// Whether it is decided of the claim of a line what the line says.
+/// Whether the claim of a row is decided as the row expects.
 fn decides_claim(rt: &impl Abort, alloc: Global, line: &str) -> Result<(), Fail> {
     let case = case(alloc, line)?;
     let (name, rest) = cell(rt, &case);

@@ -210,7 +210,7 @@ fn judges_alike(rt: &impl Abort, alloc: Global, name: &str, texts: Texts<'_>) ->
     }
 }
 
-/// Whether the case in a line of a table is judged as it says, by both networks: its name, the instance, the claim, the
+/// Whether the case in a row is judged as the row expects, by both networks: its name, the instance, the claim, the
 /// certificate, how the run ends and what it puts.
 fn judges_case(rt: &impl Abort, alloc: Global, kind: JudgeKind, line: &str) -> Result<(), Fail> {
     let case = case(alloc, line)?;
@@ -229,7 +229,7 @@ fn judges_case(rt: &impl Abort, alloc: Global, kind: JudgeKind, line: &str) -> R
     judges(rt, alloc, name, texts, status(rt, ended), output)
 }
 
-/// Whether each case of a table is judged as it says.
+/// Whether each case of a table is judged as its row expects.
 pub fn judges_each(
     rt: &impl Abort,
     alloc: Global,

@@ -1,4 +1,4 @@
-//! Files in memory, which say what they hold and what was done with them.
+//! Files in memory, which record what they hold and what was done with them.
 
 ghost use Rattle.std.specs.Prelude.{◌≡◌, map, IfNone, IfSome, None, Some};
 ghost use Rattle.dimacs_tests.specs.MemoryFiles.{text_of};

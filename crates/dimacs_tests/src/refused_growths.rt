@@ -47,7 +47,7 @@ impl<'a> Sink for Comparing<'a> {
     }
 }
 
-/// Gives a reading what a line says.
+/// Gives a reading the record of a line.
 fn take_line<R: Reading>(
     reading: &mut R,
     kind: TextKind,

@@ -29,7 +29,7 @@ static FIELDS: [(
 
 const LINE: &[u8] = b" a\t -12345678 123456789 9223372036854775808\r+7";
 
-/// What is told of a token: its text, where it starts, and its numbers.
+/// The description of a token: its text, where it starts, and its numbers.
 type Told<'a> = (
     &'a [u8],
     usize,

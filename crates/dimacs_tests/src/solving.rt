@@ -184,7 +184,7 @@ fn producer(rt: &impl Abort, named: &str) -> SolveJob {
     SolveJob::Min(limit)
 }
 
-/// Whether the run of a line ends as it says, and puts these texts.
+/// Whether the run of a row ends as the row expects, and writes these texts.
 fn ends(rt: &impl Abort, alloc: Global, line: &str) -> Result<(), Fail> {
     let case = case(alloc, line)?;
     let (name, rest) = cell(rt, &case);
@@ -350,7 +350,7 @@ fn judge_named(rt: &impl Abort, word: &str) -> JudgeKind {
     }
 }
 
-/// Whether what is made in a case is judged as the case says.
+/// Whether what a case makes is judged as the case expects.
 fn makes(rt: &impl Abort, alloc: Global, line: &str) -> Result<(), Fail> {
     let case = case(alloc, line)?;
     let (judge, rest) = cell(rt, &case);

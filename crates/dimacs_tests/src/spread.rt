@@ -59,7 +59,7 @@ fn told(alloc: Global, spread: Result<Flow, JudgeError>) -> Result<String, Fail>
     }
 }
 
-/// Whether the solution of a line is dealt out as it says, over a network with an index and over one without.
+/// Whether the solution of a row is spread as the row expects, over a network with an index and over one without.
 fn spreads_max(rt: &impl Abort, alloc: Global, line: &str) -> Result<(), Fail> {
     let (name, rest) = cell(rt, line);
     let (lines, rest) = cell(rt, rest);
