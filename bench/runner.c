@@ -1,4 +1,4 @@
-// Runs a program and says what it took:
+// Runs a program and prints what it took:
 //
 //   runner OUT LIMIT PROGRAM WORD..
 //

@@ -78,7 +78,7 @@ class Trials(Program):
     claims = 0
 
     def faults(self, instance, value, best):
-        """What is wrong with what is said of the claim in its file."""
+        """What is wrong with the answers about the claim in its file."""
         self.claims += 1
         kind = instance.kind
         said = self.run(f"certify-{kind}", "instance", "claim", "written")
@@ -104,7 +104,7 @@ class Trials(Program):
         yield from self.faults(instance, reached, best)
 
     def wrong_value(self, instance, value):
-        """What is wrong with what is said of the claim with another value."""
+        """What is wrong with the answers about the claim with another value."""
         self.write("written", "")
         said = self.run(f"certify-{instance.kind}", "instance", "claim", "written")
         written = self.read("written")
@@ -112,7 +112,7 @@ class Trials(Program):
             yield f"of another value than {value} it prints {said!r} and writes {written!r}"
 
     def try_instance(self, rng, instance):
-        """What is wrong with what is said of some flows of an instance."""
+        """What is wrong with the answers about some flows of an instance."""
         self.write("instance", instance.text)
         feasible = [flow for flow in flows(instance.arcs) if instance.is_feasible(flow)]
         values = [instance.value(flow) for flow in feasible]
@@ -128,7 +128,7 @@ class Trials(Program):
 
 
     def try_supplies(self, rng):
-        """What is wrong with what is said of an instance that may have no feasible flow."""
+        """What is wrong with the answers about an instance that may have no feasible flow."""
         nodes, arcs = network(rng, 1, 4)
         supplies = nets(nodes, arcs, [rng.randint(arc[2] - 1, arc[3] + 1) for arc in arcs])
         supplies[rng.randint(1, nodes)] += rng.choice([0, 0, 0, 0, 1])
@@ -151,7 +151,7 @@ class Trials(Program):
             yield f"a flow is feasible, it prints {said!r} and writes {words}"
 
     def try_distances(self, rng):
-        """What is wrong with what is said of claimed distances."""
+        """What is wrong with the answers about claimed distances."""
         nodes = rng.randint(1, 5)
         arcs = [(rng.randint(1, nodes), rng.randint(1, nodes), rng.randint(-2, 5)) for _ in range(rng.randint(0, 8))]
         sources = rng.sample(range(1, nodes + 1), rng.randint(0, min(3, nodes)))

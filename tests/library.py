@@ -243,7 +243,7 @@ def test_networkx(counts, python, environment, place):
 
 
 def test_agreement(counts, build, instances, runs):
-    """Arrays and the texts that say the same."""
+    """Arrays and the same as texts."""
     words = [pythons()[0], f"{TEST}/agree.py", "--instances", str(instances), "--runs", str(runs)]
     words += ["--program", f"{build}/dimacs"]
     counts.add("agree.py", run(*words, env=package(build)), by_count)

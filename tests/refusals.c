@@ -86,7 +86,7 @@ __attribute__((destructor)) static void end(void)
         abort();
 }
 
-/* Counts a call on a file of this name, and says whether it fails, with this error. */
+/* Counts a call on a file of this name, and returns whether it fails, with this error. */
 static int fails(enum call call, int error, const char *done, const char *name)
 {
     if (!counting)
@@ -105,7 +105,7 @@ static const char *name_of(int file)
     return 0 <= file && file < MOST_FILES ? names[file] : "";
 }
 
-/* Counts a growth of so many bytes, and says whether it fails. */
+/* Counts a growth of so many bytes, and returns whether it fails. */
 static int grows_not(size_t size)
 {
     if (counting)

@@ -78,7 +78,7 @@ class Trials(Program):
             yield f"prints {said!r} of an entry on line {place + 2} that no arc has"
 
     def try_instance(self, rng, kind):
-        """What is wrong with what is said of an instance."""
+        """What is wrong with the answers about an instance."""
         nodes, arcs = network(rng, 2, 3)
         if kind == "max":
             arcs = [(tail, head, 0, cap, 0) for tail, head, _, cap, _ in arcs]

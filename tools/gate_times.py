@@ -1,5 +1,5 @@
 #!/usr/bin/env python3
-"""Says what each crate takes of the gate's time.
+"""Prints what each crate takes of the gate's time.
 
     tools/gate_times.py watch PID        notes what the checks under a process take, until that one ends, and prints it
     tools/gate_times.py table LOG        writes the table in docs/ARCHITECTURE.md from the log of a gate

@@ -1,4 +1,4 @@
-// Reads an instance by Boost, and tells how many nodes and arcs it has, or solves it, and tells the value:
+// Reads an instance by Boost, and prints how many nodes and arcs it has, or solves it, and prints the value:
 //
 //   boost read max FILE
 //   boost solve max|min FILE

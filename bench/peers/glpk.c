@@ -1,4 +1,4 @@
-// Reads an instance by GLPK, and tells how many nodes and arcs it has: glpk read max|min FILE
+// Reads an instance by GLPK, and prints how many nodes and arcs it has: glpk read max|min FILE
 #include <glpk.h>
 #include <stddef.h>
 #include <stdio.h>

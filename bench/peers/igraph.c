@@ -1,4 +1,4 @@
-// Reads an instance by igraph, and tells how many nodes and arcs it has, or solves it, and tells the value:
+// Reads an instance by igraph, and prints how many nodes and arcs it has, or solves it, and prints the value:
 //
 //   igraph read max FILE
 //   igraph solve max FILE

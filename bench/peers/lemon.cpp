@@ -1,4 +1,4 @@
-// Reads an instance by LEMON, and tells how many nodes and arcs it has, or solves it, and tells the value:
+// Reads an instance by LEMON, and prints how many nodes and arcs it has, or solves it, and prints the value:
 //
 //   lemon read max|min|gr FILE
 //   lemon solve max|min|scaling FILE      scaling: of least cost too, by cost scaling

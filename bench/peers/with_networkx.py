@@ -1,4 +1,4 @@
-"""Reads an instance into networkx, and tells how many nodes and arcs it has, or solves it, and tells the value:
+"""Reads an instance into networkx, and prints how many nodes and arcs it has, or solves it, and prints the value:
 
     with_networkx.py read|solve max|min FILE
     with_networkx.py read gr FILE

@@ -1,4 +1,4 @@
-"""Solves an instance by SciPy, and tells the value:
+"""Solves an instance by SciPy, and prints the value:
 
     with_scipy.py max|min FILE
     with_scipy.py gr FILE SOURCE..

@@ -119,12 +119,12 @@ uint32_t dimacs_solve(uint32_t kind, const uint8_t *instance, size_t instance_le
  * DIMACS_DONE says that it was a form and DIMACS_REFUSED that it was a fault. */
 uint32_t dimacs_convert(uint32_t kind, const uint8_t *text, size_t length, uint8_t *out, size_t room, size_t *told);
 
-/* A line that says what a text of this kind is, or the line of its fault. */
+/* A line that describes a text of this kind, or the line of its fault. */
 uint32_t dimacs_show(uint32_t kind, const uint8_t *text, size_t length, uint8_t *out, size_t room, size_t *told);
 
 /* ---- Arrays in memory ----
  *
- * Nodes and arcs count from 1. The k-th items of the arrays by arc say what the k-th arc is, and the k-th item of an
+ * Nodes and arcs count from 1. The k-th items of the arrays by arc describe the k-th arc, and the k-th item of an
  * array by node belongs to node k. There are as many arcs as tails, and each other array has to have as many items as
  * there are arcs, or nodes; else a call answers DIMACS_MISUSED and hands out nothing. So does a call with the line
  * `x node ID REASON` or `x arc K REASON` for the first number past its limit: there are at most 2^27 nodes
@@ -216,7 +216,7 @@ uint32_t dimacs_certify_min_arrays(const dimacs_min *instance, const int64_t *fl
                                    size_t *potentials_told, int64_t *better, size_t better_room, size_t *better_told);
 
 /* Certifies that an instance has no feasible flow, without a set. Hands out `v infeasible`, and a byte for each node to
- * `inside`, 1 for each node of a set by which dimacs_judge_infeasible_arrays says yes, and 0 for the others, exactly if
+ * `inside`, 1 for each node of a set that dimacs_judge_infeasible_arrays accepts, and 0 for the others, exactly if
  * no flow is feasible; else `x instance 0 0 Feasible`, and a feasible flow to `flows`, an amount for each arc. The time that
  * it takes isn't bounded by the number of arcs. */
 uint32_t dimacs_certify_infeasible_arrays(const dimacs_min *instance, uint8_t *out, size_t room, size_t *told,
@@ -224,7 +224,7 @@ uint32_t dimacs_certify_infeasible_arrays(const dimacs_min *instance, uint8_t *o
                                           size_t flows_room, size_t *flows_told);
 
 /* Certifies distances from the source, by node, that have no predecessors, in time by the number of arcs and nodes.
- * Hands out `v sp ss 1`, and predecessors, by node, by which dimacs_judge_paths_arrays says yes too, exactly where they
+ * Hands out `v sp ss 1`, and predecessors, by node, that dimacs_judge_paths_arrays accepts too, exactly where they
  * are the least weights of walks; of a no the first test that fails: the source, NotShortest; each arc whose tail is
  * reached, Escapes where its head isn't, or NotShortest; each node, NoTightArc where it is reached and no arcs that give
  * the distances lead to it. */
@@ -233,13 +233,13 @@ uint32_t dimacs_certify_paths_arrays(const dimacs_graph *graph, uint32_t source,
                                      uint32_t *predecessors, size_t predecessors_room, size_t *predecessors_told);
 
 /* Solves maximum flow, from the flow of zeros on; gives up after `limit` flows that aren't maximum. Hands out `v max VALUE`,
- * an amount for each arc to `flows`, and a byte for each node to `inside`, by which dimacs_judge_max_arrays says yes. */
+ * an amount for each arc to `flows`, and a byte for each node to `inside`, that dimacs_judge_max_arrays accepts. */
 uint32_t dimacs_solve_max_arrays(const dimacs_max *instance, uint64_t limit, uint8_t *out, size_t room, size_t *told,
                                  int64_t *flows, size_t flows_room, size_t *flows_told, uint8_t *inside,
                                  size_t inside_room, size_t *inside_told);
 
 /* Solves least cost; gives up after `limit` steps, each to a better flow, or where the least cost is out of range. Hands out
- * `v min COST`, an amount for each arc to `flows`, and a potential for each node, by which dimacs_judge_min_arrays says yes;
+ * `v min COST`, an amount for each arc to `flows`, and a potential for each node, that dimacs_judge_min_arrays accepts;
  * where no flow is feasible `v infeasible`, and a byte for each node to `inside` alone, by which
  * dimacs_judge_infeasible_arrays says yes. */
 uint32_t dimacs_solve_min_arrays(const dimacs_min *instance, uint64_t limit, uint8_t *out, size_t room, size_t *told,

@@ -91,7 +91,7 @@ class span {
 
 // ---- What is handed in ----
 
-// Nodes and arcs count from 1. The k-th items of the spans by arc say what the k-th arc is, and the k-th item of a span
+// Nodes and arcs count from 1. The k-th items of the spans by arc describe the k-th arc, and the k-th item of a span
 // by node belongs to node k.
 using Nodes = span<const std::uint32_t>;
 using Numbers = span<const std::int64_t>;
@@ -449,7 +449,7 @@ inline std::uint64_t number_of(std::string_view digits) {
     return number;
 }
 
-// What a line that begins with x says.
+// The fields of a line that begins with x.
 inline Refused refused(std::string_view line) {
     const auto words = words_of(line);
     Refused it;
@@ -491,7 +491,7 @@ inline std::uint64_t sources_of(std::string_view line) {
     return words.size() == 4 ? number_of(words[3]) : 0;
 }
 
-// What the lines of `judge-paths` say.
+// The fields of the lines of `judge-paths`.
 inline JudgedPaths paths_of(std::string_view lines) {
     JudgedPaths it;
     const auto words = words_of(lines);
@@ -810,7 +810,7 @@ inline Answer<std::string, Refused> convert(Text kind, std::string_view text) {
     return detail::make_text(dimacs_convert, kind, text);
 }
 
-// A line that says what a text is, as "i max 4 5 1 4\n". Refused if it has a fault.
+// A line that describes a text, as "i max 4 5 1 4\n". Refused if it has a fault.
 inline Answer<std::string, Refused> show(Text kind, std::string_view text) {
     return detail::make_text(dimacs_show, kind, text);
 }
@@ -869,7 +869,7 @@ inline Answer<Judged, Refused> judge_paths(const Graph &graph, std::uint32_t sou
     return Judged{};
 }
 
-// Decides whether a flow, by arc, is maximum: a cut by which judge_max says yes; NotOptimal, which has a feasible flow
+// Decides whether a flow, by arc, is maximum: a cut that judge_max accepts; NotOptimal, which has a feasible flow
 // of greater value, if it is feasible and isn't maximum; Refused if it isn't feasible. The time that it takes isn't
 // bounded by the number of arcs.
 inline Answer<CertifiedMax<Inside>, NotOptimal<Flows>, Refused> certify_max(const MaxInstance &instance,
@@ -888,7 +888,7 @@ inline Answer<CertifiedMax<Inside>, NotOptimal<Flows>, Refused> certify_max(cons
     return no;
 }
 
-// Decides whether a flow, by arc, costs least: potentials by which judge_min says yes, or GaveUp if those that were
+// Decides whether a flow, by arc, costs least: potentials that judge_min accepts, or GaveUp if those that were
 // found don't fit in 64 bits; NotOptimal, which has a feasible flow that costs less; Refused if it isn't feasible.
 inline Answer<CertifiedMin<Potentials>, NotOptimal<Flows>, GaveUp, Refused> certify_min(const MinInstance &instance,
                                                                                         Numbers flows) {
@@ -906,7 +906,7 @@ inline Answer<CertifiedMin<Potentials>, NotOptimal<Flows>, GaveUp, Refused> cert
     return no;
 }
 
-// Decides whether an instance has no feasible flow: a set by which judge_infeasible says yes; Feasible, which has a
+// Decides whether an instance has no feasible flow: a set that judge_infeasible accepts; Feasible, which has a
 // feasible flow, if there is one. The time that it takes isn't bounded by the number of arcs.
 inline Answer<CertifiedInfeasible<Inside>, Feasible<Flows>> certify_infeasible(const MinInstance &instance) {
     const dimacs_min arrays = detail::arrays(instance);
@@ -920,7 +920,7 @@ inline Answer<CertifiedInfeasible<Inside>, Feasible<Flows>> certify_infeasible(c
 }
 
 // Decides whether the distances from the source, by node, are the least weights of walks, in time by the number of arcs
-// and nodes: predecessors by which judge_paths says yes; Refused for the first test that fails.
+// and nodes: predecessors that judge_paths accepts; Refused for the first test that fails.
 inline Answer<CertifiedPaths<Predecessors>, Refused> certify_paths(const Graph &graph, std::uint32_t source,
                                                                    Numbers distances) {
     const dimacs_graph arrays = detail::arrays(graph);
@@ -934,7 +934,7 @@ inline Answer<CertifiedPaths<Predecessors>, Refused> certify_paths(const Graph &
     return CertifiedPaths<Predecessors>{predecessors.take()};
 }
 
-// Makes a maximum flow, and a cut by which judge_max says yes. GaveUp after `limit` flows that aren't maximum.
+// Makes a maximum flow, and a cut that judge_max accepts. GaveUp after `limit` flows that aren't maximum.
 inline Answer<SolvedMax<Flows, Inside>, GaveUp> solve_max(const MaxInstance &instance,
                                                           std::uint64_t limit = default_limit) {
     const dimacs_max arrays = detail::arrays(instance);
@@ -947,7 +947,7 @@ inline Answer<SolvedMax<Flows, Inside>, GaveUp> solve_max(const MaxInstance &ins
     return SolvedMax<Flows, Inside>{detail::value_of(line.text()), flows.take(), inside.take()};
 }
 
-// Makes a flow of least cost, and potentials by which judge_min says yes. Infeasible, which has a set by which
+// Makes a flow of least cost, and potentials that judge_min accepts. Infeasible, which has a set by which
 // judge_infeasible says yes, if no flow is feasible; GaveUp after `limit` steps to better flows, or if the least cost
 // or the potentials are out of range.
 inline Answer<SolvedMin<Flows, Potentials>, Infeasible<Inside>, GaveUp> solve_min(const MinInstance &instance,
@@ -963,7 +963,7 @@ inline Answer<SolvedMin<Flows, Potentials>, Infeasible<Inside>, GaveUp> solve_mi
     return SolvedMin<Flows, Potentials>{detail::value_of(line.text()), flows.take(), potentials.take()};
 }
 
-// Makes distances from the source, and predecessors by which judge_paths says yes. Refused for the first arc of
+// Makes distances from the source, and predecessors that judge_paths accepts. Refused for the first arc of
 // negative weight; GaveUp if a distance is 2^63 - 1 or more.
 inline Answer<SolvedPaths, GaveUp, Refused> solve_paths(const Graph &graph, std::uint32_t source) {
     const dimacs_graph arrays = detail::arrays(graph);

@@ -1,5 +1,5 @@
 #!/usr/bin/env python3
-"""Compares the calls over arrays with the texts that say the same: agree.py [--instances N] [--program BINARY] [--runs M]
+"""Compares the calls over arrays with the same as texts: agree.py [--instances N] [--program BINARY] [--runs M]
 
 Random small instances with claims, right and wrong ones, go through the calls over arrays and, printed, through those
 over texts; M of them, spread over all, through the program instead. Each has to get the same line. What a certifier hands

@@ -127,7 +127,7 @@ def call_with_rooms(function: Callable[..., int], words: list[Any], rooms: list[
 
 
 def refusal(line: bytes, **more: Any) -> Refused:
-    """What a line that begins with x says."""
+    """The fields of a line that begins with x."""
     _, place, *numbers, reason = line.decode("ascii").split()
     kind = NotOptimal if more else Refused
     if place in ("arc", "node"):
@@ -144,7 +144,7 @@ def _distance(words: list[str]) -> int | Beyond | None:
 
 
 def verdict(said: bytes) -> Verdict:
-    """What the lines of a verdict say."""
+    """The fields of the lines of a verdict."""
     words = said.decode("ascii").split("\n", 1)[0].split()
     kind = words[1] if words else "pairs"
     if kind in ("max", "min"):

@@ -195,5 +195,5 @@ def convert(kind: str, text: Text) -> Any:
 
 
 def show(kind: str, text: Text) -> Any:
-    """A line that says what a text is, as `i max 4 5 1 4`. The kinds and what is raised are those of convert."""
+    """A line that describes a text, as `i max 4 5 1 4`. The kinds and what is raised are those of convert."""
     return _told(library.show, kind, text)

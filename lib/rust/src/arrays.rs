@@ -1,6 +1,6 @@
 //! The calls over slices.
 //!
-//! Nodes and arcs count from 1. The k-th items of the slices by arc say what the k-th arc is, and the k-th item of a slice
+//! Nodes and arcs count from 1. The k-th items of the slices by arc describe the k-th arc, and the k-th item of a slice
 //! by node belongs to node k. Each call gives [`Error::WrongLength`] if a slice has another length than it has to have,
 //! [`Error::PastLimit`] if a number of the instance is past its limit, and [`Error::OutOfMemory`]; its own text names the
 //! other variants that it gives.
@@ -9,8 +9,8 @@ use crate::ffi::{self, Array, Graph as RawGraph, Max, Min, DONE, GAVE_UP, MISUSE
 use crate::rooms::{room_for, Room, LINE};
 use crate::words::{is_feasible, is_infeasible, is_not_optimal, refused, value};
 
-/// Why a call over slices doesn't say yes: a better flow is an amount for each arc, and a set says for each node whether it
-/// is inside.
+/// Why a call over slices doesn't answer yes: a better flow is an amount for each arc, and a set has for each node whether
+/// it is inside.
 pub type Error = crate::Error<Vec<i64>, Vec<bool>>;
 
 /// The distance of a node that isn't reached. Its predecessor is 0, as that of the source.
@@ -283,7 +283,7 @@ pub fn judge_paths(graph: &Graph, source: u32, distances: &[i64], predecessors: 
     line_of(status, line).map(drop)
 }
 
-/// Decides whether a flow, by arc, is maximum: its value and a cut by which [`judge_max`] says yes. [`Error::NotOptimal`]
+/// Decides whether a flow, by arc, is maximum: its value and a cut that [`judge_max`] accepts. [`Error::NotOptimal`]
 /// with a feasible flow of greater value, and [`Error::Refused`] if the flow isn't feasible. The time that it takes isn't
 /// bounded by the number of arcs.
 ///
@@ -317,7 +317,7 @@ pub fn certify_max(instance: &MaxInstance, flows: &[i64]) -> Result<CertifiedMax
     Ok(CertifiedMax { value: value(&line), inside: inside.marks() })
 }
 
-/// Decides whether a flow, by arc, costs least: its cost and potentials by which [`judge_min`] says yes, or
+/// Decides whether a flow, by arc, costs least: its cost and potentials that [`judge_min`] accepts, or
 /// [`Error::GaveUp`] if those that were found don't fit in 64 bits. [`Error::NotOptimal`] with a feasible flow that costs
 /// less, and [`Error::Refused`] if the flow isn't feasible.
 ///
@@ -353,7 +353,7 @@ pub fn certify_min(instance: &MinInstance, flows: &[i64]) -> Result<CertifiedMin
     Ok(CertifiedMin { cost: value(&line), potentials: potentials.take() })
 }
 
-/// Decides whether an instance has no feasible flow: a set by which [`judge_infeasible`] says yes. [`Error::Feasible`] with
+/// Decides whether an instance has no feasible flow: a set that [`judge_infeasible`] accepts. [`Error::Feasible`] with
 /// a feasible flow, if there is one. The time that it takes isn't bounded by the number of arcs.
 ///
 /// ```
@@ -390,7 +390,7 @@ pub fn certify_infeasible(instance: &MinInstance) -> Result<Vec<bool>, Error> {
 }
 
 /// Decides whether distances from the source, by node, are the least weights of walks, in time by the number of arcs and
-/// nodes: predecessors by which [`judge_paths`] says yes. [`Error::Refused`] for the first test that fails.
+/// nodes: predecessors that [`judge_paths`] accepts. [`Error::Refused`] for the first test that fails.
 ///
 /// ```
 /// # use dimacs::arrays::{certify_paths, Graph, UNREACHED};
@@ -419,7 +419,7 @@ pub fn certify_paths(graph: &Graph, source: u32, distances: &[i64]) -> Result<Ve
     Ok(predecessors.take())
 }
 
-/// Makes a maximum flow, and a cut by which [`judge_max`] says yes. [`Error::GaveUp`] after `limit` flows that aren't
+/// Makes a maximum flow, and a cut that [`judge_max`] accepts. [`Error::GaveUp`] after `limit` flows that aren't
 /// maximum.
 ///
 /// ```
@@ -449,7 +449,7 @@ pub fn solve_max(instance: &MaxInstance, limit: u64) -> Result<SolvedMax, Error>
     Ok(SolvedMax { value: value(&line), flows: flows.take(), inside: inside.marks() })
 }
 
-/// Makes a flow of least cost, and potentials by which [`judge_min`] says yes. [`Error::Infeasible`] with a set by which
+/// Makes a flow of least cost, and potentials that [`judge_min`] accepts. [`Error::Infeasible`] with a set by which
 /// [`judge_infeasible`] says yes, if no flow is feasible; [`Error::GaveUp`] after `limit` steps to better flows, or if
 /// the least cost or the potentials are out of range.
 ///
@@ -492,7 +492,7 @@ pub fn solve_min(instance: &MinInstance, limit: u64) -> Result<SolvedMin, Error>
     Ok(SolvedMin { cost: value(&line), flows: flows.take(), potentials: potentials.take() })
 }
 
-/// Makes distances from the source, and predecessors by which [`judge_paths`] says yes. [`Error::Refused`] for the first arc
+/// Makes distances from the source, and predecessors that [`judge_paths`] accepts. [`Error::Refused`] for the first arc
 /// of negative weight, and [`Error::GaveUp`] if a distance is 2^63 - 1 or more.
 ///
 /// ```

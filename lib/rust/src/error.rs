@@ -41,7 +41,7 @@ impl fmt::Display for Refused {
     }
 }
 
-/// Why a call doesn't say yes. A call over arrays has an [`arrays::Error`](crate::arrays::Error), one over texts a
+/// Why a call doesn't answer yes. A call over arrays has an [`arrays::Error`](crate::arrays::Error), one over texts a
 /// [`texts::Error`](crate::texts::Error).
 #[derive(Clone, Debug, PartialEq, Eq)]
 #[non_exhaustive]

@@ -8,8 +8,8 @@ use crate::ffi::{self, DONE, GAVE_UP, NO_MEMORY, REFUSED};
 use crate::rooms::{Room, LINE};
 use crate::words::{is_feasible, is_infeasible, is_not_optimal, refused, value};
 
-/// Why a call over texts doesn't say yes: a better flow is the text of a solution, or `None` if its cost is out of the
-/// range of such texts; a set is a text too.
+/// Why a call over texts doesn't answer yes: a better flow is the text of a solution, or `None` if its cost is out of
+/// the range of such texts; a set is a text too.
 pub type Error = crate::Error<Option<String>, String>;
 
 /// A kind of text.
@@ -304,7 +304,7 @@ pub fn judge_paths(
     judge(PATHS, [graph.as_ref(), queries.as_ref(), labels.as_ref()], room).map(|it| paths(&it))
 }
 
-/// Decides whether a solution's flow is maximum: its value and a cut with which [`judge_max`] says yes.
+/// Decides whether a solution's flow is maximum: its value and a cut that [`judge_max`] accepts.
 /// [`Error::NotOptimal`] if the flow is feasible and has the claimed value.
 ///
 /// ```
@@ -317,7 +317,7 @@ pub fn certify_max(instance: impl AsRef<[u8]>, solution: impl AsRef<[u8]>) -> Re
     certify_flow(MAX, instance.as_ref(), solution.as_ref())
 }
 
-/// Decides whether a solution's flow costs least: its cost and potentials with which [`judge_min`] says yes.
+/// Decides whether a solution's flow costs least: its cost and potentials that [`judge_min`] accepts.
 /// [`Error::NotOptimal`] if the flow is feasible and has the claimed cost.
 ///
 /// ```
@@ -330,7 +330,7 @@ pub fn certify_min(instance: impl AsRef<[u8]>, solution: impl AsRef<[u8]>) -> Re
     certify_flow(MIN, instance.as_ref(), solution.as_ref())
 }
 
-/// Decides whether an instance has no feasible flow: the text of a set with which [`judge_infeasible`] says yes.
+/// Decides whether an instance has no feasible flow: the text of a set that [`judge_infeasible`] accepts.
 /// [`Error::Feasible`] with a solution that has a feasible flow, if there is one.
 ///
 /// ```
@@ -349,7 +349,7 @@ pub fn certify_infeasible(instance: impl AsRef<[u8]>) -> Result<String, Error> {
 }
 
 /// Decides whether distances are those of their nodes, and the nodes without one unreachable, block by block: the text of
-/// labels with which [`judge_paths`] says yes for each source.
+/// labels that [`judge_paths`] accepts for each source.
 ///
 /// ```
 /// # use dimacs::texts::certify_paths;
@@ -442,7 +442,7 @@ pub fn convert(kind: Kind, text: impl AsRef<[u8]>) -> Result<String, Error> {
     }
 }
 
-/// A line that says what a text is.
+/// A line that describes a text.
 ///
 /// ```
 /// # use dimacs::texts::{show, Kind};

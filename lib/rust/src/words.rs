@@ -1,4 +1,4 @@
-//! What lines say.
+//! The fields of the lines that calls hand out.
 
 use crate::error::{Place, Refused};
 
@@ -6,7 +6,7 @@ fn number(word: &str) -> u64 {
     word.parse().unwrap_or_default()
 }
 
-/// What a line that begins with x says.
+/// The fields of a line that begins with x.
 pub fn refused(line: &str) -> Refused {
     let words: Vec<&str> = line.split_whitespace().collect();
     let (place, reason) = match words.as_slice() {
